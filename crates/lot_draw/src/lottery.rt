@@ -1,0 +1,106 @@
+//! Weights, and the lottery over them.
+ghost use Rattle.std.specs.Prelude.{◌≡◌, ◌^◌, ◌<◌, length, sum, IfSome};
+ghost use Rattle.lot_machine.specs.Lottery as lottery;
+ghost use Rattle.lot_machine.specs.Lottery.{running_sums};
+
+use lot_machine::Drawn;
+
+/// What a value weighs in a processor's draw: with a compensation, which is how many ticks of its quantum a thread had
+/// used when it yielded or blocked, it is inflated as if the whole quantum were used (3.4, 4.5).
+///
+/// `value` is in base units, `compensation` and `quantum` are in ticks.
+pub fn weight(value: u64, compensation: Option<u32>, quantum: u32) -> u128
+    requires { IfSome compensation (λ used. 0 < used) }
+    ensures weight { result ≡ lottery.weight value compensation quantum }
+    ensures small { result < 2 ^ 96 }
+{
+    match compensation {
+        None => u128::from(value),
+        Some(used) => u128::from(value) * u128::from(quantum) / u128::from(used),
+    }
+}
+
+/// Holds a lottery with the number `d` (2, 4.2): `None` exactly where the weights sum to 0, else the first place whose
+/// running sum is strictly greater than `d` modulo the sum.
+pub fn winner(weights: &[u128], d: u64) -> Option<Drawn>
+    requires { sum weights.now < 2 ^ 128 }
+    ensures drawn { result ≡ lottery.winner weights.now d }
+    ensures within { IfSome result (λ w. w.place < length weights.now) }
+{
+    let total: u128 = weights.iter().sum();
+    if total == 0 {
+        return None;
+    }
+    let number = u128::from(d) % total;
+    Some(Drawn {
+        place: first_above(weights, number),
+        number,
+        total,
+    })
+}
+
+/// The first place whose running sum is strictly greater than `number`; the count of places where none is.
+fn first_above(weights: &[u128], number: u128) -> usize
+    requires { sum weights.now < 2 ^ 128 }
+    ensures place { result ≡ lottery.first_above number (running_sums 0 weights.now) }
+    ensures within { number < sum weights.now → result < length weights.now }
+{
+    let mut running: u128 = 0;
+    for (place, weight) in weights.iter().enumerate() {
+        running += weight;
+        if running > number {
+            return place;
+        }
+    }
+    weights.len()
+}
+
+#[cfg(test)]
+mod tests {
+    use super::*;
+
+    #[test]
+    fn list_lottery(rt: HostRuntime) {
+        // The list lottery with 10, 2, 5, 1 and 2 tickets: who holds which number.
+        let holders = [
+            (9, 0, 9),
+            (10, 1, 10),
+            (11, 1, 11),
+            (12, 2, 12),
+            (15, 2, 15),
+            (16, 2, 16),
+            (17, 3, 17),
+            (18, 4, 18),
+            (19, 4, 19),
+            (35, 2, 15),
+        ];
+        for (d, place, number) in holders {
+            let drawn = winner(&[10, 2, 5, 1, 2], d);
+            assert_eq!(rt;
+                drawn,
+                Some(Drawn {
+                    place,
+                    number,
+                    total: 20
+                }),
+                "at {d}"
+            );
+        }
+        assert_eq!(rt; winner(&[0, 0], 7), None);
+        assert_eq!(rt; winner(&[], 7), None);
+    }
+
+    #[test]
+    fn compensation(rt: HostRuntime) {
+        let weights = [
+            (400, None, 400),
+            (400, Some(20), 2000),
+            (7, Some(3), 233),
+            (400, Some(99), 404),
+            (400, Some(1), 40000),
+        ];
+        for (value, compensation, weighs) in weights {
+            assert_eq!(rt; weight(value, compensation, 100), weighs, "{value}");
+        }
+    }
+}

@@ -1,0 +1,7 @@
+pub mod LotteryLemmas
+pub mod NumberedLemmas
+pub mod PlainLemmas
+pub mod RowLemmas
+pub mod RunningLemmas
+pub mod StepLemmas
+pub mod ValueLemmas

@@ -1,0 +1,13 @@
+use Rattle.lot_kernel.proofs.kernel.Kernel.command.Goals as goal
+
+pub returns-in-MakeTicket-clause-reply : goal.returns-in-MakeTicket-clause-reply
+returns-in-MakeTicket-clause-reply c = rw c.in-MakeTicket.is c.make_ticket.ensures.reply
+
+pub returns-in-MakeTicket-clause-state : goal.returns-in-MakeTicket-clause-state
+returns-in-MakeTicket-clause-state c = rw c.in-MakeTicket.is c.make_ticket.ensures.state
+
+pub returns-in-Fund-clause-reply : goal.returns-in-Fund-clause-reply
+returns-in-Fund-clause-reply c = rw c.in-Fund.is c.fund.ensures.reply
+
+pub returns-in-Fund-clause-state : goal.returns-in-Fund-clause-state
+returns-in-Fund-clause-state c = rw c.in-Fund.is c.fund.ensures.state

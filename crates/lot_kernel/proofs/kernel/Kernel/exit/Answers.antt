@@ -1,0 +1,11 @@
+use Rattle.std.proofs.Common.{refl, rules}
+use Rattle.lot_kernel.specs.Plain.{IsPlain}
+use Rattle.lot_kernel.proofs.PlainLemmas.{IsPlain-changed}
+use Rattle.lot_kernel.proofs.kernel.Kernel.exit.Goals as goal
+
+pub invariant_of-self : goal.invariant_of-self
+invariant_of-self c =
+    let k = c.self.inside in
+    let plain : IsPlain k.limits.quantum k.currencies.items k.tickets.items c.end.new.records.items =
+    rw c.end.ensures.records (IsPlain-changed _ _ _ _ _ _ (λ r h. (refl, tt)) c.self.invariant.plain) in
+    search rules

@@ -1,0 +1,17 @@
+//! The kernel: a library that is given events, commands, draws and traps, and answers each as the paper's machine does.
+#![tactic(auto)]
+
+mod kernel;
+mod lotteries;
+mod names;
+mod numbered;
+mod running;
+#[cfg(test)]
+mod tests;
+
+pub use kernel::Kernel;
+pub use lot_machine::{
+    Action, Command, CurrencyRow, Event, Kind, Limits, Name, Outcome, Refusal, Reply, Status,
+    ThreadRow, TicketRow, TrapRefusal,
+};
+pub use running::Runner;

@@ -1,0 +1,105 @@
+//! What a draw works on: what each thread is worth, and what the Ready ones weigh.
+ghost use Rattle.std.specs.Prelude.{◌≡◌, ◌+◌, ◌<◌, ◌≤◌, ◌^◌, ℕ, All, IfSome, length, map, sum, slice_index, vec_len, vec_capacity};
+ghost use Rattle.lot_machine.specs.State as states;
+ghost use Rattle.lot_machine.specs.State.{ready_threads};
+ghost use Rattle.lot_kernel.specs.Plain.{FundsThreadOrNothing};
+ghost use Rattle.lot_kernel.specs.Draws.{value_added, value_funded, weight_listed, winner_among};
+
+use lot_draw::weight;
+use lot_machine::{Drawn, Record, Status, Target, Ticket};
+
+/// The winner of a draw, with the number drawn and the total.
+#[derive(Clone, Copy, Debug, PartialEq, Eq)]
+pub(crate) struct Winner {
+    pub(crate) thread: u32,
+    pub(crate) number: u128,
+    pub(crate) total: u128,
+}
+
+impl Winner {
+    /// Who won a lottery that was held over these threads.
+    pub(crate) fn among(threads: &[u32], drawn: Option<Drawn>) -> Option<Self>
+        requires { IfSome drawn (λ w. w.place < length threads.now) }
+        ensures winner { result ≡ winner_among threads.now drawn }
+        ensures there { (count : ℕ) → All (λ t. (0 < t) × (t ≤ count)) threads.now → IfSome result (λ w. (0 < w.thread) × (w.thread ≤ count)) }
+    {
+        let drawn = drawn?;
+        Some(Winner {
+            thread: threads[drawn.place],
+            number: drawn.number,
+            total: drawn.total,
+        })
+    }
+}
+
+/// Lists what each thread's tickets are worth, where all are issued in base.
+pub(crate) fn list_values(tickets: &[Option<Ticket>], unit: u32, values: &mut Vec<u64>)
+    requires few { length tickets.now ≤ 65535 }
+    requires unit { unit ≤ 256 }
+    requires threads { All (λ t. IfSome t (FundsThreadOrNothing (vec_len values.old))) tickets.now }
+    ensures values { (place : ℕ) → place < vec_len values.new → slice_index values.new.items place ≡ value_funded unit tickets.now (place + 1) }
+    ensures count { vec_len values.new ≡ vec_len values.old }
+{
+    values.fill(0);
+    for ticket in tickets {
+        add_value(*ticket, unit, values);
+    }
+}
+
+/// Adds what a ticket is worth to the thread that it funds, if it is there and funds one.
+fn add_value(ticket: Option<Ticket>, unit: u32, values: &mut [u64])
+    requires unit { unit ≤ 256 }
+    requires thread { IfSome ticket (FundsThreadOrNothing (length values.old)) }
+    requires small { (place : ℕ) → place < length values.old → slice_index values.old place < 2 ^ 63 }
+    ensures added { (place : ℕ) → place < length values.new → slice_index values.new place ≡ slice_index values.old place + value_added unit (place + 1) ticket }
+    ensures small { (place : ℕ) → place < length values.new → slice_index values.new place ≤ slice_index values.old place + 1099511627520 }
+{
+    if let Some(ticket) = ticket
+        && let Target::Thread(thread) = ticket.target
+    {
+        values[thread as usize - 1] += u64::from(ticket.amount) * u64::from(unit);
+    }
+}
+
+/// Lists the Ready threads by rising number, and what each weighs.
+pub(crate) fn list_weights(
+    records: &[Record],
+    values: &[u64],
+    quantum: u32,
+    ready: &mut Vec<u32>,
+    weights: &mut Vec<u128>,
+)
+    requires values { length records.now ≤ length values.now }
+    requires ready { length records.now ≤ vec_capacity ready.old }
+    requires weights { length records.now ≤ vec_capacity weights.old }
+    requires few { length records.now < 2 ^ 32 }
+    requires compensations { All (λ r. IfSome r.compensation (λ used. 0 < used)) records.now }
+    ensures ready { ready.new.items ≡ ready_threads records.now }
+    ensures weights { weights.new.items ≡ map (weight_listed values.now records.now quantum) (ready_threads records.now) }
+    ensures there { All (λ t. (0 < t) × (t ≤ length records.now)) ready.new.items }
+    ensures small { sum weights.new.items < 2 ^ 128 }
+    ensures ready_room { vec_capacity ready.new ≡ vec_capacity ready.old }
+    ensures weights_room { vec_capacity weights.new ≡ vec_capacity weights.old }
+{
+    ready.clear();
+    weights.clear();
+    for (place, record) in records.iter().enumerate() {
+        if is_ready(record.status) {
+            ready.push_reserved(place as u32 + 1);
+            weights.push_reserved(weight(values[place], record.compensation, quantum));
+        }
+    }
+}
+
+/// Whether a thread competes or runs.
+pub(crate) fn is_live(status: Status) -> bool
+    ensures { result ≡ states.is_live_status status }
+{
+    matches!(status, Status::Ready | Status::Running { .. })
+}
+
+fn is_ready(status: Status) -> bool
+    ensures { result ≡ states.is_ready status }
+{
+    matches!(status, Status::Ready)
+}

@@ -1,0 +1,35 @@
+-- The sizes of a kernel, and how large each may be.
+use Rattle.std.specs.Prelude.{ℕ, ◌≤◌, ◌==◌, ◌||◌, IsTrue}
+
+-- how many tickets, user currencies and threads may be made, how many ports, mutexes, processors and scripts there are,
+-- how many ticks a quantum has, and how much one of base is worth
+pub record Sizes : Type 0 where
+  pub tickets : ℕ
+  pub currencies : ℕ
+  pub threads : ℕ
+  pub ports : ℕ
+  pub mutexes : ℕ
+  pub processors : ℕ
+  pub scripts : ℕ
+  pub quantum : ℕ
+  pub unit : ℕ
+
+-- n is one of the numbers from the first up to the last
+abbrev pub IsBetween : ℕ → ℕ → ℕ → Type 0
+IsBetween first last n = (first ≤ n) × (n ≤ last)
+
+-- one of base is worth 1, or 256 for finer shares
+abbrev pub IsUnit : ℕ → Type 0
+IsUnit unit = IsTrue ((unit == 1) || (unit == 256))
+
+-- each size is within its bounds
+pub record IsWithinBounds (sizes : Sizes) : Type 0 where
+  pub of_tickets : IsBetween 1 65535 sizes.tickets
+  pub of_currencies : IsBetween 1 4096 sizes.currencies
+  pub of_threads : IsBetween 1 4096 sizes.threads
+  pub of_ports : IsBetween 0 256 sizes.ports
+  pub of_mutexes : IsBetween 0 256 sizes.mutexes
+  pub of_processors : IsBetween 1 64 sizes.processors
+  pub of_scripts : IsBetween 0 256 sizes.scripts
+  pub of_quantum : IsBetween 1 1000 sizes.quantum
+  pub of_unit : IsUnit sizes.unit

@@ -1,0 +1,43 @@
+-- Weights, drawing and drawn numbers (2, 3.4, 4.1, 4.2, 4.5).
+use Rattle.std.specs.Prelude.{ℕ, suc, ◌+◌, ◌-◌, ◌*◌, ◌/◌, ◌%◌, ◌<◌, ◌≤◌, ◌==◌, nat_lt, Option, Some, None, List, [], ◌∷◌, take, sum, if◌then◌else◌}
+use Rattle.lot_machine.specs.declared.drawn.Drawn.{Drawn}
+
+-- What a value weighs in a processor's draw: with a compensation, which is the ticks used, it is inflated as if the
+-- whole quantum were used (3.4, 4.5).
+abbrev pub weight : ℕ → Option ℕ → ℕ → ℕ
+weight value None quantum = value
+weight value (Some used) quantum = value * quantum / used
+
+-- the sum of the weights up to and with each place, where so much stands before
+abbrev pub running_sums : ℕ → List ℕ → List ℕ
+running_sums before [] = []
+running_sums before (w ∷ ws) = (before + w) ∷ running_sums (before + w) ws
+
+-- the place of the first number that is greater than n; their count where none is
+abbrev pub first_above : ℕ → List ℕ → ℕ
+first_above n [] = 0
+first_above n (x ∷ xs) = if nat_lt n x then 0 else suc (first_above n xs)
+
+-- The lottery: nobody wins where the weights sum to 0. Else the winner is at the first place whose running sum is
+-- strictly greater than the number drawn, taken modulo the sum (2, 4.2).
+abbrev pub winner : List ℕ → ℕ → Option Drawn
+winner ws d =
+    if sum ws == 0 then None
+    else Some (record { place = first_above (d % sum ws) (running_sums 0 ws); number = d % sum ws; total = sum ws })
+
+-- the place is the first whose running sum is strictly greater than the number
+pub record IsFirstAbove (ws : List ℕ) (number place : ℕ) : Type 0 where
+  pub above : number < sum (take (suc place) ws)
+  pub first : (k : ℕ) → k < place → sum (take (suc k) ws) ≤ number
+
+-- the next value of the generator (Park and Miller; 4.1)
+abbrev pub next_seed : ℕ → ℕ
+next_seed s = 16807 * s % 2147483647
+
+-- the number that is drawn from the generator's next two values
+abbrev pub drawn_number : ℕ → ℕ
+drawn_number s = (next_seed s - 1) * 2147483646 + (next_seed (next_seed s) - 1)
+
+-- the generator after a number was drawn
+abbrev pub seed_after_number : ℕ → ℕ
+seed_after_number s = next_seed (next_seed s)

@@ -1,0 +1,161 @@
+-- One event, and a whole run of events (4.2 to 4.7, 6.1).
+use Rattle.std.specs.Prelude.{ℕ, ◌+◌, ◌-◌, nat_lt, nat_le, ◌==◌, Bool, false, not, ◌||◌, Option, Some, None, is_some, is_none, List, [], ◌∷◌, map, slice_index, option_and_then, unwrap_or}
+use Rattle.lot_machine.specs.declared.record.Record.{Record}
+use Rattle.lot_machine.specs.declared.record.Status.TheVariants as status
+use Rattle.lot_machine.specs.declared.action.Action.{Action}
+use Rattle.lot_machine.specs.declared.action.Action.TheVariants.{Yield, Call, Receive, Reply as ReplyTo, Lock, Unlock, Exit}
+use Rattle.lot_machine.specs.declared.event.Event.{Event}
+use Rattle.lot_machine.specs.declared.event.Event.TheVariants as event
+use Rattle.lot_machine.specs.declared.refusal.Refusal.{Refusal}
+use Rattle.lot_machine.specs.declared.refusal.Refusal.TheVariants.{BadProcessor, Busy, NotRunning, BadTicks}
+use Rattle.lot_machine.specs.declared.refusal.TrapRefusal.{TrapRefusal}
+use Rattle.lot_machine.specs.declared.refusal.TrapRefusal.TheVariants.{NoPort, NothingToReply, NoMutex, NotOwner, AlreadyOwner, LockCycle}
+use Rattle.lot_machine.specs.declared.reply.Reply.{Reply}
+use Rattle.lot_machine.specs.declared.reply.Reply.TheVariants as answer
+use Rattle.lot_machine.specs.declared.reply.Outcome.{Outcome}
+use Rattle.lot_machine.specs.declared.reply.Outcome.TheVariants as outcome
+use Rattle.lot_machine.specs.Numbered.{at_number, option_any}
+use Rattle.lot_machine.specs.Lends.{lends_on_to}
+use Rattle.lot_machine.specs.declared.drawn.Drawn.{Drawn}
+use Rattle.lot_machine.specs.Lottery.{winner}
+use Rattle.lot_machine.specs.State.{State, funding_of, ready_threads, thread_on, used_by, value_of, weight_of, change_record, saturated}
+use Rattle.lot_machine.specs.Commands.{Step, first_failing, unless_refused, command_step}
+use Rattle.lot_machine.specs.Traps.{After, after_trap, with_ticks}
+use Rattle.lot_machine.specs.Traps.After.{GoesOn, Leaves, Ends}
+use Rattle.lot_machine.specs.Ports.{PortTrap, first_client, call, receive, reply}
+use Rattle.lot_machine.specs.Mutexes.{MutexTrap, mutex_at, lock, unlock}
+
+-- processors are numbered from 1
+abbrev pub is_bad_processor : State → ℕ → Bool
+is_bad_processor s p = (p == 0) || nat_lt s.limits.processors p
+
+-- ---- draws and expiries
+
+-- The winner runs with nothing used; it has won one quantum more, and its compensation and what was delivered to it
+-- end (3.4, 4.2).
+abbrev pub started : ℕ → Record → Record
+started p r = record r { status = status.Running p 0; compensation = None; delivered = None; quanta = saturated (r.quanta + 1) }
+
+-- A draw is the lottery over the weights of the Ready threads by rising number. Where nobody wins nothing changes (4.2).
+abbrev pub draw : State → ℕ → ℕ → Step
+draw s p d = drawn (winner (map (weight_of s) (ready_threads s.records)) d)
+  where
+    won : ℕ → Drawn → Step
+    won t w = record {
+      state = record s { records = change_record (started p) s.records t };
+      reply = answer.Winner t w.number w.total (option_and_then (λ r. r.delivered) (at_number s.records t));
+    }
+
+    drawn : Option Drawn → Step
+    drawn None = record { state = s; reply = answer.Idle }
+    drawn (Some w) = won (slice_index (ready_threads s.records) w.place) w
+
+-- the quantum ends: the thread is Ready without compensation, and the rest of the quantum counts as used (4.2)
+abbrev pub expire : State → ℕ → ℕ → Step
+expire s t used = record {
+  state = record s { records = change_record (λ r. with_ticks (s.limits.quantum - used) (record r { status = status.Ready; compensation = None })) s.records t };
+  reply = answer.Expired t (s.limits.quantum - used);
+}
+
+-- ---- traps
+
+-- whether the thread owns the mutex
+abbrev pub owns : State → ℕ → ℕ → Bool
+owns s t m = option_any (λ owner. owner == t) (mutex_at s.mutexes m).owner
+
+-- Each trap's checks, in order: the first that fails is answered.
+abbrev pub trap_refusal : State → ℕ → Action → Option TrapRefusal
+trap_refusal s t Yield = None
+trap_refusal s t (Call p number) = first_failing ((is_none (at_number s.ports p), NoPort) ∷ [])
+trap_refusal s t (Receive p) = first_failing ((is_none (at_number s.ports p), NoPort) ∷ [])
+trap_refusal s t (ReplyTo number) = first_failing ((is_none (first_client s.clients t), NothingToReply) ∷ [])
+trap_refusal s t (Lock m) =
+    first_failing ((is_none (at_number s.mutexes m), NoMutex) ∷ (owns s t m, AlreadyOwner)
+    ∷ (option_any (λ owner. lends_on_to (funding_of s) owner t) (mutex_at s.mutexes m).owner, LockCycle) ∷ [])
+trap_refusal s t (Unlock m d) = first_failing ((is_none (at_number s.mutexes m), NoMutex) ∷ (not (owns s t m), NotOwner) ∷ [])
+trap_refusal s t Exit = None
+
+-- the state after a trap's work, what came of it, and how the thread that made it leaves its processor
+pub record Effect : Type 0 where
+  pub state : State
+  pub outcome : Outcome
+  pub after : After
+
+-- a trap over ports, as a change of the state
+abbrev pub of_ports : State → PortTrap → Effect
+of_ports s e = record { state = record s { records = e.records; clients = e.clients; ports = e.ports }; outcome = e.outcome; after = e.after }
+
+-- a trap over mutexes, as a change of the state
+abbrev pub of_mutexes : State → MutexTrap → Effect
+of_mutexes s e = record { state = record s { records = e.records; mutexes = e.mutexes }; outcome = e.outcome; after = e.after }
+
+-- what a trap does that isn't refused (4.6, 6.1)
+abbrev pub trap_effect : State → ℕ → Action → Effect
+trap_effect s t Yield = record { state = s; outcome = outcome.Yielded; after = Leaves status.Ready }
+trap_effect s t (Call p number) = of_ports s (call s.records s.clients s.ports t p number)
+trap_effect s t (Receive p) = of_ports s (receive s.records s.clients s.ports t p)
+trap_effect s t (ReplyTo number) = of_ports s (reply s.records s.clients s.ports t number)
+trap_effect s t (Lock m) = of_mutexes s (lock s.records s.mutexes t m)
+trap_effect s t (Unlock m d) = of_mutexes s (unlock s.records s.mutexes (value_of s) m d)
+trap_effect s t Exit = record { state = s; outcome = outcome.Exited; after = Ends }
+
+-- a refused trap does nothing besides, and the thread goes on
+abbrev pub checked_effect : State → Option TrapRefusal → Effect → Effect
+checked_effect s None effect = effect
+checked_effect s (Some refusal) effect = record { state = s; outcome = outcome.Refused refusal; after = GoesOn }
+
+-- whether a thread that goes on has used its quantum up
+abbrev pub ends_quantum : After → ℕ → ℕ → Bool
+ends_quantum GoesOn used quantum = nat_le quantum used
+ends_quantum other used quantum = false
+
+-- the thread has run so many ticks, has then used so much of its quantum, and its trap has this effect
+abbrev pub finish_trap : State → ℕ → ℕ → ℕ → ℕ → Effect → Step
+finish_trap s p t ticks used effect = record {
+  state = record effect.state { records = change_record (λ r. with_ticks ticks (after_trap effect.after p used s.limits.quantum r)) effect.state.records t };
+  reply = answer.Trapped t ticks effect.outcome (ends_quantum effect.after used s.limits.quantum);
+}
+
+-- a trap costs one tick besides the ticks of work before it (4.5)
+abbrev pub trap : State → ℕ → ℕ → ℕ → ℕ → Action → Step
+trap s p t used ran action = finish_trap s p t (ran + 1) (used + ran + 1) (checked_effect s (trap_refusal s t action) (trap_effect s t action))
+
+-- ---- events
+
+-- the thread that runs on the processor, and 0 where none does
+abbrev pub thread_there : State → ℕ → ℕ
+thread_there s p = unwrap_or (thread_on s.records p) 0
+
+-- the ticks that it has used, and 0 where none runs there
+abbrev pub used_there : State → ℕ → ℕ
+used_there s p = unwrap_or (option_and_then (used_by s.records p) (thread_on s.records p)) 0
+
+-- Each event's checks, in order: the first that fails is answered.
+abbrev pub event_refusal : State → Event → Option Refusal
+event_refusal s (event.Command command) = None
+event_refusal s (event.Draw p d) = first_failing ((is_bad_processor s p, BadProcessor) ∷ (is_some (thread_on s.records p), Busy) ∷ [])
+event_refusal s (event.Expire p) = first_failing ((is_bad_processor s p, BadProcessor) ∷ (is_none (thread_on s.records p), NotRunning) ∷ [])
+event_refusal s (event.Trap p ran action) =
+    first_failing ((is_bad_processor s p, BadProcessor) ∷ (is_none (thread_on s.records p), NotRunning)
+    ∷ (nat_lt s.limits.quantum (used_there s p + ran + 1), BadTicks) ∷ [])
+
+-- What an event does that isn't refused. A thread runs on the processor then, where it is asked for.
+abbrev pub event_effect : State → Event → Step
+event_effect s (event.Command command) = command_step s command
+event_effect s (event.Draw p d) = draw s p d
+event_effect s (event.Expire p) = expire s (thread_there s p) (used_there s p)
+event_effect s (event.Trap p ran action) = trap s p (thread_there s p) (used_there s p) ran action
+
+-- one event: the state after it and the reply. A refused event changes nothing
+abbrev pub step : State → Event → Step
+step s e = unless_refused s (event_refusal s e) (event_effect s e)
+
+-- the replies of a run, in order
+abbrev pub replies : State → List Event → List Reply
+replies s [] = []
+replies s (e ∷ es) = (step s e).reply ∷ replies (step s e).state es
+
+-- the last state of a run
+abbrev pub state_after : State → List Event → State
+state_after s [] = s
+state_after s (e ∷ es) = state_after (step s e).state es

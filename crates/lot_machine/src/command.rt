@@ -1,0 +1,100 @@
+//! What the console asks of the kernel.
+
+ghost use Rattle.std.specs.Prelude.{◌≡◌};
+
+use crate::Name;
+
+/// What a listing is of.
+#[derive(Clone, Copy, Debug, PartialEq, Eq)]
+pub enum Kind {
+    Tickets,
+    Currencies,
+    Threads,
+}
+
+/// A command of the console.
+#[derive(Debug, PartialEq, Eq, Drop)]
+pub enum Command {
+    /// `mktkt`
+    MakeTicket {
+        amount: u64,
+        currency: Name,
+    },
+    /// `rmtkt`
+    RemoveTicket {
+        ticket: u64,
+    },
+    /// `mkcur`
+    MakeCurrency {
+        name: Name,
+    },
+    /// `rmcur`
+    RemoveCurrency {
+        currency: Name,
+    },
+    /// `fund`
+    Fund {
+        ticket: u64,
+        target: Name,
+    },
+    /// `unfund`
+    Unfund {
+        ticket: u64,
+    },
+    /// `mkthr`; script 0 is none
+    MakeThread {
+        name: Name,
+        script: u32,
+    },
+    /// `fundx`: a new thread, and a new ticket that funds it
+    MakeFunded {
+        amount: u64,
+        currency: Name,
+        name: Name,
+        script: u32,
+    },
+    /// `lstkt`, `lscur` and `lsthr`
+    List(Kind),
+}
+
+impl Command {
+    /// The same command again. It takes no memory.
+    pub fn copied(&self) -> Self
+        ensures { result ≡ self.now }
+    {
+        match self {
+            Command::MakeTicket { amount, currency } => Command::MakeTicket {
+                amount: *amount,
+                currency: currency.copied(),
+            },
+            Command::RemoveTicket { ticket } => Command::RemoveTicket { ticket: *ticket },
+            Command::MakeCurrency { name } => Command::MakeCurrency {
+                name: name.copied(),
+            },
+            Command::RemoveCurrency { currency } => Command::RemoveCurrency {
+                currency: currency.copied(),
+            },
+            Command::Fund { ticket, target } => Command::Fund {
+                ticket: *ticket,
+                target: target.copied(),
+            },
+            Command::Unfund { ticket } => Command::Unfund { ticket: *ticket },
+            Command::MakeThread { name, script } => Command::MakeThread {
+                name: name.copied(),
+                script: *script,
+            },
+            Command::MakeFunded {
+                amount,
+                currency,
+                name,
+                script,
+            } => Command::MakeFunded {
+                amount: *amount,
+                currency: currency.copied(),
+                name: name.copied(),
+                script: *script,
+            },
+            Command::List(kind) => Command::List(*kind),
+        }
+    }
+}

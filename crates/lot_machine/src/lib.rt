@@ -1,0 +1,38 @@
+//! The words of the machine: what a lottery-scheduled kernel is asked, what it answers, and what its state is made of.
+#![tactic(auto)]
+
+mod action;
+mod command;
+mod drawn;
+mod event;
+mod funding;
+mod input;
+pub mod laws;
+mod limits;
+mod name;
+pub mod printed;
+pub mod read;
+mod record;
+mod refusal;
+mod reply;
+mod row;
+mod script;
+pub mod sliced;
+pub mod stated;
+mod ticket;
+pub mod worked;
+
+pub use action::Action;
+pub use command::{Command, Kind};
+pub use drawn::Drawn;
+pub use event::Event;
+pub use funding::{Edge, Lend, Node};
+pub use input::{BodyWord, HeaderWord, InputFault, InputRefusal, ScriptWord};
+pub use limits::Limits;
+pub use name::Name;
+pub use record::{Record, Status, Thread};
+pub use refusal::{Refusal, TrapRefusal};
+pub use reply::{Outcome, Reply};
+pub use row::{CurrencyRow, ThreadRow, TicketRow};
+pub use script::{Line, ScriptTrap};
+pub use ticket::{Target, Ticket};

@@ -1,0 +1,58 @@
+//! Names of currencies and threads.
+ghost use Rattle.std.specs.Prelude.{◌≡◌, ◌≤◌, length, IfSome, IsSome, ◌↔◌};
+
+use arrayvec::ArrayVec;
+use std::marker::Model;
+
+/// A name of at most 16 bytes, whether good or not.
+#[derive(Clone, Debug, PartialEq, Eq, Drop)]
+pub struct Name {
+    bytes: ArrayVec<u8, 16>,
+}
+
+impl Model for Name {
+    ghost use Rattle.std.specs.Prelude.{List, ℕ};
+
+    ghost Value = { List ℕ };
+
+    ghost view = { λ n. n.bytes.items };
+
+    ghost inverse = { λ bytes. record { bytes = record { items = bytes } } };
+}
+
+impl Name {
+    /// The name that is spelled so, or `None` where it has more than 16 bytes.
+    pub fn new(text: &str) -> Option<Self>
+        ensures fits { IsSome result ↔ (length text.now ≤ 16) }
+        ensures bytes { IfSome result (λ name. name ≡ text.now) }
+    {
+        Self::from_bytes(text.as_bytes())
+    }
+
+    /// The name of these bytes, or `None` where they are more than 16.
+    pub fn from_bytes(bytes: &[u8]) -> Option<Self>
+        ensures fits { IsSome result ↔ (length bytes.now ≤ 16) }
+        ensures bytes { IfSome result (λ name. name ≡ bytes.now) }
+    {
+        let mut copy = ArrayVec::new();
+        copy.try_extend_from_slice(bytes).ok()?;
+        Some(Name { bytes: copy })
+    }
+
+    /// The same name again. It takes no memory.
+    pub fn copied(&self) -> Self
+        ensures { result ≡ self.now }
+    {
+        let mut bytes = ArrayVec::new();
+        let _ = bytes.try_extend_from_slice(self.bytes.as_slice());
+        Name { bytes }
+    }
+
+    /// The bytes of the name.
+    pub fn as_bytes(&self) -> &[u8]
+        ensures bytes { result.now ≡ self.now }
+        ensures fits { length result.now ≤ 16 }
+    {
+        self.bytes.as_slice()
+    }
+}

@@ -1,0 +1,15 @@
+use Rattle.std.proofs.Common.{◌≡◌, rules}
+use Rattle.std.specs.Bool.{Decides}
+use Rattle.std.proofs.lemmas.Slice.Eq.{slice_eq-Decides}
+use Rattle.lot_machine.specs.declared.script.Line.{Line}
+use Rattle.lot_machine.specs.contracts.script.LinePartialEq.TheImpl.{eq-value}
+use Rattle.lot_script.proofs.script.Script.is_same.Goals as goal
+
+-- `==` of two lines decides whether they are equal
+line_eq-decides : (a b : Line) → Decides (eq-value.it a b) (a ≡ b)
+line_eq-decides a b = search rules
+
+pub returns : goal.returns
+returns c =
+    let decided : Decides c.eq.result (c.lines.result.now ≡ c.lines-2.result.now) = slice_eq-Decides line_eq-decides c.lines.result.now c.lines-2.result.now c.eq.result c.eq.ensures in
+    rw (← c.lines.ensures.lines, ← c.lines-2.ensures.lines) decided

@@ -1,0 +1,30 @@
+-- What a slice of a script keeps.
+use Rattle.std.specs.Prelude.{◌≡◌, ℕ, ⊤, Option, List}
+use Rattle.lot_machine.specs.declared.script.Line.{Line}
+use Rattle.lot_machine.specs.declared.script.ScriptTrap.{ScriptTrap}
+use Rattle.lot_machine.specs.declared.script.ScriptTrap.TheVariants.{Exit}
+use Rattle.lot_machine.specs.Bounds.{IsBetween}
+use Rattle.lot_machine.specs.Script.{slice}
+use Rattle.lot_script.specs.Places.{Place, Fits, context_at}
+
+-- a script's lines, where a thread began and with which budget, the ticks of work that it did and the trap that followed,
+-- if one did, and where it is then
+pub record Parts : Type 0 where
+  pub lines : List Line
+  pub start : Place
+  pub budget : ℕ
+  pub ticks : ℕ
+  pub trap : Option ScriptTrap
+  pub end : Place
+
+-- the ticks, the trap and the end are those of the slice from the start with the budget
+pub record IsSlice (parts : Parts) : Type 0 where
+  pub start_fits : Fits parts.lines parts.start
+  pub budget_fits : IsBetween 1 1000 parts.budget
+  pub sliced : slice (context_at parts.lines parts.start) parts.budget ≡ record { ticks = parts.ticks; trap = parts.trap; end = context_at parts.lines parts.end }
+  pub end_fits : Fits parts.lines parts.end
+
+-- it is an exit, the only trap that scripts of `compute` lines make
+abbrev pub IsExit : ScriptTrap → Type 0
+IsExit Exit = ⊤
+IsExit other = ⊥

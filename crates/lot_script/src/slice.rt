@@ -1,0 +1,119 @@
+//! What a processor does of a script at a time.
+ghost use Rattle.std.specs.Prelude.{◌≡◌, ◌<◌, ◌≤◌, Some, None, IfSome};
+ghost use Rattle.lot_machine.specs.Bounds.{IsBetween};
+ghost use Rattle.lot_script.specs.Places.{Fits};
+ghost use Rattle.lot_script.specs.Slices.{IsSlice, IsExit};
+
+use crate::{Context, Script};
+use lot_machine::ScriptTrap;
+use std::marker::Model;
+
+/// What a thread does of its script with a budget of ticks: ticks of work, and then a trap or the end of the budget.
+#[derive(Debug, Drop)]
+pub struct Slice<'a> {
+    script: &'a Script,
+    start: Context,
+    budget: u32,
+    ticks: u32,
+    trap: Option<ScriptTrap>,
+    end: Context,
+}
+
+impl<'a> Model for Slice<'a> {
+    ghost use Rattle.std.specs.Prelude.{IfSome};
+    ghost use Rattle.lot_script.specs.Slices.{Parts, IsSlice, IsExit};
+
+    ghost Value = { Parts };
+
+    ghost view = { λ s. record { lines = s.script.now; start = s.start; budget = s.budget; ticks = s.ticks; trap = s.trap; end = s.end } };
+
+    ghost invariant = { λ s. record {
+      exact : IsSlice (record { lines = s.script.now; start = s.start; budget = s.budget; ticks = s.ticks; trap = s.trap; end = s.end });
+      exits : IfSome s.trap IsExit;
+    } };
+}
+
+impl<'a> Slice<'a> {
+    /// The script.
+    pub fn script(&self) -> &'a Script
+        ensures { result.now ≡ self.now.lines }
+    {
+        self.script
+    }
+
+    /// Where the thread began.
+    pub fn start(&self) -> &Context
+        ensures { result.now ≡ self.now.start }
+    {
+        &self.start
+    }
+
+    /// The ticks that it had, 1 to 1000.
+    pub fn budget(&self) -> u32
+        ensures { result ≡ self.now.budget }
+    {
+        self.budget
+    }
+
+    /// The ticks of work that it did. A trap's own tick isn't counted.
+    pub fn ticks(&self) -> u32
+        ensures ticks { result ≡ self.now.ticks }
+        ensures exact { IsSlice self.now }
+    {
+        self.ticks
+    }
+
+    /// The trap that it made, or `None` where the budget was used up before one.
+    pub fn trap(&self) -> Option<ScriptTrap>
+        ensures trap { result ≡ self.now.trap }
+        ensures exact { IsSlice self.now }
+        ensures exits { IfSome result IsExit }
+    {
+        self.trap
+    }
+
+    /// Where it is then: behind the trap, but an exit is never passed.
+    pub fn end(&self) -> &Context
+        ensures end { result.now ≡ self.now.end }
+        ensures exact { IsSlice self.now }
+    {
+        &self.end
+    }
+}
+
+impl Script {
+    /// What a thread of this script does from `start` with a budget of 1 to 1000 ticks. It takes no memory.
+    pub fn slice(&self, start: Context, budget: u32) -> Slice<'_>
+        requires fits { Fits self.now start }
+        requires budget { IsBetween 1 1000 budget }
+        ensures lines { result.lines ≡ self.now }
+        ensures start { result.start ≡ start }
+        ensures budget { result.budget ≡ budget }
+        ensures exact { IsSlice result }
+    {
+        let mut end = start.copied();
+        let mut ticks = 0;
+        while ticks < budget {
+            let passed = self.pass(&mut end, budget - ticks);
+            if passed == 0 {
+                return Slice {
+                    script: self,
+                    start,
+                    budget,
+                    ticks,
+                    trap: Some(ScriptTrap::Exit),
+                    end,
+                };
+            }
+            ticks += passed;
+        }
+        Slice {
+            script: self,
+            start,
+            budget,
+            ticks,
+            trap: None,
+            end,
+        }
+    }
+}

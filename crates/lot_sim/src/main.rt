@@ -1,0 +1,30 @@
+//! `lot_sim play` reads an input from standard input and writes what playing it gives.
+#![tactic(auto)]
+
+mod command_line;
+mod status;
+#[cfg(test)]
+mod tests;
+
+use std::process::ExitCode;
+use std::{env, io};
+
+/// The exit status of a program that couldn't be run at all.
+const NOT_RUN: u8 = 3;
+
+fn main(rt: HostRuntime) -> ExitCode {
+    let status = match env::args(&rt) {
+        Ok(args) => match args.collect::<Vec<String>>(rt.alloc()) {
+            Ok(words) => status::status(
+                rt.alloc(),
+                words.as_slice(),
+                rt.reader(),
+                io::writer(&rt),
+                rt.stderr(),
+            ),
+            Err(_) => NOT_RUN,
+        },
+        Err(_) => NOT_RUN,
+    };
+    ExitCode::from(status)
+}

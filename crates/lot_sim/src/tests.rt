@@ -1,0 +1,227 @@
+use crate::status::status;
+use std::alloc::Global;
+use std::io;
+use std::io::{ErrorKind, Read, Write};
+use std::process::Abort;
+use std::test::Fail;
+
+/// Two threads that compute, with base tickets of 10 and 5.
+const SPINNERS: &str = "script spin
+compute 1000
+endscript
+mktkt 10 base
+mkthr a spin
+fund 1 a
+mktkt 5 base
+mkthr b spin
+fund 2 b
+";
+
+/// What is written of their commands.
+const SPINNERS_MADE: &str = "0 ticket 1
+0 thread 1
+0 done
+0 ticket 2
+0 thread 2
+0 done
+";
+
+/// Plays the input, and compares the exit status and what was written.
+fn check_play(rt: &impl Abort, alloc: Global, input: &str, code: u8, expected: &str) {
+    let mut output = Vec::new(alloc);
+    let mut errors = Vec::new(alloc);
+    let words = ["lot_sim", "play"];
+    let ended = status(alloc, &words, input.as_bytes(), &mut output, &mut errors);
+    assert_eq!(rt; ended, code, "{input}");
+    assert!(rt; output.as_slice() == expected.as_bytes(), "{input}");
+    assert!(rt; errors.is_empty(), "{input}");
+}
+
+#[test]
+fn two_threads(rt: HostRuntime) -> Result<(), Fail> {
+    let alloc = rt.alloc();
+    let input = format!(in alloc; "lottery 1\n{SPINNERS}schedule 0 0 0 0 0 0 1 1 1 1 1 1\n")?;
+    let output = format!(in alloc;
+        "{SPINNERS_MADE}1 draw 9 of 15 thread 1
+1 thread 1 ticks 100 expire
+1 draw 4 of 15 thread 1
+1 thread 1 ticks 100 expire
+1 draw 10 of 15 thread 2
+1 thread 2 ticks 100 expire
+report
+thread 1 a quanta 2 ticks 200
+thread 2 b quanta 1 ticks 100
+processor 1 quanta 3 idle 0 ticks 300
+total turns 12 quanta 3 ticks 300
+"
+    )?;
+    check_play(&rt, alloc, input.as_str(), 0, output.as_str());
+    Ok(())
+}
+
+#[test]
+fn finer_values(rt: HostRuntime) -> Result<(), Fail> {
+    let alloc = rt.alloc();
+    let input = format!(in alloc; "lottery 2\n{SPINNERS}schedule 0 0 0 0 0 0 1 1\n")?;
+    let output = format!(in alloc;
+        "{SPINNERS_MADE}1 draw 2724 of 3840 thread 2
+1 thread 2 ticks 100 expire
+report
+thread 1 a quanta 0 ticks 0
+thread 2 b quanta 1 ticks 100
+processor 1 quanta 1 idle 0 ticks 100
+total turns 8 quanta 1 ticks 100
+"
+    )?;
+    check_play(&rt, alloc, input.as_str(), 0, output.as_str());
+    Ok(())
+}
+
+/// Nothing to do.
+const EMPTY_REPORT: &str = "report
+processor 1 quanta 0 idle 0 ticks 0
+total turns 0 quanta 0 ticks 0
+";
+
+/// A script that ends within its quantum, and then nobody to draw.
+const ENDING: &str = "lottery 1
+quantum 10
+script s
+compute 5
+endscript
+mkthr a s
+mktkt 7 base
+fund 1 a
+schedule 0 0 0 1 1 1
+";
+
+const ENDED: &str = "0 thread 1
+0 ticket 1
+0 done
+1 draw 6 of 7 thread 1
+1 thread 1 ticks 6 exit
+1 idle
+report
+thread 1 a quanta 1 ticks 6
+processor 1 quanta 1 idle 1 ticks 6
+total turns 6 quanta 1 ticks 6
+";
+
+/// Refused commands are turns, and a turn of the console without a command isn't.
+const REFUSED_COMMANDS: &str = "lottery 1
+limits 1 1 1
+mktkt 1 base
+mktkt 1 base
+mkthr a none
+fund 9 a
+schedule 0 0 0 0 0
+";
+
+const COMMANDS_REFUSED: &str = "0 ticket 1
+0 refused 13 Full
+0 refused 14 NoScript
+0 refused 4 NoTicket
+0 refused 41 Ended
+report
+processor 1 quanta 0 idle 0 ticks 0
+total turns 4 quanta 0 ticks 0
+";
+
+#[test]
+fn played(rt: HostRuntime) {
+    let rows = [
+        ("lottery 1", 0, EMPTY_REPORT),
+        ("lottery 1\n", 0, EMPTY_REPORT),
+        (ENDING, 0, ENDED),
+        (REFUSED_COMMANDS, 0, COMMANDS_REFUSED),
+        ("", 1, "refused line 1 50 BadHeader\n"),
+        (
+            "lottery 1\nscript s\ncompute 5\n",
+            1,
+            "refused line 2 54 OpenScript\n",
+        ),
+        (
+            "lottery 1\nschedule 0 2\n",
+            1,
+            "refused line 2 57 BadActor\n",
+        ),
+    ];
+    for (input, code, output) in rows {
+        check_play(&rt, rt.alloc(), input, code, output);
+    }
+}
+
+/// Checks the exit status of these words, and where a text was written.
+fn check_words(rt: &impl Abort, alloc: Global, words: &[&str], code: u8, on_output: bool) {
+    let mut output = Vec::new(alloc);
+    let mut errors = Vec::new(alloc);
+    let ended = status(alloc, words, "".as_bytes(), &mut output, &mut errors);
+    assert_eq!(rt; ended, code, "{words:?}");
+    assert_eq!(rt; output.is_empty(), !on_output, "{words:?}");
+    assert_eq!(rt; errors.is_empty(), on_output, "{words:?}");
+}
+
+#[test]
+fn command_lines(rt: HostRuntime) {
+    check_words(&rt, rt.alloc(), &["lot_sim"], 2, false);
+    check_words(&rt, rt.alloc(), &["lot_sim", "replay"], 2, false);
+    check_words(&rt, rt.alloc(), &["lot_sim", "play", "x"], 2, false);
+    check_words(&rt, rt.alloc(), &["lot_sim", "play", "--seed"], 2, false);
+    check_words(&rt, rt.alloc(), &["lot_sim", "--help"], 0, true);
+}
+
+/// A reader that gives some bytes and then fails, or a writer that fails at once.
+#[derive(Drop)]
+struct Failing {
+    given: bool,
+    kind: ErrorKind,
+}
+
+impl Read for Failing {
+    fn read(&mut self, buf: &mut [u8]) -> io::Result<usize> {
+        if self.given || buf.is_empty() {
+            return Err(io::Error::from(self.kind));
+        }
+        self.given = true;
+        buf[0] = b'#';
+        Ok(1)
+    }
+}
+
+impl Write for Failing {
+    fn write(&mut self, _buf: &[u8]) -> io::Result<usize> {
+        Err(io::Error::from(self.kind))
+    }
+
+    fn flush(&mut self) -> io::Result<()> {
+        Ok(())
+    }
+}
+
+#[test]
+fn failures(rt: HostRuntime) {
+    let alloc = rt.alloc();
+    for kind in [ErrorKind::Other, ErrorKind::Interrupted] {
+        let mut output = Vec::new(alloc);
+        let mut errors = Vec::new(alloc);
+        let reader = Failing { given: false, kind };
+        let ended = status(
+            alloc,
+            &["lot_sim", "play"],
+            reader,
+            &mut output,
+            &mut errors,
+        );
+        assert_eq!(rt; ended, 3);
+        assert!(rt; output.is_empty() && errors.is_empty());
+    }
+    let mut errors = Vec::new(alloc);
+    let writer = Failing {
+        given: false,
+        kind: ErrorKind::Other,
+    };
+    let words = ["lot_sim", "play"];
+    let ended = status(alloc, &words, "lottery 1".as_bytes(), writer, &mut errors);
+    assert_eq!(rt; ended, 3);
+    assert!(rt; errors.is_empty());
+}

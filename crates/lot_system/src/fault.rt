@@ -1,0 +1,32 @@
+//! Why a turn or a run isn't made.
+
+use crate::turn::Work;
+use thiserror::Error;
+
+/// Why a turn isn't made. It then changes nothing.
+#[derive(Debug, Drop, Error)]
+pub enum TurnFault {
+    /// The slice isn't the one of the actor's work, which is this.
+    #[error("the slice isn't that of the actor's work")]
+    Stale(Option<Work>),
+    /// The actor is the console, and no command is left.
+    #[error("no command is left")]
+    Ended,
+    /// The history has as many entries as there is room for.
+    #[error("the history is full")]
+    HistoryFull,
+}
+
+/// Why `play` stops.
+#[derive(Clone, Copy, Debug, PartialEq, Eq, Error)]
+pub enum PlayFault {
+    /// Memory was refused, and nothing was written.
+    #[error("out of memory")]
+    Memory,
+    /// The reader has failed, and nothing was written.
+    #[error("the reader has failed")]
+    Read,
+    /// The writer has failed, and what was written is a beginning of the output.
+    #[error("the writer has failed")]
+    Write,
+}

@@ -1,0 +1,18 @@
+//! The simulated system: a console with commands, processors with generators, and threads with scripts; and `play`, which
+//! makes the turns of a schedule.
+#![tactic(auto)]
+
+mod counts;
+mod fault;
+mod input;
+mod opening;
+mod playing;
+mod report;
+mod system;
+mod turn;
+
+pub use fault::{PlayFault, TurnFault};
+pub use input::read_input;
+pub use playing::{Played, play};
+pub use system::System;
+pub use turn::{Answer, Work};

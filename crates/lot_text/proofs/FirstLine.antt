@@ -1,0 +1,74 @@
+-- The first of the lines, and those behind it.
+use Rattle.std.proofs.Common.{◌≡◌, ◌<◌, ◌≤◌, ◌+◌, ◌-◌, ℕ, zero, suc, min, ◌==◌, sym, ◌∙◌, Option, Ok, Bool, true, false, not, List, [], ◌∷◌, length, take, drop, refl, ap, arith, cond, if◌then◌else◌}
+use Rattle.std.specs.List.{prefix_len}
+use Rattle.std.proofs.lemmas.List.{length-take, drop_min, length-drop, take_rest}
+use Rattle.lot_machine.specs.Lines.{lines_of, with_first_byte, without_end}
+use Rattle.lot_machine.specs.Reading.{Reading, ◌>>=◌}
+use Rattle.lot_machine.specs.Grammar.{read_lines, read_line, refused_on}
+
+-- how many bytes the first line has before its byte 10
+abbrev pub first_len : List ℕ → ℕ
+first_len bs = prefix_len (λ b. not (b == 10)) bs
+
+pub lines_of-first : (bs : List ℕ) → 0 < length bs → lines_of bs ≡ take (suc (first_len bs)) bs ∷ lines_of (drop (suc (first_len bs)) bs)
+lines_of-first [] some = absurd (omega (arith, some))
+lines_of-first (b ∷ []) some = at (b == 10)
+  where
+    at : (e : Bool) → (if e then (b ∷ []) ∷ [] else (b ∷ []) ∷ [])
+        ≡ take (suc (cond (not e) (1 + zero) zero)) (b ∷ []) ∷ lines_of (drop (suc (cond (not e) (1 + 0) 0)) (b ∷ []))
+    at true = refl
+    at false = refl
+lines_of-first (b ∷ c ∷ bs) some = at (lines_of-first (c ∷ bs) (omega arith)) (b == 10)
+  where
+    at : lines_of (c ∷ bs) ≡ take (suc (first_len (c ∷ bs))) (c ∷ bs) ∷ lines_of (drop (suc (first_len (c ∷ bs))) (c ∷ bs))
+        → (e : Bool) → (if e then (b ∷ []) ∷ lines_of (c ∷ bs) else with_first_byte b (lines_of (c ∷ bs)))
+        ≡ take (suc (cond (not e) (1 + first_len (c ∷ bs)) zero)) (b ∷ c ∷ bs) ∷ lines_of (drop (suc (cond (not e) (1 + first_len (c ∷ bs)) zero)) (b ∷ c ∷ bs))
+    at next true = refl
+    at next false = let more : 1 + first_len (c ∷ bs) ≡ suc (first_len (c ∷ bs)) = omega arith in rw more (ap (with_first_byte b) next)
+
+-- a line without its end is what stands before the byte 10
+pub without_end-first : (bs : List ℕ) → without_end (take (suc (first_len bs)) bs) ≡ take (first_len bs) bs
+without_end-first [] = refl
+without_end-first (b ∷ bs) = at (without_end-first bs) (b == 10) refl
+  where
+    at : without_end (take (suc (first_len bs)) bs) ≡ take (first_len bs) bs → (e : Bool) → (b == 10) ≡ e
+        → without_end (take (suc (cond (not e) (1 + first_len bs) 0)) (b ∷ bs)) ≡ take (cond (not e) (1 + first_len bs) 0) (b ∷ bs)
+    at next true is = rw is refl
+    at next false is = let more : (n : ℕ) → 1 + n ≡ suc n = λ n. omega arith in rw (is, more (first_len bs), more (first_len (take (suc (first_len bs)) bs))) (ap (λ rest. b ∷ rest) next)
+
+pub first_len-le : (bs : List ℕ) → first_len bs ≤ length bs
+first_len-le [] = omega arith
+first_len-le (b ∷ bs) = at (first_len-le bs) (b == 10)
+  where
+    at : first_len bs ≤ length bs → (e : Bool) → cond (not e) (1 + first_len bs) 0 ≤ suc (length bs)
+    at next true = omega arith
+    at next false = omega (arith, next)
+
+-- how many bytes the first line has, with its end
+abbrev pub whole_len : List ℕ → ℕ
+whole_len bs = min (suc (first_len bs)) (length bs)
+
+-- the lines are read one after another
+pub read_lines-first : (n start : ℕ) (reading : Option Reading) (bs : List ℕ) → 0 < length bs
+    → read_lines n start reading (lines_of bs)
+    ≡ (refused_on n (read_line n (start + whole_len bs) reading (take (first_len bs) bs)) >>= λ after. read_lines (n + 1) (start + whole_len bs) after (lines_of (drop (whole_len bs) bs)))
+read_lines-first n start reading bs some =
+    let len : length (take (suc (first_len bs)) bs) ≡ whole_len bs = length-take (suc (first_len bs)) bs in
+    let behind : drop (suc (first_len bs)) bs ≡ drop (whole_len bs) bs = sym (drop_min (suc (first_len bs)) bs) in
+    rw (lines_of-first bs some, without_end-first bs, len, behind) refl
+
+-- a line is read, and the others behind it
+pub read_lines-goes_on : (n start k b : ℕ) (reading after : Option Reading) (bs line more : List ℕ)
+    → 0 < length bs → k ≡ first_len bs → b ≡ min (k + 1) (length bs) → line ≡ take k bs → more ≡ drop b bs
+    → read_line n (start + b) reading line ≡ Ok after
+    → read_lines n start reading (lines_of bs) ≡ read_lines (n + 1) (start + b) after (lines_of more)
+read_lines-goes_on n start k b reading after bs line more some at whole is rest reads =
+    let len : b ≡ whole_len bs = omega (arith, whole, at) in
+    let first : line ≡ take (first_len bs) bs = is ∙ ap (λ k. take k bs) at in
+    let reads' : read_line n (start + whole_len bs) reading (take (first_len bs) bs) ≡ Ok after = rw (sym len, sym first) reads in
+    read_lines-first n start reading bs some ∙ rw (reads', rest, len) refl
+
+-- nothing is lost behind a line
+pub length-behind : (end all k b : ℕ) (bs : List ℕ) → b ≡ min (k + 1) (length bs) → end + length bs ≡ all
+    → end + b + length (take (length bs - b) (drop b bs)) ≡ all
+length-behind end all k b bs is same = rw (take_rest bs b) (omega (arith, length-drop b bs, is, same))

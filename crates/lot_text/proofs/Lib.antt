@@ -1,0 +1,7 @@
+pub mod FaultLemmas
+pub mod FirstLine
+pub mod NumberLemmas
+pub mod ScriptLemmas
+pub mod SeedLemmas
+pub mod TokenLemmas
+pub mod WordLemmas

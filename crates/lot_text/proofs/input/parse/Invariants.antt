@@ -1,0 +1,15 @@
+use Rattle.std.proofs.Common.{◌≡◌, ◌≤◌, ◌+◌, length, None}
+use Rattle.lot_machine.specs.Grammar.{read_lines}
+use Rattle.lot_machine.specs.Lines.{lines_of}
+use Rattle.lot_text.proofs.input.parse.Given as goal
+
+abbrev pub invariant-loop-rest : goal.invariant-loop-rest
+invariant-loop-rest l = record {
+  all : l.end + length l.rest ≡ length l.bytes;
+  number : l.number ≤ l.end;
+  within : l.end ≤ 16777216;
+  read : read_lines (l.number + 1) l.end l.reading (lines_of l.rest) ≡ read_lines 1 0 None (lines_of l.bytes);
+}
+
+abbrev pub decreases-loop-rest : goal.decreases-loop-rest
+decreases-loop-rest l = length l.rest

@@ -1,0 +1,65 @@
+//! Why an input isn't read.
+ghost use Rattle.std.specs.Prelude.{◌≡◌};
+ghost use Rattle.lot_text.specs.declared.fault.LineFault.TheVariants.{Memory, Refused};
+
+use lot_machine::{InputFault, InputRefusal};
+use std::alloc::{AllocError, AllocFailed};
+use thiserror::Error;
+
+/// Why an input isn't read to its end.
+#[derive(Debug, PartialEq, Eq, Drop, Error)]
+pub enum ParseFault {
+    /// The memory for what it says was refused.
+    #[error("out of memory")]
+    Memory,
+    /// A line is refused.
+    #[error("line {line} is refused: {refusal:?}", line = .0.line, refusal = .0.refusal)]
+    Input(InputFault),
+}
+
+impl From<AllocError> for ParseFault {
+    fn from(_error: AllocError) -> ParseFault {
+        ParseFault::Memory
+    }
+}
+
+/// Why a line isn't read.
+#[derive(Debug, PartialEq, Eq, Drop)]
+pub(crate) enum LineFault {
+    Memory,
+    Refused(InputRefusal),
+}
+
+impl LineFault {
+    /// The same of the line with this number.
+    pub(crate) fn on_line(self, line: u32) -> ParseFault {
+        match self {
+            LineFault::Memory => ParseFault::Memory,
+            LineFault::Refused(refusal) => ParseFault::Input(InputFault { line, refusal }),
+        }
+    }
+}
+
+impl From<InputRefusal> for LineFault {
+    ghost from_gives = { λ refusal e. e ≡ Refused refusal };
+
+    fn from(refusal: InputRefusal) -> LineFault {
+        LineFault::Refused(refusal)
+    }
+}
+
+impl From<AllocError> for LineFault {
+    ghost from_gives = { λ _ e. e ≡ Memory };
+
+    fn from(_error: AllocError) -> LineFault {
+        LineFault::Memory
+    }
+}
+
+impl<T: Drop> From<AllocFailed<T>> for LineFault {
+    ghost from_gives = { λ _ e. e ≡ Memory };
+
+    fn from(_error: AllocFailed<T>) -> LineFault {
+        LineFault::Memory
+    }
+}

@@ -1,0 +1,122 @@
+//! Lines of the header.
+ghost use Rattle.std.specs.Prelude.{◌≡◌, ◌∷◌, length, IfOk, OnOk, MatchResult, Ok};
+ghost use Rattle.lot_machine.specs.Grammar.{first_line as first_line_read, header_in_order, header_line as header_line_read};
+ghost use Rattle.lot_machine.specs.Words.{header_place as header_place_of};
+ghost use Rattle.lot_machine.specs.Reading.{each, number_between as number_read};
+ghost use Rattle.lot_text.specs.Faults.{Fails, Gives};
+ghost use Rattle.lot_text.specs.Readings.{AreSeeds};
+
+use crate::fault::LineFault;
+use crate::number::number_between;
+use crate::reading::Reading;
+use crate::tokens::Tokens;
+use lot_machine::{HeaderWord, InputRefusal};
+use std::alloc::Global;
+
+/// What the first line says that isn't ignored: `lottery 1` means unit 1, and `lottery 2` unit 256.
+pub(crate) fn first_line(
+    alloc: Global,
+    word: &[u8],
+    tokens: Tokens<'_>,
+) -> Result<Reading, LineFault>
+    ensures { MatchResult result (λ reading. first_line_read (word.now ∷ tokens.entry) ≡ Ok reading) (λ fault. Fails fault (first_line_read (word.now ∷ tokens.entry))) }
+{
+    let Ok(version) = tokens.only() else {
+        return Err(LineFault::Refused(InputRefusal::BadHeader));
+    };
+    let is_lottery = word == b"lottery".as_slice();
+    if is_lottery && version == b"1".as_slice() {
+        return Ok(Reading::new(alloc, 1));
+    }
+    if is_lottery && version == b"2".as_slice() {
+        return Ok(Reading::new(alloc, 256));
+    }
+    Err(LineFault::Refused(InputRefusal::BadHeader))
+}
+
+/// Where the word's line comes in the header, `lottery` first.
+fn header_place(word: HeaderWord) -> u32
+    ensures { result ≡ header_place_of word }
+{
+    match word {
+        HeaderWord::Lottery => 0,
+        HeaderWord::Processors => 1,
+        HeaderWord::Quantum => 2,
+        HeaderWord::Turns => 3,
+        HeaderWord::Seed => 4,
+        HeaderWord::Limits => 5,
+    }
+}
+
+/// A later line of the header, which has to come behind those so far. The words `processors` and `turns` aren't served.
+pub(crate) fn header_line(
+    alloc: Global,
+    reading: &mut Reading,
+    word: HeaderWord,
+    tokens: Tokens<'_>,
+) -> Result<(), LineFault>
+    ensures { OnOk result (header_in_order reading.old word tokens.entry ≡ Ok reading.new) }
+{
+    if word == HeaderWord::Processors || word == HeaderWord::Turns {
+        return Err(LineFault::Refused(InputRefusal::BadLine));
+    }
+    if header_place(word) <= reading.place {
+        return Err(LineFault::Refused(InputRefusal::BadHeader));
+    }
+    match word {
+        HeaderWord::Quantum => read_quantum(reading, tokens)?,
+        HeaderWord::Seed => read_seed(alloc, reading, tokens)?,
+        HeaderWord::Limits => read_limits(reading, tokens)?,
+        _ => return Err(LineFault::Refused(InputRefusal::BadLine)),
+    }
+    reading.place = header_place(word);
+    Ok(())
+}
+
+/// `quantum Q`
+fn read_quantum(reading: &mut Reading, tokens: Tokens<'_>) -> Result<(), LineFault>
+    ensures { Gives reading.new result (header_line_read reading.old HeaderWord.Quantum tokens.entry) }
+{
+    let quantum = tokens.only()?;
+    reading.quantum = number_between(1, 1000, quantum)?;
+    Ok(())
+}
+
+/// `seed S1 .. SP`, one for each processor
+fn read_seed(alloc: Global, reading: &mut Reading, tokens: Tokens<'_>) -> Result<(), LineFault>
+    ensures { Gives reading.new result (header_line_read reading.old HeaderWord.Seed tokens.entry) }
+{
+    if !tokens.has_len(reading.processors as usize) {
+        return Err(LineFault::Refused(InputRefusal::BadLine));
+    }
+    reading.seeds = Some(read_seeds(alloc, tokens)?);
+    Ok(())
+}
+
+/// Each token as a seed, from left to right.
+fn read_seeds(alloc: Global, mut tokens: Tokens<'_>) -> Result<Vec<u32>, LineFault>
+    ensures seeds { IfOk result (λ seeds. AreSeeds (length tokens.entry) seeds.items) }
+    ensures read { MatchResult result (λ seeds. each (number_read 1 2147483646) tokens.entry ≡ Ok seeds.items) (λ fault. Fails fault (each (number_read 1 2147483646) tokens.entry)) }
+{
+    let mut seeds = Vec::new(alloc);
+    while let Some(token) = tokens.next_token() {
+        seeds.push(number_between(1, 2147483646, token)?)?;
+    }
+    Ok(seeds)
+}
+
+/// `limits T C H`
+fn read_limits(reading: &mut Reading, mut tokens: Tokens<'_>) -> Result<(), LineFault>
+    ensures { Gives reading.new result (header_line_read reading.old HeaderWord.Limits tokens.entry) }
+{
+    let tickets = tokens.expected()?;
+    let currencies = tokens.expected()?;
+    let threads = tokens.only()?;
+    let tickets = number_between(1, 65535, tickets)?;
+    let currencies = number_between(1, 4096, currencies)?;
+    let threads = number_between(1, 4096, threads)?;
+    reading.tickets = tickets;
+    reading.currencies = currencies;
+    reading.threads = threads;
+    Ok(())
+}

@@ -1,0 +1,112 @@
+//! What the bytes of an input say.
+ghost use Rattle.std.specs.Prelude.{◌≡◌, ◌≤◌, OnOk, IfOk, Ok};
+ghost use Rattle.lot_machine.specs.Grammar.{program_in, later_line as later_line_read, line_outside as line_outside_read, read_line as read_line_read};
+ghost use Rattle.lot_machine.specs.Words.{word_in, header_words, body_words};
+
+use crate::body::body_line;
+use crate::fault::LineFault;
+use crate::header::{first_line, header_line};
+use crate::reading::Reading;
+use crate::script_lines::script_line;
+use crate::tokens::{Tokens, begins_comment, is_printable, len_before};
+use crate::words::{body_word, header_word, script_word};
+use crate::{ParseFault, Program};
+use lot_machine::{InputFault, InputRefusal};
+use std::alloc::Global;
+
+/// What the bytes of an input say, or why they aren't read. The fault of the least line is answered. What stands in an `Ok`
+/// is exactly what the bytes say; of an `Err` nothing is stated but that it comes, since some words aren't served yet.
+pub fn parse(alloc: Global, bytes: &[u8]) -> Result<Program, ParseFault>
+    ensures { IfOk result (λ program. program_in bytes.now ≡ Ok program) }
+{
+    let mut reading = None;
+    let mut rest = bytes;
+    let mut number = 0u32;
+    let mut end = 0;
+    while !rest.is_empty() {
+        let len = len_before(b'\n', rest);
+        let whole = (len + 1).min(rest.len());
+        end += whole;
+        number += 1;
+        match read_line(alloc, &mut reading, number, end, &rest[..len]) {
+            Ok(()) => rest = &rest[whole..],
+            Err(fault) => return Err(fault.on_line(number)),
+        }
+    }
+    match reading {
+        Some(reading) => reading.into_program(alloc),
+        None => Err(ParseFault::Input(InputFault {
+            line: number.max(1),
+            refusal: InputRefusal::BadHeader,
+        })),
+    }
+}
+
+/// Reads the line of this number, up to whose end the input has so many bytes.
+fn read_line(
+    alloc: Global,
+    reading: &mut Option<Reading>,
+    number: u32,
+    end: usize,
+    line: &[u8],
+) -> Result<(), LineFault>
+    ensures within { OnOk result (end ≤ 16777216) }
+    ensures read { OnOk result (read_line_read number end reading.old line.now ≡ Ok reading.new) }
+{
+    if 4096 < line.len() || 16777216 < end {
+        return Err(LineFault::Refused(InputRefusal::TooLong));
+    }
+    let mut tokens = Tokens::of_line(line);
+    let Some(word) = tokens.next_token() else {
+        return Ok(());
+    };
+    if begins_comment(word) {
+        return Ok(());
+    }
+    if !is_printable(line) {
+        return Err(LineFault::Refused(InputRefusal::BadLine));
+    }
+    match reading {
+        None => *reading = Some(first_line(alloc, word, tokens)?),
+        Some(reading) => later_line(alloc, number, reading, word, tokens)?,
+    }
+    Ok(())
+}
+
+/// A line behind the first, by its first token.
+fn later_line(
+    alloc: Global,
+    number: u32,
+    reading: &mut Reading,
+    word: &[u8],
+    tokens: Tokens<'_>,
+) -> Result<(), LineFault>
+    ensures { OnOk result (later_line_read number reading.old reading.old.unclosed word.now tokens.entry ≡ Ok reading.new) }
+{
+    match reading.unclosed.take() {
+        Some(script) => match script_word(word) {
+            Some(word) => script_line(reading, script, word, tokens),
+            None => Err(LineFault::Refused(InputRefusal::BadLine)),
+        },
+        None => line_outside(alloc, number, reading, word, tokens),
+    }
+}
+
+/// A line outside scripts.
+fn line_outside(
+    alloc: Global,
+    number: u32,
+    reading: &mut Reading,
+    word: &[u8],
+    tokens: Tokens<'_>,
+) -> Result<(), LineFault>
+    ensures { OnOk result (line_outside_read number reading.old (word_in header_words word.now) (word_in body_words word.now) tokens.entry ≡ Ok reading.new) }
+{
+    if let Some(word) = header_word(word) {
+        return header_line(alloc, reading, word, tokens);
+    }
+    match body_word(word) {
+        Some(word) => body_line(alloc, number, reading, word, tokens),
+        None => Err(LineFault::Refused(InputRefusal::BadLine)),
+    }
+}

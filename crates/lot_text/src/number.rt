@@ -1,0 +1,98 @@
+//! Numbers.
+ghost use Rattle.std.specs.Prelude.{◌≡◌, ◌≤◌, ◌+◌, ◌*◌, true, IfOk};
+ghost use Rattle.std.specs.Char.{is_ascii_digit, digit_value};
+ghost use Rattle.std.specs.List.{list_all};
+ghost use Rattle.lot_machine.specs.Bounds.{IsBetween};
+ghost use Rattle.std.specs.Str.Parse.{digits_value};
+ghost use Rattle.lot_machine.specs.Lines.{is_numeral as is_numeral_token, number_of};
+ghost use Rattle.lot_machine.specs.Reading.{number_between as number_read, any_number as any_number_read, actor_below as actor_read};
+ghost use Rattle.lot_text.specs.Numbers.{within_64_bits};
+
+use lot_machine::InputRefusal;
+
+/// Whether the token is one or more digits, without a leading zero but in `0` itself.
+fn is_numeral(token: &[u8]) -> bool
+    ensures { result ≡ is_numeral_token token.now }
+{
+    if token.is_empty() {
+        return false;
+    }
+    if token.len() > 1 && token[0] == b'0' {
+        return false;
+    }
+    are_digits(token)
+}
+
+/// Whether each byte is a digit.
+fn are_digits(token: &[u8]) -> bool
+    ensures { result ≡ list_all is_ascii_digit token.now }
+{
+    token.iter().all(|b| b.is_ascii_digit())
+}
+
+/// The number that the digits write, or `None` where it has more than 64 bits.
+fn value(digits: &[u8]) -> Option<u64>
+    requires { list_all is_ascii_digit digits.now ≡ true }
+    ensures { result ≡ within_64_bits (digits_value 10 digits.now) }
+{
+    let mut value = 0u64;
+    for digit in digits {
+        match with_digit(value, *digit) {
+            Some(next) => value = next,
+            None => return None,
+        }
+    }
+    Some(value)
+}
+
+/// The number that a digit makes behind those of this one.
+fn with_digit(value: u64, digit: u8) -> Option<u64>
+    requires { is_ascii_digit digit ≡ true }
+    ensures { result ≡ within_64_bits (value * 10 + digit_value digit) }
+{
+    let tens = value.checked_mul(10)?;
+    tens.checked_add(u64::from(digit - b'0'))
+}
+
+/// The number that the token is, if it is one.
+pub(crate) fn number(token: &[u8]) -> Option<u64>
+    ensures { result ≡ number_of token.now }
+{
+    if is_numeral(token) {
+        value(token)
+    } else {
+        None
+    }
+}
+
+/// A number from the first up to the last.
+pub(crate) fn number_between(first: u32, last: u32, token: &[u8]) -> Result<u32, InputRefusal>
+    ensures between { IfOk result (IsBetween first last) }
+    ensures read { result ≡ number_read first last token.now }
+{
+    let number = number(token).ok_or(InputRefusal::BadNumber)?;
+    if number < u64::from(first) || u64::from(last) < number {
+        return Err(InputRefusal::BadNumber);
+    }
+    Ok(number as u32)
+}
+
+/// An amount or a ticket's number in a command, which the kernel judges.
+pub(crate) fn any_number(token: &[u8]) -> Result<u64, InputRefusal>
+    ensures { result ≡ any_number_read token.now }
+{
+    number(token).ok_or(InputRefusal::BadNumber)
+}
+
+/// An actor: 0 is the console, and the others are processors.
+pub(crate) fn actor_below(processors: u32, token: &[u8]) -> Result<u8, InputRefusal>
+    requires { processors ≤ 64 }
+    ensures below { IfOk result (λ actor. actor ≤ processors) }
+    ensures read { result ≡ actor_read processors token.now }
+{
+    let number = number(token).ok_or(InputRefusal::BadNumber)?;
+    if u64::from(processors) < number {
+        return Err(InputRefusal::BadActor);
+    }
+    Ok(number as u8)
+}

@@ -1,0 +1,81 @@
+//! What an input says.
+ghost use Rattle.std.specs.Prelude.{◌≡◌};
+ghost use Rattle.lot_machine.specs.State.{sizes_of};
+ghost use Rattle.lot_text.specs.Programs.{IsProgram};
+
+use lot_machine::{Command, Limits};
+use lot_script::Script;
+use std::marker::Model;
+
+/// A system, its commands, how many turns each processor has in a free run, and whose turns come in a scheduled one.
+#[derive(Debug, Drop)]
+pub struct Program {
+    pub(crate) limits: Limits,
+    pub(crate) seeds: Vec<u32>,
+    pub(crate) turns: u32,
+    pub(crate) scripts: Vec<Script>,
+    pub(crate) commands: Vec<Command>,
+    pub(crate) schedule: Vec<u8>,
+}
+
+impl Model for Program {
+    ghost use Rattle.lot_machine.specs.State.{sizes_of};
+    ghost use Rattle.lot_machine.specs.World.{Program as ProgramRecord};
+    ghost use Rattle.lot_text.specs.Programs.{IsProgram};
+
+    ghost Value = { ProgramRecord };
+
+    ghost view = { λ p. record { limits = sizes_of p.limits; seeds = p.seeds.items; turns = p.turns; scripts = p.scripts.items; commands = p.commands.items; schedule = p.schedule.items } };
+
+    ghost invariant = { λ p. IsProgram (record { limits = sizes_of p.limits; seeds = p.seeds.items; turns = p.turns; scripts = p.scripts.items; commands = p.commands.items; schedule = p.schedule.items }) };
+}
+
+impl Program {
+    /// How much there is room for, the processors, the quantum and the unit.
+    pub fn limits(&self) -> Limits
+        ensures limits { sizes_of result ≡ self.now.limits }
+        ensures legal { IsProgram self.now }
+    {
+        self.limits
+    }
+
+    /// The seeds of the processors' generators, 1 to 2147483646 each, processor 1 first.
+    pub fn seeds(&self) -> &[u32]
+        ensures seeds { result.now ≡ self.now.seeds }
+        ensures legal { IsProgram self.now }
+    {
+        self.seeds.as_slice()
+    }
+
+    /// The turns of each processor in a free run, 0 to 10000.
+    pub fn turns(&self) -> u32
+        ensures turns { result ≡ self.now.turns }
+        ensures legal { IsProgram self.now }
+    {
+        self.turns
+    }
+
+    /// The scripts, of which the first has number 1.
+    pub fn scripts(&self) -> &[Script]
+        ensures scripts { result.now ≡ self.now.scripts }
+        ensures legal { IsProgram self.now }
+    {
+        self.scripts.as_slice()
+    }
+
+    /// The console's commands, in order, at most 100000.
+    pub fn commands(&self) -> &[Command]
+        ensures commands { result.now ≡ self.now.commands }
+        ensures legal { IsProgram self.now }
+    {
+        self.commands.as_slice()
+    }
+
+    /// Whose turns come in a scheduled run, 0 for the console and else a processor's number, at most 1000000.
+    pub fn schedule(&self) -> &[u8]
+        ensures schedule { result.now ≡ self.now.schedule }
+        ensures legal { IsProgram self.now }
+    {
+        self.schedule.as_slice()
+    }
+}

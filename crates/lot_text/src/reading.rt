@@ -1,0 +1,231 @@
+//! What has been read of an input so far.
+ghost use Rattle.std.specs.Prelude.{◌≡◌, ◌<◌, length, map, option_map, position, unwrap_or, IfOk, IfSome, Ok};
+ghost use Rattle.std.specs.List.{range_with_len};
+ghost use Rattle.std.specs.Option.{ForSome};
+ghost use Rattle.std.specs.Str.{bytes_eq};
+ghost use Rattle.lot_machine.specs.Bounds.{IsBetween, IsUnit};
+ghost use Rattle.lot_machine.specs.Grammar.{add_command as add_command_read, closed_program, limits_of, script_names};
+ghost use Rattle.lot_machine.specs.Reading.{number_named, opening_reading};
+ghost use Rattle.lot_machine.specs.State.{sizes_of};
+ghost use Rattle.lot_kernel.specs.Served.{IsServedCommand};
+ghost use Rattle.lot_text.specs.Faults.{Gives};
+ghost use Rattle.lot_text.specs.Readings.{AreSeeds};
+
+use crate::fault::LineFault;
+use crate::{ParseFault, Program};
+use lot_machine::{Command, InputFault, InputRefusal, Limits, Line, Name};
+use lot_script::Script;
+use std::alloc::{AllocError, Global};
+use std::marker::Model;
+
+/// A script that was closed.
+#[derive(Debug, Drop)]
+pub(crate) struct NamedScript {
+    pub(crate) name: Name,
+    pub(crate) script: Script,
+}
+
+impl Model for NamedScript {
+    ghost use Rattle.lot_machine.specs.Reading.{NamedScript as NamedScriptRecord};
+
+    ghost Value = { NamedScriptRecord };
+
+    ghost view = { λ s. record { name = s.name; lines = s.script } };
+}
+
+/// A script that isn't closed yet: where it began, and its lines so far.
+#[derive(Debug, Drop)]
+pub(crate) struct OpenScript {
+    pub(crate) name: Name,
+    pub(crate) begins: u32,
+    pub(crate) lines: Vec<Line>,
+}
+
+impl Model for OpenScript {
+    ghost use Rattle.lot_machine.specs.Reading.{OpenScript as OpenScriptRecord};
+    ghost use Rattle.lot_text.specs.Readings.{IsOpenScript};
+
+    ghost Value = { OpenScriptRecord };
+
+    ghost view = { λ s. record { name = s.name; begins = s.begins; lines = s.lines.items; loops = 0 } };
+
+    ghost invariant = { λ s. IsOpenScript (record { name = s.name; begins = s.begins; lines = s.lines.items; loops = 0 }) };
+}
+
+/// What the lines since the first have said. The header's place is that of its last line, and 6 from the body on.
+#[derive(Debug, Drop)]
+pub(crate) struct Reading {
+    pub(crate) place: u32,
+    pub(crate) unit: u32,
+    pub(crate) processors: u32,
+    pub(crate) quantum: u32,
+    pub(crate) seeds: Option<Vec<u32>>,
+    pub(crate) tickets: u32,
+    pub(crate) currencies: u32,
+    pub(crate) threads: u32,
+    pub(crate) scripts: Vec<NamedScript>,
+    pub(crate) unclosed: Option<OpenScript>,
+    pub(crate) commands: Vec<Command>,
+    pub(crate) schedule: Vec<u8>,
+}
+
+impl Model for Reading {
+    ghost use Rattle.std.specs.Prelude.{[], option_map};
+    ghost use Rattle.lot_machine.specs.Reading.{Reading as ReadingRecord};
+    ghost use Rattle.lot_text.specs.Readings.{IsReading};
+
+    ghost Value = { ReadingRecord };
+
+    ghost view = { λ r. record { place = r.place; unit = r.unit; processors = r.processors; quantum = r.quantum; turns = 0; seeds = option_map (λ s. s.items) r.seeds; tickets = r.tickets; currencies = r.currencies; threads = r.threads; ports = []; mutexes = []; scripts = r.scripts.items; unclosed = r.unclosed; commands = r.commands.items; schedule = r.schedule.items } };
+
+    ghost invariant = { λ r. IsReading (record { place = r.place; unit = r.unit; processors = r.processors; quantum = r.quantum; turns = 0; seeds = option_map (λ s. s.items) r.seeds; tickets = r.tickets; currencies = r.currencies; threads = r.threads; ports = []; mutexes = []; scripts = r.scripts.items; unclosed = r.unclosed; commands = r.commands.items; schedule = r.schedule.items }) };
+}
+
+impl Reading {
+    /// What is known behind the first line, which says the unit.
+    pub(crate) fn new(alloc: Global, unit: u32) -> Self
+        requires { IsUnit unit }
+        ensures { result ≡ opening_reading unit }
+    {
+        Reading {
+            place: 0,
+            unit,
+            processors: 1,
+            quantum: 100,
+            seeds: None,
+            tickets: 65535,
+            currencies: 4096,
+            threads: 4096,
+            scripts: Vec::new(alloc),
+            unclosed: None,
+            commands: Vec::new(alloc),
+            schedule: Vec::new(alloc),
+        }
+    }
+
+    /// One command more.
+    pub(crate) fn add_command(&mut self, command: Command) -> Result<(), LineFault>
+        requires { IsServedCommand command }
+        ensures { Gives self.new result (add_command_read self.old command) }
+    {
+        if 100000 <= self.commands.len() {
+            return Err(LineFault::Refused(InputRefusal::TooLong));
+        }
+        self.commands.push(command)?;
+        Ok(())
+    }
+
+    /// The number of the script with this name, or 0 where no script so far has it.
+    pub(crate) fn script_number(&self, name: &[u8]) -> u32
+        ensures { result ≡ unwrap_or (number_named (script_names self.now) name.now) 0 }
+    {
+        match place_named(self.scripts.as_slice(), name) {
+            Some(place) => place as u32 + 1,
+            None => 0,
+        }
+    }
+
+    /// The limits that were read.
+    fn limits(&self) -> Limits
+        ensures { sizes_of result ≡ limits_of self.now }
+    {
+        let scripts = self.scripts.len() as u32;
+        let limits = Limits::new(
+            self.tickets,
+            self.currencies,
+            self.threads,
+            0,
+            0,
+            self.processors,
+            scripts,
+            self.quantum,
+        );
+        limits.unwrap().with_unit(self.unit).unwrap()
+    }
+
+    /// What was read, where no script is open.
+    pub(crate) fn into_program(self, alloc: Global) -> Result<Program, ParseFault>
+        ensures { IfOk result (λ program. closed_program self self.unclosed ≡ Ok program) }
+    {
+        let limits = self.limits();
+        let Reading {
+            place: _,
+            unit: _,
+            processors,
+            quantum: _,
+            seeds,
+            tickets: _,
+            currencies: _,
+            threads: _,
+            scripts,
+            unclosed,
+            commands,
+            schedule,
+        } = self;
+        if let Some(script) = unclosed {
+            return Err(ParseFault::Input(InputFault {
+                line: script.begins,
+                refusal: InputRefusal::OpenScript,
+            }));
+        }
+        let seeds = seeds_or_own(alloc, seeds, processors)?;
+        let scripts = without_names(alloc, scripts)?;
+        Ok(Program {
+            limits,
+            seeds,
+            turns: 0,
+            scripts,
+            commands,
+            schedule,
+        })
+    }
+}
+
+/// The place of the first script with this name.
+fn place_named(scripts: &[NamedScript], name: &[u8]) -> Option<usize>
+    ensures place { result ≡ position (λ s. bytes_eq name.now s.name) scripts.now }
+    ensures within { IfSome result (λ place. place < length scripts.now) }
+{
+    scripts.iter().position(|s| name == s.name.as_bytes())
+}
+
+/// The seeds that were given; where they are left out, processor p has seed p.
+fn seeds_or_own(
+    alloc: Global,
+    given: Option<Vec<u32>>,
+    processors: u32,
+) -> Result<Vec<u32>, AllocError>
+    requires given { ForSome given (λ s. AreSeeds processors s.items) }
+    requires processors { IsBetween 1 64 processors }
+    ensures seeds { IfOk result (λ s. AreSeeds processors s.items) }
+    ensures read { IfOk result (λ s. s.items ≡ unwrap_or (option_map (λ g. g.items) given) (range_with_len 1 processors)) }
+{
+    match given {
+        Some(seeds) => Ok(seeds),
+        None => own_seeds(alloc, processors),
+    }
+}
+
+/// For each processor its number as its seed.
+fn own_seeds(alloc: Global, processors: u32) -> Result<Vec<u32>, AllocError>
+    requires { IsBetween 1 64 processors }
+    ensures seeds { IfOk result (λ s. AreSeeds processors s.items) }
+    ensures own { IfOk result (λ s. s.items ≡ range_with_len 1 processors) }
+{
+    let mut seeds = Vec::new(alloc);
+    for processor in 0..processors {
+        seeds.push(processor + 1)?;
+    }
+    Ok(seeds)
+}
+
+/// The scripts alone.
+fn without_names(alloc: Global, named: Vec<NamedScript>) -> Result<Vec<Script>, AllocError>
+    ensures { IfOk result (λ scripts. scripts.items ≡ map (λ s. s.lines) named.items) }
+{
+    let mut scripts = Vec::new(alloc);
+    for script in named {
+        scripts.push(script.script)?;
+    }
+    Ok(scripts)
+}

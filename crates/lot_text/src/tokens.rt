@@ -1,0 +1,115 @@
+//! The tokens of a line.
+ghost use Rattle.std.specs.Prelude.{◌≡◌, ◌≢◌, ◌==◌, ◌≤◌, not, length, [], ◌∷◌, ◌↔◌, IsTrue, MatchOption, MatchResult};
+ghost use Rattle.std.specs.List.{prefix_len};
+ghost use Rattle.lot_machine.specs.Lines.{tokens_of, is_comment, is_printable as is_printable_line};
+
+use lot_machine::InputRefusal;
+use std::marker::Model;
+
+/// The tokens of a line that are left.
+#[derive(Debug, Drop)]
+pub(crate) struct Tokens<'a> {
+    rest: &'a [u8],
+}
+
+impl<'a> Model for Tokens<'a> {
+    ghost use Rattle.std.specs.Prelude.{List, ℕ};
+    ghost use Rattle.lot_machine.specs.Lines.{tokens_of};
+
+    ghost Value = { List (List ℕ) };
+
+    ghost view = { λ t. tokens_of t.rest.now };
+}
+
+impl<'a> Tokens<'a> {
+    /// All tokens of the line.
+    pub(crate) fn of_line(line: &'a [u8]) -> Self
+        ensures { result ≡ tokens_of line.now }
+    {
+        Tokens { rest: line }
+    }
+
+    /// The next token, or `None` at the end.
+    pub(crate) fn next_token(&mut self) -> Option<&'a [u8]>
+        ensures { MatchOption result ((self.old ≡ []) × (self.new ≡ [])) (λ token. self.old ≡ token.now ∷ self.new) }
+    {
+        let word = &self.rest[spaces_in_front(self.rest)..];
+        if word.is_empty() {
+            return None;
+        }
+        let len = len_before(b' ', word);
+        self.rest = &word[len..];
+        Some(&word[..len])
+    }
+
+    /// The next token, where there has to be one.
+    pub(crate) fn expected(&mut self) -> Result<&'a [u8], InputRefusal>
+        ensures { MatchResult result (λ token. self.old ≡ token.now ∷ self.new) (λ e. (e ≡ InputRefusal.BadLine) × (self.old ≡ [])) }
+    {
+        self.next_token().ok_or(InputRefusal::BadLine)
+    }
+
+    /// The last token, where there has to be one and no other.
+    pub(crate) fn only(mut self) -> Result<&'a [u8], InputRefusal>
+        ensures { MatchResult result (λ token. self.entry ≡ token.now ∷ []) (λ e. (e ≡ InputRefusal.BadLine) × (length self.entry ≢ 1)) }
+    {
+        let token = self.expected()?;
+        self.none()?;
+        Ok(token)
+    }
+
+    /// The end, where there has to be no token.
+    pub(crate) fn none(mut self) -> Result<(), InputRefusal>
+        ensures { MatchResult result (λ _. self.entry ≡ []) (λ e. (e ≡ InputRefusal.BadLine) × (length self.entry ≢ 0)) }
+    {
+        match self.next_token() {
+            Some(_) => Err(InputRefusal::BadLine),
+            None => Ok(()),
+        }
+    }
+
+    /// Whether there are so many tokens.
+    pub(crate) fn has_len(&self, count: usize) -> bool
+        ensures { IsTrue result ↔ (length self.now ≡ count) }
+    {
+        let mut left = Tokens { rest: self.rest };
+        let mut missing = count;
+        while missing > 0 {
+            if left.next_token().is_none() {
+                return false;
+            }
+            missing -= 1;
+        }
+        left.next_token().is_none()
+    }
+}
+
+/// How many spaces the bytes begin with.
+fn spaces_in_front(bytes: &[u8]) -> usize
+    ensures spaces { result ≡ prefix_len (λ b. b == 32) bytes.now }
+    ensures within { result ≤ length bytes.now }
+{
+    bytes.iter().take_while(|b| **b == b' ').count()
+}
+
+/// How many bytes stand before the first of this value, or how many there are where there is none.
+pub(crate) fn len_before(byte: u8, bytes: &[u8]) -> usize
+    ensures others { result ≡ prefix_len (λ b. not (b == byte)) bytes.now }
+    ensures within { result ≤ length bytes.now }
+{
+    bytes.iter().take_while(|b| **b != byte).count()
+}
+
+/// Whether the token begins a comment.
+pub(crate) fn begins_comment(token: &[u8]) -> bool
+    ensures { result ≡ is_comment token.now }
+{
+    token.first() == Some(&b'#')
+}
+
+/// Whether each byte of the line is a space or prints.
+pub(crate) fn is_printable(line: &[u8]) -> bool
+    ensures { result ≡ is_printable_line line.now }
+{
+    line.iter().all(|b| 32 <= *b && *b <= 126)
+}

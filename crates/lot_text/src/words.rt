@@ -1,0 +1,85 @@
+//! The words that begin lines.
+ghost use Rattle.std.specs.Prelude.{◌≡◌, take, drop};
+ghost use Rattle.lot_machine.specs.Words.{word_in, header_words, body_words, script_words};
+
+use lot_machine::{BodyWord, HeaderWord, ScriptWord};
+
+/// The word of the header that the token is, if it is one.
+pub(crate) fn header_word(token: &[u8]) -> Option<HeaderWord>
+    ensures { result ≡ word_in header_words token.now }
+{
+    match token {
+        b"lottery" => Some(HeaderWord::Lottery),
+        b"processors" => Some(HeaderWord::Processors),
+        b"quantum" => Some(HeaderWord::Quantum),
+        b"turns" => Some(HeaderWord::Turns),
+        b"seed" => Some(HeaderWord::Seed),
+        b"limits" => Some(HeaderWord::Limits),
+        _ => None,
+    }
+}
+
+/// The word of the body that the token is, if it is one.
+pub(crate) fn body_word(token: &[u8]) -> Option<BodyWord>
+    ensures { result ≡ word_in body_words token.now }
+{
+    match early_body_word(token) {
+        Some(word) => Some(word),
+        None => later_body_word(token),
+    }
+}
+
+/// The same, of the words up to `fund`.
+fn early_body_word(token: &[u8]) -> Option<BodyWord>
+    ensures { result ≡ word_in (take 8 body_words) token.now }
+{
+    match token {
+        b"port" => Some(BodyWord::Port),
+        b"mutex" => Some(BodyWord::Mutex),
+        b"script" => Some(BodyWord::Script),
+        b"mktkt" => Some(BodyWord::MakeTicket),
+        b"rmtkt" => Some(BodyWord::RemoveTicket),
+        b"mkcur" => Some(BodyWord::MakeCurrency),
+        b"rmcur" => Some(BodyWord::RemoveCurrency),
+        b"fund" => Some(BodyWord::Fund),
+        _ => None,
+    }
+}
+
+/// The same, of the words from `unfund` on.
+fn later_body_word(token: &[u8]) -> Option<BodyWord>
+    ensures { result ≡ word_in (drop 8 body_words) token.now }
+{
+    match token {
+        b"unfund" => Some(BodyWord::Unfund),
+        b"mkthr" => Some(BodyWord::MakeThread),
+        b"fundx" => Some(BodyWord::MakeFunded),
+        b"lstkt" => Some(BodyWord::ListTickets),
+        b"lscur" => Some(BodyWord::ListCurrencies),
+        b"lsthr" => Some(BodyWord::ListThreads),
+        b"schedule" => Some(BodyWord::Schedule),
+        b"runs" => Some(BodyWord::Runs),
+        _ => None,
+    }
+}
+
+/// The word of a script that the token is, if it is one.
+pub(crate) fn script_word(token: &[u8]) -> Option<ScriptWord>
+    ensures { result ≡ word_in script_words token.now }
+{
+    match token {
+        b"compute" => Some(ScriptWord::Compute),
+        b"set" => Some(ScriptWord::Set),
+        b"add" => Some(ScriptWord::Add),
+        b"loop" => Some(ScriptWord::Loop),
+        b"end" => Some(ScriptWord::End),
+        b"yield" => Some(ScriptWord::Yield),
+        b"reply" => Some(ScriptWord::Reply),
+        b"call" => Some(ScriptWord::Call),
+        b"receive" => Some(ScriptWord::Receive),
+        b"lock" => Some(ScriptWord::Lock),
+        b"unlock" => Some(ScriptWord::Unlock),
+        b"endscript" => Some(ScriptWord::EndScript),
+        _ => None,
+    }
+}
