@@ -1,0 +1,5 @@
+pub mod Digits
+pub mod Sums
+pub mod Levels
+pub mod Descent
+pub mod Visits

@@ -1,0 +1,171 @@
+//! A tree of partial sums: weights at places, their total at once, and the place that a number
+//! draws, which is the first whose running sum is greater than the number.
+//!
+//! Cut the places into blocks of 1, 2, 4, .. places. Of the whole blocks of one size each second
+//! one, from the first on, keeps the sum of its weights, at its last place. No two blocks share
+//! that place, so there is at most one partial sum for each weight, and a descent that halves the
+//! places in question reads at most one for each binary digit of their number.
+#![tactic(auto)]
+
+ghost use Rattle.std.specs.Prelude.{
+  ◌≡◌,
+  ℕ,
+  ◌+◌,
+  ◌*◌,
+  ◌^◌,
+  ◌<◌,
+  ◌≤◌,
+  List,
+  length,
+  sum,
+  slice_index,
+  slice_set,
+  IfOk,
+  replicate,
+};
+ghost use Rattle.lot_machine.specs.Lottery.{IsFirstAbove, first_above, running_sums};
+ghost use Rattle.lot_tree.specs.Sums.{ArePartialSumsAt, IsSumTree};
+ghost use Rattle.lot_tree.specs.Visits.{CountsReads, counted_up};
+
+use std::alloc::{AllocError, Global};
+use std::marker::Model;
+
+/// Weights at the places from 0 on, each with the partial sums that `find` reads.
+#[derive(Debug, Drop)]
+pub struct SumTree {
+    weights: Vec<u128>,
+    sums: Vec<u128>,
+    total: u128,
+}
+
+// Clauses see the weights.
+impl Model for SumTree {
+    ghost Value = { List ℕ };
+
+    ghost view = { λ t. t.weights.items };
+
+    ghost invariant = { λ t. IsSumTree t.weights.items t.sums.items t.total };
+}
+
+impl SumTree {
+    /// Weights of 0 at the places from 0 to `n - 1`, or an error if memory runs out.
+    pub fn new(alloc: Global, n: usize) -> Result<SumTree, AllocError>
+        ensures { IfOk result (λ tree. tree ≡ replicate n 0) }
+    {
+        let weights = vec![in alloc; 0; n]?;
+        let sums = vec![in alloc; 0; n]?;
+        Ok(SumTree {
+            weights,
+            sums,
+            total: 0,
+        })
+    }
+
+    /// The number of places.
+    pub fn len(&self) -> usize
+        ensures { result ≡ length self.now }
+    {
+        self.weights.len()
+    }
+
+    /// The weight at the place `i`, which is less than the number of places.
+    pub fn get(&self, i: usize) -> u128
+        requires { i < length self.now }
+        ensures { result ≡ slice_index self.now i }
+    {
+        self.weights[i]
+    }
+
+    /// Puts the weight `w` at the place `i`, which is less than the number of places. The sum of
+    /// the weights has to stay below 2^68.
+    pub fn set(&mut self, i: usize, w: u128)
+        requires within { i < length self.old }
+        requires limited { sum (slice_set self.old i w) < 2 ^ 68 }
+        ensures { self.new ≡ slice_set self.old i w }
+    {
+        let old = self.get(i);
+        set_partial_sums(&mut self.sums, &self.weights, i, w);
+        self.weights[i] = w;
+        self.total = self.total - old + w;
+    }
+
+    /// The sum of the weights, which is below 2^68.
+    pub fn total(&self) -> u128
+        ensures value { result ≡ sum self.now }
+        ensures limited { result < 2 ^ 68 }
+    {
+        self.total
+    }
+
+    /// The first place whose running sum, its own weight with all before it, is greater than `d`,
+    /// which is less than the total. Adds to `visits` one for each partial sum that it reads: one
+    /// or more, and at most as many as the number of places has binary digits. The count stops at
+    /// the greatest `u64`.
+    pub fn find(&self, d: u128, visits: &mut u64) -> usize
+        requires { d < sum self.now }
+        ensures within { result < length self.now }
+        ensures first_above { IsFirstAbove self.now d result }
+        ensures walk { result ≡ first_above d (running_sums 0 self.now) }
+        ensures counted { CountsReads (length self.now) visits.old visits.new }
+    {
+        let n = self.sums.len();
+        let mut base = 0;
+        let mut rest = d;
+        for level in (0..binary_digits(n)).rev() {
+            let size = 1usize << level;
+            // A left half that is cut short has all the places that are left.
+            if size <= n - base {
+                let left = read_partial_sum(&self.sums, base + size - 1, visits);
+                if left <= rest {
+                    rest -= left;
+                    base += size;
+                }
+            }
+        }
+        base
+    }
+}
+
+/// How many binary digits `n` has: 0 for 0, and 10 for 1000.
+fn binary_digits(n: usize) -> u32
+    ensures enough { n < 2 ^ result }
+    ensures needed { 2 ^ result ≤ 2 * n + 1 }
+    ensures within { result ≤ 64 }
+{
+    usize::BITS - n.leading_zeros()
+}
+
+/// The partial sum at `place`, counted in `visits`. A descent reads them in no other way.
+fn read_partial_sum(sums: &[u128], place: usize, visits: &mut u64) -> u128
+    requires { place < length sums.now }
+    ensures value { result ≡ slice_index sums.now place }
+    ensures counted { visits.new ≡ counted_up visits.old 1 }
+{
+    *visits = visits.saturating_add(1);
+    sums[place]
+}
+
+/// Takes the partial sums of `weights` to those of the weights with `w` at the place `i`.
+fn set_partial_sums(sums: &mut [u128], weights: &[u128], i: usize, w: u128)
+    requires within { i < length weights.now }
+    requires same_length { length sums.old ≡ length weights.now }
+    requires limited { sum (slice_set weights.now i w) < 2 ^ 68 }
+    requires partial { (level : ℕ) → ArePartialSumsAt weights.now sums.old level }
+    ensures partial { (level : ℕ) → ArePartialSumsAt (slice_set weights.now i w) sums.new level }
+{
+    let n = weights.len();
+    let old = weights[i];
+    for level in 0..binary_digits(n) {
+        let size = 1usize << level;
+        let block = i >> level;
+        let from = block * size;
+        // The odd blocks and the one that is cut short keep no partial sum.
+        if block % 2 == 0 && size <= n - from {
+            let last = from + size - 1;
+            sums[last] = sums[last] - old + w;
+        }
+    }
+}
+
+#[cfg(test)]
+mod tests;
