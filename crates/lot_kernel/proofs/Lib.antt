@@ -3,5 +3,4 @@ pub mod NumberedLemmas
 pub mod PlainLemmas
 pub mod RowLemmas
 pub mod RunningLemmas
-pub mod StepLemmas
 pub mod ValueLemmas
