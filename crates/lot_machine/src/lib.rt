@@ -7,6 +7,7 @@ mod drawn;
 mod event;
 mod funding;
 mod input;
+pub mod kept;
 pub mod laws;
 mod limits;
 mod name;

@@ -1,0 +1,52 @@
+//! What a change of the state keeps of what is true of each state that is reached: laws of the machine, with nothing to run.
+ghost use Rattle.std.specs.Prelude.{◌≡◌, ◌++◌, ◌∷◌, [], Some, None, true, false, Bool, List, ℕ, length, slice_get, slice_set};
+ghost use Rattle.lot_machine.specs.declared.command.Command.{Command as Asked};
+ghost use Rattle.lot_machine.specs.declared.ticket.Target.{Target};
+ghost use Rattle.lot_machine.specs.declared.ticket.Target.TheVariants.{Currency};
+ghost use Rattle.lot_machine.specs.Funding.{Funding, WouldCycle, would_cycle, with_new_ticket, without_ticket, with_target, currency_funded, issuer_of, backing_currency};
+ghost use Rattle.lot_machine.specs.Facts.{HasNoCycle, FundsThere};
+ghost use Rattle.lot_machine.specs.State.{State, funding_of};
+ghost use Rattle.lot_machine.specs.Commands.{command_step};
+
+/// A new ticket that funds no currency makes no cycle, and tickets still fund only currencies that are there.
+pub fn new_ticket_keeps()
+    ensures no_cycle { (f : Funding) (amount issuer : ℕ) (to : Target) → currency_funded to ≡ None → HasNoCycle f → HasNoCycle (record f { tickets = with_new_ticket f.tickets amount issuer to }) }
+    ensures there { (f : Funding) (amount issuer : ℕ) (to : Target) → currency_funded to ≡ None → FundsThere f → FundsThere (record f { tickets = with_new_ticket f.tickets amount issuer to }) }
+{}
+
+/// So does a ticket that is removed,
+pub fn removed_ticket_keeps()
+    ensures no_cycle { (f : Funding) (n : ℕ) → HasNoCycle f → HasNoCycle (record f { tickets = without_ticket f.tickets n }) }
+    ensures there { (f : Funding) (n : ℕ) → FundsThere f → FundsThere (record f { tickets = without_ticket f.tickets n }) }
+{}
+
+/// and one that funds a thread or nothing then.
+pub fn unfunding_keeps()
+    ensures no_cycle { (f : Funding) (n : ℕ) (to : Target) → currency_funded to ≡ None → HasNoCycle f → HasNoCycle (record f { tickets = with_target f.tickets n to }) }
+    ensures there { (f : Funding) (n : ℕ) (to : Target) → currency_funded to ≡ None → FundsThere f → FundsThere (record f { tickets = with_target f.tickets n to }) }
+{}
+
+/// A ticket that funds a currency then makes no cycle where `WouldCycle` says none, or its test says so of a currency that
+/// is there; and tickets still fund only currencies that are there where this one is.
+pub fn funding_keeps()
+    ensures no_cycle { (f : Funding) (n issuer c : ℕ) → issuer_of f n ≡ Some issuer → ¬ WouldCycle f issuer c → HasNoCycle f
+        → HasNoCycle (record f { tickets = with_target f.tickets n (Currency c) }) }
+    ensures tested { (f : Funding) (n issuer c : ℕ) → issuer_of f n ≡ Some issuer → would_cycle f issuer c ≡ false → slice_get f.currencies c ≡ Some true → FundsThere f → HasNoCycle f
+        → HasNoCycle (record f { tickets = with_target f.tickets n (Currency c) }) }
+    ensures there { (f : Funding) (n issuer c : ℕ) → issuer_of f n ≡ Some issuer → slice_get f.currencies c ≡ Some true → FundsThere f
+        → FundsThere (record f { tickets = with_target f.tickets n (Currency c) }) }
+{}
+
+/// Which currencies are there makes no cycle. Tickets still fund only those where one more is made, and where one is
+/// removed that no ticket funds.
+pub fn currencies_keep()
+    ensures no_cycle { (f : Funding) (currencies : List Bool) → HasNoCycle f → HasNoCycle (record f { currencies = currencies }) }
+    ensures made { (f : Funding) → FundsThere f → FundsThere (record f { currencies = f.currencies ++ true ∷ [] }) }
+    ensures removed { (f : Funding) (c : ℕ) → length (backing_currency f c) ≡ 0 → FundsThere f → FundsThere (record f { currencies = slice_set f.currencies c false }) }
+{}
+
+/// No command makes a cycle, or leaves a ticket that funds a currency which isn't there.
+pub fn commands_keep()
+    ensures no_cycle { (s : State) (c : Asked) → HasNoCycle (funding_of s) → FundsThere (funding_of s) → HasNoCycle (funding_of (command_step s c).state) }
+    ensures there { (s : State) (c : Asked) → HasNoCycle (funding_of s) → FundsThere (funding_of s) → FundsThere (funding_of (command_step s c).state) }
+{}
