@@ -1,10 +1,14 @@
 //! What a change of the state keeps of what is true of each state that is reached: laws of the machine, with nothing to run.
-ghost use Rattle.std.specs.Prelude.{◌≡◌, ◌++◌, ◌∷◌, [], Some, None, true, false, Bool, List, ℕ, length, slice_get, slice_set};
+ghost use Rattle.std.specs.Prelude.{◌≡◌, ◌++◌, ◌∷◌, [], Some, None, true, false, Bool, Option, List, ℕ, length, slice_get, slice_set};
 ghost use Rattle.lot_machine.specs.declared.command.Command.{Command as Asked};
 ghost use Rattle.lot_machine.specs.declared.ticket.Target.{Target};
 ghost use Rattle.lot_machine.specs.declared.ticket.Target.TheVariants.{Currency};
 ghost use Rattle.lot_machine.specs.Funding.{Funding, WouldCycle, would_cycle, with_new_ticket, without_ticket, with_target, currency_funded, issuer_of, backing_currency};
 ghost use Rattle.lot_machine.specs.Facts.{HasNoCycle, FundsThere};
+ghost use Rattle.lot_machine.specs.Lends.{borrower, LendsLead, lends_lead};
+ghost use Rattle.lot_machine.specs.Numbered.{at_number, set_number, option_any};
+ghost use Rattle.lot_machine.specs.declared.funding.Lend.{Lend};
+ghost use Rattle.lot_machine.specs.declared.funding.Lend.TheVariants.{Nobody};
 ghost use Rattle.lot_machine.specs.State.{State, funding_of};
 ghost use Rattle.lot_machine.specs.Commands.{command_step};
 
@@ -49,4 +53,25 @@ pub fn currencies_keep()
 pub fn commands_keep()
     ensures no_cycle { (s : State) (c : Asked) → HasNoCycle (funding_of s) → FundsThere (funding_of s) → HasNoCycle (funding_of (command_step s c).state) }
     ensures there { (s : State) (c : Asked) → HasNoCycle (funding_of s) → FundsThere (funding_of s) → FundsThere (funding_of (command_step s c).state) }
+{}
+
+/// A thread that lends to another then, or to nobody, makes no cycle where no lends lead from whom it lends to back to it.
+pub fn lends_keep()
+    ensures nobody { (f : Funding) (t : ℕ) → HasNoCycle f → HasNoCycle (record f { lends = set_number f.lends t Nobody }) }
+    ensures no_cycle { (f : Funding) (t : ℕ) (lend before : Lend) → at_number f.lends t ≡ Some before → ((b : ℕ) → borrower f lend ≡ Some b → ¬ LendsLead f b t) → HasNoCycle f
+        → HasNoCycle (record f { lends = set_number f.lends t lend }) }
+    ensures tested { (f : Funding) (t : ℕ) (lend before : Lend) → at_number f.lends t ≡ Some before → option_any (λ b. lends_lead f b t) (borrower f lend) ≡ false → HasNoCycle f
+        → HasNoCycle (record f { lends = set_number f.lends t lend }) }
+    ensures one_more { (f : Funding) → HasNoCycle f → HasNoCycle (record f { lends = f.lends ++ Nobody ∷ [] }) }
+{}
+
+/// A mutex that gets free makes no cycle, nor does one that a thread owns then which lends to nobody.
+pub fn owners_keep()
+    ensures freed { (f : Funding) (m : ℕ) → HasNoCycle f → HasNoCycle (record f { owners = set_number f.owners m None }) }
+    ensures owned { (f : Funding) (m w : ℕ) → at_number f.lends w ≡ Some Nobody → HasNoCycle f → HasNoCycle (record f { owners = set_number f.owners m (Some w) }) }
+{}
+
+/// What threads lend, and who owns mutexes, is nothing to the tickets.
+pub fn lends_fund_nothing()
+    ensures { (f : Funding) (lends : List Lend) (owners : List (Option ℕ)) → FundsThere f → FundsThere (record f { lends = lends; owners = owners }) }
 {}
