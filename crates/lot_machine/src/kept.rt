@@ -1,16 +1,21 @@
 //! What a change of the state keeps of what is true of each state that is reached: laws of the machine, with nothing to run.
-ghost use Rattle.std.specs.Prelude.{◌≡◌, ◌++◌, ◌∷◌, [], Some, None, true, false, Bool, Option, List, ℕ, length, slice_get, slice_set};
+ghost use Rattle.std.specs.Prelude.{◌≡◌, ◌<◌, ◌≤◌, ◌^◌, All, IfSome, ◌++◌, ◌∷◌, [], Some, None, true, false, Bool, Option, List, ℕ, length, slice_get, slice_set};
 ghost use Rattle.lot_machine.specs.declared.command.Command.{Command as Asked};
 ghost use Rattle.lot_machine.specs.declared.ticket.Target.{Target};
 ghost use Rattle.lot_machine.specs.declared.ticket.Target.TheVariants.{Currency};
 ghost use Rattle.lot_machine.specs.Funding.{Funding, WouldCycle, would_cycle, with_new_ticket, without_ticket, with_target, currency_funded, issuer_of, backing_currency};
-ghost use Rattle.lot_machine.specs.Facts.{HasNoCycle, FundsThere};
+ghost use Rattle.lot_machine.specs.Facts.{HasNoCycle, FundsThere, RunsApart, base_value};
 ghost use Rattle.lot_machine.specs.Lends.{borrower, LendsLead, lends_lead};
 ghost use Rattle.lot_machine.specs.Numbered.{at_number, set_number, option_any};
 ghost use Rattle.lot_machine.specs.declared.funding.Lend.{Lend};
 ghost use Rattle.lot_machine.specs.declared.funding.Lend.TheVariants.{Nobody};
-ghost use Rattle.lot_machine.specs.State.{State, funding_of};
+ghost use Rattle.lot_machine.specs.State.{State, funding_of, change_record, thread_on, used_by};
 ghost use Rattle.lot_machine.specs.Commands.{command_step};
+ghost use Rattle.lot_machine.specs.Step.{step};
+ghost use Rattle.lot_machine.specs.Bounds.{IsWithinBounds};
+ghost use Rattle.lot_machine.specs.declared.event.Event.{Event};
+ghost use Rattle.lot_machine.specs.declared.record.Record.{Record};
+ghost use Rattle.lot_machine.specs.declared.record.Status.TheVariants.{Running};
 
 /// A new ticket that funds no currency makes no cycle, and tickets still fund only currencies that are there.
 pub fn new_ticket_keeps()
@@ -74,4 +79,38 @@ pub fn owners_keep()
 /// What threads lend, and who owns mutexes, is nothing to the tickets.
 pub fn lends_fund_nothing()
     ensures { (f : Funding) (lends : List Lend) (owners : List (Option ℕ)) → FundsThere f → FundsThere (record f { lends = lends; owners = owners }) }
+{}
+
+/// Each processor still has its own thread where a thread's record changes and it doesn't run then,
+pub fn stopping_keeps()
+    ensures { (change : Record → Record) (records : List Record) (t : ℕ) → ((r : Record) (p used : ℕ) → ¬ ((change r).status ≡ Running p used)) → RunsApart records
+        → RunsApart (change_record change records t) }
+{}
+
+/// or runs on a processor on which nobody ran,
+pub fn starting_keeps()
+    ensures { (change : Record → Record) (records : List Record) (t p used : ℕ) → ((r : Record) → (change r).status ≡ Running p used) → thread_on records p ≡ None → RunsApart records
+        → RunsApart (change_record change records t) }
+{}
+
+/// or goes on running on its own,
+pub fn going_on_keeps()
+    ensures { (change : Record → Record) (records : List Record) (t p used more : ℕ) → ((r : Record) → (change r).status ≡ Running p more) → used_by records p t ≡ Some used → RunsApart records
+        → RunsApart (change_record change records t) }
+{}
+
+/// and where there is one thread more, which doesn't run.
+pub fn one_thread_more_keeps()
+    ensures { (records : List Record) (r : Record) → ((p used : ℕ) → ¬ (r.status ≡ Running p used)) → RunsApart records → RunsApart (records ++ r ∷ []) }
+{}
+
+/// Each processor still has its own thread after any event.
+pub fn events_keep_apart()
+    ensures { (s : State) (e : Event) → RunsApart s.records → RunsApart (step s e).state.records }
+{}
+
+/// Base's active tickets are worth less than 2 ^ 56 where amounts have 32 bits, no more tickets were made than there may
+/// be, and sizes are within their bounds.
+pub fn base_is_bounded()
+    ensures { (s : State) → All (λ o. IfSome o (λ t. t.amount < 2 ^ 32)) s.tickets → length s.tickets ≤ s.limits.tickets → IsWithinBounds s.limits → base_value s < 2 ^ 56 }
 {}

@@ -1,0 +1,49 @@
+-- Base's active tickets are worth less than 2 ^ 56.
+use Rattle.std.proofs.Common.{◌≡◌, ℕ, ◌*◌, ◌^◌, ◌<◌, ◌≤◌, ◌==◌, Bool, true, false, ◌⊎◌, inl, inr, Option, Some, None, List, [], ◌∷◌, length, filter, filter_map, sum_by, IfSome, All, cond, arith}
+use Rattle.std.proofs.lemmas.Bool.{eqb-true, or_cases}
+use Rattle.std.proofs.lemmas.List.Elements.{All-head, All-tail}
+use Rattle.std.proofs.lemmas.List.Sums.{sum_by-cons}
+use Rattle.lot_machine.specs.declared.ticket.Ticket.{Ticket}
+use Rattle.lot_machine.specs.Bounds.{IsWithinBounds, IsUnit}
+use Rattle.lot_machine.specs.Funding.{all_tickets, issued_in}
+use Rattle.lot_machine.specs.Activity.{is_active, active_amount}
+use Rattle.lot_machine.specs.State.{State, funding_of, live_of}
+use Rattle.lot_machine.specs.Facts.{base_value}
+
+-- a filter leaves no greater sum
+filter-less : (g : Ticket → ℕ) (test : Ticket → Bool) (xs : List Ticket) → sum_by g (filter test xs) ≤ sum_by g xs
+filter-less g test [] = omega arith
+filter-less g test (x ∷ xs) = at (filter-less g test xs) (test x)
+  where
+    at : sum_by g (filter test xs) ≤ sum_by g xs → (b : Bool) → sum_by g (cond b (x ∷ filter test xs) (filter test xs)) ≤ sum_by g (x ∷ xs)
+    at less true = omega (arith, less, sum_by-cons g x xs, sum_by-cons g x (filter test xs))
+    at less false = omega (arith, less, sum_by-cons g x xs)
+
+-- a ticket that is there has an amount of 32 bits
+abbrev HasAmount : Option Ticket → Type 0
+HasAmount o = IfSome o (λ t. t.amount < 2 ^ 32)
+
+amounts-within : (xs : List (Option Ticket)) → All HasAmount xs → sum_by (λ (t : Ticket). t.amount) (filter_map (λ t. t) xs) ≤ length xs * 4294967295
+amounts-within [] all = omega arith
+amounts-within (None ∷ xs) all = let more = amounts-within xs (All-tail HasAmount None xs all) in omega (arith, more)
+amounts-within (Some t ∷ xs) all =
+    let more = amounts-within xs (All-tail HasAmount (Some t) xs all) in
+    let one : t.amount < 2 ^ 32 = All-head HasAmount (Some t) xs all in
+    omega (arith, more, one, sum_by-cons (λ (u : Ticket). u.amount) t (filter_map (λ u. u) xs))
+
+-- a unit of 1 or 256
+times-unit : (amount unit : ℕ) → IsUnit unit → amount ≤ 65535 * 4294967295 → amount * unit < 2 ^ 56
+times-unit amount unit is low = from (or_cases (unit == 1) (unit == 256) is)
+  where
+    from : ((unit == 1) ≡ true) ⊎ ((unit == 256) ≡ true) → amount * unit < 2 ^ 56
+    from (inl e) = let one : unit ≡ 1 = eqb-true unit 1 e in rw one (omega (arith, low))
+    from (inr e) = let fine : unit ≡ 256 = eqb-true unit 256 e in rw fine (omega (arith, low))
+
+pub base-bounded : (s : State) → All (λ o. IfSome o (λ t. t.amount < 2 ^ 32)) s.tickets → length s.tickets ≤ s.limits.tickets → IsWithinBounds s.limits → base_value s < 2 ^ 56
+base-bounded s amounts few bounds =
+    let f = funding_of s in
+    let active = filter-less (λ (t : Ticket). t.amount) (is_active f (live_of s)) (issued_in f 0) in
+    let issued = filter-less (λ (t : Ticket). t.amount) (λ t. t.issuer == 0) (all_tickets f) in
+    let all = amounts-within s.tickets amounts in
+    let count : length s.tickets ≤ 65535 = omega (arith, few, bounds.of_tickets.1) in
+    times-unit (active_amount f (live_of s) 0) s.limits.unit bounds.of_unit (omega (arith, active, issued, all, count))
