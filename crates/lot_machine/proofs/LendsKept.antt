@@ -135,9 +135,9 @@ HasNoCycle-freed f m no_cycle = record {
     from u s (inl old) = old
     from u s (inr none) = cc
 
--- a mutex that a thread owns then which lends to nobody
-pub HasNoCycle-owned : (f : Funding) (m w : ℕ) → at_number f.lends w ≡ Some Nobody → HasNoCycle f → HasNoCycle (record f { owners = set_number f.owners m (Some w) })
-HasNoCycle-owned f m w nobody no_cycle = record {
+-- a mutex that a thread owns then which lends to nobody, if it is there
+pub HasNoCycle-owned_any : (f : Funding) (m w : ℕ) → ((lend : Lend) → at_number f.lends w ≡ Some lend → lend ≡ Nobody) → HasNoCycle f → HasNoCycle (record f { owners = set_number f.owners m (Some w) })
+HasNoCycle-owned_any f m w nobody no_cycle = record {
   funding = no_cycle.funding;
   lends = no-lend-back (owned f m (Some w)) (steps-to-end (LendsTo (owned f m (Some w))) (LendsTo f) w (λ u s lends. from u s (owned-either f m (Some w) u s lends)) ends (no-lend-return f no_cycle));
 }
@@ -147,4 +147,11 @@ HasNoCycle-owned f m w nobody no_cycle = record {
     from u s (inr to) = inr (some-injective s w (sym to))
 
     ends : (s : ℕ) → ¬ LendsTo (owned f m (Some w)) w s
-    ends s lends = let none : None ≡ Some s = ap (option_and_then (borrower (owned f m (Some w)))) (sym nobody) ∙ lends in cc
+    ends s lends = at (at_number f.lends w) refl lends
+      where
+        at : (o : Option Lend) → at_number f.lends w ≡ o → option_and_then (borrower (owned f m (Some w))) o ≡ Some s → ⊥
+        at None is e = cc
+        at (Some lend) is e = let none : None ≡ Some s = sym (ap (borrower (owned f m (Some w))) (nobody lend is)) ∙ e in cc
+
+pub HasNoCycle-owned : (f : Funding) (m w : ℕ) → at_number f.lends w ≡ Some Nobody → HasNoCycle f → HasNoCycle (record f { owners = set_number f.owners m (Some w) })
+HasNoCycle-owned f m w nobody = HasNoCycle-owned_any f m w (λ lend is. some-injective lend Nobody (sym is ∙ nobody))

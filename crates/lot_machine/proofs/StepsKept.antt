@@ -74,7 +74,7 @@ expire-apart s t used = RunsApart-stops _ s.records t (λ r. ready-stops)
 -- ---- what traps do besides
 
 -- after a trap's work each processor has its own thread, p no other than t, and t leaves it with a status that isn't Running
-abbrev IsApart : ℕ → ℕ → List Record → After → Type 0
+abbrev pub IsApart : ℕ → ℕ → List Record → After → Type 0
 IsApart p t records after = RunsApart records × RunsAlone records p t × StopsIfLeaves after
 
 module _ (p t : ℕ) (records : List Record) (runs : RunsApart records) (alone : RunsAlone records p t) where
@@ -114,7 +114,7 @@ module _ (p t : ℕ) (records : List Record) (runs : RunsApart records) (alone :
       at (w ∷ ws) is =
           rw is (stopped (λ r. record r { status = status.Ready }) (slice_index (w ∷ ws) (unwrap_or (option_map (λ (drawn : Drawn). drawn.place) (winner (map value (w ∷ ws)) d)) 0)) (Leaves status.Ready) (λ r. ready-stops) ready-stops)
 
-effect-apart : (s : State) (p t u : ℕ) (action : Action) → RunsApart s.records → RunsAlone s.records p t → IsApart p t (trap_effect s u action).state.records (trap_effect s u action).after
+pub effect-apart : (s : State) (p t u : ℕ) (action : Action) → RunsApart s.records → RunsAlone s.records p t → IsApart p t (trap_effect s u action).state.records (trap_effect s u action).after
 effect-apart s p t u Yield runs alone = (runs, alone, ready-stops)
 effect-apart s p t u (Call port number) runs alone = call-apart p t s.records runs alone s.clients s.ports u port number
 effect-apart s p t u (Receive port) runs alone = receive-apart p t s.records runs alone s.clients s.ports u port
@@ -137,13 +137,13 @@ trap-apart s p t used ran action alone runs =
 -- ---- events
 
 -- the thread that is found on a processor has it alone
-there-alone : (s : State) (p : ℕ) → is_none (thread_on s.records p) ≡ false → RunsApart s.records → RunsAlone s.records p (thread_there s p)
+pub there-alone : (s : State) (p : ℕ) → is_none (thread_on s.records p) ≡ false → RunsApart s.records → RunsAlone s.records p (thread_there s p)
 there-alone s p some runs = from (some-of (thread_on s.records p) some)
   where
     from : ((t : ℕ) × (thread_on s.records p ≡ Some t)) → RunsAlone s.records p (thread_there s p)
     from (t, found) = let there = found-runs s.records p t found in rw found (runs-alone s.records p t there.0 runs there.1)
 
-free-of : {A : Type 0} (o : Option A) → is_some o ≡ false → o ≡ None
+pub free-of : {A : Type 0} (o : Option A) → is_some o ≡ false → o ≡ None
 free-of None e = refl
 free-of (Some x) e = cc
 

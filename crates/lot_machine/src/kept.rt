@@ -4,15 +4,16 @@ ghost use Rattle.lot_machine.specs.declared.command.Command.{Command as Asked};
 ghost use Rattle.lot_machine.specs.declared.ticket.Target.{Target};
 ghost use Rattle.lot_machine.specs.declared.ticket.Target.TheVariants.{Currency};
 ghost use Rattle.lot_machine.specs.Funding.{Funding, WouldCycle, would_cycle, with_new_ticket, without_ticket, with_target, currency_funded, issuer_of, backing_currency};
-ghost use Rattle.lot_machine.specs.Facts.{HasNoCycle, FundsThere, RunsApart, base_value};
+ghost use Rattle.lot_machine.specs.Facts.{HasNoCycle, FundsThere, RunsApart, IsSound, base_value};
+ghost use Rattle.lot_machine.specs.Order.{IsInOrder};
 ghost use Rattle.lot_machine.specs.Lends.{borrower, LendsLead, lends_lead};
 ghost use Rattle.lot_machine.specs.Numbered.{at_number, set_number, option_any};
 ghost use Rattle.lot_machine.specs.declared.funding.Lend.{Lend};
 ghost use Rattle.lot_machine.specs.declared.funding.Lend.TheVariants.{Nobody};
-ghost use Rattle.lot_machine.specs.State.{State, funding_of, change_record, thread_on, used_by};
+ghost use Rattle.lot_machine.specs.State.{State, opening, funding_of, change_record, thread_on, used_by};
 ghost use Rattle.lot_machine.specs.Commands.{command_step};
-ghost use Rattle.lot_machine.specs.Step.{step};
-ghost use Rattle.lot_machine.specs.Bounds.{IsWithinBounds};
+ghost use Rattle.lot_machine.specs.Step.{step, state_after};
+ghost use Rattle.lot_machine.specs.Bounds.{Sizes, IsWithinBounds};
 ghost use Rattle.lot_machine.specs.declared.event.Event.{Event};
 ghost use Rattle.lot_machine.specs.declared.record.Record.{Record};
 ghost use Rattle.lot_machine.specs.declared.record.Status.TheVariants.{Running};
@@ -113,4 +114,21 @@ pub fn events_keep_apart()
 /// be, and sizes are within their bounds.
 pub fn base_is_bounded()
     ensures { (s : State) → All (λ o. IfSome o (λ t. t.amount < 2 ^ 32)) s.tickets → length s.tickets ≤ s.limits.tickets → IsWithinBounds s.limits → base_value s < 2 ^ 56 }
+{}
+
+/// A state that is in order at the start stays so through each event, and so through each run.
+pub fn order_is_kept()
+    ensures start { (limits : Sizes) → IsWithinBounds limits → IsInOrder (opening limits) }
+    ensures event { (s : State) (e : Event) → IsInOrder s → IsInOrder (step s e).state }
+    ensures run { (s : State) (events : List Event) → IsInOrder s → IsInOrder (state_after s events) }
+{}
+
+/// A state that is in order is sound.
+pub fn order_is_sound()
+    ensures { (s : State) → IsInOrder s → IsSound s }
+{}
+
+/// Each state that a run reaches from the start is sound, where sizes are within their bounds.
+pub fn reached_states_are_sound()
+    ensures { (limits : Sizes) (events : List Event) → IsWithinBounds limits → IsSound (state_after (opening limits) events) }
 {}
