@@ -24,13 +24,13 @@ pub fn new_ticket_keeps()
     ensures there { (f : Funding) (amount issuer : ℕ) (to : Target) → currency_funded to ≡ None → FundsThere f → FundsThere (record f { tickets = with_new_ticket f.tickets amount issuer to }) }
 {}
 
-/// So does a ticket that is removed,
+/// A ticket that is removed makes no cycle, and tickets still fund only currencies that are there.
 pub fn removed_ticket_keeps()
     ensures no_cycle { (f : Funding) (n : ℕ) → HasNoCycle f → HasNoCycle (record f { tickets = without_ticket f.tickets n }) }
     ensures there { (f : Funding) (n : ℕ) → FundsThere f → FundsThere (record f { tickets = without_ticket f.tickets n }) }
 {}
 
-/// and one that funds a thread or nothing then.
+/// A ticket that funds a thread then, or nothing, makes no cycle, and tickets still fund only currencies that are there.
 pub fn unfunding_keeps()
     ensures no_cycle { (f : Funding) (n : ℕ) (to : Target) → currency_funded to ≡ None → HasNoCycle f → HasNoCycle (record f { tickets = with_target f.tickets n to }) }
     ensures there { (f : Funding) (n : ℕ) (to : Target) → currency_funded to ≡ None → FundsThere f → FundsThere (record f { tickets = with_target f.tickets n to }) }
@@ -82,25 +82,25 @@ pub fn lends_fund_nothing()
     ensures { (f : Funding) (lends : List Lend) (owners : List (Option ℕ)) → FundsThere f → FundsThere (record f { lends = lends; owners = owners }) }
 {}
 
-/// Each processor still has its own thread where a thread's record changes and it doesn't run then,
+/// Each processor still has its own thread where a thread's record changes and it doesn't run then.
 pub fn stopping_keeps()
     ensures { (change : Record → Record) (records : List Record) (t : ℕ) → ((r : Record) (p used : ℕ) → ¬ ((change r).status ≡ Running p used)) → RunsApart records
         → RunsApart (change_record change records t) }
 {}
 
-/// or runs on a processor on which nobody ran,
+/// Each processor still has its own thread where a thread runs then on a processor on which nobody ran.
 pub fn starting_keeps()
     ensures { (change : Record → Record) (records : List Record) (t p used : ℕ) → ((r : Record) → (change r).status ≡ Running p used) → thread_on records p ≡ None → RunsApart records
         → RunsApart (change_record change records t) }
 {}
 
-/// or goes on running on its own,
+/// Each processor still has its own thread where a thread goes on running on its processor.
 pub fn going_on_keeps()
     ensures { (change : Record → Record) (records : List Record) (t p used more : ℕ) → ((r : Record) → (change r).status ≡ Running p more) → used_by records p t ≡ Some used → RunsApart records
         → RunsApart (change_record change records t) }
 {}
 
-/// and where there is one thread more, which doesn't run.
+/// Each processor still has its own thread where there is one thread more, which doesn't run.
 pub fn one_thread_more_keeps()
     ensures { (records : List Record) (r : Record) → ((p used : ℕ) → ¬ (r.status ≡ Running p used)) → RunsApart records → RunsApart (records ++ r ∷ []) }
 {}
