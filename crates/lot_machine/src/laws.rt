@@ -75,10 +75,11 @@ pub fn lent_counts_once()
 {}
 
 /// Where nothing makes a cycle, and tickets fund only currencies that are there, the live threads are worth together at
-/// most what base's active tickets are, and a draw's total is at most a quantum's times as much, where sizes are within
+/// most what base's active tickets are, so is each currency, and a draw's total is at most a quantum's times as much, where sizes are within
 /// their bounds.
 pub fn values_are_bounded()
     ensures values { (s : State) → HasNoCycle (funding_of s) → FundsThere (funding_of s) → live_value s ≤ base_value s }
+    ensures currencies { (f : Funding) → HasNoCycle f → FundsThere f → (unit : ℕ) (live : List Bool) (c : ℕ) → currency_value unit f live c ≤ active_amount f live 0 * unit }
     ensures weights { (s : State) → HasNoCycle (funding_of s) → FundsThere (funding_of s) → IsWithinBounds s.limits → total_weight s ≤ base_value s * s.limits.quantum }
 {}
 
