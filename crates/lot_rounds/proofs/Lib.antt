@@ -1,0 +1,10 @@
+pub mod ListLemmas
+pub mod LendLemmas
+pub mod LeadLemmas
+pub mod ShareLemmas
+pub mod WorthLemmas
+pub mod ActiveLemmas
+pub mod ValueLemmas
+pub mod BoundLemmas
+pub mod SettledLemmas
+pub mod CycleLemmas
