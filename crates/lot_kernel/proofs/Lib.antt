@@ -1,6 +1,6 @@
 pub mod LotteryLemmas
 pub mod NumberedLemmas
-pub mod PlainLemmas
+pub mod OrderLemmas
+pub mod HeldLemmas
 pub mod RowLemmas
 pub mod RunningLemmas
-pub mod ValueLemmas

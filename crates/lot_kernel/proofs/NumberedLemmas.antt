@@ -1,6 +1,7 @@
 -- Elements by their numbers and by their places.
 use Rattle.std.proofs.Common.{◌≡◌, ℕ, zero, suc, ◌+◌, ◌-◌, ◌<◌, ◌≤◌, ◌==◌, Bool, true, false, None, Some, List, length, map, get_or, Option, option_map, cond, refl, sym, ◌∙◌, arith}
 use Rattle.std.specs.List.{slice_get}
+use Rattle.std.specs.Option.{IsSome, IfSome}
 use Rattle.std.proofs.lemmas.Option.{slice_get-get_or, slice_get-map, slice_get_within}
 use Rattle.lot_machine.specs.Numbered.{at_number}
 use Rattle.lot_machine.proofs.Tickets.{at_number-suc}
@@ -31,3 +32,8 @@ at_number-within xs (suc i) x there =
 -- the element with a number stands at the place before it
 pub at_number-there : {A : Type 0} (xs : List A) (n : ℕ) (d : A) → 0 < n → n ≤ length xs → at_number xs n ≡ Some (get_or xs (n - 1) d)
 at_number-there xs n d low high = let number : n - 1 + 1 ≡ n = omega (arith, low) in rw number at (at_number-place xs (n - 1) d (omega (arith, low, high)))
+
+-- what is there, and is this if it is there
+pub some-of : {A : Type 0} (o : Option A) (x : A) → IsSome o → IfSome o (λ y. y ≡ x) → o ≡ Some x
+some-of None x there is = cc
+some-of (Some y) x there is = rw is refl

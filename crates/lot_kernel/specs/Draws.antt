@@ -1,4 +1,4 @@
--- What a draw works on, while tickets are issued in base alone.
+-- What a draw works on.
 use Rattle.std.specs.Prelude.{ℕ, ◌-◌, ◌*◌, Option, Some, None, List, sum_by, slice_index, option_and_then, if◌then◌else◌}
 use Rattle.lot_machine.specs.declared.ticket.Ticket.{Ticket}
 use Rattle.lot_machine.specs.declared.drawn.Drawn.{Drawn}
@@ -7,15 +7,6 @@ use Rattle.lot_machine.specs.Numbered.{at_number}
 use Rattle.lot_machine.specs.Funding.{is_thread}
 use Rattle.lot_machine.specs.Lottery.{weight}
 use Rattle.lot_kernel.specs.declared.lotteries.Winner.{Winner}
-
--- what a ticket adds to what the thread is worth
-abbrev pub value_added : ℕ → ℕ → Option Ticket → ℕ
-value_added unit t None = 0
-value_added unit t (Some ticket) = if is_thread t ticket.target then ticket.amount * unit else 0
-
--- what all tickets add to it
-abbrev pub value_funded : ℕ → List (Option Ticket) → ℕ → ℕ
-value_funded unit tickets t = sum_by (value_added unit t) tickets
 
 -- what a thread weighs, where what each is worth is listed
 abbrev pub weight_listed : List ℕ → List Record → ℕ → ℕ → ℕ

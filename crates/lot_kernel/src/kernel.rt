@@ -1,14 +1,15 @@
 //! The kernel and its events.
-ghost use Rattle.std.specs.Prelude.{◌≡◌, IfOk, length, All};
-ghost use Rattle.lot_machine.specs.State.{opening, sizes_of};
+ghost use Rattle.std.specs.Prelude.{◌≡◌, ◌<◌, ◌≤◌, ◌^◌, None, Some, IfOk, IfSome, MatchOption, length, option_map, All};
+ghost use Rattle.lot_machine.specs.Numbered as numbered;
+ghost use Rattle.lot_machine.specs.State.{funding_of, opening, sizes_of, thread_on, used_by};
 ghost use Rattle.lot_machine.specs.Step.{step, replies, state_after};
+ghost use Rattle.lot_machine.specs.Facts.{HasNoCycle, IsSound, base_value, live_value};
+ghost use Rattle.lot_machine.specs.Rows as rows;
 ghost use Rattle.lot_kernel.specs.Served.{IsServed};
 
-mod commands;
-mod processors;
-mod rows;
-
-use lot_machine::{Event, Limits, Name, Record, Reply, Thread, Ticket};
+use crate::running::Runner;
+use crate::tables::Tables;
+use lot_machine::{CurrencyRow, Event, Limits, Reply, ThreadRow, TicketRow};
 use std::alloc::{AllocError, Global};
 use std::marker::Model;
 
@@ -17,68 +18,29 @@ use std::marker::Model;
 /// All its room is made by `new`, and no event takes memory.
 #[derive(Drop)]
 pub struct Kernel {
-    limits: Limits,
-    currencies: Vec<Option<Name>>,
-    tickets: Vec<Option<Ticket>>,
-    threads: Vec<Thread>,
-    records: Vec<Record>,
-    /// For a draw: what each thread's tickets are worth.
-    values: Vec<u64>,
-    /// For a draw: the Ready threads, and what each weighs.
-    ready: Vec<u32>,
-    weights: Vec<u128>,
+    tables: Tables,
 }
 
 impl Model for Kernel {
-    ghost use Rattle.std.specs.Prelude.{◌≡◌, ◌≤◌, replicate, vec_len, vec_capacity, None, []};
-    ghost use Rattle.lot_machine.specs.State.{State, sizes_of};
-    ghost use Rattle.lot_kernel.specs.Plain.{IsPlain};
+    ghost use Rattle.lot_machine.specs.State.{State};
+    ghost use Rattle.lot_machine.specs.Order.{IsInOrder};
 
     ghost Value = { State };
 
-    ghost view = { λ k. record {
-      currencies = k.currencies.items;
-      tickets = k.tickets.items;
-      threads = k.threads.items;
-      records = k.records.items;
-      clients = replicate (vec_len k.threads) [];
-      ports = replicate k.limits.ports (record { calls = []; receivers = [] });
-      mutexes = replicate k.limits.mutexes (record { owner = None; waiters = [] });
-      limits = sizes_of k.limits;
-    } };
+    ghost view = { λ k. k.tables };
 
-    ghost invariant = { λ k. record {
-      plain : IsPlain k.limits.quantum k.currencies.items k.tickets.items k.records.items;
-      tickets : vec_len k.tickets ≤ k.limits.tickets;
-      threads : vec_len k.threads ≤ k.limits.threads;
-      records : vec_len k.records ≡ vec_len k.threads;
-      ticket_room : k.limits.tickets ≤ vec_capacity k.tickets;
-      thread_room : k.limits.threads ≤ vec_capacity k.threads;
-      record_room : k.limits.threads ≤ vec_capacity k.records;
-      values_room : vec_len k.values ≡ k.limits.threads;
-      ready_room : k.limits.threads ≤ vec_capacity k.ready;
-      weights_room : k.limits.threads ≤ vec_capacity k.weights;
-    } };
+    ghost invariant = { λ k. IsInOrder k.tables };
 }
 
 impl Kernel {
     /// A kernel with base alone, empty ports and free mutexes. It takes all the memory that the kernel will ever use, and
     /// fails only for want of it.
     pub fn new(alloc: Global, limits: Limits) -> Result<Kernel, AllocError>
-        ensures { IfOk result (λ k. k ≡ opening (sizes_of limits)) }
+        ensures opening { IfOk result (λ k. k ≡ opening (sizes_of limits)) }
+        ensures sound { IfOk result IsSound }
     {
-        let threads = limits.threads as usize;
-        let mut currencies = Vec::new(alloc);
-        currencies.push(Name::new("base"))?;
         Ok(Kernel {
-            limits,
-            currencies,
-            tickets: Vec::with_capacity(alloc, limits.tickets as usize)?,
-            threads: Vec::with_capacity(alloc, threads)?,
-            records: Vec::with_capacity(alloc, threads)?,
-            values: vec![in alloc; 0; threads]?,
-            ready: Vec::with_capacity(alloc, threads)?,
-            weights: Vec::with_capacity(alloc, threads)?,
+            tables: Tables::new(alloc, limits)?,
         })
     }
 
@@ -86,7 +48,14 @@ impl Kernel {
     pub fn limits(&self) -> Limits
         ensures { sizes_of result ≡ self.now.limits }
     {
-        self.limits
+        self.tables.limits()
+    }
+
+    /// How much one of base is worth: 1, or 256 for finer shares.
+    pub fn unit(&self) -> u32
+        ensures { result ≡ self.now.limits.unit }
+    {
+        self.tables.limits().unit
     }
 
     /// One event, of those that are served. It takes no memory, and a refused one changes nothing.
@@ -94,13 +63,9 @@ impl Kernel {
         requires { IsServed event.now }
         ensures reply { result ≡ (step self.old event.now).reply }
         ensures state { self.new ≡ (step self.old event.now).state }
+        ensures sound { IsSound self.new }
     {
-        match event {
-            Event::Command(command) => self.command(command),
-            Event::Draw(processor, d) => self.draw(*processor, *d),
-            Event::Expire(processor) => self.expire(*processor),
-            Event::Trap(processor, ran, action) => self.trap(*processor, *ran, *action),
-        }
+        self.tables.event(event)
     }
 
     /// Events in order, of those that are served, and the reply to each in its place in `out`. It takes no memory.
@@ -113,5 +78,47 @@ impl Kernel {
         for i in 0..events.len() {
             out[i] = self.event(&events[i]);
         }
+    }
+
+    /// The row of the ticket with this number, `None` exactly where it isn't there. It changes nothing and takes no memory.
+    pub fn ticket_row(&mut self, ticket: u32) -> Option<TicketRow>
+        ensures row { result ≡ rows.ticket_row self.old ticket }
+        ensures state { self.new ≡ self.old }
+    {
+        self.tables.ticket_row(ticket)
+    }
+
+    /// The row of the currency with this number, `None` exactly where it isn't there; base is worth its active amount. It
+    /// changes nothing and takes no memory.
+    pub fn currency_row(&mut self, currency: u32) -> Option<CurrencyRow>
+        ensures row { result ≡ rows.currency_row self.old currency }
+        ensures state { self.new ≡ self.old }
+    {
+        self.tables.currency_row(currency)
+    }
+
+    /// The row of the thread with this number, `None` exactly where there is none. It changes nothing and takes no memory.
+    pub fn thread_row(&mut self, thread: u32) -> Option<ThreadRow>
+        ensures row { result ≡ rows.thread_row self.old thread }
+        ensures state { self.new ≡ self.old }
+    {
+        self.tables.thread_row(thread)
+    }
+
+    /// Who runs on the processor, `None` exactly where nobody does. The ticks used are below the quantum.
+    pub fn runner(&self, processor: u32) -> Option<Runner>
+        ensures thread { MatchOption result (thread_on self.now.records processor ≡ None) (λ r. thread_on self.now.records processor ≡ Some r.thread) }
+        ensures used { IfSome result (λ r. used_by self.now.records processor r.thread ≡ Some r.used) }
+        ensures there { IfSome result (λ r. (0 < r.thread) × (r.thread ≤ length self.now.records)) }
+        ensures below { IfSome result (λ r. r.used < self.now.limits.quantum) }
+    {
+        self.tables.runner(processor)
+    }
+
+    /// The number of the script that the thread was made with, `None` exactly where there is no such thread.
+    pub fn script_of(&self, thread: u32) -> Option<u32>
+        ensures { result ≡ option_map (λ t. t.script) (numbered.at_number self.now.threads thread) }
+    {
+        self.tables.script_of(thread)
     }
 }

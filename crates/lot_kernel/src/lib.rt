@@ -1,11 +1,13 @@
 //! The kernel: a library that is given events, commands, draws and traps, and answers each as the paper's machine does.
 #![tactic(auto)]
 
+mod counts;
 mod kernel;
 mod lotteries;
 mod names;
 mod numbered;
 mod running;
+mod tables;
 #[cfg(test)]
 mod tests;
 

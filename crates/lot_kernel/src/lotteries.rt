@@ -1,12 +1,11 @@
-//! What a draw works on: what each thread is worth, and what the Ready ones weigh.
-ghost use Rattle.std.specs.Prelude.{◌≡◌, ◌+◌, ◌<◌, ◌≤◌, ◌^◌, ℕ, All, IfSome, length, map, sum, slice_index, vec_len, vec_capacity};
+//! What a draw works on: the Ready threads and what each weighs.
+ghost use Rattle.std.specs.Prelude.{◌≡◌, ◌<◌, ◌≤◌, ◌^◌, ℕ, All, IfSome, length, map, sum, vec_capacity};
 ghost use Rattle.lot_machine.specs.State as states;
 ghost use Rattle.lot_machine.specs.State.{ready_threads};
-ghost use Rattle.lot_kernel.specs.Plain.{FundsThreadOrNothing};
-ghost use Rattle.lot_kernel.specs.Draws.{value_added, value_funded, weight_listed, winner_among};
+ghost use Rattle.lot_kernel.specs.Draws.{weight_listed, winner_among};
 
 use lot_draw::weight;
-use lot_machine::{Drawn, Record, Status, Target, Ticket};
+use lot_machine::{Drawn, Record, Status};
 
 /// The winner of a draw, with the number drawn and the total.
 #[derive(Clone, Copy, Debug, PartialEq, Eq)]
@@ -29,35 +28,6 @@ impl Winner {
             number: drawn.number,
             total: drawn.total,
         })
-    }
-}
-
-/// Lists what each thread's tickets are worth, where all are issued in base.
-pub(crate) fn list_values(tickets: &[Option<Ticket>], unit: u32, values: &mut Vec<u64>)
-    requires few { length tickets.now ≤ 65535 }
-    requires unit { unit ≤ 256 }
-    requires threads { All (λ t. IfSome t (FundsThreadOrNothing (vec_len values.old))) tickets.now }
-    ensures values { (place : ℕ) → place < vec_len values.new → slice_index values.new.items place ≡ value_funded unit tickets.now (place + 1) }
-    ensures count { vec_len values.new ≡ vec_len values.old }
-{
-    values.fill(0);
-    for ticket in tickets {
-        add_value(*ticket, unit, values);
-    }
-}
-
-/// Adds what a ticket is worth to the thread that it funds, if it is there and funds one.
-fn add_value(ticket: Option<Ticket>, unit: u32, values: &mut [u64])
-    requires unit { unit ≤ 256 }
-    requires thread { IfSome ticket (FundsThreadOrNothing (length values.old)) }
-    requires small { (place : ℕ) → place < length values.old → slice_index values.old place < 2 ^ 63 }
-    ensures added { (place : ℕ) → place < length values.new → slice_index values.new place ≡ slice_index values.old place + value_added unit (place + 1) ticket }
-    ensures small { (place : ℕ) → place < length values.new → slice_index values.new place ≤ slice_index values.old place + 1099511627520 }
-{
-    if let Some(ticket) = ticket
-        && let Target::Thread(thread) = ticket.target
-    {
-        values[thread as usize - 1] += u64::from(ticket.amount) * u64::from(unit);
     }
 }
 
@@ -89,13 +59,6 @@ pub(crate) fn list_weights(
             weights.push_reserved(weight(values[place], record.compensation, quantum));
         }
     }
-}
-
-/// Whether a thread competes or runs.
-pub(crate) fn is_live(status: Status) -> bool
-    ensures { result ≡ states.is_live_status status }
-{
-    matches!(status, Status::Ready | Status::Running { .. })
 }
 
 fn is_ready(status: Status) -> bool

@@ -2,7 +2,7 @@
 ghost use Rattle.std.specs.Prelude.{◌≡◌, IsSome, vec_len, vec_capacity};
 ghost use Rattle.lot_machine.specs.Numbered as lists;
 ghost use Rattle.lot_machine.specs.Numbered.{option_any};
-ghost use Rattle.lot_machine.specs.Funding.{ticket_in, with_target};
+ghost use Rattle.lot_machine.specs.Funding.{ticket_in, with_target, without_ticket};
 ghost use Rattle.lot_machine.specs.State as states;
 ghost use Rattle.lot_machine.specs.State.{status_of};
 
@@ -34,6 +34,18 @@ pub(crate) fn retarget(tickets: &mut Vec<Option<Ticket>>, number: u64, target: T
 {
     if let Some(ticket) = ticket_at(tickets, number) {
         tickets[number as usize - 1] = Some(Ticket { target, ..ticket });
+    }
+}
+
+/// Removes a ticket that is there.
+pub(crate) fn remove(tickets: &mut Vec<Option<Ticket>>, number: u64)
+    requires { IsSome (ticket_in tickets.old.items number) }
+    ensures tickets { tickets.new.items ≡ without_ticket tickets.old.items number }
+    ensures count { vec_len tickets.new ≡ vec_len tickets.old }
+    ensures room { vec_capacity tickets.new ≡ vec_capacity tickets.old }
+{
+    if ticket_at(tickets, number).is_some() {
+        tickets[number as usize - 1] = None;
     }
 }
 

@@ -6,19 +6,20 @@ ghost use Rattle.lot_machine.specs.Numbered as numbered;
 ghost use Rattle.lot_machine.specs.Step as steps;
 ghost use Rattle.lot_machine.specs.Step.{step};
 ghost use Rattle.lot_machine.specs.Lottery as lottery;
+ghost use Rattle.lot_machine.specs.Order.{IsInOrder};
 ghost use Rattle.lot_machine.specs.State.{ready_threads, thread_on, used_by, weight_of};
 ghost use Rattle.lot_kernel.specs.Draws.{winner_among};
 ghost use Rattle.lot_kernel.specs.Served.{IsServedAction};
 
-use crate::kernel::Kernel;
-use crate::lotteries::{Winner, list_values, list_weights};
+use crate::lotteries::{Winner, list_weights};
 use crate::running::{self, Runner, runner_on};
+use crate::tables::Tables;
 use lot_draw::winner;
 use lot_machine::{Action, Outcome, Refusal, Reply};
 
-impl Kernel {
+impl Tables {
     /// Who runs on the processor, `None` exactly where nobody does. The ticks used are below the quantum.
-    pub fn runner(&self, processor: u32) -> Option<Runner>
+    pub(crate) fn runner(&self, processor: u32) -> Option<Runner>
         ensures thread { MatchOption result (thread_on self.now.records processor ≡ None) (λ r. thread_on self.now.records processor ≡ Some r.thread) }
         ensures used { IfSome result (λ r. used_by self.now.records processor r.thread ≡ Some r.used) }
         ensures there { IfSome result (λ r. (0 < r.thread) × (r.thread ≤ length self.now.records)) }
@@ -29,7 +30,7 @@ impl Kernel {
     }
 
     /// The number of the script that the thread was made with, `None` exactly where there is no such thread.
-    pub fn script_of(&self, thread: u32) -> Option<u32>
+    pub(crate) fn script_of(&self, thread: u32) -> Option<u32>
         ensures { result ≡ option_map (λ t. t.script) (numbered.at_number self.now.threads thread) }
     {
         if thread == 0 || thread as usize > self.threads.len() {
@@ -40,6 +41,7 @@ impl Kernel {
 
     /// A draw by a processor.
     pub(super) fn draw(&mut self, processor: u32, d: u64) -> Reply
+        requires { IsInOrder self.old }
         ensures reply { result ≡ (step self.old (event.Draw processor d)).reply }
         ensures state { self.new ≡ (step self.old (event.Draw processor d)).state }
     {
@@ -63,14 +65,21 @@ impl Kernel {
 
     /// The lottery over the weights of the Ready threads by rising number. It changes nothing.
     fn hold_lottery(&mut self, d: u64) -> Option<Winner>
+        requires { IsInOrder self.old }
         ensures winner { result ≡ winner_among (ready_threads self.old.records) (lottery.winner (map (weight_of self.old) (ready_threads self.old.records)) d) }
         ensures there { IfSome result (λ w. (0 < w.thread) × (w.thread ≤ length self.new.records)) }
         ensures state { self.new ≡ self.old }
     {
-        list_values(&self.tickets, self.limits.unit, &mut self.values);
+        self.rounds.settle(
+            &self.currencies,
+            &self.tickets,
+            &self.records,
+            &self.owners,
+            self.limits.unit,
+        );
         list_weights(
             &self.records,
-            &self.values,
+            self.rounds.values(),
             self.limits.quantum,
             &mut self.ready,
             &mut self.weights,
