@@ -5,7 +5,7 @@ use Rattle.std.proofs.lemmas.List.Elements.{All-head, All-tail}
 use Rattle.std.proofs.lemmas.List.Sums.{sum_by-cons}
 use Rattle.lot_machine.specs.declared.ticket.Ticket.{Ticket}
 use Rattle.lot_machine.specs.Bounds.{IsWithinBounds, IsUnit}
-use Rattle.lot_machine.specs.Funding.{all_tickets, issued_in}
+use Rattle.lot_machine.specs.Funding.{Funding, all_tickets, issued_in}
 use Rattle.lot_machine.specs.Activity.{is_active, active_amount}
 use Rattle.lot_machine.specs.State.{State, funding_of, live_of}
 use Rattle.lot_machine.specs.Facts.{base_value}
@@ -39,11 +39,13 @@ times-unit amount unit is low = from (or_cases (unit == 1) (unit == 256) is)
     from (inl e) = let one : unit ≡ 1 = eqb-true unit 1 e in rw one (omega (arith, low))
     from (inr e) = let fine : unit ≡ 256 = eqb-true unit 256 e in rw fine (omega (arith, low))
 
+pub active-bounded : (f : Funding) (live : List Bool) (unit : ℕ) → All (λ o. IfSome o (λ t. t.amount < 2 ^ 32)) f.tickets → length f.tickets ≤ 65535 → IsUnit unit → active_amount f live 0 * unit < 2 ^ 56
+active-bounded f live unit amounts few is =
+    let active = filter-less (λ (t : Ticket). t.amount) (is_active f live) (issued_in f 0) in
+    let issued = filter-less (λ (t : Ticket). t.amount) (λ t. t.issuer == 0) (all_tickets f) in
+    let all = amounts-within f.tickets amounts in
+    times-unit (active_amount f live 0) unit is (omega (arith, active, issued, all, few))
+
 pub base-bounded : (s : State) → All (λ o. IfSome o (λ t. t.amount < 2 ^ 32)) s.tickets → length s.tickets ≤ s.limits.tickets → IsWithinBounds s.limits → base_value s < 2 ^ 56
 base-bounded s amounts few bounds =
-    let f = funding_of s in
-    let active = filter-less (λ (t : Ticket). t.amount) (is_active f (live_of s)) (issued_in f 0) in
-    let issued = filter-less (λ (t : Ticket). t.amount) (λ t. t.issuer == 0) (all_tickets f) in
-    let all = amounts-within s.tickets amounts in
-    let count : length s.tickets ≤ 65535 = omega (arith, few, bounds.of_tickets.1) in
-    times-unit (active_amount f (live_of s) 0) s.limits.unit bounds.of_unit (omega (arith, active, issued, all, count))
+    active-bounded (funding_of s) (live_of s) s.limits.unit amounts (omega (arith, few, bounds.of_tickets.1)) bounds.of_unit

@@ -16,7 +16,7 @@ use Rattle.lot_machine.proofs.CurrencyFlow.{term-le, currency-bounded}
 
 -- ---- more depth, more value
 
-div-le : (x y d : ℕ) → x ≤ y → x / d ≤ y / d
+pub div-le : (x y d : ℕ) → x ≤ y → x / d ≤ y / d
 div-le x y zero le = omega (arith, div-zero x, div-zero y)
 div-le x y (suc d) le =
     let some : 0 < suc d = omega arith in

@@ -8,3 +8,4 @@ pub mod ValueLemmas
 pub mod BoundLemmas
 pub mod SettledLemmas
 pub mod CycleLemmas
+pub mod TestLemmas

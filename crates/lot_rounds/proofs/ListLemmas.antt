@@ -1,10 +1,8 @@
 -- Tests and sums over lists whose elements have a property.
 use Rattle.std.proofs.Common.{◌≡◌, ℕ, ◌+◌, ◌<◌, ◌≤◌, Option, Some, None, cond, zero, suc, filter, filter_map, Bool, length, get_or, replicate, true, false, ◌&&◌, ◌⊎◌, inl, inr, List, [], ◌∷◌, sum_by, refl, ap, arith, ◌||◌}
 use Rattle.lot_rounds.specs.Tables.{flagged}
-use lib.Pointwise.{pointwise}
 use Rattle.std.specs.List.{All, list_any, range_with_len}
 use Rattle.std.proofs.lemmas.List.Elements.{All-head, All-tail}
-use Rattle.std.proofs.lemmas.Option.{slice_get-get_or}
 use Rattle.std.proofs.lemmas.List.Sums.{sum_by-cons}
 
 -- tests that agree
@@ -24,26 +22,11 @@ module _ {A : Type 0} (P : A → Type 0) where
   sum-on_all f g same (x ∷ xs) all =
       omega (arith, sum_by-cons f x xs, sum_by-cons g x xs, same x (All-head P x xs all), sum-on_all f g same xs (All-tail P x xs all))
 
--- what stands at a place doesn't hang on what would stand past the end
-pub get_or-within : {A : Type 0} (xs : List A) (i : ℕ) (d e : A) → i < length xs → get_or xs i d ≡ get_or xs i e
-get_or-within xs i d e below = let first = slice_get-get_or xs i d below in let second = slice_get-get_or xs i e below in cc
-
 -- a list of `false` flags nothing
 pub none-flagged : (n i : ℕ) → flagged (replicate n false) i ≡ false
 none-flagged zero i = refl
 none-flagged (suc n) zero = refl
 none-flagged (suc n) (suc i) = none-flagged n i
-
--- lists that are equal place by place, by a test that is exact
-pub same-lists : {A : Type 0} (eq : A → A → Bool) → ((x y : A) → eq x y ≡ true → x ≡ y) → (xs ys : List A) → pointwise eq xs ys ≡ true → xs ≡ ys
-same-lists eq exact [] [] same = refl
-same-lists eq exact [] (y ∷ ys) same = cc
-same-lists eq exact (x ∷ xs) [] same = cc
-same-lists eq exact (x ∷ xs) (y ∷ ys) same = at (eq x y) refl same (same-lists eq exact xs ys)
-  where
-    at : (b : Bool) → eq x y ≡ b → (b && pointwise eq xs ys) ≡ true → (pointwise eq xs ys ≡ true → xs ≡ ys) → x ∷ xs ≡ y ∷ ys
-    at true e h more = let first : x ≡ y = exact x y e in let rest : xs ≡ ys = more h in cc
-    at false e h more = cc
 
 -- what the elements that are there and pass a test come to
 pub sum-there : {A : Type 0} (P : Option A → Type 0) (g : A → ℕ) (test : A → Bool) (h : Option A → ℕ) → h None ≡ 0 → ((x : A) → P (Some x) → h (Some x) ≡ cond (test x) (g x) 0)

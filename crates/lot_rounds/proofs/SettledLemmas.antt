@@ -26,7 +26,7 @@ use Rattle.lot_rounds.proofs.ValueLemmas.{IsListed, amounts-are, worth-is, share
 use Rattle.lot_rounds.proofs.BoundLemmas.{currency-within, owned-bounded, value-bounded}
 
 -- what holds of all places holds of the ticket with a number
-at-ticket : (P : Option Ticket → Type 0) (f : Funding) → All P f.tickets → (n : ℕ) (t : Ticket) → ticket_at f n ≡ Some t → P (Some t)
+pub at-ticket : (P : Option Ticket → Type 0) (f : Funding) → All P f.tickets → (n : ℕ) (t : Ticket) → ticket_at f n ≡ Some t → P (Some t)
 at-ticket P f all n t here =
     let place = place_of f.tickets n t here in
     let below = slice_get_within f.tickets place.0 (Some t) place.2 in
@@ -41,7 +41,7 @@ module _ (currencies : List (Option (List ℕ))) (tickets : List (Option Ticket)
   borrower-same (ToThread s) = refl
   borrower-same (ToMutex m) = refl
 
-  borrower_of-same : (t : ℕ) → borrower_of (lends_in records owners) t ≡ borrower_of (funding_in currencies tickets records owners) t
+  pub borrower_of-same : (t : ℕ) → borrower_of (lends_in records owners) t ≡ borrower_of (funding_in currencies tickets records owners) t
   borrower_of-same t = at (at_number (map (λ (r : Record). lend_of r.status) records) t)
     where
       at : (o : Option Lend) → option_and_then (borrower (lends_in records owners)) o ≡ option_and_then (borrower (funding_in currencies tickets records owners)) o

@@ -29,7 +29,7 @@ fn owner_of(owners: &[Option<u32>], mutex: u32) -> Option<u32>
 }
 
 /// The thread that this one lends to.
-fn borrower_of(records: &[Record], owners: &[Option<u32>], thread: u32) -> Option<u32>
+pub(crate) fn borrower_of(records: &[Record], owners: &[Option<u32>], thread: u32) -> Option<u32>
     ensures { (f : Funding) → LendsAre f records.now owners.now → result ≡ lends.borrower_of f thread }
 {
     let place = thread.checked_sub(1)?;

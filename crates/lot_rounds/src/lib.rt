@@ -5,5 +5,7 @@ mod activity;
 mod lends;
 mod rounds;
 mod shares;
+#[cfg(test)]
+mod tests;
 
 pub use rounds::Rounds;

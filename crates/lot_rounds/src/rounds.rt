@@ -1,4 +1,4 @@
-//! What is listed of a funding, and the room for it.
+//! The public tables: what is listed of a funding, and the room for it.
 ghost use Rattle.std.specs.Prelude.{◌≡◌, ◌+◌, ◌*◌, ◌<◌, ◌≤◌, ◌^◌, ℕ, IfOk, None, Some, length, sum_by, replicate, slice_index, true, false};
 ghost use Rattle.lot_machine.specs.Facts.{HasNoCycle, FundsThere};
 ghost use Rattle.lot_machine.specs.Funding.{Funding};
@@ -18,7 +18,8 @@ use std::marker::Model;
 
 /// What is active and what everything is worth in a funding, listed from scratch by `settle` (4.4).
 ///
-/// All its room is made by `new`.
+/// Currencies are numbered from 0, which is base, and threads from 1. Values are in base tickets times the unit. Nothing but
+/// `new` takes memory.
 #[derive(Drop)]
 pub struct Rounds {
     activity: Activity,
@@ -74,8 +75,11 @@ impl Rounds {
         })
     }
 
-    /// Lists what is active and what everything is worth in the funding that has these parts, by rounds over the tickets:
-    /// at most one for each currency for activity, and one for values. It takes no memory.
+    /// Lists what is active and what everything is worth in the funding that has these parts, by rounds over the tickets: for
+    /// activity and for values at most one each for each currency that there is room for.
+    ///
+    /// The room must do for all currencies and threads. Nothing may make a cycle, tickets fund only what is there, and base's
+    /// active tickets are worth less than 2 ^ 56 together: so no value passes 64 bits.
     pub fn settle(
         &mut self,
         currencies: &[Option<Name>],
@@ -139,7 +143,7 @@ impl Rounds {
     }
 
     /// Whether it would make a cycle if a ticket of this issuer funded the currency: it is the issuer, or a chain of tickets
-    /// leads from it to the issuer. It takes no memory; what was listed is lost.
+    /// leads from it to the issuer. What was listed is lost: `settle` lists it anew.
     pub fn would_cycle(&mut self, tickets: &[Option<Ticket>], issuer: u32, currency: u32) -> bool
         requires issuer { issuer < length self.old.worths }
         requires currency { currency < length self.old.worths }
@@ -168,7 +172,7 @@ impl Rounds {
         target_leads(&self.activity.backed, &self.activity.active, ticket.target)
     }
 
-    /// What the ticket is worth, by what is listed.
+    /// What the ticket is worth, by what is listed, at the unit that was settled with: 0 where it isn't active.
     pub fn ticket_value(&self, unit: u32, ticket: Ticket) -> u64
         requires within { IsTicketWithin (length self.now.worths) (length self.now.values) ticket }
         requires small { listed_value unit self.now ticket < 2 ^ 64 }
@@ -177,7 +181,7 @@ impl Rounds {
         share(&self.activity, unit, &self.worths, ticket)
     }
 
-    /// The currency's active amount, by what is listed.
+    /// The currency's active amount, by what is listed: the amounts of its active tickets together, whatever the unit.
     pub fn active_amount(&self, currency: u32) -> u64
         requires { currency < length self.now.worths }
         ensures { result ≡ slice_index self.now.amounts currency }
@@ -185,7 +189,7 @@ impl Rounds {
         self.activity.amounts[currency as usize]
     }
 
-    /// What the currency is worth, by what is listed.
+    /// What the currency is worth, by what is listed; for base, which no ticket funds, 0.
     pub fn currency_value(&self, currency: u32) -> u64
         requires { currency < length self.now.worths }
         ensures { result ≡ slice_index self.now.worths currency }
@@ -193,7 +197,7 @@ impl Rounds {
         self.worths[currency as usize]
     }
 
-    /// What each thread is worth, by what is listed.
+    /// What each thread is worth with what is lent to it, by what is listed: thread t stands at place t - 1.
     pub fn values(&self) -> &[u64]
         ensures { result.now ≡ self.now.values }
     {

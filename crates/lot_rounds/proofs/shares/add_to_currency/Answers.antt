@@ -1,5 +1,5 @@
 use Rattle.std.proofs.Common.{slice_index, ◌<◌, length, arith}
-use Rattle.lot_rounds.proofs.ListLemmas.{get_or-within}
+use Rattle.std.proofs.lemmas.List.{get_or_default}
 use Rattle.lot_rounds.proofs.ShareLemmas.{funds-currency}
 use Rattle.lot_rounds.proofs.shares.add_to_currency.Goals as goal
 
@@ -20,5 +20,5 @@ overflow_add-index_mut c =
       funds,
       c.share.ensures,
       c.index_mut.ensures.value,
-      get_or-within c.args.next.now.items c.in-Currency.currency c.index_mut.result.now 0 below,
+      get_or_default c.args.next.now.items c.in-Currency.currency c.index_mut.result.now 0 below,
     )

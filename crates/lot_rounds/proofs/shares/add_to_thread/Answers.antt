@@ -1,5 +1,5 @@
 use Rattle.std.proofs.Common.{slice_index, ◌+◌, ◌-◌, ◌<◌, ◌≡◌, length, ap, ◌∙◌, arith}
-use Rattle.lot_rounds.proofs.ListLemmas.{get_or-within}
+use Rattle.std.proofs.lemmas.List.{get_or_default}
 use Rattle.lot_rounds.proofs.ShareLemmas.{funds-thread}
 use Rattle.lot_rounds.specs.Tables.{added_to_thread}
 use Rattle.lot_rounds.proofs.shares.add_to_thread.Goals as goal
@@ -25,5 +25,5 @@ overflow_add-index_mut c =
       funds,
       c.share.ensures,
       c.index_mut.ensures.value,
-      get_or-within c.args.owned.now.items (c.in-Thread.thread - 1) c.index_mut.result.now 0 below,
+      get_or_default c.args.owned.now.items (c.in-Thread.thread - 1) c.index_mut.result.now 0 below,
     )

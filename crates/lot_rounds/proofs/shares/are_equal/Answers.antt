@@ -1,7 +1,6 @@
-use Rattle.std.proofs.Common.{nat_eq, sym, ◌∙◌}
-use Rattle.std.proofs.lemmas.Bool.{eqb-true}
-use Rattle.lot_rounds.proofs.ListLemmas.{same-lists}
+use Rattle.std.specs.Cmp.{unsigned_Decides}
+use Rattle.std.proofs.lemmas.Slice.Eq.{slice_eq-Decides}
 use Rattle.lot_rounds.proofs.shares.are_equal.Goals as goal
 
 pub returns : goal.returns
-returns c same = same-lists nat_eq eqb-true c.args.worths.now c.args.others.now (sym c.eq.ensures ∙ same)
+returns c same = (slice_eq-Decides unsigned_Decides c.args.worths.now c.args.others.now _ c.eq.ensures).0 same

@@ -1,6 +1,7 @@
 use Rattle.std.proofs.Common.{◌≡◌, ℕ, ◌<◌, ◌≤◌, Some, false, length, vec_len, replicate, ap, refl, sym, ◌∙◌, arith}
 use Rattle.lot_rounds.specs.Tables.{flagged, leads_within}
-use Rattle.lot_rounds.proofs.ListLemmas.{get_or-within, none-flagged}
+use Rattle.std.proofs.lemmas.List.{get_or_default}
+use Rattle.lot_rounds.proofs.ListLemmas.{none-flagged}
 use Rattle.lot_rounds.proofs.CycleLemmas.{leads-cycle}
 use Rattle.lot_rounds.proofs.rounds.Rounds.would_cycle.Goals as goal
 
@@ -13,6 +14,6 @@ returns-clause-cycle c f same no_cycle there low room =
     λ place.
     ap (λ flags. flagged flags place) (c.deref.ensures.value ∙ c.fill.ensures.items (λ y is. is)) ∙ none-flagged (vec_len c.self.inside.activity.backed) place in
     let deep : length f.currencies ≤ vec_len c.list_leading.new.leading = omega (arith, worths, c.list_leading.ensures.count, c.self.invariant.sizes) in
-    c.index.ensures ∙ get_or-within c.list_leading.new.leading.items c.args.currency c.index.result.now false inside ∙ c.list_leading.ensures.leading c.args.currency below
+    c.index.ensures ∙ get_or_default c.list_leading.new.leading.items c.args.currency c.index.result.now false inside ∙ c.list_leading.ensures.leading c.args.currency below
     ∙ ap (λ tickets. leads_within (vec_len c.list_leading.new.leading) (Some c.args.issuer) tickets c.deref.result.now c.args.currency) (sym same)
     ∙ leads-cycle f c.deref.result.now none c.args.issuer no_cycle there (vec_len c.list_leading.new.leading) c.args.currency low deep
