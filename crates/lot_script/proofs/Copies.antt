@@ -42,9 +42,9 @@ pub copies-element : (xs ys : List OpenLoop) (i : ℕ) (x y : OpenLoop) → AreC
 copies-element xs ys i x y copies first second =
     let count : length xs ≡ length ys = copies-as_many xs ys copies in
     let behind : length (reverse (drop (suc i) xs)) ≡ length (reverse (drop (suc i) ys)) =
-        length-reverse (drop (suc i) xs) ∙ length-drop (suc i) xs ∙ ap (λ n. n - suc i) count ∙ sym (length-drop (suc i) ys) ∙ sym (length-reverse (drop (suc i) ys)) in
+    length-reverse (drop (suc i) xs) ∙ length-drop (suc i) xs ∙ ap (λ n. n - suc i) count ∙ sym (length-drop (suc i) ys) ∙ sym (length-reverse (drop (suc i) ys)) in
     copies-behind (reverse (take i xs)) (reverse (take i ys)) x y (reverse (drop (suc i) xs)) (reverse (drop (suc i) ys)) behind
-        (rw (reverse-around xs i x (around xs i x first), reverse-around ys i y (around ys i y second)) at copies)
+    (rw (reverse-around xs i x (around xs i x first), reverse-around ys i y (around ys i y second)) at copies)
 
 -- the copies so far, and one more
 pub copies-next : (xs ys : List OpenLoop) (i : ℕ) (d : OpenLoop) → AreCopies (reverse (take i xs)) (reverse (take i ys)) → i < length xs → i < length ys
@@ -52,7 +52,7 @@ pub copies-next : (xs ys : List OpenLoop) (i : ℕ) (d : OpenLoop) → AreCopies
 copies-next xs ys i d copies first second copy =
     let next : i + 1 ≡ suc i = omega arith in
     rw (next, take-more xs i (get_or xs i d) (slice_get-get_or xs i d first), take-more ys i (get_or ys i d) (slice_get-get_or ys i d second))
-        (copies-more (take i xs) (take i ys) (get_or xs i d) (get_or ys i d) copies copy)
+    (copies-more (take i xs) (take i ys) (get_or xs i d) (get_or ys i d) copies copy)
 
 -- where one isn't a copy, they aren't
 pub copies-there : (xs ys : List OpenLoop) (i : ℕ) (d : OpenLoop) → i < length xs → i < length ys → AreCopies (reverse xs) (reverse ys) → IsCopy (get_or xs i d) (get_or ys i d)

@@ -4,4 +4,5 @@ pub mod Lists
 pub mod Nesting
 pub mod Opened
 pub mod Passed
+pub mod Reached
 pub mod Rests

@@ -140,14 +140,14 @@ pub Passes-set : (lines : List Line) (p : Place) (n : ℕ) → Stands lines p (l
     → Passes lines p (record p { line = p.line + 1; done = 0; accumulator = n }) 1
 Passes-set lines p n at =
     Passes-one lines p (record p { line = p.line + 1; done = 0; accumulator = n }) (Set n) (Fits-behind lines p (line.Set n) n tt at)
-        (rest_at-plain lines p (line.Set n) tt at (stands-done lines p (line.Set n) at) ∙ ap (λ items. Set n ∷ items) (sym (rest_at-behind lines p.line n p.loops))) refl refl
+    (rest_at-plain lines p (line.Set n) tt at (stands-done lines p (line.Set n) at) ∙ ap (λ items. Set n ∷ items) (sym (rest_at-behind lines p.line n p.loops))) refl refl
 
 pub Passes-add : (lines : List Line) (p : Place) (n : ℕ) → Stands lines p (line.Add n)
     → Passes lines p (record p { line = p.line + 1; done = 0; accumulator = (p.accumulator + n) % 4294967296 }) 1
 Passes-add lines p n at =
     let sum : ℕ = (p.accumulator + n) % 4294967296 in
     Passes-one lines p (record p { line = p.line + 1; done = 0; accumulator = sum }) (Add n) (Fits-behind lines p (line.Add n) sum tt at)
-        (rest_at-plain lines p (line.Add n) tt at (stands-done lines p (line.Add n) at) ∙ ap (λ items. Add n ∷ items) (sym (rest_at-behind lines p.line sum p.loops))) refl refl
+    (rest_at-plain lines p (line.Add n) tt at (stands-done lines p (line.Add n) at) ∙ ap (λ items. Add n ∷ items) (sym (rest_at-behind lines p.line sum p.loops))) refl refl
 
 -- a loop is entered
 pub Passes-loop : (lines : List Line) (p : Place) (n : ℕ) → Stands lines p (line.Loop n)
@@ -159,11 +159,11 @@ Passes-loop lines p n at =
     let next : p.line + 1 ≡ suc p.line = omega arith in
     let count : n ≡ suc (n - 1) = let some = (stands-good lines p (line.Loop n) at) in omega (arith, some.0) in
     Passes-one lines p (record p { line = p.line + 1; done = 0; loops = o ∷ p.loops }) Work
-        (Fits-line lines (p.line + 1) p.accumulator (o ∷ p.loops) at.script (next-within lines p (line.Loop n) at) copies)
-        (rest_at-begun lines p (line.Loop n) at (stands-done lines p (line.Loop n) at)
-            ∙ left_of-loop lines n (drop (suc p.line) lines) o p.loops (ap (λ i. drop i lines) next) count
-            ∙ ap (λ items. Work ∷ items) (sym (rest_at-behind lines p.line p.accumulator (o ∷ p.loops))))
-        refl refl
+    (Fits-line lines (p.line + 1) p.accumulator (o ∷ p.loops) at.script (next-within lines p (line.Loop n) at) copies)
+    (rest_at-begun lines p (line.Loop n) at (stands-done lines p (line.Loop n) at)
+    ∙ left_of-loop lines n (drop (suc p.line) lines) o p.loops (ap (λ i. drop i lines) next) count
+    ∙ ap (λ items. Work ∷ items) (sym (rest_at-behind lines p.line p.accumulator (o ∷ p.loops))))
+    refl refl
 
 -- a loop is left
 pub Passes-behind : (lines : List Line) (p : Place) (o : OpenLoop) (outer : List OpenLoop) → Stands lines p line.End → p.loops ≡ o ∷ outer → o.left ≡ 0
@@ -172,12 +172,12 @@ Passes-behind lines p o outer at loops none =
     let first = copies-first o outer (open_at lines p.line) (subst (λ l. AreCopies l (open_at lines p.line)) loops at.fits.loops) in
     let copies : AreCopies outer (open_at lines (p.line + 1)) = rw (open_at-next lines p.line (p.line + 1) line.End at.next refl, first.2) first.4 in
     Passes-one lines p (record p { line = p.line + 1; done = 0; loops = outer }) Work
-        (Fits-line lines (p.line + 1) p.accumulator outer at.script (next-within lines p line.End at) copies)
-        (rest_at-begun lines p line.End at (stands-done lines p line.End at)
-            ∙ ap (λ l. left_of lines (pieces (line.End ∷ drop (suc p.line) lines)) l) loops
-            ∙ left_of-end lines (drop (suc p.line) lines) o outer none
-            ∙ ap (λ items. Work ∷ items) (sym (rest_at-behind lines p.line p.accumulator outer)))
-        refl refl
+    (Fits-line lines (p.line + 1) p.accumulator outer at.script (next-within lines p line.End at) copies)
+    (rest_at-begun lines p line.End at (stands-done lines p line.End at)
+    ∙ ap (λ l. left_of lines (pieces (line.End ∷ drop (suc p.line) lines)) l) loops
+    ∙ left_of-end lines (drop (suc p.line) lines) o outer none
+    ∙ ap (λ items. Work ∷ items) (sym (rest_at-behind lines p.line p.accumulator outer)))
+    refl refl
 
 -- a loop goes round again
 pub Passes-again : (lines : List Line) (p : Place) (o : OpenLoop) (outer : List OpenLoop) → Stands lines p line.End → p.loops ≡ o ∷ outer → 0 < o.left
@@ -193,11 +193,11 @@ Passes-again lines p o outer at loops some =
     let within : o.body ≤ length lines = omega (arith, body, encloses.0) in
     let count : o.left ≡ suc (o.left - 1) = omega (arith, some) in
     Passes-one lines p (record p { line = o.body; done = 0; loops = again ∷ outer }) Work
-        (Fits-line lines o.body p.accumulator (again ∷ outer) at.script within copies)
-        (rest_at-begun lines p line.End at (stands-done lines p line.End at)
-            ∙ ap (λ l. left_of lines (pieces (line.End ∷ drop (suc p.line) lines)) l) loops
-            ∙ left_of-again lines (drop (suc p.line) lines) o again outer (rw body encloses.1) refl count)
-        refl refl
+    (Fits-line lines o.body p.accumulator (again ∷ outer) at.script within copies)
+    (rest_at-begun lines p line.End at (stands-done lines p line.End at)
+    ∙ ap (λ l. left_of lines (pieces (line.End ∷ drop (suc p.line) lines)) l) loops
+    ∙ left_of-again lines (drop (suc p.line) lines) o again outer (rw body encloses.1) refl count)
+    refl refl
 
 -- some of a `compute` is passed
 pub Passes-some : (lines : List Line) (p : Place) (n k : ℕ) → Stands lines p (line.Compute n) → p.done + k < n

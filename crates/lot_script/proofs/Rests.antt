@@ -55,8 +55,8 @@ left_of-looped lines n p o (next ∷ outer) body count =
     let copies : List Item = repeat o.left (p.first ++ Work ∷ []) in
     let rest : List Item = Work ∷ (repeat next.left ((pieces (drop next.body lines)).first ++ Work ∷ []) ++ left_of lines (behind_end (behind_end p)) outer) in
     rw (count, body) (ap (λ xs. Work ∷ xs) (ap (λ xs. xs ++ rest) (regrouped p.first copies (first_of_list p.others))
-        ∙ append_assoc p.first (Work ∷ (copies ++ first_of_list p.others)) rest
-        ∙ ap (λ xs. p.first ++ Work ∷ xs) (append_assoc copies (first_of_list p.others) rest)))
+    ∙ append_assoc p.first (Work ∷ (copies ++ first_of_list p.others)) rest
+    ∙ ap (λ xs. p.first ++ Work ∷ xs) (append_assoc copies (first_of_list p.others) rest)))
 
 pub left_of-loop : (lines : List Line) (n : ℕ) (behind : List Line) (o : OpenLoop) (outer : List OpenLoop) → drop o.body lines ≡ behind → n ≡ suc o.left
     → left_of lines (pieces (line.Loop n ∷ behind)) outer ≡ Work ∷ left_of lines (pieces behind) (o ∷ outer)
@@ -75,6 +75,13 @@ pub left_of-again : (lines : List Line) (behind : List Line) (o again : OpenLoop
 left_of-again lines behind o again outer same_ends same_body count =
     left_of-round lines (pieces (line.End ∷ behind)) o again outer refl same_ends same_body count
     ∙ ap (λ b. Work ∷ left_of lines (pieces (drop b lines)) (again ∷ outer)) (sym same_body)
+
+-- one copy more is left
+pub left_of-copy : (lines : List Line) (p : Pieces) (o : OpenLoop) (outer : List OpenLoop) → (pieces (drop o.body lines)).first ≡ p.first
+    → left_of lines p (record o { left = suc o.left } ∷ outer) ≡ (p.first ++ Work ∷ []) ++ left_of lines p (o ∷ outer)
+left_of-copy lines p o outer body =
+    let rest : List Item = left_of lines (behind_end p) outer in
+    rw body (ap (λ xs. p.first ++ Work ∷ xs) (regrouped p.first (repeat o.left (p.first ++ Work ∷ [])) rest) ∙ sym (append_assoc p.first (Work ∷ []) _))
 
 -- a loop is left
 pub left_of-end : (lines : List Line) (behind : List Line) (o : OpenLoop) (outer : List OpenLoop) → o.left ≡ 0

@@ -89,6 +89,10 @@ rest_at lines place = drop place.done (left_of lines (pieces (drop place.line li
 abbrev pub context_at : List Line → Place → Context
 context_at lines place = record { rest = rest_at lines place; accumulator = place.accumulator }
 
+-- it is what stands behind some front of the whole list
+abbrev pub IsRestOf : List Item → List Item → Type 0
+IsRestOf rest whole = (front : List Item) × (front ++ rest ≡ whole)
+
 -- ---- from place to place
 
 -- From the old place to the new, so many marks are passed, and no trap.

@@ -16,3 +16,6 @@ pub use builder::ScriptBuilder;
 pub use context::Context;
 pub use script::Script;
 pub use slice::Slice;
+
+#[cfg(test)]
+mod tests;

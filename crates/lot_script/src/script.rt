@@ -1,7 +1,8 @@
 //! Scripts.
 ghost use Rattle.std.specs.Prelude.{◌≡◌, ◌↔◌, ◌≤◌, length, IfOk, IsTrue};
+ghost use Rattle.lot_machine.specs.Script.{start as whole_context, unrolled};
 ghost use Rattle.lot_script.specs.Drafts.{IsScript};
-ghost use Rattle.lot_script.specs.Places.{CanBeDone, Fits, first_place, open_at};
+ghost use Rattle.lot_script.specs.Places.{CanBeDone, Fits, IsRestOf, context_at, first_place, open_at, rest_at};
 
 use crate::Context;
 use crate::open_loops::OpenLoops;
@@ -18,6 +19,7 @@ pub struct Script {
 impl Model for Script {
     ghost use Rattle.std.specs.Prelude.{List};
     ghost use Rattle.lot_machine.specs.declared.script.Line.{Line};
+    ghost use Rattle.lot_machine.specs.Script.{start as whole_context, unrolled};
     ghost use Rattle.lot_script.specs.Drafts.{IsScript};
 
     ghost Value = { List Line };
@@ -54,6 +56,7 @@ impl Script {
     /// Where a thread begins: at the first line, with accumulator 0.
     pub fn start(&self) -> Context
         ensures first { result ≡ first_place }
+        ensures whole { context_at self.now result ≡ whole_context self.now }
         ensures fits { Fits self.now result }
     {
         let _ = &self.lines;
@@ -67,7 +70,8 @@ impl Script {
 
     /// Whether the context is one of a script with these lines.
     pub fn fits(&self, context: &Context) -> bool
-        ensures { IsTrue result ↔ Fits self.now context.now }
+        ensures fits { IsTrue result ↔ Fits self.now context.now }
+        ensures rest { Fits self.now context.now → IsRestOf (rest_at self.now context.now) (unrolled self.now) }
     {
         context.line <= self.lines.len()
             && can_be_done(self.next_line(context), context.done)

@@ -1,6 +1,7 @@
 //! What a system is opened with.
 ghost use Rattle.std.specs.Prelude.{◌≡◌, IfOk, length, All, vec_len};
 ghost use Rattle.lot_kernel.specs.Served.{IsServedCommand};
+ghost use Rattle.lot_script.specs.Exits.{OnlyCompute};
 
 use lot_draw::ParkMiller;
 use lot_machine::Command;
@@ -9,11 +10,13 @@ use lot_text::Program;
 use std::alloc::{AllocError, Global};
 
 /// The program's scripts again.
-pub(crate) fn scripts_of(alloc: Global, program: &Program) -> Result<Vec<Script>, AllocError> {
+pub(crate) fn scripts_of(alloc: Global, program: &Program) -> Result<Vec<Script>, AllocError>
+    ensures same { IfOk result (λ scripts. scripts.items ≡ program.now.scripts) }
+    ensures only_compute { IfOk result (λ scripts. All OnlyCompute scripts.items) }
+{
     let mut scripts = Vec::new(alloc);
     for script in program.scripts() {
-        let lines = Vec::from_slice(alloc, script.lines())?;
-        scripts.push(Script::new(lines))?;
+        scripts.push(script.copied(alloc)?)?;
     }
     Ok(scripts)
 }

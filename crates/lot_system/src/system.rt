@@ -1,6 +1,7 @@
 //! The system.
-ghost use Rattle.std.specs.Prelude.{◌≡◌, ◌≤◌, ◌++◌, [], ◌∷◌, All, IfOk, OnOk, OnErr};
+ghost use Rattle.std.specs.Prelude.{◌≡◌, ◌≤◌, ◌++◌, [], ◌∷◌, All, IfOk, IfSome, OnOk, OnErr};
 ghost use Rattle.lot_kernel.specs.Served.{IsServed, IsServedCommand};
+ghost use Rattle.lot_script.specs.Exits.{OnlyCompute};
 
 use crate::TurnFault;
 use crate::counts::Counts;
@@ -38,6 +39,7 @@ pub struct System {
 impl Model for System {
     ghost use Rattle.std.specs.Prelude.{◌≡◌, ◌+◌, ◌≤◌, All, vec_len, vec_capacity};
     ghost use Rattle.lot_kernel.specs.Served.{IsServedCommand};
+    ghost use Rattle.lot_script.specs.Exits.{OnlyCompute};
     ghost use Rattle.lot_system.specs.Seen.{Seen};
 
     ghost Value = { Seen };
@@ -46,6 +48,7 @@ impl Model for System {
 
     ghost invariant = { λ s. record {
       served : All IsServedCommand s.commands.items;
+      only_compute : All OnlyCompute s.scripts.items;
       spent : s.spent ≤ vec_len s.commands;
       generators : vec_len s.generators ≡ s.processors;
       counts : vec_len s.counts ≡ s.processors + 1;
@@ -140,6 +143,7 @@ impl System {
     /// The event of the actor's turn, with this slice where it has work. It takes the next command or the next number.
     fn next_event(&mut self, actor: u32, slice: &Option<Slice>) -> Event
         requires actor { actor ≤ self.old.processors }
+        requires only_compute { IfSome slice.now (λ s. OnlyCompute s.lines) }
         ensures served { IsServed result }
         ensures state { self.new ≡ self.old }
     {

@@ -2,20 +2,14 @@
 use Rattle.std.specs.Prelude.{◌≡◌, ℕ, ◌<◌, ◌≤◌, List, length, All, IsSome}
 use Rattle.std.specs.Option.{ForSome}
 use Rattle.lot_machine.specs.Bounds.{IsBetween, IsUnit}
-use Rattle.lot_machine.specs.Reading.{Reading, OpenScript}
+use Rattle.lot_machine.specs.Reading.{Reading}
 use Rattle.lot_kernel.specs.Served.{IsServedCommand}
-use Rattle.lot_script.specs.Places.{OnlyCompute}
 use Rattle.lot_text.specs.Programs.{IsSeed}
 
 -- seeds, one for each of so many processors
 pub record AreSeeds (processors : ℕ) (seeds : List ℕ) : Type 0 where
   pub count : length seeds ≡ processors
   pub each : All IsSeed seeds
-
--- an open script is no longer than one may be
-pub record IsOpenScript (s : OpenScript) : Type 0 where
-  pub lines : OnlyCompute s.lines
-  pub line_count : length s.lines ≤ 1024
 
 -- what was read is within the bounds of the input, and the kernel serves each command
 pub record IsReading (r : Reading) : Type 0 where

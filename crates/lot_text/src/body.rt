@@ -10,6 +10,7 @@ use crate::number::{actor_below, any_number};
 use crate::reading::{OpenScript, Reading};
 use crate::tokens::Tokens;
 use lot_machine::{BodyWord, Command, InputRefusal};
+use lot_script::ScriptBuilder;
 use std::alloc::Global;
 
 /// A line of the body, which ends the header.
@@ -67,7 +68,7 @@ fn open_script(
     reading.unclosed = Some(OpenScript {
         name,
         begins: number,
-        lines: Vec::new(alloc),
+        builder: ScriptBuilder::new(alloc),
     });
     Ok(())
 }

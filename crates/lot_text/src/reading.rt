@@ -1,5 +1,5 @@
 //! What has been read of an input so far.
-ghost use Rattle.std.specs.Prelude.{◌≡◌, ◌<◌, length, map, option_map, position, unwrap_or, IfOk, IfSome, Ok};
+ghost use Rattle.std.specs.Prelude.{◌≡◌, ◌<◌, length, map, All, option_map, position, unwrap_or, IfOk, IfSome, Ok};
 ghost use Rattle.std.specs.List.{range_with_len};
 ghost use Rattle.std.specs.Option.{ForSome};
 ghost use Rattle.std.specs.Str.{bytes_eq};
@@ -8,17 +8,18 @@ ghost use Rattle.lot_machine.specs.Grammar.{add_command as add_command_read, clo
 ghost use Rattle.lot_machine.specs.Reading.{number_named, opening_reading};
 ghost use Rattle.lot_machine.specs.State.{sizes_of};
 ghost use Rattle.lot_kernel.specs.Served.{IsServedCommand};
+ghost use Rattle.lot_script.specs.Exits.{OnlyCompute};
 ghost use Rattle.lot_text.specs.Faults.{Gives};
 ghost use Rattle.lot_text.specs.Readings.{AreSeeds};
 
 use crate::fault::LineFault;
 use crate::{ParseFault, Program};
-use lot_machine::{Command, InputFault, InputRefusal, Limits, Line, Name};
-use lot_script::Script;
+use lot_machine::{Command, InputFault, InputRefusal, Limits, Name};
+use lot_script::{Script, ScriptBuilder};
 use std::alloc::{AllocError, Global};
 use std::marker::Model;
 
-/// A script that was closed.
+/// A script that was closed. For now it has only `compute` lines.
 #[derive(Debug, Drop)]
 pub(crate) struct NamedScript {
     pub(crate) name: Name,
@@ -27,10 +28,13 @@ pub(crate) struct NamedScript {
 
 impl Model for NamedScript {
     ghost use Rattle.lot_machine.specs.Reading.{NamedScript as NamedScriptRecord};
+    ghost use Rattle.lot_script.specs.Exits.{OnlyCompute};
 
     ghost Value = { NamedScriptRecord };
 
     ghost view = { λ s. record { name = s.name; lines = s.script } };
+
+    ghost invariant = { λ s. OnlyCompute s.script };
 }
 
 /// A script that isn't closed yet: where it began, and its lines so far.
@@ -38,18 +42,18 @@ impl Model for NamedScript {
 pub(crate) struct OpenScript {
     pub(crate) name: Name,
     pub(crate) begins: u32,
-    pub(crate) lines: Vec<Line>,
+    pub(crate) builder: ScriptBuilder,
 }
 
 impl Model for OpenScript {
     ghost use Rattle.lot_machine.specs.Reading.{OpenScript as OpenScriptRecord};
-    ghost use Rattle.lot_text.specs.Readings.{IsOpenScript};
+    ghost use Rattle.lot_script.specs.Exits.{OnlyCompute};
 
     ghost Value = { OpenScriptRecord };
 
-    ghost view = { λ s. record { name = s.name; begins = s.begins; lines = s.lines.items; loops = 0 } };
+    ghost view = { λ s. record { name = s.name; begins = s.begins; lines = s.builder.lines; loops = s.builder.loops } };
 
-    ghost invariant = { λ s. IsOpenScript (record { name = s.name; begins = s.begins; lines = s.lines.items; loops = 0 }) };
+    ghost invariant = { λ s. OnlyCompute s.builder.lines };
 }
 
 /// What the lines since the first have said. The header's place is that of its last line, and 6 from the body on.
@@ -221,7 +225,8 @@ fn own_seeds(alloc: Global, processors: u32) -> Result<Vec<u32>, AllocError>
 
 /// The scripts alone.
 fn without_names(alloc: Global, named: Vec<NamedScript>) -> Result<Vec<Script>, AllocError>
-    ensures { IfOk result (λ scripts. scripts.items ≡ map (λ s. s.lines) named.items) }
+    ensures scripts { IfOk result (λ scripts. scripts.items ≡ map (λ s. s.lines) named.items) }
+    ensures only_compute { IfOk result (λ scripts. All OnlyCompute scripts.items) }
 {
     let mut scripts = Vec::new(alloc);
     for script in named {

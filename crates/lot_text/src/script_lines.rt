@@ -1,7 +1,8 @@
 //! Lines of scripts.
 ghost use Rattle.std.specs.Prelude.{◌≡◌, ◌<◌, length, OnOk, Ok};
 ghost use Rattle.lot_machine.specs.Grammar.{add_line as add_line_read, script_line as script_line_read};
-ghost use Rattle.lot_script.specs.Places.{IsCompute};
+ghost use Rattle.lot_script.specs.Drafts.{IsLine};
+ghost use Rattle.lot_script.specs.Exits.{IsCompute};
 ghost use Rattle.lot_text.specs.Faults.{Gives};
 
 use crate::fault::LineFault;
@@ -9,7 +10,6 @@ use crate::number::number_between;
 use crate::reading::{NamedScript, OpenScript, Reading};
 use crate::tokens::Tokens;
 use lot_machine::{InputRefusal, Line, ScriptWord};
-use lot_script::Script;
 
 /// A line of this script, which stays open until `endscript`. The words that no arm names aren't served.
 pub(crate) fn script_line(
@@ -41,13 +41,14 @@ fn compute(reading: &mut Reading, script: OpenScript, tokens: Tokens<'_>) -> Res
 /// The script goes on with this line.
 fn add_line(reading: &mut Reading, mut script: OpenScript, line: Line) -> Result<(), LineFault>
     requires room { length reading.old.scripts < 256 }
+    requires good { IsLine line }
     requires compute { IsCompute line }
     ensures { Gives reading.new result (add_line_read reading.old script line) }
 {
-    if 1024 <= script.lines.len() {
+    if 1024 <= script.builder.len() {
         return Err(LineFault::Refused(InputRefusal::TooLong));
     }
-    script.lines.push(line)?;
+    script.builder.push(line)?;
     reading.unclosed = Some(script);
     Ok(())
 }
@@ -65,9 +66,12 @@ fn end_script(
     let OpenScript {
         name,
         begins: _,
-        lines,
+        builder,
     } = script;
-    let script = Script::new(lines);
+    if 0 < builder.open_loops() {
+        return Err(LineFault::Refused(InputRefusal::BadLine));
+    }
+    let script = builder.finish();
     reading.scripts.push(NamedScript { name, script })?;
     reading.unclosed = None;
     Ok(())
