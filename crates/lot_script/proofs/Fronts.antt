@@ -1,5 +1,5 @@
 -- A slice is the front of what is left.
-use Rattle.std.proofs.Common.{◌≡◌, ◌<◌, ◌≤◌, ℕ, zero, suc, min, sym, ◌∙◌, Option, Some, None, List, [], ◌∷◌, take, drop, fold, refl, ap, arith, lt-ltb, le-ltb, Bool, true, false}
+use Rattle.std.proofs.Common.{◌≡◌, ◌<◌, ◌≤◌, ℕ, min, sym, ◌∙◌, Some, None, List, [], ◌∷◌, take, drop, fold, refl, ap, arith, lt-ltb, le-ltb, true, false}
 use Rattle.std.specs.Prelude.{slice_get, nat_lt, option_and_then}
 use Rattle.std.specs.List.{prefix_len}
 use Rattle.lot_machine.specs.declared.script.Line.{Line}

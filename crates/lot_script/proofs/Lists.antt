@@ -1,5 +1,5 @@
 -- Lists, their fronts and what is behind them.
-use Rattle.std.proofs.Common.{◌≡◌, ◌<◌, ◌≤◌, ◌+◌, ◌-◌, ℕ, zero, suc, sym, ◌∙◌, Option, Some, None, List, [], ◌∷◌, ◌++◌, length, take, drop, replicate, fold, refl, ap, arith, subst, Bool, true, false, cond, get_or}
+use Rattle.std.proofs.Common.{◌≡◌, ◌≤◌, ◌+◌, ◌-◌, ℕ, zero, suc, sym, ◌∙◌, Some, None, List, [], ◌∷◌, ◌++◌, length, take, drop, replicate, fold, refl, ap, arith, subst, Bool, true, false, cond}
 use Rattle.std.specs.Prelude.{slice_get, All}
 use Rattle.std.specs.List.{prefix_len}
 use Rattle.std.proofs.lemmas.List.{drop-drop, take-append-le, drop-append-le, drop-replicate, take-replicate, length-replicate}

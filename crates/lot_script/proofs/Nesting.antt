@@ -1,11 +1,11 @@
 -- Lines that nest.
-use Rattle.std.proofs.Common.{rules, ◌≡◌, ◌<◌, ◌≤◌, ◌+◌, ◌-◌, ℕ, zero, suc, sym, ◌∙◌, Some, List, [], ◌∷◌, ◌++◌, length, take, fold, refl, ap, arith, subst, length-append}
-use Rattle.std.specs.Prelude.{slice_get, All}
+use Rattle.std.proofs.Common.{rules, ◌≡◌, ◌<◌, ◌≤◌, ℕ, zero, suc, Some, List, [], ◌∷◌, ◌++◌, length, take, fold, refl, arith, subst, length-append}
+use Rattle.std.specs.Prelude.{slice_get}
 use Rattle.std.proofs.lemmas.List.Sums.{fold-append}
 use Rattle.std.proofs.lemmas.List.Elements.{All-append}
 use Rattle.lot_machine.specs.declared.script.Line.{Line}
 use Rattle.lot_machine.specs.declared.script.Line.TheVariants as line
-use Rattle.lot_script.specs.Drafts.{Draft, loops_behind, pushed, IsLine, CanNest, Nests, open_count, IsDraft, IsScript}
+use Rattle.lot_script.specs.Drafts.{Draft, loops_behind, pushed, IsLine, CanNest, Nests, IsDraft}
 
 -- no more than eight loops are open
 pub behind-most : (loops : ℕ) (l : Line) → loops ≤ 8 → CanNest loops l → loops_behind loops l ≤ 8

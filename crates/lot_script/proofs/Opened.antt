@@ -1,12 +1,12 @@
 -- The loops that are open at a line.
-use Rattle.std.proofs.Common.{◌≡◌, ◌<◌, ◌≤◌, ◌+◌, ◌-◌, ℕ, zero, suc, sym, ◌∙◌, Option, Some, None, List, [], ◌∷◌, ◌++◌, length, take, drop, fold, refl, ap, arith, subst}
+use Rattle.std.proofs.Common.{◌≡◌, ◌≤◌, ◌+◌, ℕ, zero, suc, ◌∙◌, Option, Some, None, List, [], ◌∷◌, length, take, drop, fold, refl, ap, arith}
 use Rattle.std.specs.Prelude.{slice_get, ⊤}
-use Rattle.std.proofs.lemmas.Option.{slice_get-get_or, slice_get_within}
+use Rattle.std.proofs.lemmas.Option.{slice_get_within}
 use Rattle.lot_machine.specs.declared.script.Line.{Line}
 use Rattle.lot_machine.specs.declared.script.Line.TheVariants as line
-use Rattle.lot_machine.specs.Script.{Item, Pieces, pieces}
+use Rattle.lot_machine.specs.Script.{Item, pieces}
 use Rattle.lot_script.specs.declared.open_loops.OpenLoop.{OpenLoop}
-use Rattle.lot_script.specs.Drafts.{loops_behind, CanNest, Nests, IsLine, IsScript}
+use Rattle.lot_script.specs.Drafts.{loops_behind, CanNest, IsScript}
 use Rattle.lot_script.specs.Places.{open_after, open_behind, open_at, IsCopy, AreCopies}
 use Rattle.lot_script.proofs.Lists.{drop-element, slice_get_none}
 use Rattle.lot_script.proofs.Nesting.{Nests-line}

@@ -1,6 +1,6 @@
 -- What is passed from a place, line by line.
-use Rattle.std.proofs.Common.{inl, inr, ◌⊎◌, min, ◌≡◌, ◌<◌, ◌≤◌, ◌+◌, ◌-◌, ◌%◌, ℕ, zero, suc, sym, ◌∙◌, Option, Some, None, List, [], ◌∷◌, ◌++◌, length, take, drop, replicate, fold, refl, ap, arith, subst, Bool, true}
-use Rattle.std.specs.Prelude.{slice_get, option_and_then, ⊤}
+use Rattle.std.proofs.Common.{inl, inr, ◌⊎◌, min, ◌≡◌, ◌<◌, ◌≤◌, ◌+◌, ◌-◌, ◌%◌, ℕ, zero, suc, sym, ◌∙◌, Option, Some, None, List, [], ◌∷◌, ◌++◌, length, drop, replicate, refl, ap, arith, subst, true}
+use Rattle.std.specs.Prelude.{slice_get}
 use Rattle.std.specs.List.{prefix_len}
 use Rattle.std.proofs.lemmas.List.{drop_all}
 use Rattle.std.proofs.lemmas.Option.{slice_get_within}
@@ -9,7 +9,7 @@ use Rattle.lot_machine.specs.declared.script.Line.{Line}
 use Rattle.lot_machine.specs.declared.script.Line.TheVariants as line
 use Rattle.lot_machine.specs.declared.script.ScriptTrap.{ScriptTrap}
 use Rattle.lot_machine.specs.declared.script.ScriptTrap.TheVariants.{Yield, Call, Receive, Reply, Lock, Unlock, Exit}
-use Rattle.lot_machine.specs.Script.{Item, pieces, items_of, is_mark, trap_of, rest_after, accumulated}
+use Rattle.lot_machine.specs.Script.{Item, pieces, items_of, is_mark, rest_after, accumulated}
 use Rattle.lot_machine.specs.Script.Item.{Work, Set, Add, Traps}
 use Rattle.lot_script.specs.declared.open_loops.OpenLoop.{OpenLoop}
 use Rattle.lot_script.specs.Drafts.{IsLine, CanNest, IsScript}

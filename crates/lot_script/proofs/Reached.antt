@@ -1,17 +1,16 @@
 -- What is left at a place that fits is a rest of the unrolled list.
-use Rattle.std.proofs.Common.{◌≡◌, ◌<◌, ◌≤◌, ◌+◌, ◌-◌, ℕ, zero, suc, sym, ◌∙◌, Option, Some, None, List, [], ◌∷◌, ◌++◌, length, take, drop, refl, ap, arith, subst, append_assoc}
-use Rattle.std.specs.Prelude.{slice_get, ⊤}
-use Rattle.std.specs.List.{repeat}
+use Rattle.std.proofs.Common.{◌≡◌, ◌<◌, ◌≤◌, ◌+◌, ◌-◌, ℕ, zero, suc, ◌∙◌, Option, Some, None, List, [], ◌∷◌, ◌++◌, length, take, drop, refl, ap, arith, subst, append_assoc}
+use Rattle.std.specs.Prelude.{slice_get}
 use Rattle.std.proofs.lemmas.List.{take-append-drop}
 use Rattle.lot_machine.specs.declared.script.Line.{Line}
 use Rattle.lot_machine.specs.declared.script.Line.TheVariants as line
 use Rattle.lot_machine.specs.Script.{Item, Pieces, pieces, items_of, unrolled}
 use Rattle.lot_machine.specs.Script.Item.{Work}
 use Rattle.lot_script.specs.declared.open_loops.OpenLoop.{OpenLoop}
-use Rattle.lot_script.specs.Drafts.{IsLine, CanNest, IsScript}
-use Rattle.lot_script.specs.Places.{Place, Fits, IsCopy, AreCopies, IsRestOf, open_after, open_at, left_of, rest_at}
+use Rattle.lot_script.specs.Drafts.{IsLine, IsScript}
+use Rattle.lot_script.specs.Places.{Place, Fits, AreCopies, IsRestOf, open_after, open_at, left_of, rest_at}
 use Rattle.lot_script.proofs.Lists.{slice_get_none, drop-element, All-element}
-use Rattle.lot_script.proofs.Opened.{open_at-next, nests-there, copies-first}
+use Rattle.lot_script.proofs.Opened.{open_at-next, nests-there}
 use Rattle.lot_script.proofs.Rests.{IsPlain, left_of-plain, left_of-loop, left_of-end, left_of-copy}
 
 -- what is behind the front of a rest is a rest
@@ -50,7 +49,7 @@ rest-next lines i (line.Loop n) (o ∷ outer) whole script is copies before =
     let next : i + 1 ≡ suc i = omega arith in
     let count : n ≡ suc (n - 1) = omega (arith, good.0) in
     let entered : IsRestOf (left_of lines (pieces (drop (suc i) lines)) (first ∷ outer)) whole =
-        rest-behind (Work ∷ []) _ whole (subst (λ items. IsRestOf items whole) (left_of-loop lines n (drop (suc i) lines) first outer (ap (λ j. drop j lines) next) count) (before outer copies.1)) in
+    rest-behind (Work ∷ []) _ whole (subst (λ items. IsRestOf items whole) (left_of-loop lines n (drop (suc i) lines) first outer (ap (λ j. drop j lines) next) count) (before outer copies.1)) in
     let more : n - 1 - o.left + o.left ≡ n - 1 = omega (arith, copies.0.left) in
     let body : (pieces (drop o.body lines)).first ≡ (pieces (drop (suc i) lines)).first = rw (copies.0.body, next) refl in
     let same : first ≡ record o { left = n - 1 - o.left + o.left } = rw (more, copies.0.body) refl in

@@ -1,16 +1,14 @@
 -- What is left of a script at a place, and what is passed from there.
-use Rattle.std.proofs.Common.{◌≡◌, ◌<◌, ◌≤◌, ◌+◌, ◌-◌, ℕ, zero, suc, sym, ◌∙◌, Option, Some, None, List, [], ◌∷◌, ◌++◌, length, take, drop, replicate, refl, ap, arith, subst, append_assoc}
-use Rattle.std.specs.Prelude.{slice_get, ⊤}
+use Rattle.std.proofs.Common.{◌≡◌, ℕ, suc, sym, ◌∙◌, List, [], ◌∷◌, ◌++◌, drop, refl, ap, append_assoc}
+use Rattle.std.specs.Prelude.{⊤}
 use Rattle.std.specs.List.{repeat}
-use Rattle.std.proofs.lemmas.List.{drop_all}
 use Rattle.lot_machine.specs.declared.script.Line.{Line}
 use Rattle.lot_machine.specs.declared.script.Line.TheVariants as line
 use Rattle.lot_machine.specs.declared.script.ScriptTrap.TheVariants.{Exit}
 use Rattle.lot_machine.specs.Script.{Item, Pieces, pieces, items_of, first_of_list}
-use Rattle.lot_machine.specs.Script.Item.{Work, Set, Add, Traps}
+use Rattle.lot_machine.specs.Script.Item.{Work, Traps}
 use Rattle.lot_script.specs.declared.open_loops.OpenLoop.{OpenLoop}
-use Rattle.lot_script.specs.Places.{Place, behind_end, left_of, rest_at, CanBeDone}
-use Rattle.lot_script.proofs.Lists.{drop-element, slice_get_none, drop-work}
+use Rattle.lot_script.specs.Places.{behind_end, left_of}
 
 -- neither a loop nor its end
 abbrev pub IsPlain : Line → Type 0

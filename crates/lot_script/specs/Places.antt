@@ -1,5 +1,5 @@
 -- Where a thread is in its script, and what is left of the script there.
-use Rattle.std.specs.Prelude.{◌≡◌, ℕ, ◌+◌, ◌-◌, ◌<◌, ◌≤◌, ⊤, Option, Some, None, IfSome, IfNone, List, [], ◌∷◌, ◌++◌, length, take, drop, fold, slice_get, option_and_then}
+use Rattle.std.specs.Prelude.{◌≡◌, ℕ, ◌+◌, ◌-◌, ◌<◌, ◌≤◌, ⊤, Option, Some, List, [], ◌∷◌, ◌++◌, length, take, drop, fold, slice_get, option_and_then}
 use Rattle.std.specs.List.{repeat, prefix_len}
 use Rattle.lot_machine.specs.declared.script.Line.{Line}
 use Rattle.lot_machine.specs.declared.script.Line.TheVariants as line

@@ -1,5 +1,4 @@
-use Rattle.std.proofs.Common.{◌≡◌, sym}
-use Rattle.lot_script.specs.Drafts.{Draft, pushed, IsDraft, CanNest}
+use Rattle.lot_script.specs.Drafts.{Draft}
 use Rattle.lot_script.proofs.Nesting.{IsDraft-pushed}
 use Rattle.lot_script.proofs.builder.ScriptBuilder.push.Goals as goal
 

@@ -1,4 +1,4 @@
-use Rattle.std.proofs.Common.{◌≡◌, Option, Some, List, arith, sym, ◌∙◌}
+use Rattle.std.proofs.Common.{◌≡◌, Option, Some, List, sym, ◌∙◌}
 use Rattle.std.specs.Prelude.{slice_get}
 use Rattle.lot_machine.specs.declared.script.Line.{Line}
 use Rattle.lot_script.specs.Drafts.{IsScript}

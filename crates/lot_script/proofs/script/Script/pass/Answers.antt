@@ -1,7 +1,3 @@
-use Rattle.std.proofs.Common.{◌≡◌, arith, rules, subst}
-use Rattle.lot_machine.specs.declared.script.Line.{Line}
-use Rattle.lot_machine.specs.declared.script.Line.TheVariants as line
-use Rattle.lot_script.specs.Places.{Stands}
 use Rattle.lot_script.proofs.Passed.{stands-within, stands-done, stands-good, stands-nests, Passes-compute, Passes-set, Passes-add, Passes-loop, Passes-end}
 use Rattle.lot_script.proofs.script.Script.pass.Goals as goal
 

@@ -1,8 +1,8 @@
-use Rattle.std.proofs.Common.{◌≡◌, ◌+◌, Some, arith}
+use Rattle.std.proofs.Common.{Some, arith}
 use Rattle.lot_script.specs.Slices.{IsSlice}
-use Rattle.lot_script.specs.Places.{Passes, Makes, Fits}
+use Rattle.lot_script.specs.Places.{Makes}
 use Rattle.lot_script.proofs.Passed.{Passes-then}
-use Rattle.lot_script.proofs.Fronts.{slice-trap, slice-expiry}
+use Rattle.lot_script.proofs.Fronts.{slice-trap}
 use Rattle.lot_script.proofs.script.Script.slice.Goals as goal
 
 pub loop-ticks-preserved : goal.loop-ticks-preserved
