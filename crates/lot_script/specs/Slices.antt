@@ -22,3 +22,9 @@ pub record IsSlice (parts : Parts) : Type 0 where
   pub budget_fits : IsBetween 1 1000 parts.budget
   pub sliced : slice (context_at parts.lines parts.start) parts.budget ≡ record { ticks = parts.ticks; trap = parts.trap; end = context_at parts.lines parts.end }
   pub end_fits : Fits parts.lines parts.end
+
+-- slices of scripts with the same lines, from the same place, with the same budget
+pub record IsSame (one other : Parts) : Type 0 where
+  pub lines : one.lines ≡ other.lines
+  pub start : one.start ≡ other.start
+  pub budget : one.budget ≡ other.budget

@@ -1,5 +1,5 @@
 //! Where a thread is in its script.
-ghost use Rattle.std.specs.Prelude.{◌≡◌, ◌+◌, ◌-◌, ◌%◌, ◌<◌, ◌≤◌, ◌∷◌, length, List, min};
+ghost use Rattle.std.specs.Prelude.{◌≡◌, ◌↔◌, ◌+◌, ◌-◌, ◌%◌, ◌<◌, ◌≤◌, ◌∷◌, length, List, min, IsTrue};
 ghost use Rattle.lot_script.specs.declared.open_loops.OpenLoop.{OpenLoop as OpenLoopRecord};
 
 use crate::open_loops::{OpenLoop, OpenLoops};
@@ -38,6 +38,16 @@ impl Context {
             loops: self.loops.copied(),
             accumulator: self.accumulator,
         }
+    }
+
+    /// Whether the other is the same place with the same accumulator.
+    pub fn is_same(&self, other: &Context) -> bool
+        ensures { IsTrue result ↔ (self.now ≡ other.now) }
+    {
+        self.line == other.line
+            && self.done == other.done
+            && self.accumulator == other.accumulator
+            && self.loops.is_same(&other.loops)
     }
 
     /// The number that a `call` or a `reply` would send from here.

@@ -68,6 +68,13 @@ impl OpenLoops {
         OpenLoops { stack }
     }
 
+    /// Whether they are the same loops, with as many copies left of each.
+    pub(crate) fn is_same(&self, other: &OpenLoops) -> bool
+        ensures { IsTrue result ↔ (self.now ≡ other.now) }
+    {
+        self.stack.as_slice() == other.stack.as_slice()
+    }
+
     /// This loop is innermost now.
     pub(crate) fn push(&mut self, innermost: OpenLoop)
         requires { length self.old < 8 }

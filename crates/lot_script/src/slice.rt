@@ -1,9 +1,9 @@
 //! What a processor does of a script at a time.
-ghost use Rattle.std.specs.Prelude.{◌≡◌, ◌<◌, ◌≤◌, IfSome};
+ghost use Rattle.std.specs.Prelude.{◌≡◌, ◌↔◌, ◌<◌, ◌≤◌, IfSome, IsTrue};
 ghost use Rattle.lot_machine.specs.Bounds.{IsBetween};
 ghost use Rattle.lot_script.specs.Exits.{OnlyCompute, IsExit};
 ghost use Rattle.lot_script.specs.Places.{Fits};
-ghost use Rattle.lot_script.specs.Slices.{IsSlice};
+ghost use Rattle.lot_script.specs.Slices.{IsSlice, IsSame};
 
 use crate::passing::Advance;
 use crate::{Context, Script};
@@ -56,6 +56,16 @@ impl<'a> Slice<'a> {
         ensures { result ≡ self.now.budget }
     {
         self.budget
+    }
+
+    /// Whether the other is the same slice: one of a script with the same lines, from the same place, with the same budget.
+    pub fn is_same(&self, other: &Slice<'_>) -> bool
+        ensures same { IsTrue result ↔ IsSame self.now other.now }
+        ensures does { IsTrue result → (self.now.ticks ≡ other.now.ticks) × (self.now.trap ≡ other.now.trap) }
+    {
+        self.script.is_same(other.script)
+            && self.start.is_same(&other.start)
+            && self.budget == other.budget
     }
 
     /// The ticks of work that it did. A trap's own tick isn't counted.

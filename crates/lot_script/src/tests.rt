@@ -251,6 +251,10 @@ fn the_same_again(rt: HostRuntime) -> Result<(), Fail> {
     let slice = script.slice(script.start(), 1);
     assert!(&rt; slice.script().is_same(&copy) && slice.budget() == 1);
     assert!(&rt; *slice.start() == script.start() && *slice.end() != script.start());
+    let again = copy.slice(copy.start(), 1);
+    let more = script.slice(script.start(), 2);
+    assert!(&rt; slice.is_same(&again) && !slice.is_same(&more));
+    assert!(&rt; slice.start().is_same(&copy.start()) && !slice.end().is_same(slice.start()));
     let handed = slice.end().copied().with_accumulator(9);
     assert_eq!(&rt; handed.accumulator(), 9);
     Ok(())
