@@ -83,7 +83,7 @@ Fits-behind lines p l a plain at = Fits-line lines (p.line + 1) a p.loops at.scr
 -- ---- what is left
 
 -- what is left at the beginning of a line
-rest_at-begun : (lines : List Line) (p : Place) (l : Line) → Stands lines p l → p.done ≡ 0
+pub rest_at-begun : (lines : List Line) (p : Place) (l : Line) → Stands lines p l → p.done ≡ 0
     → rest_at lines p ≡ left_of lines (pieces (l ∷ drop (suc p.line) lines)) p.loops
 rest_at-begun lines p l at none = rw (none, drop-element lines p.line l at.next) refl
 
@@ -93,12 +93,12 @@ rest_at-behind : (lines : List Line) (i a : ℕ) (loops : List OpenLoop)
 rest_at-behind lines i a loops = let next : i + 1 ≡ suc i = omega arith in rw next refl
 
 -- what is left at a plain line
-rest_at-plain : (lines : List Line) (p : Place) (l : Line) → IsPlain l → Stands lines p l → p.done ≡ 0
+pub rest_at-plain : (lines : List Line) (p : Place) (l : Line) → IsPlain l → Stands lines p l → p.done ≡ 0
     → rest_at lines p ≡ items_of l ++ left_of lines (pieces (drop (suc p.line) lines)) p.loops
 rest_at-plain lines p l plain at none = rest_at-begun lines p l at none ∙ left_of-plain lines l (drop (suc p.line) lines) p.loops plain
 
 -- what is left at a `compute`
-rest_at-compute : (lines : List Line) (p : Place) (n : ℕ) → slice_get lines p.line ≡ Some (line.Compute n) → p.done < n
+pub rest_at-compute : (lines : List Line) (p : Place) (n : ℕ) → slice_get lines p.line ≡ Some (line.Compute n) → p.done < n
     → rest_at lines p ≡ replicate (n - p.done) Work ++ left_of lines (pieces (drop (suc p.line) lines)) p.loops
 rest_at-compute lines p n is some =
     let within : p.done ≤ n = omega arith in

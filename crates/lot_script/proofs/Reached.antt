@@ -1,16 +1,19 @@
 -- What is left at a place that fits is a rest of the unrolled list.
-use Rattle.std.proofs.Common.{◌≡◌, ◌<◌, ◌≤◌, ◌+◌, ◌-◌, ℕ, zero, suc, ◌∙◌, Option, Some, None, List, [], ◌∷◌, ◌++◌, length, take, drop, refl, ap, arith, subst, append_assoc}
+use Rattle.std.proofs.Common.{◌≡◌, ◌<◌, ◌≤◌, ◌+◌, ◌-◌, ℕ, zero, suc, ◌∙◌, Option, Some, None, List, [], ◌∷◌, ◌++◌, length, take, drop, refl, ap, arith, subst, append_assoc, length-append, option_and_then}
 use Rattle.std.specs.Prelude.{slice_get}
-use Rattle.std.proofs.lemmas.List.{take-append-drop}
+use Rattle.std.proofs.lemmas.List.{take-append-drop, length-replicate}
 use Rattle.lot_machine.specs.declared.script.Line.{Line}
 use Rattle.lot_machine.specs.declared.script.Line.TheVariants as line
-use Rattle.lot_machine.specs.Script.{Item, Pieces, pieces, items_of, unrolled}
-use Rattle.lot_machine.specs.Script.Item.{Work}
+use Rattle.lot_machine.specs.declared.script.ScriptTrap.{ScriptTrap}
+use Rattle.lot_machine.specs.declared.script.ScriptTrap.TheVariants.{Yield, Call, Receive, Reply, Lock, Unlock, Exit}
+use Rattle.lot_machine.specs.Script.{Item, Pieces, pieces, items_of, trap_of, unrolled}
+use Rattle.lot_machine.specs.Script.Item.{Work, Set, Add, Traps}
 use Rattle.lot_script.specs.declared.open_loops.OpenLoop.{OpenLoop}
 use Rattle.lot_script.specs.Drafts.{IsLine, IsScript}
-use Rattle.lot_script.specs.Places.{Place, Fits, AreCopies, IsRestOf, open_after, open_at, left_of, rest_at}
+use Rattle.lot_script.specs.Places.{Place, Fits, Stands, AreCopies, IsRestOf, open_after, open_at, left_of, rest_at}
 use Rattle.lot_script.proofs.Lists.{slice_get_none, drop-element, All-element}
 use Rattle.lot_script.proofs.Opened.{open_at-next, nests-there}
+use Rattle.lot_script.proofs.Passed.{stands-done, stands-good, stands-nests, rest_at-begun, rest_at-plain, rest_at-compute, Makes-exit}
 use Rattle.lot_script.proofs.Rests.{IsPlain, left_of-plain, left_of-loop, left_of-end, left_of-copy}
 
 -- what is behind the front of a rest is a rest
@@ -90,3 +93,52 @@ rest-begun lines (suc i) loops script within copies = further (λ before there. 
 
 pub rest-there : (lines : List Line) (place : Place) → IsScript lines → Fits lines place → IsRestOf (rest_at lines place) (unrolled lines)
 rest-there lines place script fits = rest-drop place.done _ (unrolled lines) (rest-begun lines place.line place.loops script fits.line fits.loops)
+
+-- ---- something is left
+
+some-first : (x : Item) (items : List Item) → 0 < length (x ∷ items)
+some-first x items = omega arith
+
+some-trap : (items : List Item) (t : ScriptTrap) → option_and_then trap_of (slice_get items 0) ≡ Some t → 0 < length items
+some-trap [] t is = cc
+some-trap (x ∷ items) t is = some-first x items
+
+some-plain : (lines : List Line) (p : Place) (l : Line) (x : Item) → IsPlain l → Stands lines p l → p.done ≡ 0 → items_of l ≡ x ∷ [] → 0 < length (rest_at lines p)
+some-plain lines p l x plain at none is = rw (rest_at-plain lines p l plain at none ∙ ap (λ items. items ++ left_of lines (pieces (drop (suc p.line) lines)) p.loops) is) (some-first x _)
+
+some-compute : (lines : List Line) (p : Place) (n : ℕ) → Stands lines p (line.Compute n) → 0 < length (rest_at lines p)
+some-compute lines p n at =
+    let left : p.done < n = stands-done lines p (line.Compute n) at in
+    let behind : List Item = left_of lines (pieces (drop (suc p.line) lines)) p.loops in
+    rw (rest_at-compute lines p n at.next left, length-append, length-replicate) (omega arith)
+
+some-end : (lines : List Line) (p : Place) (loops : List OpenLoop) → p.loops ≡ loops → Stands lines p line.End → 0 < length (rest_at lines p)
+some-end lines p [] none at = let some : 0 < length p.loops = stands-nests lines p line.End at in absurd (omega (arith, some, ap length none))
+some-end lines p (o ∷ outer) is at =
+    rw (rest_at-begun lines p line.End at (stands-done lines p line.End at) ∙ ap (λ loops. left_of lines (pieces (line.End ∷ drop (suc p.line) lines)) loops) is) (some-first Work _)
+
+some-line : (lines : List Line) (p : Place) (l : Line) → Stands lines p l → 0 < length (rest_at lines p)
+some-line lines p (line.Compute n) at = some-compute lines p n at
+some-line lines p (line.Set n) at = some-plain lines p (line.Set n) (Set n) tt at (stands-done lines p (line.Set n) at) refl
+some-line lines p (line.Add n) at = some-plain lines p (line.Add n) (Add n) tt at (stands-done lines p (line.Add n) at) refl
+some-line lines p (line.Loop n) at =
+    let good : IsLine (line.Loop n) = stands-good lines p (line.Loop n) at in
+    let o : OpenLoop = record { body = p.line + 1; left = n - 1 } in
+    let next : p.line + 1 ≡ suc p.line = omega arith in
+    let count : n ≡ suc (n - 1) = omega (arith, good.0) in
+    rw (rest_at-begun lines p (line.Loop n) at (stands-done lines p (line.Loop n) at) ∙ left_of-loop lines n (drop (suc p.line) lines) o p.loops (ap (λ j. drop j lines) next) count) (some-first Work _)
+some-line lines p line.End at = some-end lines p p.loops refl at
+some-line lines p line.Yield at = some-plain lines p line.Yield (Traps Yield) tt at (stands-done lines p line.Yield at) refl
+some-line lines p (line.Call n) at = some-plain lines p (line.Call n) (Traps (Call n)) tt at (stands-done lines p (line.Call n) at) refl
+some-line lines p (line.Receive n) at = some-plain lines p (line.Receive n) (Traps (Receive n)) tt at (stands-done lines p (line.Receive n) at) refl
+some-line lines p line.Reply at = some-plain lines p line.Reply (Traps Reply) tt at (stands-done lines p line.Reply at) refl
+some-line lines p (line.Lock n) at = some-plain lines p (line.Lock n) (Traps (Lock n)) tt at (stands-done lines p (line.Lock n) at) refl
+some-line lines p (line.Unlock n) at = some-plain lines p (line.Unlock n) (Traps (Unlock n)) tt at (stands-done lines p (line.Unlock n) at) refl
+
+-- the exit is never passed, so something is left at each place that fits
+pub some-there : (lines : List Line) (place : Place) → IsScript lines → Fits lines place → 0 < length (rest_at lines place)
+some-there lines place script fits = at_line (slice_get lines place.line) refl
+  where
+    at_line : (o : Option Line) → slice_get lines place.line ≡ o → 0 < length (rest_at lines place)
+    at_line None none = some-trap (rest_at lines place) Exit (Makes-exit lines place fits none).stands
+    at_line (Some l) is = some-line lines place l (record { script = script; fits = fits; next = is })

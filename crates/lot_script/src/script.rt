@@ -1,5 +1,5 @@
 //! Scripts.
-ghost use Rattle.std.specs.Prelude.{◌≡◌, ◌↔◌, ◌≤◌, length, IfOk, IsTrue};
+ghost use Rattle.std.specs.Prelude.{◌≡◌, ◌↔◌, ◌<◌, ◌≤◌, length, IfOk, IsTrue};
 ghost use Rattle.lot_machine.specs.Script.{start as whole_context, unrolled};
 ghost use Rattle.lot_script.specs.Drafts.{IsScript};
 ghost use Rattle.lot_script.specs.Places.{CanBeDone, Fits, IsRestOf, context_at, first_place, open_at, rest_at};
@@ -72,6 +72,7 @@ impl Script {
     pub fn fits(&self, context: &Context) -> bool
         ensures fits { IsTrue result ↔ Fits self.now context.now }
         ensures rest { Fits self.now context.now → IsRestOf (rest_at self.now context.now) (unrolled self.now) }
+        ensures some { Fits self.now context.now → 0 < length (rest_at self.now context.now) }
     {
         context.line <= self.lines.len()
             && can_be_done(self.next_line(context), context.done)
