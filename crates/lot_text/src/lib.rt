@@ -12,6 +12,7 @@ mod program;
 mod reading;
 mod refused;
 mod replies;
+mod runs;
 mod script_lines;
 mod tokens;
 mod totals;
