@@ -8,6 +8,7 @@ mod input;
 mod opening;
 mod playing;
 mod report;
+mod served;
 mod system;
 mod turn;
 

@@ -1,11 +1,16 @@
 //! Playing a schedule.
-ghost use Rattle.std.specs.Prelude.{◌≡◌, ◌≤◌};
+ghost use Rattle.std.specs.Prelude.{◌≡◌, ◌≤◌, All};
+ghost use Rattle.lot_kernel.specs.Served.{IsServedCommand};
+ghost use Rattle.lot_script.specs.Exits.{OnlyCompute};
 
 use crate::report::write_report;
+use crate::served::is_served;
 use crate::turn::{Work, script_numbered};
 use crate::{PlayFault, System, TurnFault, read_input};
+use lot_machine::{InputFault, InputRefusal};
+use lot_print::{EndedLine, FaultLine, ReplyLine};
 use lot_script::Slice;
-use lot_text::{EndedLine, FaultLine, ParseFault, Program, ReplyLine, Watched, parse};
+use lot_text::{ParseFault, Program, Watched, parse};
 use std::alloc::Global;
 use std::io::{Read, Write};
 
@@ -29,14 +34,26 @@ pub fn play<R: Read, W: Write>(
     let program = match parse(alloc, &bytes) {
         Ok(program) => program,
         Err(ParseFault::Memory) => return Err(PlayFault::Memory),
-        Err(ParseFault::Input(fault)) => {
-            write!(writer, "{}", FaultLine(fault)).map_err(|_| PlayFault::Write)?;
-            writer.flush().map_err(|_| PlayFault::Write)?;
-            return Ok(Played::Refused);
-        }
+        Err(ParseFault::Input(fault)) => return refuse(fault, writer),
     };
+    if !is_served(&program) {
+        return refuse(UNSERVED, writer);
+    }
     play_schedule(alloc, &program, writer)?;
     Ok(Played::Done)
+}
+
+/// What answers an input with a command or a script line that the kernel doesn't serve yet.
+const UNSERVED: InputFault = InputFault {
+    line: 1,
+    refusal: InputRefusal::BadLine,
+};
+
+/// Writes the one line of a refused input.
+fn refuse<W: Write>(fault: InputFault, writer: &mut Watched<W>) -> Result<Played, PlayFault> {
+    write!(writer, "{}", FaultLine(fault)).map_err(|_| PlayFault::Write)?;
+    writer.flush().map_err(|_| PlayFault::Write)?;
+    Ok(Played::Refused)
 }
 
 /// Makes the turns of the program's schedule, and writes what they answer and the report.
@@ -44,7 +61,10 @@ fn play_schedule<W: Write>(
     alloc: Global,
     program: &Program,
     writer: &mut Watched<W>,
-) -> Result<(), PlayFault> {
+) -> Result<(), PlayFault>
+    requires commands { All IsServedCommand program.now.commands }
+    requires scripts { All OnlyCompute program.now.scripts }
+{
     let room = program.schedule().len() as u32;
     let mut system = System::open(alloc, program, room).map_err(|_| PlayFault::Memory)?;
     for actor in program.schedule() {

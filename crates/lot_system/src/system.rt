@@ -48,7 +48,7 @@ impl Model for System {
 
     ghost invariant = { λ s. record {
       served : All IsServedCommand s.commands.items;
-      only_compute : All OnlyCompute s.scripts.items;
+      exits : All OnlyCompute s.scripts.items;
       spent : s.spent ≤ vec_len s.commands;
       generators : vec_len s.generators ≡ s.processors;
       counts : vec_len s.counts ≡ s.processors + 1;
@@ -62,6 +62,8 @@ impl System {
     /// A system of this program with room for so many turns. It takes all the memory that the system will ever use, and
     /// fails only for want of it.
     pub fn open(alloc: Global, program: &Program, room: u32) -> Result<System, AllocError>
+        requires commands { All IsServedCommand program.now.commands }
+        requires scripts { All OnlyCompute program.now.scripts }
         ensures room { IfOk result (λ s. s.room ≡ room) }
         ensures processors { IfOk result (λ s. s.processors ≡ program.now.limits.processors) }
         ensures history { IfOk result (λ s. s.history ≡ []) }
@@ -143,7 +145,7 @@ impl System {
     /// The event of the actor's turn, with this slice where it has work. It takes the next command or the next number.
     fn next_event(&mut self, actor: u32, slice: &Option<Slice>) -> Event
         requires actor { actor ≤ self.old.processors }
-        requires only_compute { IfSome slice.now (λ s. OnlyCompute s.lines) }
+        requires exits { IfSome slice.now (λ s. OnlyCompute s.lines) }
         ensures served { IsServed result }
         ensures state { self.new ≡ self.old }
     {

@@ -1,7 +1,7 @@
 //! What an actor has to do, and what its turn answers.
 ghost use Rattle.std.specs.Prelude.{All, IfSome, IsTrue};
 ghost use Rattle.lot_kernel.specs.Served.{IsServedAction};
-ghost use Rattle.lot_script.specs.Exits.{OnlyCompute, IsExit};
+ghost use Rattle.lot_script.specs.Exits.{IsExit, OnlyCompute};
 
 use lot_machine::{Action, Event, Reply, ScriptTrap};
 use lot_script::{Context, Script, Slice};
