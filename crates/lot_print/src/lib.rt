@@ -2,15 +2,19 @@
 //! `Display` writes exactly that, in pieces, without memory of its own.
 #![tactic(auto)]
 
+mod histories;
 mod name;
 mod refused;
 mod replies;
 mod rows;
+mod runs;
 mod totals;
 
+pub use histories::{HistoryLines, ScheduleLines};
 pub use refused::{EndedLine, FaultLine, RefusalText, TrapRefusalText};
 pub use replies::{ReplyLine, TrapText};
 pub use rows::{CurrencyLine, ListingLine, ThreadLine, TicketLine};
+pub use runs::RunsLines;
 pub use totals::{ProcessorTotal, ThreadTotal, WholeTotal};
 
 #[cfg(test)]

@@ -15,7 +15,6 @@ pub record IsProgram (program : Program) : Type 0 where
   pub seeds : All IsSeed program.seeds
   pub turns : program.turns ≤ 10000
   pub script_count : length program.scripts ≡ program.limits.scripts
-  pub only_compute : All OnlyCompute program.scripts
   pub command_count : length program.commands ≤ 100000
   pub actors : All (λ actor. actor ≤ program.limits.processors) program.schedule
   pub schedule_length : length program.schedule ≤ 1000000

@@ -18,7 +18,7 @@ use lot_script::{Script, ScriptBuilder};
 use std::alloc::{AllocError, Global};
 use std::marker::Model;
 
-/// A script that was closed. For now it has only `compute` lines.
+/// A script that was closed.
 #[derive(Debug, Drop)]
 pub(crate) struct NamedScript {
     pub(crate) name: Name,
@@ -27,13 +27,10 @@ pub(crate) struct NamedScript {
 
 impl Model for NamedScript {
     ghost use Rattle.lot_machine.specs.Reading.{NamedScript as NamedScriptRecord};
-    ghost use Rattle.lot_script.specs.Exits.{OnlyCompute};
 
     ghost Value = { NamedScriptRecord };
 
     ghost view = { λ s. record { name = s.name; lines = s.script } };
-
-    ghost invariant = { λ s. OnlyCompute s.script };
 }
 
 /// A script that isn't closed yet: the line where it began, and its lines so far.
@@ -247,8 +244,7 @@ fn own_seeds(alloc: Global, processors: u32) -> Result<Vec<u32>, AllocError>
 
 /// The scripts alone.
 fn without_names(alloc: Global, named: Vec<NamedScript>) -> Result<Vec<Script>, AllocError>
-    ensures scripts { IfOk result (λ scripts. scripts.items ≡ map (λ s. s.lines) named.items) }
-    ensures only_compute { IfOk result (λ scripts. All OnlyCompute scripts.items) }
+    ensures { IfOk result (λ scripts. scripts.items ≡ map (λ s. s.lines) named.items) }
 {
     let mut scripts = Vec::new(alloc);
     for script in named {
