@@ -3,6 +3,7 @@
 #![tactic(auto)]
 
 mod histories;
+mod laws;
 mod name;
 mod refused;
 mod replies;
@@ -11,6 +12,7 @@ mod runs;
 mod totals;
 
 pub use histories::{HistoryLines, ScheduleLines};
+pub use laws::histories_are_read_back;
 pub use refused::{EndedLine, FaultLine, RefusalText, TrapRefusalText};
 pub use replies::{ReplyLine, TrapText};
 pub use rows::{CurrencyLine, ListingLine, ThreadLine, TicketLine};
