@@ -145,6 +145,12 @@ fn played(rt: HostRuntime) {
             1,
             "refused line 2 57 BadActor\n",
         ),
+        ("lottery 1\nlstkt\n", 1, "refused line 1 51 BadLine\n"),
+        (
+            "lottery 1\nscript s\nyield\nendscript\n",
+            1,
+            "refused line 1 51 BadLine\n",
+        ),
     ];
     for (input, code, output) in rows {
         check_play(&rt, rt.alloc(), input, code, output);
