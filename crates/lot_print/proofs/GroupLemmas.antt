@@ -4,8 +4,7 @@ use Rattle.std.specs.Prelude.{⊤, All}
 use Rattle.std.specs.List.{flat_map}
 use Rattle.std.proofs.lemmas.List.{drop_min, length-drop, length-take, take-append-drop, take_min}
 use Rattle.std.proofs.lemmas.List.Elements.{All-head, All-tail}
-use Rattle.lot_machine.specs.Grammar.{ActorRun}
-use Rattle.lot_machine.specs.Report.{with_first, groups_after, groups_of, run_text, runs_in, runs_line, runs_lines, schedule_line, schedule_lines}
+use Rattle.lot_machine.specs.Report.{with_first, groups_after, groups_of, runs_in, runs_line, runs_lines, schedule_line, schedule_lines}
 
 groups_after-first : {A : Type 0} (s room : ℕ) (x : A) (xs : List A)
     → groups_after (suc s) (suc room) (x ∷ xs) ≡ take (suc room) (x ∷ xs) ∷ groups_of (suc s) (drop (suc room) (x ∷ xs))

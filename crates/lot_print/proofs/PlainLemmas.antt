@@ -1,7 +1,6 @@
 -- Words and lines that are printed, read again.
-use Rattle.std.proofs.Common.{◌≡◌, ◌<◌, ◌≤◌, ◌+◌, ◌-◌, ◌*◌, ◌^◌, ◌==◌, ℕ, zero, suc, Bool, true, false, not, cond, ◌&&◌, Option, Some, None, List, [], ◌∷◌, ◌++◌, length, take, filter, get_or, slice_index, refl, sym, ap, ◌∙◌, arith, append-nil, le-leb}
+use Rattle.std.proofs.Common.{◌≡◌, ◌<◌, ◌≤◌, ◌-◌, ◌^◌, ◌==◌, ℕ, zero, suc, Bool, true, false, not, ◌&&◌, Some, List, [], ◌∷◌, ◌++◌, length, take, filter, get_or, slice_index, refl, ap, ◌∙◌, arith, append-nil, le-leb}
 use Rattle.std.specs.Prelude.{⊤, nat_lt, nat_le}
-use Rattle.std.specs.Bool.{then_some}
 use Rattle.std.specs.Char.{is_ascii_digit}
 use Rattle.std.specs.Fmt.{decimal}
 use Rattle.std.specs.List.{flat_map, list_all, prefix_len, slice_split}
@@ -10,7 +9,7 @@ use Rattle.std.proofs.Math.Seq.{take-append_seam}
 use Rattle.std.proofs.lemmas.Bool.{ne_eqb, lt-ltb}
 use Rattle.std.proofs.lemmas.Fmt.{decimal_is_IsNumeral, decimal_digit, first_decimal}
 use Rattle.std.proofs.lemmas.Str.Parse.{digit_from_value}
-use Rattle.lot_machine.specs.Lines.{lines_of, with_first_byte, without_end, tokens_of, is_printable, is_numeral, number_of}
+use Rattle.lot_machine.specs.Lines.{lines_of, without_end, tokens_of, is_printable, number_of}
 
 -- bytes that are no space, and print
 abbrev pub Plain : List ℕ → Type 0

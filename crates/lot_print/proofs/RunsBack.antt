@@ -1,6 +1,6 @@
 -- Lines of runs, read again.
-use Rattle.std.proofs.Common.{◌≡◌, ◌<◌, ◌≤◌, ◌+◌, ◌*◌, ◌%◌, ◌^◌, ◌==◌, ℕ, zero, suc, Bool, false, true, Option, Some, None, Result, Ok, List, [], ◌∷◌, ◌++◌, length, replicate, refl, sym, ap, ◌∙◌, arith, append_assoc, append-nil, length-append}
-use Rattle.std.specs.Prelude.{⊤, codes, sum_by}
+use Rattle.std.proofs.Common.{◌≡◌, ◌<◌, ◌≤◌, ◌+◌, ◌*◌, ◌%◌, ◌^◌, ◌==◌, ℕ, suc, Bool, false, true, Some, None, Ok, List, [], ◌∷◌, ◌++◌, length, replicate, refl, ap, ◌∙◌, arith, append_assoc, length-append}
+use Rattle.std.specs.Prelude.{codes, sum_by}
 use Rattle.std.specs.Fmt.{decimal}
 use Rattle.std.specs.List.{flat_map}
 use Rattle.std.proofs.lemmas.Bool.{eqb-true, le-ltb}
@@ -12,7 +12,7 @@ use Rattle.lot_machine.specs.Reading.{Reading, each_pair}
 use Rattle.lot_machine.specs.Grammar.{ActorRun, actors_of, body_after_header, read_line, run_of}
 use Rattle.lot_machine.specs.Report.{run_before, run_text, runs_in, runs_line}
 use Rattle.lot_print.proofs.GroupLemmas.{Each, IsGroup}
-use Rattle.lot_print.proofs.PlainLemmas.{Plain, Shown, Words, spaced, Shown-append, Shown-spaced, is_printable-shown, tokens_of-words, some-decimal, Plain-decimal, number_of-decimal}
+use Rattle.lot_print.proofs.PlainLemmas.{Shown, Words, spaced, Shown-append, Shown-spaced, is_printable-shown, tokens_of-words, some-decimal, Plain-decimal, number_of-decimal}
 use Rattle.lot_print.proofs.ReadBack.{AreActors, read_line-words, scheduled}
 
 -- an actor that there is, and as many turns in a row as a history may have

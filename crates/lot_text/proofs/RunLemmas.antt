@@ -1,5 +1,5 @@
 -- Runs of turns of one actor.
-use Rattle.std.proofs.Common.{◌≡◌, ◌≢◌, ◌≤◌, ◌+◌, ◌%◌, ◌==◌, ◌↔◌, Bool, true, false, ℕ, Result, Ok, List, [], ◌∷◌, ◌++◌, length, replicate, refl, sym, arith, ap, ◌∙◌, length-append}
+use Rattle.std.proofs.Common.{◌≡◌, ◌≢◌, ◌≤◌, ◌+◌, ◌%◌, ◌==◌, ◌↔◌, Bool, true, false, ℕ, Result, Ok, List, [], ◌∷◌, ◌++◌, length, replicate, refl, sym, arith, ◌∙◌, length-append}
 use Rattle.std.specs.Prelude.{All, IsTrue, sum_by}
 use Rattle.std.proofs.lemmas.Bool.{ne_eqb, true≢false}
 use Rattle.std.proofs.lemmas.List.{length-replicate}

@@ -1,8 +1,5 @@
-use Rattle.std.proofs.Common.{◌≡◌, ◌∙◌, sym, Some, Result}
-use Rattle.lot_machine.specs.declared.input.InputRefusal.{InputRefusal}
-use Rattle.lot_machine.specs.Reading.{Reading}
+use Rattle.std.proofs.Common.{◌≡◌, ◌∙◌, sym, Some}
 use Rattle.lot_machine.specs.Words.{word_in, script_words}
-use Rattle.lot_text.specs.Faults.{Gives}
 use Rattle.lot_text.proofs.ScriptLemmas.{later_line-inside}
 use Rattle.lot_text.proofs.input.later_line.Goals as goal
 

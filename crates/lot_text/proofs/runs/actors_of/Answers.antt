@@ -1,6 +1,5 @@
-use Rattle.std.proofs.Common.{◌≡◌, ◌∙◌, take, length, ap, arith}
+use Rattle.std.proofs.Common.{◌≡◌, take, arith}
 use Rattle.std.proofs.lemmas.List.{take_all}
-use Rattle.lot_machine.specs.Grammar.{actors_of}
 use Rattle.lot_text.proofs.RunLemmas.{All-actors_of, length-actors_of}
 use Rattle.lot_text.proofs.runs.actors_of.Goals as goal
 

@@ -1,4 +1,4 @@
-use Rattle.std.proofs.Common.{◌≡◌, ℕ, ◌≤◌, List, ◌++◌, length, Ok, Err}
+use Rattle.std.proofs.Common.{◌≡◌, ◌≤◌, List, ◌++◌, length, Ok, Err}
 use Rattle.std.specs.Prelude.{All}
 use Rattle.lot_machine.specs.declared.input.InputRefusal.{InputRefusal}
 use Rattle.lot_machine.specs.Grammar.{ActorRun, run_of}
