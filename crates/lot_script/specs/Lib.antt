@@ -1,2 +1,4 @@
+pub mod Drafts
+pub mod Exits
 pub mod Places
 pub mod Slices

@@ -1,8 +1,7 @@
 -- What a slice of a script keeps.
-use Rattle.std.specs.Prelude.{◌≡◌, ℕ, ⊤, Option, List}
+use Rattle.std.specs.Prelude.{◌≡◌, ℕ, Option, List}
 use Rattle.lot_machine.specs.declared.script.Line.{Line}
 use Rattle.lot_machine.specs.declared.script.ScriptTrap.{ScriptTrap}
-use Rattle.lot_machine.specs.declared.script.ScriptTrap.TheVariants.{Exit}
 use Rattle.lot_machine.specs.Bounds.{IsBetween}
 use Rattle.lot_machine.specs.Script.{slice}
 use Rattle.lot_script.specs.Places.{Place, Fits, context_at}
@@ -24,7 +23,8 @@ pub record IsSlice (parts : Parts) : Type 0 where
   pub sliced : slice (context_at parts.lines parts.start) parts.budget ≡ record { ticks = parts.ticks; trap = parts.trap; end = context_at parts.lines parts.end }
   pub end_fits : Fits parts.lines parts.end
 
--- it is an exit, the only trap that scripts of `compute` lines make
-abbrev pub IsExit : ScriptTrap → Type 0
-IsExit Exit = ⊤
-IsExit other = ⊥
+-- slices of scripts with the same lines, from the same place, with the same budget
+pub record IsSame (one other : Parts) : Type 0 where
+  pub lines : one.lines ≡ other.lines
+  pub start : one.start ≡ other.start
+  pub budget : one.budget ≡ other.budget

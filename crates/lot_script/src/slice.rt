@@ -1,9 +1,11 @@
 //! What a processor does of a script at a time.
-ghost use Rattle.std.specs.Prelude.{◌≡◌, ◌<◌, ◌≤◌, Some, None, IfSome};
+ghost use Rattle.std.specs.Prelude.{◌≡◌, ◌↔◌, ◌<◌, ◌≤◌, IfSome, IsTrue};
 ghost use Rattle.lot_machine.specs.Bounds.{IsBetween};
+ghost use Rattle.lot_script.specs.Exits.{OnlyCompute, IsExit};
 ghost use Rattle.lot_script.specs.Places.{Fits};
-ghost use Rattle.lot_script.specs.Slices.{IsSlice, IsExit};
+ghost use Rattle.lot_script.specs.Slices.{IsSlice, IsSame};
 
+use crate::passing::Advance;
 use crate::{Context, Script};
 use lot_machine::ScriptTrap;
 use std::marker::Model;
@@ -21,7 +23,8 @@ pub struct Slice<'a> {
 
 impl<'a> Model for Slice<'a> {
     ghost use Rattle.std.specs.Prelude.{IfSome};
-    ghost use Rattle.lot_script.specs.Slices.{Parts, IsSlice, IsExit};
+    ghost use Rattle.lot_script.specs.Exits.{OnlyCompute, IsExit};
+    ghost use Rattle.lot_script.specs.Slices.{Parts, IsSlice};
 
     ghost Value = { Parts };
 
@@ -29,7 +32,7 @@ impl<'a> Model for Slice<'a> {
 
     ghost invariant = { λ s. record {
       exact : IsSlice (record { lines = s.script.now; start = s.start; budget = s.budget; ticks = s.ticks; trap = s.trap; end = s.end });
-      exits : IfSome s.trap IsExit;
+      exits : OnlyCompute s.script.now → IfSome s.trap IsExit;
     } };
 }
 
@@ -55,6 +58,16 @@ impl<'a> Slice<'a> {
         self.budget
     }
 
+    /// Whether the other is the same slice: one of a script with the same lines, from the same place, with the same budget.
+    pub fn is_same(&self, other: &Slice<'_>) -> bool
+        ensures same { IsTrue result ↔ IsSame self.now other.now }
+        ensures does { IsTrue result → (self.now.ticks ≡ other.now.ticks) × (self.now.trap ≡ other.now.trap) }
+    {
+        self.script.is_same(other.script)
+            && self.start.is_same(&other.start)
+            && self.budget == other.budget
+    }
+
     /// The ticks of work that it did. A trap's own tick isn't counted.
     pub fn ticks(&self) -> u32
         ensures ticks { result ≡ self.now.ticks }
@@ -67,7 +80,7 @@ impl<'a> Slice<'a> {
     pub fn trap(&self) -> Option<ScriptTrap>
         ensures trap { result ≡ self.now.trap }
         ensures exact { IsSlice self.now }
-        ensures exits { IfSome result IsExit }
+        ensures exits { OnlyCompute self.now.lines → IfSome result IsExit }
     {
         self.trap
     }
@@ -82,7 +95,8 @@ impl<'a> Slice<'a> {
 }
 
 impl Script {
-    /// What a thread of this script does from `start` with a budget of 1 to 1000 ticks. It takes no memory.
+    /// What a thread of this script does from `start` with a budget of 1 to 1000 ticks. It takes no memory, and as many
+    /// steps as lines are passed.
     pub fn slice(&self, start: Context, budget: u32) -> Slice<'_>
         requires fits { Fits self.now start }
         requires budget { IsBetween 1 1000 budget }
@@ -94,18 +108,19 @@ impl Script {
         let mut end = start.copied();
         let mut ticks = 0;
         while ticks < budget {
-            let passed = self.pass(&mut end, budget - ticks);
-            if passed == 0 {
-                return Slice {
-                    script: self,
-                    start,
-                    budget,
-                    ticks,
-                    trap: Some(ScriptTrap::Exit),
-                    end,
-                };
+            match self.advance(&mut end, budget - ticks) {
+                Advance::Marks(passed) => ticks += passed,
+                Advance::Trap(trap) => {
+                    return Slice {
+                        script: self,
+                        start,
+                        budget,
+                        ticks,
+                        trap: Some(trap),
+                        end,
+                    };
+                }
             }
-            ticks += passed;
         }
         Slice {
             script: self,

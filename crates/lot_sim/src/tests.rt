@@ -127,6 +127,81 @@ processor 1 quanta 0 idle 0 ticks 0
 total turns 4 quanta 0 ticks 0
 ";
 
+/// The paper's currency graph: alice and bob share base, and hand on what they have to their tasks (4.4).
+const CURRENCY_GRAPH: &str = "lottery 1
+script spin
+compute 100
+endscript
+mkcur alice
+mkcur bob
+mkcur task1
+mkcur task2
+mkcur task3
+mktkt 1000 base
+fund 1 alice
+mktkt 2000 base
+fund 2 bob
+mktkt 100 alice
+fund 3 task1
+mktkt 200 alice
+fund 4 task2
+mktkt 100 bob
+fund 5 task3
+fundx 200 task2 thread2 spin
+fundx 300 task2 thread3 spin
+fundx 100 task3 thread4 spin
+lscur
+lstkt
+lsthr
+schedule 0 0 0 0 0 0 0 0 0 0 0 0 0 0 0 0 0 0 0 0 0
+";
+
+const CURRENCY_LISTINGS: &str = "0 currency 1
+0 currency 2
+0 currency 3
+0 currency 4
+0 currency 5
+0 ticket 1
+0 done
+0 ticket 2
+0 done
+0 ticket 3
+0 done
+0 ticket 4
+0 done
+0 ticket 5
+0 done
+0 funded 6 1
+0 funded 7 2
+0 funded 8 3
+0 lscur 6
+currency 0 base backing 0 issued 2 active 3000 value 3000
+currency 1 alice backing 1 issued 2 active 200 value 1000
+currency 2 bob backing 1 issued 1 active 100 value 2000
+currency 3 task1 backing 1 issued 0 active 0 value 0
+currency 4 task2 backing 1 issued 2 active 500 value 1000
+currency 5 task3 backing 1 issued 1 active 100 value 2000
+0 lstkt 8
+ticket 1 amount 1000 in base funds alice active value 1000
+ticket 2 amount 2000 in base funds bob active value 2000
+ticket 3 amount 100 in alice funds task1 inactive value 0
+ticket 4 amount 200 in alice funds task2 active value 1000
+ticket 5 amount 100 in bob funds task3 active value 2000
+ticket 6 amount 200 in task2 funds thread2 active value 400
+ticket 7 amount 300 in task2 funds thread3 active value 600
+ticket 8 amount 100 in task3 funds thread4 active value 2000
+0 lsthr 3
+thread 1 thread2 ready value 400 weight 400 quanta 0 ticks 0
+thread 2 thread3 ready value 600 weight 600 quanta 0 ticks 0
+thread 3 thread4 ready value 2000 weight 2000 quanta 0 ticks 0
+report
+thread 1 thread2 quanta 0 ticks 0
+thread 2 thread3 quanta 0 ticks 0
+thread 3 thread4 quanta 0 ticks 0
+processor 1 quanta 0 idle 0 ticks 0
+total turns 21 quanta 0 ticks 0
+";
+
 #[test]
 fn played(rt: HostRuntime) {
     let rows = [
@@ -144,6 +219,13 @@ fn played(rt: HostRuntime) {
             "lottery 1\nschedule 0 2\n",
             1,
             "refused line 2 57 BadActor\n",
+        ),
+        ("lottery 1\nlstkt\n", 0, EMPTY_REPORT),
+        (CURRENCY_GRAPH, 0, CURRENCY_LISTINGS),
+        (
+            "lottery 1\nscript s\nyield\nendscript\n",
+            1,
+            "refused line 1 51 BadLine\n",
         ),
     ];
     for (input, code, output) in rows {

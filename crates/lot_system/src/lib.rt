@@ -5,9 +5,11 @@
 mod counts;
 mod fault;
 mod input;
+mod listing;
 mod opening;
 mod playing;
 mod report;
+mod served;
 mod system;
 mod turn;
 

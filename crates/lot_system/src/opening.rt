@@ -1,6 +1,5 @@
 //! What a system is opened with.
-ghost use Rattle.std.specs.Prelude.{◌≡◌, IfOk, length, All, vec_len};
-ghost use Rattle.lot_kernel.specs.Served.{IsServedCommand};
+ghost use Rattle.std.specs.Prelude.{◌≡◌, IfOk, vec_len};
 
 use lot_draw::ParkMiller;
 use lot_machine::Command;
@@ -9,19 +8,19 @@ use lot_text::Program;
 use std::alloc::{AllocError, Global};
 
 /// The program's scripts again.
-pub(crate) fn scripts_of(alloc: Global, program: &Program) -> Result<Vec<Script>, AllocError> {
+pub(crate) fn scripts_of(alloc: Global, program: &Program) -> Result<Vec<Script>, AllocError>
+    ensures { IfOk result (λ scripts. scripts.items ≡ program.now.scripts) }
+{
     let mut scripts = Vec::new(alloc);
     for script in program.scripts() {
-        let lines = Vec::from_slice(alloc, script.lines())?;
-        scripts.push(Script::new(lines))?;
+        scripts.push(script.copied(alloc)?)?;
     }
     Ok(scripts)
 }
 
 /// Its commands again.
 pub(crate) fn commands_of(alloc: Global, program: &Program) -> Result<Vec<Command>, AllocError>
-    ensures same { IfOk result (λ commands. commands.items ≡ program.now.commands) }
-    ensures served { IfOk result (λ commands. All IsServedCommand commands.items) }
+    ensures { IfOk result (λ commands. commands.items ≡ program.now.commands) }
 {
     let mut commands = Vec::new(alloc);
     for command in program.commands() {

@@ -1,11 +1,16 @@
 //! Playing a schedule.
-ghost use Rattle.std.specs.Prelude.{◌≡◌, ◌≤◌};
+ghost use Rattle.std.specs.Prelude.{◌≡◌, ◌≤◌, All};
+ghost use Rattle.lot_script.specs.Exits.{OnlyCompute};
 
+use crate::listing::write_listing;
 use crate::report::write_report;
-use crate::turn::{Work, script_numbered};
+use crate::served::is_served;
+use crate::turn::{Answer, Work, script_numbered};
 use crate::{PlayFault, System, TurnFault, read_input};
+use lot_machine::{InputFault, InputRefusal, Reply};
+use lot_print::{EndedLine, FaultLine, ReplyLine};
 use lot_script::Slice;
-use lot_text::{EndedLine, FaultLine, ParseFault, Program, ReplyLine, Watched, parse};
+use lot_text::{ParseFault, Program, Watched, parse};
 use std::alloc::Global;
 use std::io::{Read, Write};
 
@@ -29,14 +34,26 @@ pub fn play<R: Read, W: Write>(
     let program = match parse(alloc, &bytes) {
         Ok(program) => program,
         Err(ParseFault::Memory) => return Err(PlayFault::Memory),
-        Err(ParseFault::Input(fault)) => {
-            write!(writer, "{}", FaultLine(fault)).map_err(|_| PlayFault::Write)?;
-            writer.flush().map_err(|_| PlayFault::Write)?;
-            return Ok(Played::Refused);
-        }
+        Err(ParseFault::Input(fault)) => return refuse(fault, writer),
     };
+    if !is_served(&program) {
+        return refuse(UNSERVED, writer);
+    }
     play_schedule(alloc, &program, writer)?;
     Ok(Played::Done)
+}
+
+/// What answers an input with a script line that the kernel doesn't serve yet.
+const UNSERVED: InputFault = InputFault {
+    line: 1,
+    refusal: InputRefusal::BadLine,
+};
+
+/// Writes the one line of a refused input.
+fn refuse<W: Write>(fault: InputFault, writer: &mut Watched<W>) -> Result<Played, PlayFault> {
+    write!(writer, "{}", FaultLine(fault)).map_err(|_| PlayFault::Write)?;
+    writer.flush().map_err(|_| PlayFault::Write)?;
+    Ok(Played::Refused)
 }
 
 /// Makes the turns of the program's schedule, and writes what they answer and the report.
@@ -44,7 +61,9 @@ fn play_schedule<W: Write>(
     alloc: Global,
     program: &Program,
     writer: &mut Watched<W>,
-) -> Result<(), PlayFault> {
+) -> Result<(), PlayFault>
+    requires { All OnlyCompute program.now.scripts }
+{
     let room = program.schedule().len() as u32;
     let mut system = System::open(alloc, program, room).map_err(|_| PlayFault::Memory)?;
     for actor in program.schedule() {
@@ -66,19 +85,34 @@ fn play_turn<W: Write>(
 {
     let work = system.work(actor);
     let slice = work.and_then(|work| slice_of(program, work));
-    let written = match system.turn(actor, slice) {
-        Ok(answer) => {
-            let line = ReplyLine {
-                event: &answer.event,
-                reply: answer.reply,
-            };
-            write!(writer, "{actor} {line}")
+    match system.turn(actor, slice) {
+        Ok(answer) => write_answer(system, actor, &answer, writer),
+        Err(TurnFault::Ended) => {
+            write!(writer, "{actor} {EndedLine}").map_err(|_| PlayFault::Write)
         }
-        Err(TurnFault::Ended) => write!(writer, "{actor} {EndedLine}"),
         // The slice is that of the work, and there is room for the whole schedule.
         Err(TurnFault::Stale(_) | TurnFault::HistoryFull) => Ok(()),
+    }
+}
+
+/// Writes what a turn answered: a line, or the listing that was asked for.
+fn write_answer<W: Write>(
+    system: &mut System,
+    actor: u32,
+    answer: &Answer,
+    writer: &mut Watched<W>,
+) -> Result<(), PlayFault>
+    ensures { system.new ≡ system.old }
+{
+    if let Reply::List(kind) = answer.reply {
+        write!(writer, "{actor} ").map_err(|_| PlayFault::Write)?;
+        return write_listing(system, kind, writer);
+    }
+    let line = ReplyLine {
+        event: &answer.event,
+        reply: answer.reply,
     };
-    written.map_err(|_| PlayFault::Write)
+    write!(writer, "{actor} {line}").map_err(|_| PlayFault::Write)
 }
 
 /// The slice of a thread's script that is its work, where the program's script is the one that it fits.

@@ -2,7 +2,8 @@
 
 use crate::counts::Counts;
 use crate::{PlayFault, System};
-use lot_text::{ProcessorTotal, ThreadTotal, Watched, WholeTotal};
+use lot_print::{ProcessorTotal, ThreadTotal, WholeTotal};
+use lot_text::Watched;
 use std::io::Write;
 
 /// Writes the report: a line for each thread, a line for each processor, and the totals.

@@ -1,6 +1,7 @@
 //! The system.
-ghost use Rattle.std.specs.Prelude.{◌≡◌, ◌≤◌, ◌++◌, [], ◌∷◌, All, IfOk, OnOk, OnErr};
-ghost use Rattle.lot_kernel.specs.Served.{IsServed, IsServedCommand};
+ghost use Rattle.std.specs.Prelude.{◌≡◌, ◌≤◌, ◌++◌, [], ◌∷◌, All, IfOk, IfSome, OnOk, OnErr};
+ghost use Rattle.lot_kernel.specs.Served.{IsServed};
+ghost use Rattle.lot_script.specs.Exits.{OnlyCompute};
 
 use crate::TurnFault;
 use crate::counts::Counts;
@@ -8,7 +9,7 @@ use crate::opening::{commands_of, contexts_for, generators_of, scripts_of};
 use crate::turn::{Answer, Work, action_of, is_slice_of, script_numbered};
 use lot_draw::ParkMiller;
 use lot_kernel::Kernel;
-use lot_machine::{Command, Event, Reply, ThreadRow};
+use lot_machine::{Command, CurrencyRow, Event, Limits, Reply, ThreadRow, TicketRow};
 use lot_script::{Context, Script, Slice};
 use lot_text::Program;
 use std::alloc::{AllocError, Global};
@@ -37,7 +38,7 @@ pub struct System {
 
 impl Model for System {
     ghost use Rattle.std.specs.Prelude.{◌≡◌, ◌+◌, ◌≤◌, All, vec_len, vec_capacity};
-    ghost use Rattle.lot_kernel.specs.Served.{IsServedCommand};
+    ghost use Rattle.lot_script.specs.Exits.{OnlyCompute};
     ghost use Rattle.lot_system.specs.Seen.{Seen};
 
     ghost Value = { Seen };
@@ -45,7 +46,7 @@ impl Model for System {
     ghost view = { λ s. record { processors = s.processors; room = s.room; history = s.history.items } };
 
     ghost invariant = { λ s. record {
-      served : All IsServedCommand s.commands.items;
+      exits : All OnlyCompute s.scripts.items;
       spent : s.spent ≤ vec_len s.commands;
       generators : vec_len s.generators ≡ s.processors;
       counts : vec_len s.counts ≡ s.processors + 1;
@@ -59,6 +60,7 @@ impl System {
     /// A system of this program with room for so many turns. It takes all the memory that the system will ever use, and
     /// fails only for want of it.
     pub fn open(alloc: Global, program: &Program, room: u32) -> Result<System, AllocError>
+        requires scripts { All OnlyCompute program.now.scripts }
         ensures room { IfOk result (λ s. s.room ≡ room) }
         ensures processors { IfOk result (λ s. s.processors ≡ program.now.limits.processors) }
         ensures history { IfOk result (λ s. s.history ≡ []) }
@@ -140,6 +142,7 @@ impl System {
     /// The event of the actor's turn, with this slice where it has work. It takes the next command or the next number.
     fn next_event(&mut self, actor: u32, slice: &Option<Slice>) -> Event
         requires actor { actor ≤ self.old.processors }
+        requires exits { IfSome slice.now (λ s. OnlyCompute s.lines) }
         ensures served { IsServed result }
         ensures state { self.new ≡ self.old }
     {
@@ -202,6 +205,25 @@ impl System {
         {
             *here = context;
         }
+    }
+
+    /// The limits of the program.
+    pub(crate) fn limits(&self) -> Limits {
+        self.kernel.limits()
+    }
+
+    /// What the kernel shows of the ticket with this number, if it is there.
+    pub(crate) fn ticket_row(&mut self, ticket: u32) -> Option<TicketRow>
+        ensures state { self.new ≡ self.old }
+    {
+        self.kernel.ticket_row(ticket)
+    }
+
+    /// What the kernel shows of the currency with this number, if it is there.
+    pub(crate) fn currency_row(&mut self, currency: u32) -> Option<CurrencyRow>
+        ensures state { self.new ≡ self.old }
+    {
+        self.kernel.currency_row(currency)
     }
 
     /// What the kernel shows of the thread with this number, if there is one.

@@ -1,7 +1,7 @@
 //! What an actor has to do, and what its turn answers.
-ghost use Rattle.std.specs.Prelude.{IfSome};
+ghost use Rattle.std.specs.Prelude.{All, IfSome, IsTrue};
 ghost use Rattle.lot_kernel.specs.Served.{IsServedAction};
-ghost use Rattle.lot_script.specs.Slices.{IsExit};
+ghost use Rattle.lot_script.specs.Exits.{IsExit, OnlyCompute};
 
 use lot_machine::{Action, Event, Reply, ScriptTrap};
 use lot_script::{Context, Script, Slice};
@@ -28,7 +28,10 @@ pub struct Answer {
 
 /// Whether the slice is that of the work: there is none of either, or its script has the same lines, and start and budget
 /// are the work's.
-pub(crate) fn is_slice_of(work: &Option<Work>, slice: &Option<Slice>, scripts: &[Script]) -> bool {
+pub(crate) fn is_slice_of(work: &Option<Work>, slice: &Option<Slice>, scripts: &[Script]) -> bool
+    requires { All OnlyCompute scripts.now }
+    ensures { IsTrue result → IfSome slice.now (λ s. OnlyCompute s.lines) }
+{
     match (work, slice) {
         (None, None) => true,
         (Some(work), Some(slice)) => {
@@ -41,7 +44,10 @@ pub(crate) fn is_slice_of(work: &Option<Work>, slice: &Option<Slice>, scripts: &
 }
 
 /// Whether the script with this number has the same lines as the other.
-fn is_script(scripts: &[Script], number: u32, other: &Script) -> bool {
+fn is_script(scripts: &[Script], number: u32, other: &Script) -> bool
+    requires { All OnlyCompute scripts.now }
+    ensures { IsTrue result → OnlyCompute other.now }
+{
     match script_numbered(scripts, number) {
         Some(script) => script.is_same(other),
         None => false,
@@ -49,7 +55,9 @@ fn is_script(scripts: &[Script], number: u32, other: &Script) -> bool {
 }
 
 /// The script with this number, if there is one.
-pub(crate) fn script_numbered(scripts: &[Script], number: u32) -> Option<&Script> {
+pub(crate) fn script_numbered(scripts: &[Script], number: u32) -> Option<&Script>
+    ensures { All OnlyCompute scripts.now → IfSome result (λ script. OnlyCompute script.now) }
+{
     let place = (number as usize).checked_sub(1)?;
     scripts.get(place)
 }

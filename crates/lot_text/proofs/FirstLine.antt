@@ -1,10 +1,14 @@
 -- The first of the lines, and those behind it.
-use Rattle.std.proofs.Common.{◌≡◌, ◌<◌, ◌≤◌, ◌+◌, ◌-◌, ℕ, zero, suc, min, ◌==◌, sym, ◌∙◌, Option, Ok, Bool, true, false, not, List, [], ◌∷◌, length, take, drop, refl, ap, arith, cond, if◌then◌else◌}
+use Rattle.std.proofs.Common.{◌≡◌, ◌<◌, ◌≤◌, ◌+◌, ◌-◌, ℕ, zero, suc, min, ◌==◌, sym, ◌∙◌, Option, None, Ok, Err, Bool, true, false, not, List, [], ◌∷◌, length, take, drop, refl, ap, arith, cond, if◌then◌else◌}
 use Rattle.std.specs.List.{prefix_len}
 use Rattle.std.proofs.lemmas.List.{length-take, drop_min, length-drop, take_rest}
 use Rattle.lot_machine.specs.Lines.{lines_of, with_first_byte, without_end}
 use Rattle.lot_machine.specs.Reading.{Reading, ◌>>=◌}
-use Rattle.lot_machine.specs.Grammar.{read_lines, read_line, refused_on}
+use Rattle.lot_machine.specs.Grammar.{read_lines, read_line, refused_on, program_in}
+use Rattle.lot_machine.specs.declared.input.InputRefusal.{InputRefusal}
+use Rattle.lot_text.specs.declared.fault.LineFault.{LineFault}
+use Rattle.lot_text.specs.declared.fault.LineFault.TheVariants.{Memory, Refused}
+use Rattle.lot_text.specs.Faults.{Fails, IsFaultOf, fault_on}
 
 -- how many bytes the first line has before its byte 10
 abbrev pub first_len : List ℕ → ℕ
@@ -67,6 +71,36 @@ read_lines-goes_on n start k b reading after bs line more some at whole is rest 
     let first : line ≡ take (first_len bs) bs = is ∙ ap (λ k. take k bs) at in
     let reads' : read_line n (start + whole_len bs) reading (take (first_len bs) bs) ≡ Ok after = rw (sym len, sym first) reads in
     read_lines-first n start reading bs some ∙ rw (reads', rest, len) refl
+
+-- a line is refused
+read_lines-stops : (n start k b : ℕ) (reading : Option Reading) (refusal : InputRefusal) (bs line : List ℕ)
+    → 0 < length bs → k ≡ first_len bs → b ≡ min (k + 1) (length bs) → line ≡ take k bs
+    → read_line n (start + b) reading line ≡ Err refusal
+    → read_lines n start reading (lines_of bs) ≡ Err (record { line = n; refusal = refusal })
+read_lines-stops n start k b reading refusal bs line some at whole is reads =
+    let len : b ≡ whole_len bs = omega (arith, whole, at) in
+    let first : line ≡ take (first_len bs) bs = is ∙ ap (λ k. take k bs) at in
+    let reads' : read_line n (start + whole_len bs) reading (take (first_len bs) bs) ≡ Err refusal = rw (sym len, sym first) reads in
+    read_lines-first n start reading bs some ∙ rw reads' refl
+
+-- so the whole input is, where what is left from here gives what the whole gives
+pub program_in-stops : (n start k b : ℕ) (reading : Option Reading) (fault : LineFault) (bytes bs line : List ℕ)
+    → 0 < length bs → k ≡ first_len bs → b ≡ min (k + 1) (length bs) → line ≡ take k bs
+    → Fails fault (read_line n (start + b) reading line)
+    → read_lines n start reading (lines_of bs) ≡ read_lines 1 0 None (lines_of bytes)
+    → IsFaultOf (program_in bytes) (fault_on n fault)
+program_in-stops n start k b reading Memory bytes bs line some at whole is fails same = tt
+program_in-stops n start k b reading (Refused refusal) bytes bs line some at whole is fails same =
+    let stops = read_lines-stops n start k b reading refusal bs line some at whole is fails in
+    rw (sym same ∙ stops) refl
+
+-- a line is one of the lines
+pub lines_of-count : (k b : ℕ) (bs more : List ℕ) → 0 < length bs → k ≡ first_len bs → b ≡ min (k + 1) (length bs) → more ≡ drop b bs
+    → length (lines_of bs) ≡ suc (length (lines_of more))
+lines_of-count k b bs more some at whole rest =
+    let len : b ≡ whole_len bs = omega (arith, whole, at) in
+    let behind : drop (suc (first_len bs)) bs ≡ drop (whole_len bs) bs = sym (drop_min (suc (first_len bs)) bs) in
+    rw (lines_of-first bs some, behind, rest, len) refl
 
 -- nothing is lost behind a line
 pub length-behind : (end all k b : ℕ) (bs : List ℕ) → b ≡ min (k + 1) (length bs) → end + length bs ≡ all

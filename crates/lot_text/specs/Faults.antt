@@ -1,8 +1,11 @@
 -- What a function that reads may answer, where the definitions give this.
-use Rattle.std.specs.Prelude.{◌≡◌, Result, Ok, Err}
+use Rattle.std.specs.Prelude.{◌≡◌, ℕ, Result, Ok, Err}
 use Rattle.lot_machine.specs.declared.input.InputRefusal.{InputRefusal}
+use Rattle.lot_machine.specs.declared.input.InputFault.{InputFault}
 use Rattle.lot_text.specs.declared.fault.LineFault.{LineFault}
 use Rattle.lot_text.specs.declared.fault.LineFault.TheVariants.{Memory, Refused}
+use Rattle.lot_text.specs.declared.fault.ParseFault.{ParseFault}
+use Rattle.lot_text.specs.declared.fault.ParseFault.TheVariants as parse_fault
 
 -- a refusal is the one that is given; want of memory says nothing of it
 abbrev pub Fails : {A : Type 0} → LineFault → Result A InputRefusal → Type 0
@@ -13,3 +16,13 @@ Fails (Refused refusal) given = given ≡ Err refusal
 abbrev pub Gives : {A U : Type 0} → A → Result U LineFault → Result A InputRefusal → Type 0
 Gives now (Ok done) given = given ≡ Ok now
 Gives now (Err fault) given = Fails fault given
+
+-- the same fault, of the line with this number
+abbrev pub fault_on : ℕ → LineFault → ParseFault
+fault_on n Memory = parse_fault.Memory
+fault_on n (Refused refusal) = parse_fault.Input (record { line = n; refusal = refusal })
+
+-- a refused line and its refusal are those that are given; want of memory says nothing of them
+abbrev pub IsFaultOf : {A : Type 0} → Result A InputFault → ParseFault → Type 0
+IsFaultOf given parse_fault.Memory = Unit {0}
+IsFaultOf given (parse_fault.Input fault) = given ≡ Err fault

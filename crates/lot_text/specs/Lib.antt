@@ -2,5 +2,4 @@ pub mod Faults
 pub mod Numbers
 pub mod Programs
 pub mod Readings
-pub mod Totals
 pub mod Watching

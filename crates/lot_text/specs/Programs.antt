@@ -2,15 +2,13 @@
 use Rattle.std.specs.Prelude.{◌≡◌, ℕ, ◌≤◌, length, All}
 use Rattle.lot_machine.specs.Bounds.{IsBetween, IsWithinBounds}
 use Rattle.lot_machine.specs.World.{Program}
-use Rattle.lot_kernel.specs.Served.{IsServedCommand}
 
 -- a seed of a generator
 abbrev pub IsSeed : ℕ → Type 0
 IsSeed seed = IsBetween 1 2147483646 seed
 
 -- Its sizes are within their bounds. There is a seed for each processor, and a size says how many scripts there are. The
--- schedule's actors are the console and the processors. Turns, commands and schedule are no more than an input may have,
--- and the kernel serves each command.
+-- schedule's actors are the console and the processors. Turns, commands and schedule are no more than an input may have.
 pub record IsProgram (program : Program) : Type 0 where
   pub limits : IsWithinBounds program.limits
   pub seed_count : length program.seeds ≡ program.limits.processors
@@ -18,6 +16,5 @@ pub record IsProgram (program : Program) : Type 0 where
   pub turns : program.turns ≤ 10000
   pub script_count : length program.scripts ≡ program.limits.scripts
   pub command_count : length program.commands ≤ 100000
-  pub served : All IsServedCommand program.commands
   pub actors : All (λ actor. actor ≤ program.limits.processors) program.schedule
   pub schedule_length : length program.schedule ≤ 1000000

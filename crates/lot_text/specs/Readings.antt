@@ -1,10 +1,13 @@
 -- What is true of everything that is read of an input.
-use Rattle.std.specs.Prelude.{◌≡◌, ℕ, ◌<◌, ◌≤◌, List, length, All, IsSome}
+use Rattle.std.specs.Prelude.{◌≡◌, ℕ, ◌<◌, ◌≤◌, Result, Ok, List, [], ◌∷◌, length, All, IsSome, Some, None}
 use Rattle.std.specs.Option.{ForSome}
+use Rattle.lot_machine.specs.declared.input.InputRefusal.{InputRefusal}
+use Rattle.lot_machine.specs.declared.input.InputRefusal.TheVariants.{TooLong}
+use Rattle.lot_machine.specs.declared.script.Line.{Line}
 use Rattle.lot_machine.specs.Bounds.{IsBetween, IsUnit}
-use Rattle.lot_machine.specs.Reading.{Reading, OpenScript}
-use Rattle.lot_kernel.specs.Served.{IsServedCommand}
-use Rattle.lot_script.specs.Places.{OnlyCompute}
+use Rattle.lot_machine.specs.Grammar.{add_runs, is_full, run_of, with_line}
+use Rattle.lot_machine.specs.Reading.{Reading, OpenScript, ◌>>=◌, checked, each_pair}
+use Rattle.lot_script.specs.Drafts.{loops_behind}
 use Rattle.lot_text.specs.Programs.{IsSeed}
 
 -- seeds, one for each of so many processors
@@ -12,12 +15,8 @@ pub record AreSeeds (processors : ℕ) (seeds : List ℕ) : Type 0 where
   pub count : length seeds ≡ processors
   pub each : All IsSeed seeds
 
--- an open script is no longer than one may be
-pub record IsOpenScript (s : OpenScript) : Type 0 where
-  pub lines : OnlyCompute s.lines
-  pub line_count : length s.lines ≤ 1024
-
--- what was read is within the bounds of the input, and the kernel serves each command
+-- What was read is within the bounds of the input. Behind the first line nothing is known that depends on the number of
+-- processors.
 pub record IsReading (r : Reading) : Type 0 where
   pub unit : IsUnit r.unit
   pub processors : IsBetween 1 64 r.processors
@@ -27,9 +26,28 @@ pub record IsReading (r : Reading) : Type 0 where
   pub tickets : IsBetween 1 65535 r.tickets
   pub currencies : IsBetween 1 4096 r.currencies
   pub threads : IsBetween 1 4096 r.threads
+  pub port_count : length r.ports ≤ 256
+  pub mutex_count : length r.mutexes ≤ 256
   pub script_count : length r.scripts ≤ 256
   pub open_script : IsSome r.unclosed → length r.scripts < 256
   pub command_count : length r.commands ≤ 100000
-  pub served : All IsServedCommand r.commands
   pub actors : All (λ actor. actor ≤ r.processors) r.schedule
   pub schedule_length : length r.schedule ≤ 1000000
+  pub unseeded : r.place ≡ 0 → r.seeds ≡ None
+  pub unscheduled : r.place ≡ 0 → r.schedule ≡ []
+
+-- what is read of a line of the body, with which the header ends
+abbrev pub behind_header : Result Reading InputRefusal → Result Reading InputRefusal
+behind_header read = read >>= λ after. Ok (record after { place = 6 })
+
+-- what was read, where this script is open
+abbrev pub within_script : Reading → OpenScript → Reading
+within_script r s = record r { unclosed = Some s }
+
+-- the script goes on with this line, which may open or end a loop
+abbrev pub line_added : Reading → OpenScript → Line → Result Reading InputRefusal
+line_added r s l = checked ((is_full s, TooLong) ∷ []) (within_script r (record (with_line s l) { loops = loops_behind s.loops l }))
+
+-- the schedule goes on with each pair of tokens as a run
+abbrev pub pairs_added : Reading → List (List ℕ) → Result Reading InputRefusal
+pairs_added r tokens = each_pair (run_of r.processors) tokens >>= λ runs. add_runs r runs

@@ -1,15 +1,18 @@
 //! Lines of the body.
-ghost use Rattle.std.specs.Prelude.{◌≡◌, ℕ, ◌≤◌, All, IfOk, OnOk, MatchResult, Ok};
-ghost use Rattle.lot_machine.specs.Grammar.{body_after_header, body_line as body_line_read, script_names};
+ghost use Rattle.std.specs.Prelude.{◌≡◌, ℕ, ◌≤◌, All, IfOk, MatchResult, Ok};
+ghost use Rattle.lot_machine.specs.Grammar.{body_after_header, script_names};
 ghost use Rattle.lot_machine.specs.Reading.{actor_below as actor_read, each, script_number as script_number_read};
 ghost use Rattle.lot_text.specs.Faults.{Fails, Gives};
+ghost use Rattle.lot_text.specs.Readings.{behind_header, pairs_added};
 
 use crate::fault::LineFault;
-use crate::name::{any_name, is_good_name};
+use crate::name::{any_name, is_good_name, new_name};
 use crate::number::{actor_below, any_number};
-use crate::reading::{OpenScript, Reading};
+use crate::reading::{BODY, OpenScript, Reading};
+use crate::runs::read_runs;
 use crate::tokens::Tokens;
-use lot_machine::{BodyWord, Command, InputRefusal};
+use lot_machine::{BodyWord, Command, InputRefusal, Kind};
+use lot_script::ScriptBuilder;
 use std::alloc::Global;
 
 /// A line of the body, which ends the header.
@@ -20,31 +23,54 @@ pub(crate) fn body_line(
     word: BodyWord,
     tokens: Tokens<'_>,
 ) -> Result<(), LineFault>
-    ensures { OnOk result (body_after_header number reading.old word tokens.entry ≡ Ok reading.new) }
+    ensures { Gives reading.new result (body_after_header number reading.old word tokens.entry) }
 {
-    word_line(alloc, number, reading, word, tokens)?;
-    reading.place = 6;
+    match word {
+        BodyWord::Port => port(reading, tokens),
+        BodyWord::Mutex => mutex(reading, tokens),
+        BodyWord::Script => open_script(alloc, number, reading, tokens),
+        BodyWord::MakeTicket => make_ticket(reading, tokens),
+        BodyWord::RemoveTicket => remove_ticket(reading, tokens),
+        BodyWord::MakeCurrency => make_currency(reading, tokens),
+        BodyWord::RemoveCurrency => remove_currency(reading, tokens),
+        BodyWord::Fund => fund(reading, tokens),
+        BodyWord::Unfund => unfund(reading, tokens),
+        BodyWord::MakeThread => make_thread(reading, tokens),
+        BodyWord::MakeFunded => make_funded(reading, tokens),
+        BodyWord::ListTickets => list_tickets(reading, tokens),
+        BodyWord::ListCurrencies => list_currencies(reading, tokens),
+        BodyWord::ListThreads => list_threads(reading, tokens),
+        BodyWord::Schedule => schedule(alloc, reading, tokens),
+        BodyWord::Runs => runs(alloc, reading, tokens),
+    }
+}
+
+/// `port NAME`
+fn port(reading: &mut Reading, tokens: Tokens<'_>) -> Result<(), LineFault>
+    ensures { (n : ℕ) → Gives reading.new result (body_after_header n reading.old BodyWord.Port tokens.entry) }
+{
+    let token = tokens.only()?;
+    let name = new_name(reading.ports.as_slice(), token)?;
+    if 256 <= reading.ports.len() {
+        return Err(LineFault::Refused(InputRefusal::TooLong));
+    }
+    reading.ports.push(name)?;
+    reading.place = BODY;
     Ok(())
 }
 
-/// What the line says besides. The words that no arm names aren't served.
-fn word_line(
-    alloc: Global,
-    number: u32,
-    reading: &mut Reading,
-    word: BodyWord,
-    tokens: Tokens<'_>,
-) -> Result<(), LineFault>
-    ensures { OnOk result (body_line_read number reading.old word tokens.entry ≡ Ok reading.new) }
+/// `mutex NAME`
+fn mutex(reading: &mut Reading, tokens: Tokens<'_>) -> Result<(), LineFault>
+    ensures { (n : ℕ) → Gives reading.new result (body_after_header n reading.old BodyWord.Mutex tokens.entry) }
 {
-    match word {
-        BodyWord::Script => open_script(alloc, number, reading, tokens),
-        BodyWord::MakeTicket => make_ticket(reading, tokens),
-        BodyWord::Fund => fund(reading, tokens),
-        BodyWord::MakeThread => make_thread(reading, tokens),
-        BodyWord::Schedule => schedule(alloc, reading, tokens),
-        _ => Err(LineFault::Refused(InputRefusal::BadLine)),
+    let token = tokens.only()?;
+    let name = new_name(reading.mutexes.as_slice(), token)?;
+    if 256 <= reading.mutexes.len() {
+        return Err(LineFault::Refused(InputRefusal::TooLong));
     }
+    reading.mutexes.push(name)?;
+    reading.place = BODY;
+    Ok(())
 }
 
 /// `script NAME`
@@ -54,7 +80,7 @@ fn open_script(
     reading: &mut Reading,
     tokens: Tokens<'_>,
 ) -> Result<(), LineFault>
-    ensures { Gives reading.new result (body_line_read number reading.old BodyWord.Script tokens.entry) }
+    ensures { Gives reading.new result (body_after_header number reading.old BodyWord.Script tokens.entry) }
 {
     let token = tokens.only()?;
     let name = any_name(token)?;
@@ -67,14 +93,15 @@ fn open_script(
     reading.unclosed = Some(OpenScript {
         name,
         begins: number,
-        lines: Vec::new(alloc),
+        builder: ScriptBuilder::new(alloc),
     });
+    reading.place = BODY;
     Ok(())
 }
 
 /// `mktkt AMOUNT CURRENCY`
 fn make_ticket(reading: &mut Reading, mut tokens: Tokens<'_>) -> Result<(), LineFault>
-    ensures { (n : ℕ) → Gives reading.new result (body_line_read n reading.old BodyWord.MakeTicket tokens.entry) }
+    ensures { (n : ℕ) → Gives reading.new result (body_after_header n reading.old BodyWord.MakeTicket tokens.entry) }
 {
     let amount = tokens.expected()?;
     let currency = tokens.only()?;
@@ -83,9 +110,36 @@ fn make_ticket(reading: &mut Reading, mut tokens: Tokens<'_>) -> Result<(), Line
     reading.add_command(Command::MakeTicket { amount, currency })
 }
 
+/// `rmtkt TICKET`
+fn remove_ticket(reading: &mut Reading, tokens: Tokens<'_>) -> Result<(), LineFault>
+    ensures { (n : ℕ) → Gives reading.new result (body_after_header n reading.old BodyWord.RemoveTicket tokens.entry) }
+{
+    let ticket = tokens.only()?;
+    let ticket = any_number(ticket)?;
+    reading.add_command(Command::RemoveTicket { ticket })
+}
+
+/// `mkcur NAME`
+fn make_currency(reading: &mut Reading, tokens: Tokens<'_>) -> Result<(), LineFault>
+    ensures { (n : ℕ) → Gives reading.new result (body_after_header n reading.old BodyWord.MakeCurrency tokens.entry) }
+{
+    let name = tokens.only()?;
+    let name = any_name(name)?;
+    reading.add_command(Command::MakeCurrency { name })
+}
+
+/// `rmcur CURRENCY`
+fn remove_currency(reading: &mut Reading, tokens: Tokens<'_>) -> Result<(), LineFault>
+    ensures { (n : ℕ) → Gives reading.new result (body_after_header n reading.old BodyWord.RemoveCurrency tokens.entry) }
+{
+    let currency = tokens.only()?;
+    let currency = any_name(currency)?;
+    reading.add_command(Command::RemoveCurrency { currency })
+}
+
 /// `fund TICKET TARGET`
 fn fund(reading: &mut Reading, mut tokens: Tokens<'_>) -> Result<(), LineFault>
-    ensures { (n : ℕ) → Gives reading.new result (body_line_read n reading.old BodyWord.Fund tokens.entry) }
+    ensures { (n : ℕ) → Gives reading.new result (body_after_header n reading.old BodyWord.Fund tokens.entry) }
 {
     let ticket = tokens.expected()?;
     let target = tokens.only()?;
@@ -94,15 +148,68 @@ fn fund(reading: &mut Reading, mut tokens: Tokens<'_>) -> Result<(), LineFault>
     reading.add_command(Command::Fund { ticket, target })
 }
 
+/// `unfund TICKET`
+fn unfund(reading: &mut Reading, tokens: Tokens<'_>) -> Result<(), LineFault>
+    ensures { (n : ℕ) → Gives reading.new result (body_after_header n reading.old BodyWord.Unfund tokens.entry) }
+{
+    let ticket = tokens.only()?;
+    let ticket = any_number(ticket)?;
+    reading.add_command(Command::Unfund { ticket })
+}
+
 /// `mkthr NAME SCRIPT`
 fn make_thread(reading: &mut Reading, mut tokens: Tokens<'_>) -> Result<(), LineFault>
-    ensures { (n : ℕ) → Gives reading.new result (body_line_read n reading.old BodyWord.MakeThread tokens.entry) }
+    ensures { (n : ℕ) → Gives reading.new result (body_after_header n reading.old BodyWord.MakeThread tokens.entry) }
 {
     let name = tokens.expected()?;
     let script = tokens.only()?;
     let name = any_name(name)?;
     let script = script_named(reading, script)?;
     reading.add_command(Command::MakeThread { name, script })
+}
+
+/// `fundx AMOUNT CURRENCY NAME SCRIPT`
+fn make_funded(reading: &mut Reading, mut tokens: Tokens<'_>) -> Result<(), LineFault>
+    ensures { (n : ℕ) → Gives reading.new result (body_after_header n reading.old BodyWord.MakeFunded tokens.entry) }
+{
+    let amount = tokens.expected()?;
+    let currency = tokens.expected()?;
+    let name = tokens.expected()?;
+    let script = tokens.only()?;
+    let amount = any_number(amount)?;
+    let currency = any_name(currency)?;
+    let name = any_name(name)?;
+    let script = script_named(reading, script)?;
+    reading.add_command(Command::MakeFunded {
+        amount,
+        currency,
+        name,
+        script,
+    })
+}
+
+/// `lstkt`
+fn list_tickets(reading: &mut Reading, tokens: Tokens<'_>) -> Result<(), LineFault>
+    ensures { (n : ℕ) → Gives reading.new result (body_after_header n reading.old BodyWord.ListTickets tokens.entry) }
+{
+    tokens.none()?;
+    reading.add_command(Command::List(Kind::Tickets))
+}
+
+/// `lscur`
+fn list_currencies(reading: &mut Reading, tokens: Tokens<'_>) -> Result<(), LineFault>
+    ensures { (n : ℕ) → Gives reading.new result (body_after_header n reading.old BodyWord.ListCurrencies tokens.entry) }
+{
+    tokens.none()?;
+    reading.add_command(Command::List(Kind::Currencies))
+}
+
+/// `lsthr`
+fn list_threads(reading: &mut Reading, tokens: Tokens<'_>) -> Result<(), LineFault>
+    ensures { (n : ℕ) → Gives reading.new result (body_after_header n reading.old BodyWord.ListThreads tokens.entry) }
+{
+    tokens.none()?;
+    reading.add_command(Command::List(Kind::Threads))
 }
 
 /// A script of a command, by its number; 0 where no script so far has the name.
@@ -117,7 +224,7 @@ fn script_named(reading: &Reading, token: &[u8]) -> Result<u32, InputRefusal>
 
 /// `schedule A1 A2 ..`
 fn schedule(alloc: Global, reading: &mut Reading, tokens: Tokens<'_>) -> Result<(), LineFault>
-    ensures { (n : ℕ) → Gives reading.new result (body_line_read n reading.old BodyWord.Schedule tokens.entry) }
+    ensures { (n : ℕ) → Gives reading.new result (body_after_header n reading.old BodyWord.Schedule tokens.entry) }
 {
     if tokens.has_len(0) {
         return Err(LineFault::Refused(InputRefusal::BadLine));
@@ -127,6 +234,7 @@ fn schedule(alloc: Global, reading: &mut Reading, tokens: Tokens<'_>) -> Result<
         return Err(LineFault::Refused(InputRefusal::TooLong));
     }
     reading.schedule.extend_from_slice(actors.as_slice())?;
+    reading.place = BODY;
     Ok(())
 }
 
@@ -141,4 +249,22 @@ fn read_actors(alloc: Global, processors: u32, mut tokens: Tokens<'_>) -> Result
         actors.push(actor_below(processors, token)?)?;
     }
     Ok(actors)
+}
+
+/// `runs A1 K1 A2 K2 ..`, in an input of version 2
+fn runs(alloc: Global, reading: &mut Reading, tokens: Tokens<'_>) -> Result<(), LineFault>
+    ensures { (n : ℕ) → Gives reading.new result (body_after_header n reading.old BodyWord.Runs tokens.entry) }
+{
+    if tokens.has_len(0) || reading.unit == 1 || !tokens.are_pairs() {
+        return Err(LineFault::Refused(InputRefusal::BadLine));
+    }
+    add_pairs(alloc, reading, tokens)
+}
+
+/// The schedule goes on with each pair of tokens as a run.
+fn add_pairs(alloc: Global, reading: &mut Reading, tokens: Tokens<'_>) -> Result<(), LineFault>
+    ensures { Gives reading.new result (behind_header (pairs_added reading.old tokens.entry)) }
+{
+    let runs = read_runs(alloc, reading.processors, tokens)?;
+    reading.add_runs(alloc, runs.as_slice())
 }

@@ -1,6 +1,8 @@
 //! Why an input isn't read.
 ghost use Rattle.std.specs.Prelude.{◌≡◌};
 ghost use Rattle.lot_text.specs.declared.fault.LineFault.TheVariants.{Memory, Refused};
+ghost use Rattle.lot_text.specs.declared.fault.ParseFault.TheVariants as parse_fault;
+ghost use Rattle.lot_text.specs.Faults.{fault_on};
 
 use lot_machine::{InputFault, InputRefusal};
 use std::alloc::{AllocError, AllocFailed};
@@ -18,6 +20,8 @@ pub enum ParseFault {
 }
 
 impl From<AllocError> for ParseFault {
+    ghost from_gives = { λ _ e. e ≡ parse_fault.Memory };
+
     fn from(_error: AllocError) -> ParseFault {
         ParseFault::Memory
     }
@@ -32,7 +36,9 @@ pub(crate) enum LineFault {
 
 impl LineFault {
     /// The same of the line with this number.
-    pub(crate) fn on_line(self, line: u32) -> ParseFault {
+    pub(crate) fn on_line(self, line: u32) -> ParseFault
+        ensures { result ≡ fault_on line self }
+    {
         match self {
             LineFault::Memory => ParseFault::Memory,
             LineFault::Refused(refusal) => ParseFault::Input(InputFault { line, refusal }),

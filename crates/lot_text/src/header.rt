@@ -1,6 +1,6 @@
 //! Lines of the header.
-ghost use Rattle.std.specs.Prelude.{◌≡◌, ◌∷◌, length, IfOk, OnOk, MatchResult, Ok};
-ghost use Rattle.lot_machine.specs.Grammar.{first_line as first_line_read, header_in_order, header_line as header_line_read};
+ghost use Rattle.std.specs.Prelude.{◌≡◌, ◌<◌, ◌∷◌, length, IfOk, MatchResult, Ok};
+ghost use Rattle.lot_machine.specs.Grammar.{first_line as first_line_read, header_in_order};
 ghost use Rattle.lot_machine.specs.Words.{header_place as header_place_of};
 ghost use Rattle.lot_machine.specs.Reading.{each, number_between as number_read};
 ghost use Rattle.lot_text.specs.Faults.{Fails, Gives};
@@ -48,48 +48,71 @@ fn header_place(word: HeaderWord) -> u32
     }
 }
 
-/// A later line of the header, which has to come behind those so far. The words `processors` and `turns` aren't served.
+/// A later line of the header, which has to come behind those so far.
 pub(crate) fn header_line(
     alloc: Global,
     reading: &mut Reading,
     word: HeaderWord,
     tokens: Tokens<'_>,
 ) -> Result<(), LineFault>
-    ensures { OnOk result (header_in_order reading.old word tokens.entry ≡ Ok reading.new) }
+    ensures { Gives reading.new result (header_in_order reading.old word tokens.entry) }
 {
-    if word == HeaderWord::Processors || word == HeaderWord::Turns {
-        return Err(LineFault::Refused(InputRefusal::BadLine));
-    }
     if header_place(word) <= reading.place {
         return Err(LineFault::Refused(InputRefusal::BadHeader));
     }
     match word {
-        HeaderWord::Quantum => read_quantum(reading, tokens)?,
-        HeaderWord::Seed => read_seed(alloc, reading, tokens)?,
-        HeaderWord::Limits => read_limits(reading, tokens)?,
-        _ => return Err(LineFault::Refused(InputRefusal::BadLine)),
+        HeaderWord::Lottery => Err(LineFault::Refused(InputRefusal::BadHeader)),
+        HeaderWord::Processors => read_processors(reading, tokens),
+        HeaderWord::Quantum => read_quantum(reading, tokens),
+        HeaderWord::Turns => read_turns(reading, tokens),
+        HeaderWord::Seed => read_seed(alloc, reading, tokens),
+        HeaderWord::Limits => read_limits(reading, tokens),
     }
-    reading.place = header_place(word);
+}
+
+/// `processors P`
+fn read_processors(reading: &mut Reading, tokens: Tokens<'_>) -> Result<(), LineFault>
+    requires { reading.old.place < 1 }
+    ensures { Gives reading.new result (header_in_order reading.old HeaderWord.Processors tokens.entry) }
+{
+    let processors = tokens.only()?;
+    reading.processors = number_between(1, 64, processors)?;
+    reading.place = header_place(HeaderWord::Processors);
     Ok(())
 }
 
 /// `quantum Q`
 fn read_quantum(reading: &mut Reading, tokens: Tokens<'_>) -> Result<(), LineFault>
-    ensures { Gives reading.new result (header_line_read reading.old HeaderWord.Quantum tokens.entry) }
+    requires { reading.old.place < 2 }
+    ensures { Gives reading.new result (header_in_order reading.old HeaderWord.Quantum tokens.entry) }
 {
     let quantum = tokens.only()?;
     reading.quantum = number_between(1, 1000, quantum)?;
+    reading.place = header_place(HeaderWord::Quantum);
+    Ok(())
+}
+
+/// `turns T`
+fn read_turns(reading: &mut Reading, tokens: Tokens<'_>) -> Result<(), LineFault>
+    requires { reading.old.place < 3 }
+    ensures { Gives reading.new result (header_in_order reading.old HeaderWord.Turns tokens.entry) }
+{
+    let turns = tokens.only()?;
+    reading.turns = number_between(0, 10000, turns)?;
+    reading.place = header_place(HeaderWord::Turns);
     Ok(())
 }
 
 /// `seed S1 .. SP`, one for each processor
 fn read_seed(alloc: Global, reading: &mut Reading, tokens: Tokens<'_>) -> Result<(), LineFault>
-    ensures { Gives reading.new result (header_line_read reading.old HeaderWord.Seed tokens.entry) }
+    requires { reading.old.place < 4 }
+    ensures { Gives reading.new result (header_in_order reading.old HeaderWord.Seed tokens.entry) }
 {
     if !tokens.has_len(reading.processors as usize) {
         return Err(LineFault::Refused(InputRefusal::BadLine));
     }
     reading.seeds = Some(read_seeds(alloc, tokens)?);
+    reading.place = header_place(HeaderWord::Seed);
     Ok(())
 }
 
@@ -107,7 +130,8 @@ fn read_seeds(alloc: Global, mut tokens: Tokens<'_>) -> Result<Vec<u32>, LineFau
 
 /// `limits T C H`
 fn read_limits(reading: &mut Reading, mut tokens: Tokens<'_>) -> Result<(), LineFault>
-    ensures { Gives reading.new result (header_line_read reading.old HeaderWord.Limits tokens.entry) }
+    requires { reading.old.place < 5 }
+    ensures { Gives reading.new result (header_in_order reading.old HeaderWord.Limits tokens.entry) }
 {
     let tickets = tokens.expected()?;
     let currencies = tokens.expected()?;
@@ -118,5 +142,6 @@ fn read_limits(reading: &mut Reading, mut tokens: Tokens<'_>) -> Result<(), Line
     reading.tickets = tickets;
     reading.currencies = currencies;
     reading.threads = threads;
+    reading.place = header_place(HeaderWord::Limits);
     Ok(())
 }

@@ -1,7 +1,8 @@
 //! What the bytes of an input say.
-ghost use Rattle.std.specs.Prelude.{◌≡◌, ◌≤◌, OnOk, IfOk, Ok};
+ghost use Rattle.std.specs.Prelude.{◌≡◌, ◌≤◌, OnOk, IfErr, IfOk, Ok};
 ghost use Rattle.lot_machine.specs.Grammar.{program_in, later_line as later_line_read, line_outside as line_outside_read, read_line as read_line_read};
 ghost use Rattle.lot_machine.specs.Words.{word_in, header_words, body_words};
+ghost use Rattle.lot_text.specs.Faults.{Gives, IsFaultOf};
 
 use crate::body::body_line;
 use crate::fault::LineFault;
@@ -14,10 +15,11 @@ use crate::{ParseFault, Program};
 use lot_machine::{InputFault, InputRefusal};
 use std::alloc::Global;
 
-/// What the bytes of an input say, or why they aren't read. The fault of the least line is answered. What stands in an `Ok`
-/// is exactly what the bytes say; of an `Err` nothing is stated but that it comes, since some words aren't served yet.
+/// What the bytes of an input say, exactly. Else the least line that has a fault, and the first of its faults; or
+/// `Memory`, where memory was refused.
 pub fn parse(alloc: Global, bytes: &[u8]) -> Result<Program, ParseFault>
-    ensures { IfOk result (λ program. program_in bytes.now ≡ Ok program) }
+    ensures program { IfOk result (λ program. program_in bytes.now ≡ Ok program) }
+    ensures fault { IfErr result (IsFaultOf (program_in bytes.now)) }
 {
     let mut reading = None;
     let mut rest = bytes;
@@ -51,7 +53,7 @@ fn read_line(
     line: &[u8],
 ) -> Result<(), LineFault>
     ensures within { OnOk result (end ≤ 16777216) }
-    ensures read { OnOk result (read_line_read number end reading.old line.now ≡ Ok reading.new) }
+    ensures read { Gives reading.new result (read_line_read number end reading.old line.now) }
 {
     if 4096 < line.len() || 16777216 < end {
         return Err(LineFault::Refused(InputRefusal::TooLong));
@@ -81,7 +83,7 @@ fn later_line(
     word: &[u8],
     tokens: Tokens<'_>,
 ) -> Result<(), LineFault>
-    ensures { OnOk result (later_line_read number reading.old reading.old.unclosed word.now tokens.entry ≡ Ok reading.new) }
+    ensures { Gives reading.new result (later_line_read number reading.old reading.old.unclosed word.now tokens.entry) }
 {
     match reading.unclosed.take() {
         Some(script) => match script_word(word) {
@@ -100,7 +102,7 @@ fn line_outside(
     word: &[u8],
     tokens: Tokens<'_>,
 ) -> Result<(), LineFault>
-    ensures { OnOk result (line_outside_read number reading.old (word_in header_words word.now) (word_in body_words word.now) tokens.entry ≡ Ok reading.new) }
+    ensures { Gives reading.new result (line_outside_read number reading.old (word_in header_words word.now) (word_in body_words word.now) tokens.entry) }
 {
     if let Some(word) = header_word(word) {
         return header_line(alloc, reading, word, tokens);

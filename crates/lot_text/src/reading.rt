@@ -1,20 +1,20 @@
 //! What has been read of an input so far.
-ghost use Rattle.std.specs.Prelude.{◌≡◌, ◌<◌, length, map, option_map, position, unwrap_or, IfOk, IfSome, Ok};
+ghost use Rattle.std.specs.Prelude.{◌≡◌, ◌<◌, ◌≤◌, All, length, map, option_map, position, unwrap_or, IfErr, IfOk, IfSome, Ok};
 ghost use Rattle.std.specs.List.{range_with_len};
 ghost use Rattle.std.specs.Option.{ForSome};
 ghost use Rattle.std.specs.Str.{bytes_eq};
 ghost use Rattle.lot_machine.specs.Bounds.{IsBetween, IsUnit};
-ghost use Rattle.lot_machine.specs.Grammar.{add_command as add_command_read, closed_program, limits_of, script_names};
+ghost use Rattle.lot_machine.specs.Grammar.{add_command as add_command_read, add_runs as add_runs_read, closed_program, limits_of, script_names};
 ghost use Rattle.lot_machine.specs.Reading.{number_named, opening_reading};
 ghost use Rattle.lot_machine.specs.State.{sizes_of};
-ghost use Rattle.lot_kernel.specs.Served.{IsServedCommand};
-ghost use Rattle.lot_text.specs.Faults.{Gives};
-ghost use Rattle.lot_text.specs.Readings.{AreSeeds};
+ghost use Rattle.lot_text.specs.Faults.{Gives, IsFaultOf};
+ghost use Rattle.lot_text.specs.Readings.{AreSeeds, behind_header};
 
 use crate::fault::LineFault;
+use crate::runs::{ActorRun, actors_of, have_room};
 use crate::{ParseFault, Program};
-use lot_machine::{Command, InputFault, InputRefusal, Limits, Line, Name};
-use lot_script::Script;
+use lot_machine::{Command, InputFault, InputRefusal, Limits, Name};
+use lot_script::{Script, ScriptBuilder};
 use std::alloc::{AllocError, Global};
 use std::marker::Model;
 
@@ -33,36 +33,39 @@ impl Model for NamedScript {
     ghost view = { λ s. record { name = s.name; lines = s.script } };
 }
 
-/// A script that isn't closed yet: where it began, and its lines so far.
+/// A script that isn't closed yet: the line where it began, and its lines so far.
 #[derive(Debug, Drop)]
 pub(crate) struct OpenScript {
     pub(crate) name: Name,
     pub(crate) begins: u32,
-    pub(crate) lines: Vec<Line>,
+    pub(crate) builder: ScriptBuilder,
 }
 
 impl Model for OpenScript {
     ghost use Rattle.lot_machine.specs.Reading.{OpenScript as OpenScriptRecord};
-    ghost use Rattle.lot_text.specs.Readings.{IsOpenScript};
 
     ghost Value = { OpenScriptRecord };
 
-    ghost view = { λ s. record { name = s.name; begins = s.begins; lines = s.lines.items; loops = 0 } };
-
-    ghost invariant = { λ s. IsOpenScript (record { name = s.name; begins = s.begins; lines = s.lines.items; loops = 0 }) };
+    ghost view = { λ s. record { name = s.name; begins = s.begins; lines = s.builder.lines; loops = s.builder.loops } };
 }
 
-/// What the lines since the first have said. The header's place is that of its last line, and 6 from the body on.
+/// The place of the body, behind those of the header's lines.
+pub(crate) const BODY: u32 = 6;
+
+/// What the lines since the first have said. The place is that of the header's last line, or the body's.
 #[derive(Debug, Drop)]
 pub(crate) struct Reading {
     pub(crate) place: u32,
     pub(crate) unit: u32,
     pub(crate) processors: u32,
     pub(crate) quantum: u32,
+    pub(crate) turns: u32,
     pub(crate) seeds: Option<Vec<u32>>,
     pub(crate) tickets: u32,
     pub(crate) currencies: u32,
     pub(crate) threads: u32,
+    pub(crate) ports: Vec<Name>,
+    pub(crate) mutexes: Vec<Name>,
     pub(crate) scripts: Vec<NamedScript>,
     pub(crate) unclosed: Option<OpenScript>,
     pub(crate) commands: Vec<Command>,
@@ -70,15 +73,15 @@ pub(crate) struct Reading {
 }
 
 impl Model for Reading {
-    ghost use Rattle.std.specs.Prelude.{[], option_map};
+    ghost use Rattle.std.specs.Prelude.{option_map};
     ghost use Rattle.lot_machine.specs.Reading.{Reading as ReadingRecord};
     ghost use Rattle.lot_text.specs.Readings.{IsReading};
 
     ghost Value = { ReadingRecord };
 
-    ghost view = { λ r. record { place = r.place; unit = r.unit; processors = r.processors; quantum = r.quantum; turns = 0; seeds = option_map (λ s. s.items) r.seeds; tickets = r.tickets; currencies = r.currencies; threads = r.threads; ports = []; mutexes = []; scripts = r.scripts.items; unclosed = r.unclosed; commands = r.commands.items; schedule = r.schedule.items } };
+    ghost view = { λ r. record { place = r.place; unit = r.unit; processors = r.processors; quantum = r.quantum; turns = r.turns; seeds = option_map (λ s. s.items) r.seeds; tickets = r.tickets; currencies = r.currencies; threads = r.threads; ports = r.ports.items; mutexes = r.mutexes.items; scripts = r.scripts.items; unclosed = r.unclosed; commands = r.commands.items; schedule = r.schedule.items } };
 
-    ghost invariant = { λ r. IsReading (record { place = r.place; unit = r.unit; processors = r.processors; quantum = r.quantum; turns = 0; seeds = option_map (λ s. s.items) r.seeds; tickets = r.tickets; currencies = r.currencies; threads = r.threads; ports = []; mutexes = []; scripts = r.scripts.items; unclosed = r.unclosed; commands = r.commands.items; schedule = r.schedule.items }) };
+    ghost invariant = { λ r. IsReading (record { place = r.place; unit = r.unit; processors = r.processors; quantum = r.quantum; turns = r.turns; seeds = option_map (λ s. s.items) r.seeds; tickets = r.tickets; currencies = r.currencies; threads = r.threads; ports = r.ports.items; mutexes = r.mutexes.items; scripts = r.scripts.items; unclosed = r.unclosed; commands = r.commands.items; schedule = r.schedule.items }) };
 }
 
 impl Reading {
@@ -92,10 +95,13 @@ impl Reading {
             unit,
             processors: 1,
             quantum: 100,
+            turns: 0,
             seeds: None,
             tickets: 65535,
             currencies: 4096,
             threads: 4096,
+            ports: Vec::new(alloc),
+            mutexes: Vec::new(alloc),
             scripts: Vec::new(alloc),
             unclosed: None,
             commands: Vec::new(alloc),
@@ -103,15 +109,29 @@ impl Reading {
         }
     }
 
-    /// One command more.
+    /// One command more, which ends the header.
     pub(crate) fn add_command(&mut self, command: Command) -> Result<(), LineFault>
-        requires { IsServedCommand command }
-        ensures { Gives self.new result (add_command_read self.old command) }
+        ensures { Gives self.new result (behind_header (add_command_read self.old command)) }
     {
         if 100000 <= self.commands.len() {
             return Err(LineFault::Refused(InputRefusal::TooLong));
         }
         self.commands.push(command)?;
+        self.place = BODY;
+        Ok(())
+    }
+
+    /// These runs more in the schedule, which ends the header.
+    pub(crate) fn add_runs(&mut self, alloc: Global, runs: &[ActorRun]) -> Result<(), LineFault>
+        requires { All (λ run. run.actor ≤ self.old.processors) runs.now }
+        ensures { Gives self.new result (behind_header (add_runs_read self.old runs.now)) }
+    {
+        if !have_room(runs, 1000000 - self.schedule.len()) {
+            return Err(LineFault::Refused(InputRefusal::TooLong));
+        }
+        let actors = actors_of(alloc, runs)?;
+        self.schedule.extend_from_slice(actors.as_slice())?;
+        self.place = BODY;
         Ok(())
     }
 
@@ -129,15 +149,14 @@ impl Reading {
     fn limits(&self) -> Limits
         ensures { sizes_of result ≡ limits_of self.now }
     {
-        let scripts = self.scripts.len() as u32;
         let limits = Limits::new(
             self.tickets,
             self.currencies,
             self.threads,
-            0,
-            0,
+            self.ports.len() as u32,
+            self.mutexes.len() as u32,
             self.processors,
-            scripts,
+            self.scripts.len() as u32,
             self.quantum,
         );
         limits.unwrap().with_unit(self.unit).unwrap()
@@ -145,7 +164,8 @@ impl Reading {
 
     /// What was read, where no script is open.
     pub(crate) fn into_program(self, alloc: Global) -> Result<Program, ParseFault>
-        ensures { IfOk result (λ program. closed_program self self.unclosed ≡ Ok program) }
+        ensures program { IfOk result (λ program. closed_program self self.unclosed ≡ Ok program) }
+        ensures fault { IfErr result (IsFaultOf (closed_program self self.unclosed)) }
     {
         let limits = self.limits();
         let Reading {
@@ -153,10 +173,13 @@ impl Reading {
             unit: _,
             processors,
             quantum: _,
+            turns,
             seeds,
             tickets: _,
             currencies: _,
             threads: _,
+            ports: _,
+            mutexes: _,
             scripts,
             unclosed,
             commands,
@@ -173,7 +196,7 @@ impl Reading {
         Ok(Program {
             limits,
             seeds,
-            turns: 0,
+            turns,
             scripts,
             commands,
             schedule,

@@ -1,17 +1,18 @@
 //! Lines of scripts.
-ghost use Rattle.std.specs.Prelude.{◌≡◌, ◌<◌, length, OnOk, Ok};
-ghost use Rattle.lot_machine.specs.Grammar.{add_line as add_line_read, script_line as script_line_read};
-ghost use Rattle.lot_script.specs.Places.{IsCompute};
+ghost use Rattle.std.specs.Prelude.{◌≡◌, ◌<◌, length};
+ghost use Rattle.lot_machine.specs.Grammar.{script_line as script_line_read};
+ghost use Rattle.lot_script.specs.Drafts.{CanNest, IsLine};
 ghost use Rattle.lot_text.specs.Faults.{Gives};
+ghost use Rattle.lot_text.specs.Readings.{line_added, within_script};
 
 use crate::fault::LineFault;
+use crate::name::known_name;
 use crate::number::number_between;
 use crate::reading::{NamedScript, OpenScript, Reading};
 use crate::tokens::Tokens;
 use lot_machine::{InputRefusal, Line, ScriptWord};
-use lot_script::Script;
 
-/// A line of this script, which stays open until `endscript`. The words that no arm names aren't served.
+/// A line of this script, which stays open until `endscript`.
 pub(crate) fn script_line(
     reading: &mut Reading,
     script: OpenScript,
@@ -19,37 +20,139 @@ pub(crate) fn script_line(
     tokens: Tokens<'_>,
 ) -> Result<(), LineFault>
     requires { length reading.old.scripts < 256 }
-    ensures { OnOk result (script_line_read reading.old script word tokens.entry ≡ Ok reading.new) }
+    ensures { Gives reading.new result (script_line_read (within_script reading.old script) script word tokens.entry) }
 {
     match word {
         ScriptWord::Compute => compute(reading, script, tokens),
+        ScriptWord::Set => set(reading, script, tokens),
+        ScriptWord::Add => add(reading, script, tokens),
+        ScriptWord::Loop => begin_loop(reading, script, tokens),
+        ScriptWord::End => end_loop(reading, script, tokens),
+        ScriptWord::Yield => give_way(reading, script, tokens),
+        ScriptWord::Reply => reply(reading, script, tokens),
+        ScriptWord::Call => call(reading, script, tokens),
+        ScriptWord::Receive => receive(reading, script, tokens),
+        ScriptWord::Lock => lock(reading, script, tokens),
+        ScriptWord::Unlock => unlock(reading, script, tokens),
         ScriptWord::EndScript => end_script(reading, script, tokens),
-        _ => Err(LineFault::Refused(InputRefusal::BadLine)),
     }
 }
 
 /// `compute N`
 fn compute(reading: &mut Reading, script: OpenScript, tokens: Tokens<'_>) -> Result<(), LineFault>
     requires { length reading.old.scripts < 256 }
-    ensures { Gives reading.new result (script_line_read reading.old script ScriptWord.Compute tokens.entry) }
+    ensures { Gives reading.new result (script_line_read (within_script reading.old script) script ScriptWord.Compute tokens.entry) }
 {
     let ticks = tokens.only()?;
     let ticks = number_between(1, 4294967295, ticks)?;
     add_line(reading, script, Line::Compute(ticks))
 }
 
-/// The script goes on with this line.
-fn add_line(reading: &mut Reading, mut script: OpenScript, line: Line) -> Result<(), LineFault>
-    requires room { length reading.old.scripts < 256 }
-    requires compute { IsCompute line }
-    ensures { Gives reading.new result (add_line_read reading.old script line) }
+/// `set N`
+fn set(reading: &mut Reading, script: OpenScript, tokens: Tokens<'_>) -> Result<(), LineFault>
+    requires { length reading.old.scripts < 256 }
+    ensures { Gives reading.new result (script_line_read (within_script reading.old script) script ScriptWord.Set tokens.entry) }
 {
-    if 1024 <= script.lines.len() {
-        return Err(LineFault::Refused(InputRefusal::TooLong));
+    let number = tokens.only()?;
+    let number = number_between(0, 4294967295, number)?;
+    add_line(reading, script, Line::Set(number))
+}
+
+/// `add N`
+fn add(reading: &mut Reading, script: OpenScript, tokens: Tokens<'_>) -> Result<(), LineFault>
+    requires { length reading.old.scripts < 256 }
+    ensures { Gives reading.new result (script_line_read (within_script reading.old script) script ScriptWord.Add tokens.entry) }
+{
+    let number = tokens.only()?;
+    let number = number_between(0, 4294967295, number)?;
+    add_line(reading, script, Line::Add(number))
+}
+
+/// `loop N`
+fn begin_loop(
+    reading: &mut Reading,
+    script: OpenScript,
+    tokens: Tokens<'_>,
+) -> Result<(), LineFault>
+    requires { length reading.old.scripts < 256 }
+    ensures { Gives reading.new result (script_line_read (within_script reading.old script) script ScriptWord.Loop tokens.entry) }
+{
+    let times = tokens.only()?;
+    let times = number_between(1, 65535, times)?;
+    if 8 <= script.builder.open_loops() {
+        return Err(LineFault::Refused(InputRefusal::TooDeep));
     }
-    script.lines.push(line)?;
-    reading.unclosed = Some(script);
-    Ok(())
+    add_line(reading, script, Line::Loop(times))
+}
+
+/// `end`
+fn end_loop(reading: &mut Reading, script: OpenScript, tokens: Tokens<'_>) -> Result<(), LineFault>
+    requires { length reading.old.scripts < 256 }
+    ensures { Gives reading.new result (script_line_read (within_script reading.old script) script ScriptWord.End tokens.entry) }
+{
+    tokens.none()?;
+    if script.builder.open_loops() == 0 {
+        return Err(LineFault::Refused(InputRefusal::BadLine));
+    }
+    add_line(reading, script, Line::End)
+}
+
+/// `yield`
+fn give_way(reading: &mut Reading, script: OpenScript, tokens: Tokens<'_>) -> Result<(), LineFault>
+    requires { length reading.old.scripts < 256 }
+    ensures { Gives reading.new result (script_line_read (within_script reading.old script) script ScriptWord.Yield tokens.entry) }
+{
+    tokens.none()?;
+    add_line(reading, script, Line::Yield)
+}
+
+/// `reply`
+fn reply(reading: &mut Reading, script: OpenScript, tokens: Tokens<'_>) -> Result<(), LineFault>
+    requires { length reading.old.scripts < 256 }
+    ensures { Gives reading.new result (script_line_read (within_script reading.old script) script ScriptWord.Reply tokens.entry) }
+{
+    tokens.none()?;
+    add_line(reading, script, Line::Reply)
+}
+
+/// `call PORT`
+fn call(reading: &mut Reading, script: OpenScript, tokens: Tokens<'_>) -> Result<(), LineFault>
+    requires { length reading.old.scripts < 256 }
+    ensures { Gives reading.new result (script_line_read (within_script reading.old script) script ScriptWord.Call tokens.entry) }
+{
+    let port = tokens.only()?;
+    let port = known_name(reading.ports.as_slice(), port)?;
+    add_line(reading, script, Line::Call(port))
+}
+
+/// `receive PORT`
+fn receive(reading: &mut Reading, script: OpenScript, tokens: Tokens<'_>) -> Result<(), LineFault>
+    requires { length reading.old.scripts < 256 }
+    ensures { Gives reading.new result (script_line_read (within_script reading.old script) script ScriptWord.Receive tokens.entry) }
+{
+    let port = tokens.only()?;
+    let port = known_name(reading.ports.as_slice(), port)?;
+    add_line(reading, script, Line::Receive(port))
+}
+
+/// `lock MUTEX`
+fn lock(reading: &mut Reading, script: OpenScript, tokens: Tokens<'_>) -> Result<(), LineFault>
+    requires { length reading.old.scripts < 256 }
+    ensures { Gives reading.new result (script_line_read (within_script reading.old script) script ScriptWord.Lock tokens.entry) }
+{
+    let mutex = tokens.only()?;
+    let mutex = known_name(reading.mutexes.as_slice(), mutex)?;
+    add_line(reading, script, Line::Lock(mutex))
+}
+
+/// `unlock MUTEX`
+fn unlock(reading: &mut Reading, script: OpenScript, tokens: Tokens<'_>) -> Result<(), LineFault>
+    requires { length reading.old.scripts < 256 }
+    ensures { Gives reading.new result (script_line_read (within_script reading.old script) script ScriptWord.Unlock tokens.entry) }
+{
+    let mutex = tokens.only()?;
+    let mutex = known_name(reading.mutexes.as_slice(), mutex)?;
+    add_line(reading, script, Line::Unlock(mutex))
 }
 
 /// `endscript`
@@ -59,16 +162,34 @@ fn end_script(
     tokens: Tokens<'_>,
 ) -> Result<(), LineFault>
     requires { length reading.old.scripts < 256 }
-    ensures { Gives reading.new result (script_line_read reading.old script ScriptWord.EndScript tokens.entry) }
+    ensures { Gives reading.new result (script_line_read (within_script reading.old script) script ScriptWord.EndScript tokens.entry) }
 {
     tokens.none()?;
+    if 0 < script.builder.open_loops() {
+        return Err(LineFault::Refused(InputRefusal::BadLine));
+    }
     let OpenScript {
         name,
         begins: _,
-        lines,
+        builder,
     } = script;
-    let script = Script::new(lines);
+    let script = builder.finish();
     reading.scripts.push(NamedScript { name, script })?;
     reading.unclosed = None;
+    Ok(())
+}
+
+/// The script goes on with this line, unless it has as many as one may have.
+fn add_line(reading: &mut Reading, mut script: OpenScript, line: Line) -> Result<(), LineFault>
+    requires room { length reading.old.scripts < 256 }
+    requires number { IsLine line }
+    requires nesting { CanNest script.loops line }
+    ensures { Gives reading.new result (line_added reading.old script line) }
+{
+    if 1024 <= script.builder.len() {
+        return Err(LineFault::Refused(InputRefusal::TooLong));
+    }
+    script.builder.push(line)?;
+    reading.unclosed = Some(script);
     Ok(())
 }

@@ -1,10 +1,7 @@
 ghost use Rattle.std.specs.Prelude.{◌≤◌, IfOk};
 
 use crate::*;
-use lot_machine::{
-    Action, Command, Event, InputFault, InputRefusal, Line, Name, Outcome, Refusal, Reply, Status,
-    ThreadRow, TrapRefusal,
-};
+use lot_machine::{Command, InputFault, InputRefusal, Kind, Line, Name};
 use std::alloc::{AllocError, Global};
 use std::io;
 use std::io::{Error, ErrorKind, Read, Write};
@@ -78,7 +75,7 @@ fn reads_the_first_run(rt: HostRuntime) -> Result<(), Fail> {
 #[test]
 fn reads_or_lacks_memory(rt: HostRuntime) {
     let text =
-        "lottery 1\nseed 7\nscript s\ncompute 5\nendscript\nmktkt 1 base\nmkthr a s\nschedule 0 1";
+        "lottery 2\nseed 7\nport p\nmutex m\nscript s\ncompute 5\nendscript\nmktkt 1 base\nmkthr a s\nschedule 0 1\nruns 0 3";
     let result = parse(rt.alloc(), text.as_bytes());
     assert!(rt; matches!(&result, Ok(_) | Err(ParseFault::Memory)));
 }
@@ -124,8 +121,14 @@ fn refuses(rt: HostRuntime) {
             4,
             InputRefusal::BadHeader,
         ),
-        ("lottery 1\nprocessors 1", 2, InputRefusal::BadLine),
-        ("lottery 1\nturns 1", 2, InputRefusal::BadLine),
+        (
+            "lottery 1\nquantum 10\nprocessors 2",
+            3,
+            InputRefusal::BadHeader,
+        ),
+        ("lottery 1\nprocessors 65", 2, InputRefusal::BadNumber),
+        ("lottery 1\nprocessors 2\nseed 1", 3, InputRefusal::BadLine),
+        ("lottery 1\nturns 10001", 2, InputRefusal::BadNumber),
         ("lottery 1\nquantum 1001", 2, InputRefusal::BadNumber),
         ("lottery 1\nquantum 0", 2, InputRefusal::BadNumber),
         ("lottery 1\nquantum", 2, InputRefusal::BadLine),
@@ -149,7 +152,19 @@ fn refuses(rt: HostRuntime) {
 #[test]
 fn refuses_bodies(rt: HostRuntime) {
     for (text, line, refusal) in [
-        ("lottery 1\nlstkt", 2, InputRefusal::BadLine),
+        ("lottery 1\nlstkt 1", 2, InputRefusal::BadLine),
+        ("lottery 1\nport a\nport a", 3, InputRefusal::BadLine),
+        ("lottery 1\nmutex M", 2, InputRefusal::BadLine),
+        (
+            "lottery 1\nport Bcdefghijklmnopqr",
+            2,
+            InputRefusal::TooLong,
+        ),
+        (
+            "lottery 1\nfundx 1 base a abcdefghijklmnopq",
+            2,
+            InputRefusal::TooLong,
+        ),
         ("lottery 1\ncompute 5", 2, InputRefusal::BadLine),
         ("lottery 1\nmktkt 007 base", 2, InputRefusal::BadNumber),
         (
@@ -207,7 +222,7 @@ fn refuses_bodies(rt: HostRuntime) {
             3,
             InputRefusal::BadNumber,
         ),
-        ("lottery 1\nscript s\nyield", 3, InputRefusal::BadLine),
+        ("lottery 1\nscript s\nyield 1", 3, InputRefusal::BadLine),
         ("lottery 1\nscript s\nscript t", 3, InputRefusal::BadLine),
         ("lottery 1\nscript s\nquantum 5", 3, InputRefusal::BadLine),
         ("lottery 1\nscript s\nendscript 1", 3, InputRefusal::BadLine),
@@ -218,6 +233,110 @@ fn refuses_bodies(rt: HostRuntime) {
             "of {text:?}"
         );
     }
+}
+
+/// The call and its reply, up to a line of the server's script.
+const CALL: &str = "lottery 1\nquantum 10\nport p\nscript srv\n";
+
+#[test]
+fn refuses_scripts(rt: HostRuntime) -> Result<(), Fail> {
+    for (text, line, refusal) in [
+        ("receive p", 4, InputRefusal::OpenScript),
+        ("recei", 5, InputRefusal::BadLine),
+        ("receive", 5, InputRefusal::BadLine),
+        ("call q", 5, InputRefusal::UnknownName),
+        ("lock p", 5, InputRefusal::UnknownName),
+        ("call abcdefghijklmnopq", 5, InputRefusal::TooLong),
+        ("set 4294967296", 5, InputRefusal::BadNumber),
+        ("loop 0", 5, InputRefusal::BadNumber),
+        ("loop 65536", 5, InputRefusal::BadNumber),
+        ("end", 5, InputRefusal::BadLine),
+        ("loop 2\nendscript", 6, InputRefusal::BadLine),
+        ("port q", 5, InputRefusal::BadLine),
+        (
+            "loop 1\nloop 1\nloop 1\nloop 1\nloop 1\nloop 1\nloop 1\nloop 1\nloop 1",
+            13,
+            InputRefusal::TooDeep,
+        ),
+    ] {
+        let input = format!(in rt.alloc(); "{CALL}{text}")?;
+        assert_eq!(rt;
+            refused(rt.alloc(), input.as_str()),
+            Some((line, refusal)),
+            "of {text:?}"
+        );
+    }
+    Ok(())
+}
+
+#[test]
+fn refuses_runs(rt: HostRuntime) {
+    for (text, refusal) in [
+        ("lottery 2\nruns 0", InputRefusal::BadLine),
+        ("lottery 2\nruns", InputRefusal::BadLine),
+        ("lottery 2\nruns 0 0", InputRefusal::BadNumber),
+        ("lottery 2\nruns 2 1", InputRefusal::BadActor),
+        ("lottery 2\nruns 0 1000000 0 1", InputRefusal::TooLong),
+        ("lottery 1\nruns 0 1", InputRefusal::BadLine),
+    ] {
+        assert_eq!(rt;
+            refused(rt.alloc(), text),
+            Some((2, refusal)),
+            "of {text:?}"
+        );
+    }
+}
+
+#[test]
+fn reads_the_whole_grammar(rt: HostRuntime) -> Result<(), Fail> {
+    let text =
+        "lottery 2\nprocessors 2\nquantum 7\nturns 10000\nseed 5 6\nport p\nmutex m\nscript s\nset 1\nloop 2\n\
+        add 3\ncall p\nend\nreceive p\nreply\nlock m\nunlock m\nyield\nendscript\nrmtkt 1\nmkcur a\nrmcur a\n\
+        unfund 2\nfundx 9 a t s\nlstkt\nlscur\nlsthr\nruns 0 2 2 1\nschedule 1";
+    let program = parse(rt.alloc(), text.as_bytes())?;
+    let limits = program.limits();
+    assert_eq!(rt;
+        (limits.processors, limits.ports, limits.mutexes),
+        (2, 1, 1)
+    );
+    assert_eq!(rt;
+        (program.turns(), program.seeds()),
+        (10000, [5, 6].as_slice())
+    );
+    let lines = [
+        Line::Set(1),
+        Line::Loop(2),
+        Line::Add(3),
+        Line::Call(1),
+        Line::End,
+        Line::Receive(1),
+        Line::Reply,
+        Line::Lock(1),
+        Line::Unlock(1),
+        Line::Yield,
+    ];
+    assert_eq!(rt; program.scripts()[0].lines(), lines.as_slice());
+    let name = |text: &str| Name::new(text).ok_or("a name");
+    let commands = [
+        Command::RemoveTicket { ticket: 1 },
+        Command::MakeCurrency { name: name("a")? },
+        Command::RemoveCurrency {
+            currency: name("a")?,
+        },
+        Command::Unfund { ticket: 2 },
+        Command::MakeFunded {
+            amount: 9,
+            currency: name("a")?,
+            name: name("t")?,
+            script: 1,
+        },
+        Command::List(Kind::Tickets),
+        Command::List(Kind::Currencies),
+        Command::List(Kind::Threads),
+    ];
+    assert_eq!(rt; program.commands(), commands.as_slice());
+    assert_eq!(rt; program.schedule(), [0, 0, 2, 1].as_slice());
+    Ok(())
 }
 
 /// A first line, and then a line of so many bytes.
@@ -258,189 +377,6 @@ fn meets_limits(rt: HostRuntime) -> Result<(), Fail> {
         refused(rt.alloc(), text.as_str()),
         Some((1027, InputRefusal::TooLong))
     );
-    Ok(())
-}
-
-/// The reply as a line.
-fn line(alloc: Global, event: &Event, reply: Reply) -> Result<String, AllocError> {
-    format!(in alloc; "{}", ReplyLine { event, reply })
-}
-
-#[test]
-fn prints_replies(rt: HostRuntime) -> Result<(), Fail> {
-    let draw = Event::Draw(1, 0);
-    for (reply, wanted) in [
-        (Reply::Ticket(1), "ticket 1\n"),
-        (Reply::Currency(2), "currency 2\n"),
-        (Reply::Thread(1), "thread 1\n"),
-        (
-            Reply::Funded {
-                ticket: 8,
-                thread: 3,
-            },
-            "funded 8 3\n",
-        ),
-        (Reply::Done, "done\n"),
-        (Reply::Idle, "idle\n"),
-        (
-            Reply::Winner {
-                thread: 1,
-                number: 9,
-                total: 15,
-                delivered: None,
-            },
-            "draw 9 of 15 thread 1\n",
-        ),
-        (
-            Reply::Winner {
-                thread: 1,
-                number: 5,
-                total: 100,
-                delivered: Some(41),
-            },
-            "draw 5 of 100 thread 1 got 41\n",
-        ),
-        (
-            Reply::Expired {
-                thread: 1,
-                ticks: 100,
-            },
-            "thread 1 ticks 100 expire\n",
-        ),
-        (Reply::Refused(Refusal::Full), "refused 13 Full\n"),
-    ] {
-        let text = line(rt.alloc(), &draw, reply)?;
-        assert_eq!(rt; text.as_str(), wanted);
-    }
-    Ok(())
-}
-
-#[test]
-fn prints_traps(rt: HostRuntime) -> Result<(), Fail> {
-    for (action, outcome, ends, wanted) in [
-        (Action::Yield, Outcome::Yielded, false, "yield\n"),
-        (
-            Action::Call(1, 41),
-            Outcome::ServedBy(1),
-            false,
-            "call 1 served by 1\n",
-        ),
-        (
-            Action::Call(1, 41),
-            Outcome::Queued,
-            false,
-            "call 1 queued\n",
-        ),
-        (
-            Action::Receive(1),
-            Outcome::Received {
-                client: 2,
-                number: 3,
-            },
-            true,
-            "receive 1 client 2 got 3 ends\n",
-        ),
-        (
-            Action::Receive(1),
-            Outcome::Waits,
-            false,
-            "receive 1 waits\n",
-        ),
-        (
-            Action::Reply(42),
-            Outcome::Replied(2),
-            false,
-            "reply client 2\n",
-        ),
-        (
-            Action::Lock(4),
-            Outcome::Locked,
-            true,
-            "lock 4 taken ends\n",
-        ),
-        (
-            Action::Unlock(4, 9),
-            Outcome::Freed,
-            false,
-            "unlock 4 free\n",
-        ),
-        (
-            Action::Unlock(4, 9),
-            Outcome::Passed {
-                to: 2,
-                draw: Some((99, 400)),
-            },
-            false,
-            "unlock 4 to 2 draw 99 of 400\n",
-        ),
-        (
-            Action::Unlock(4, 9),
-            Outcome::Passed { to: 2, draw: None },
-            false,
-            "unlock 4 to 2 oldest\n",
-        ),
-        (Action::Exit, Outcome::Exited, false, "exit\n"),
-        (
-            Action::Lock(4),
-            Outcome::Refused(TrapRefusal::LockCycle),
-            true,
-            "refused 36 LockCycle ends\n",
-        ),
-    ] {
-        let event = Event::Trap(1, 0, action);
-        let text = line(
-            rt.alloc(),
-            &event,
-            Reply::Trapped {
-                thread: 1,
-                ticks: 2,
-                outcome,
-                ends,
-            },
-        )?;
-        let front = text.as_str().strip_prefix("thread 1 ticks 2 ");
-        assert_eq!(rt; front, Some(wanted));
-    }
-    Ok(())
-}
-
-#[test]
-fn prints_totals(rt: HostRuntime) -> Result<(), Fail> {
-    let row = ThreadRow {
-        name: Name::new("a").ok_or("a name")?,
-        status: Status::Ready,
-        value: 0,
-        weight: 0,
-        quanta: 2,
-        ticks: 200,
-    };
-    let processor = ProcessorTotal {
-        processor: 1,
-        quanta: 3,
-        idles: 0,
-        ticks: 300,
-    };
-    let total = WholeTotal {
-        turns: 12,
-        quanta: 3,
-        ticks: 300,
-    };
-    let text = format!(in rt.alloc();
-        "{}{processor}{total}{EndedLine}",
-        ThreadTotal {
-            number: 1,
-            row: &row
-        }
-    )?;
-    let wanted =
-        "thread 1 a quanta 2 ticks 200\nprocessor 1 quanta 3 idle 0 ticks 300\ntotal turns 12 quanta 3 ticks 300\nrefused 41 Ended\n";
-    assert_eq!(rt; text.as_str(), wanted);
-    let fault = FaultLine(InputFault {
-        line: 2,
-        refusal: InputRefusal::BadActor,
-    });
-    let text = format!(in rt.alloc(); "{fault}")?;
-    assert_eq!(rt; text.as_str(), "refused line 2 57 BadActor\n");
     Ok(())
 }
 

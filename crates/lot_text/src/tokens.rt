@@ -1,5 +1,5 @@
 //! The tokens of a line.
-ghost use Rattle.std.specs.Prelude.{◌≡◌, ◌≢◌, ◌==◌, ◌≤◌, not, length, [], ◌∷◌, ◌↔◌, IsTrue, MatchOption, MatchResult};
+ghost use Rattle.std.specs.Prelude.{◌≡◌, ◌≢◌, ◌==◌, ◌≤◌, ◌%◌, not, length, [], ◌∷◌, ◌↔◌, IsTrue, MatchOption, MatchResult};
 ghost use Rattle.std.specs.List.{prefix_len};
 ghost use Rattle.lot_machine.specs.Lines.{tokens_of, is_comment, is_printable as is_printable_line};
 
@@ -66,6 +66,28 @@ impl<'a> Tokens<'a> {
             Some(_) => Err(InputRefusal::BadLine),
             None => Ok(()),
         }
+    }
+
+    /// The next two tokens, or `None` where there are fewer.
+    pub(crate) fn next_pair(&mut self) -> Option<(&'a [u8], &'a [u8])>
+        ensures { MatchOption result (length self.old ≤ 1) (λ pair. self.old ≡ pair.0.now ∷ pair.1.now ∷ self.new) }
+    {
+        let first = self.next_token()?;
+        let second = self.next_token()?;
+        Some((first, second))
+    }
+
+    /// Whether the tokens are pairs, with none left over.
+    pub(crate) fn are_pairs(&self) -> bool
+        ensures { IsTrue result ↔ (length self.now % 2 ≡ 0) }
+    {
+        let mut left = Tokens { rest: self.rest };
+        while left.next_token().is_some() {
+            if left.next_token().is_none() {
+                return false;
+            }
+        }
+        true
     }
 
     /// Whether there are so many tokens.

@@ -8,6 +8,7 @@ invariant-loop-rest l = record {
   all : l.end + length l.rest ≡ length l.bytes;
   number : l.number ≤ l.end;
   within : l.end ≤ 16777216;
+  count : l.number + length (lines_of l.rest) ≡ length (lines_of l.bytes);
   read : read_lines (l.number + 1) l.end l.reading (lines_of l.rest) ≡ read_lines 1 0 None (lines_of l.bytes);
 }
 

@@ -1,36 +1,44 @@
-use Rattle.std.proofs.Common.{◌≡◌, ◌<◌, ℕ, List, Option, Some, arith, sym, ap, ◌∙◌, subst}
-use Rattle.std.specs.Prelude.{slice_get}
-use Rattle.std.proofs.lemmas.Option.{slice_get_within}
-use Rattle.lot_machine.specs.declared.script.Line.{Line}
-use Rattle.lot_machine.specs.declared.script.Line.TheVariants.{Compute}
-use Rattle.lot_script.specs.Places.{Place, Fits, CanBeDone}
-use Rattle.lot_script.proofs.Rests.{Passes-some, Passes-line, rest_at-end}
+use Rattle.lot_script.proofs.Passed.{stands-within, stands-done, stands-good, stands-nests, Passes-compute, Passes-set, Passes-add, Passes-loop, Passes-end}
 use Rattle.lot_script.proofs.script.Script.pass.Goals as goal
 
--- a `compute` line comes next, and fewer ticks are done of it than it has
-compute_next : (lines : List Line) (fields place : Place) (l : Line) (n : ℕ) → fields ≡ place → Fits lines place → Some l ≡ slice_get lines place.line → l ≡ Compute n
-    → (slice_get lines fields.line ≡ Some (Compute n)) × (fields.done < n)
-compute_next lines fields place l n view fits line is =
-    let next : slice_get lines place.line ≡ Some (Compute n) = sym line ∙ ap Some is in
-    rw view (next, subst (λ (o : Option Line). CanBeDone o place.done) next fits.done)
+pub work-requires-clause-line : goal.work-requires-clause-line
+work-requires-clause-line c = stands-within _ _ _ c.requires.stands
 
-pub returns-in_default-clause-at_exit : goal.returns-in_default-clause-at_exit
-returns-in_default-clause-at_exit c = λ _. rest_at-end c.args.self.now c.args.context.now c.requires.fits (sym c.in_default.ensures.line)
+pub work-requires-clause-left : goal.work-requires-clause-left
+work-requires-clause-left c = stands-done _ _ _ (rw c.in-Compute.is at c.requires.stands)
 
-pub returns-then-most-left-clause-passes : goal.returns-then-most-left-clause-passes
-returns-then-most-left-clause-passes c =
-    let fields : Place = record { line = c.context.inside.line; done = c.context.inside.done; accumulator = c.context.inside.accumulator } in
-    let next = compute_next c.args.self.now fields c.args.context.now c.in-Some.line c.in-Compute.ticks c.context.view_is c.requires.fits c.in-Some.ensures.line c.in-Compute.is in
-    rw (← c.context.view_is) (Passes-some c.args.self.now fields c.in-Compute.ticks c.args.most next.0 (omega (arith, next.1, c.if-most-left.true)))
+pub set-requires : goal.set-requires
+set-requires c = stands-within _ _ _ c.requires.stands
 
-pub overflow_add-context-2 : goal.overflow_add-context-2
-overflow_add-context-2 c =
-    let fields : Place = record { line = c.context.inside.line; done = c.context.inside.done; accumulator = c.context.inside.accumulator } in
-    let next = compute_next c.args.self.now fields c.args.context.now c.in-Some.line c.in-Compute.ticks c.context.view_is c.requires.fits c.in-Some.ensures.line c.in-Compute.is in
-    omega (arith, slice_get_within c.args.self.now c.context.inside.line (Compute c.in-Compute.ticks) next.0, c.next_line.ensures.short)
+pub add-requires : goal.add-requires
+add-requires c = stands-within _ _ _ c.requires.stands
 
-pub returns-clause-passes : goal.returns-clause-passes
-returns-clause-passes c =
-    let fields : Place = record { line = c.context.inside.line; done = c.context.inside.done; accumulator = c.context.inside.accumulator } in
-    let next = compute_next c.args.self.now fields c.args.context.now c.in-Some.line c.in-Compute.ticks c.context.view_is c.requires.fits c.in-Some.ensures.line c.in-Compute.is in
-    rw (← c.context.view_is) (Passes-line c.args.self.now fields c.in-Compute.ticks c.next_line.ensures.only_compute next.0 next.1)
+pub enter-requires-clause-line : goal.enter-requires-clause-line
+enter-requires-clause-line c = stands-within _ _ _ c.requires.stands
+
+pub enter-requires-clause-times : goal.enter-requires-clause-times
+enter-requires-clause-times c = (stands-good _ _ _ (rw c.in-Loop.is at c.requires.stands)).0
+
+pub enter-requires-clause-room : goal.enter-requires-clause-room
+enter-requires-clause-room c = stands-nests _ _ _ (rw c.in-Loop.is at c.requires.stands)
+
+pub end_copy-requires-clause-line : goal.end_copy-requires-clause-line
+end_copy-requires-clause-line c = stands-within _ _ _ c.requires.stands
+
+pub end_copy-requires-clause-open : goal.end_copy-requires-clause-open
+end_copy-requires-clause-open c = stands-nests _ _ _ (rw c.in-End.is at c.requires.stands)
+
+pub returns-in-Compute-clause-passes : goal.returns-in-Compute-clause-passes
+returns-in-Compute-clause-passes c = Passes-compute _ _ _ _ _ _ (rw c.in-Compute.is at c.requires.stands) c.work.ensures.count c.work.ensures.some c.work.ensures.all
+
+pub returns-in-Set-clause-passes : goal.returns-in-Set-clause-passes
+returns-in-Set-clause-passes c = rw c.set.ensures (Passes-set _ _ _ (rw c.in-Set.is at c.requires.stands))
+
+pub returns-in-Add-clause-passes : goal.returns-in-Add-clause-passes
+returns-in-Add-clause-passes c = rw c.add.ensures (Passes-add _ _ _ (rw c.in-Add.is at c.requires.stands))
+
+pub returns-in-Loop-clause-passes : goal.returns-in-Loop-clause-passes
+returns-in-Loop-clause-passes c = rw c.enter.ensures (Passes-loop _ _ _ (rw c.in-Loop.is at c.requires.stands))
+
+pub returns-in-End-clause-passes : goal.returns-in-End-clause-passes
+returns-in-End-clause-passes c = Passes-end _ _ _ (rw c.in-End.is at c.requires.stands) c.end_copy.ensures.again c.end_copy.ensures.behind

@@ -1,25 +1,11 @@
 //! What is printed of totals.
 ghost use Rattle.std.specs.Prelude.{Some};
 ghost use Rattle.lot_machine.specs.Report.{thread_total};
-ghost use Rattle.lot_text.specs.Totals.{processor_line, total_line};
+ghost use Rattle.lot_print.specs.Totals.{processor_line, total_line};
 
-use lot_machine::{Name, ThreadRow};
+use crate::name::NameText;
+use lot_machine::ThreadRow;
 use std::fmt;
-
-/// A name. One that is no text can't be printed, and is an error.
-#[derive(Debug, Drop)]
-struct NameText<'a>(&'a Name);
-
-impl fmt::Display for NameText<'_> {
-    ghost output = { λ x. Some x.0.now };
-
-    fn fmt<W: fmt::Write>(&self, f: &mut fmt::Formatter<W>) -> fmt::Result {
-        match str::from_utf8(self.0.as_bytes()) {
-            Ok(name) => write!(f, "{name}"),
-            Err(_) => Err(fmt::Error),
-        }
-    }
-}
 
 /// A thread's line of the report: its name, the draws it has won and the ticks it has used. A name that is no text can't be
 /// printed, and is an error.

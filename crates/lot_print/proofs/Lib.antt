@@ -1,0 +1,6 @@
+pub mod GroupLemmas
+pub mod HistoryBack
+pub mod PlainLemmas
+pub mod ReadBack
+pub mod RunLemmas
+pub mod RunsBack

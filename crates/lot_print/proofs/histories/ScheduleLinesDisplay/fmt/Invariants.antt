@@ -1,0 +1,13 @@
+use Rattle.std.proofs.Common.{◌≡◌, ℕ, List, ◌++◌, length}
+use Rattle.std.specs.Fmt.{HasWritten, IsPlainFormatter}
+use Rattle.lot_machine.specs.Report.{schedule_lines}
+use Rattle.lot_print.proofs.histories.ScheduleLinesDisplay.fmt.Given as goal
+
+-- what was written so far, and the lines of the rest, are the lines of the whole
+abbrev pub invariant-loop-rest : goal.invariant-loop-rest
+invariant-loop-rest g l =
+    IsPlainFormatter l.initial.f → (done : List ℕ) × HasWritten g.W.Write.write_str_gives l.initial.f done l.f
+    × (done ++ schedule_lines l.rest ≡ schedule_lines l.fn.self.0.now)
+
+abbrev pub decreases-loop-rest : goal.decreases-loop-rest
+decreases-loop-rest g l = length l.rest

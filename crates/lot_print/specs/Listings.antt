@@ -1,0 +1,20 @@
+-- Parts of the lines of listings.
+use Rattle.std.specs.Prelude.{ℕ, Option, List, ◌++◌, codes, unwrap_or}
+use Rattle.std.specs.Fmt.{decimal}
+use Rattle.lot_machine.specs.declared.command.Kind.{Kind}
+use Rattle.lot_machine.specs.declared.command.Kind.TheVariants.{Tickets, Currencies, Threads}
+use Rattle.lot_machine.specs.Texts.{newline}
+
+-- the first line: what the listing is of, and how many rows follow
+abbrev pub listing_line : Kind → ℕ → List ℕ
+listing_line Tickets rows = codes "lstkt " ++ (decimal rows ++ newline)
+listing_line Currencies rows = codes "lscur " ++ (decimal rows ++ newline)
+listing_line Threads rows = codes "lsthr " ++ (decimal rows ++ newline)
+
+-- what a ticket funds; `-` stands for nothing
+abbrev pub target_text : Option (List ℕ) → List ℕ
+target_text target = unwrap_or target (codes "-")
+
+-- the end of a thread's line: the draws it has won and the ticks it has used
+abbrev pub used_text : ℕ → ℕ → List ℕ
+used_text quanta ticks = codes " quanta " ++ (decimal quanta ++ (codes " ticks " ++ (decimal ticks ++ newline)))

@@ -1,0 +1,23 @@
+//! Outputs: what is printed of replies, listings, totals, histories and refused inputs. Each type here is one text, and its
+//! `Display` writes exactly that, in pieces, without memory of its own.
+#![tactic(auto)]
+
+mod histories;
+mod laws;
+mod name;
+mod refused;
+mod replies;
+mod rows;
+mod runs;
+mod totals;
+
+pub use histories::{HistoryLines, ScheduleLines};
+pub use laws::histories_are_read_back;
+pub use refused::{EndedLine, FaultLine, RefusalText, TrapRefusalText};
+pub use replies::{ReplyLine, TrapText};
+pub use rows::{CurrencyLine, ListingLine, ThreadLine, TicketLine};
+pub use runs::RunsLines;
+pub use totals::{ProcessorTotal, ThreadTotal, WholeTotal};
+
+#[cfg(test)]
+mod tests;

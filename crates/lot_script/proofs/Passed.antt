@@ -1,0 +1,347 @@
+-- What is passed from a place, line by line.
+use Rattle.std.proofs.Common.{inl, inr, ◌⊎◌, min, ◌≡◌, ◌<◌, ◌≤◌, ◌+◌, ◌-◌, ◌%◌, ℕ, zero, suc, sym, ◌∙◌, Option, Some, None, List, [], ◌∷◌, ◌++◌, length, drop, replicate, refl, ap, arith, subst, true}
+use Rattle.std.specs.Prelude.{slice_get}
+use Rattle.std.specs.List.{prefix_len}
+use Rattle.std.proofs.lemmas.List.{drop_all}
+use Rattle.std.proofs.lemmas.Option.{slice_get_within}
+use Rattle.std.proofs.lemmas.Bool.{cases_lt}
+use Rattle.lot_machine.specs.declared.script.Line.{Line}
+use Rattle.lot_machine.specs.declared.script.Line.TheVariants as line
+use Rattle.lot_machine.specs.declared.script.ScriptTrap.{ScriptTrap}
+use Rattle.lot_machine.specs.declared.script.ScriptTrap.TheVariants.{Yield, Call, Receive, Reply, Lock, Unlock, Exit}
+use Rattle.lot_machine.specs.Script.{Item, pieces, items_of, is_mark, rest_after, accumulated}
+use Rattle.lot_machine.specs.Script.Item.{Work, Set, Add, Traps}
+use Rattle.lot_script.specs.declared.open_loops.OpenLoop.{OpenLoop}
+use Rattle.lot_script.specs.Drafts.{IsLine, CanNest, IsScript}
+use Rattle.lot_script.specs.Exits.{IsCompute}
+use Rattle.lot_script.specs.Places.{Place, CanBeDone, IsCopy, AreCopies, Fits, Stands, Passes, Makes, open_at, left_of, rest_at}
+use Rattle.lot_script.proofs.Lists.{slice_get_none, drop-element, All-element, drop-add, fold-take-add, prefix_len_then, marks_front, fold-work, take-work, drop-work}
+use Rattle.lot_script.proofs.Copies.{copies-length}
+use Rattle.lot_script.proofs.Opened.{open_at-next, nests-there, encloses-there, copies-first}
+use Rattle.lot_script.proofs.Rests.{IsPlain, left_of-plain, left_of-loop, left_of-again, left_of-end, left_of-exit}
+
+pub stands-within : (lines : List Line) (p : Place) (l : Line) → Stands lines p l → p.line < 1024
+stands-within lines p l at = omega (arith, slice_get_within lines p.line l at.next, at.script.count)
+
+pub stands-good : (lines : List Line) (p : Place) (l : Line) → Stands lines p l → IsLine l
+stands-good lines p l at = All-element IsLine lines p.line l at.script.each at.next
+
+pub stands-nests : (lines : List Line) (p : Place) (l : Line) → Stands lines p l → CanNest (length p.loops) l
+stands-nests lines p l at = rw (copies-length p.loops (open_at lines p.line) at.fits.loops) (nests-there lines p.line l at.script at.next)
+
+pub stands-done : (lines : List Line) (p : Place) (l : Line) → Stands lines p l → CanBeDone (Some l) p.done
+stands-done lines p l at = subst (λ o. CanBeDone o p.done) at.next at.fits.done
+
+-- ---- places that fit
+
+-- at the beginning of a line nothing is done of it
+done-none : (l : Option Line) → ((x : Line) → l ≡ Some x → IsLine x) → CanBeDone l 0
+done-none None good = refl
+done-none (Some (line.Compute n)) good = good (line.Compute n) refl
+done-none (Some (line.Set n)) good = refl
+done-none (Some (line.Add n)) good = refl
+done-none (Some (line.Loop n)) good = refl
+done-none (Some line.End) good = refl
+done-none (Some line.Yield) good = refl
+done-none (Some (line.Call n)) good = refl
+done-none (Some (line.Receive n)) good = refl
+done-none (Some line.Reply) good = refl
+done-none (Some (line.Lock n)) good = refl
+done-none (Some (line.Unlock n)) good = refl
+
+-- the beginning of a line fits
+pub Fits-line : (lines : List Line) (i a : ℕ) (loops : List OpenLoop) → IsScript lines → i ≤ length lines → AreCopies loops (open_at lines i)
+    → Fits lines (record { line = i; done = 0; loops = loops; accumulator = a })
+Fits-line lines i a loops script within copies = record {
+  line = within;
+  done = done-none (slice_get lines i) (λ x is. All-element IsLine lines i x script.each is);
+  loops = copies;
+}
+
+-- behind a plain line the same loops are open
+open_at-plain : (lines : List Line) (p : Place) (l : Line) → IsPlain l → Stands lines p l → open_at lines (p.line + 1) ≡ open_at lines p.line
+open_at-plain lines p (line.Loop n) plain at = absurd plain
+open_at-plain lines p line.End plain at = absurd plain
+open_at-plain lines p (line.Compute n) plain at = open_at-next lines p.line (p.line + 1) (line.Compute n) at.next refl
+open_at-plain lines p (line.Set n) plain at = open_at-next lines p.line (p.line + 1) (line.Set n) at.next refl
+open_at-plain lines p (line.Add n) plain at = open_at-next lines p.line (p.line + 1) (line.Add n) at.next refl
+open_at-plain lines p line.Yield plain at = open_at-next lines p.line (p.line + 1) line.Yield at.next refl
+open_at-plain lines p (line.Call n) plain at = open_at-next lines p.line (p.line + 1) (line.Call n) at.next refl
+open_at-plain lines p (line.Receive n) plain at = open_at-next lines p.line (p.line + 1) (line.Receive n) at.next refl
+open_at-plain lines p line.Reply plain at = open_at-next lines p.line (p.line + 1) line.Reply at.next refl
+open_at-plain lines p (line.Lock n) plain at = open_at-next lines p.line (p.line + 1) (line.Lock n) at.next refl
+open_at-plain lines p (line.Unlock n) plain at = open_at-next lines p.line (p.line + 1) (line.Unlock n) at.next refl
+
+next-within : (lines : List Line) (p : Place) (l : Line) → Stands lines p l → p.line + 1 ≤ length lines
+next-within lines p l at = omega (arith, slice_get_within lines p.line l at.next)
+
+-- the beginning of the line behind a plain one fits
+Fits-behind : (lines : List Line) (p : Place) (l : Line) (a : ℕ) → IsPlain l → Stands lines p l
+    → Fits lines (record { line = p.line + 1; done = 0; loops = p.loops; accumulator = a })
+Fits-behind lines p l a plain at = Fits-line lines (p.line + 1) a p.loops at.script (next-within lines p l at) (rw (open_at-plain lines p l plain at) at.fits.loops)
+
+-- ---- what is left
+
+-- what is left at the beginning of a line
+pub rest_at-begun : (lines : List Line) (p : Place) (l : Line) → Stands lines p l → p.done ≡ 0
+    → rest_at lines p ≡ left_of lines (pieces (l ∷ drop (suc p.line) lines)) p.loops
+rest_at-begun lines p l at none = rw (none, drop-element lines p.line l at.next) refl
+
+-- what is left behind it
+rest_at-behind : (lines : List Line) (i a : ℕ) (loops : List OpenLoop)
+    → rest_at lines (record { line = i + 1; done = 0; loops = loops; accumulator = a }) ≡ left_of lines (pieces (drop (suc i) lines)) loops
+rest_at-behind lines i a loops = let next : i + 1 ≡ suc i = omega arith in rw next refl
+
+-- what is left at a plain line
+pub rest_at-plain : (lines : List Line) (p : Place) (l : Line) → IsPlain l → Stands lines p l → p.done ≡ 0
+    → rest_at lines p ≡ items_of l ++ left_of lines (pieces (drop (suc p.line) lines)) p.loops
+rest_at-plain lines p l plain at none = rest_at-begun lines p l at none ∙ left_of-plain lines l (drop (suc p.line) lines) p.loops plain
+
+-- what is left at a `compute`
+pub rest_at-compute : (lines : List Line) (p : Place) (n : ℕ) → slice_get lines p.line ≡ Some (line.Compute n) → p.done < n
+    → rest_at lines p ≡ replicate (n - p.done) Work ++ left_of lines (pieces (drop (suc p.line) lines)) p.loops
+rest_at-compute lines p n is some =
+    let within : p.done ≤ n = omega arith in
+    let behind : List Line = drop (suc p.line) lines in
+    ap (λ ls. drop p.done (left_of lines (pieces ls) p.loops)) (drop-element lines p.line (line.Compute n) is)
+    ∙ ap (λ items. drop p.done items) (left_of-plain lines (line.Compute n) behind p.loops tt)
+    ∙ drop-work p.done n (left_of lines (pieces behind) p.loops) within
+
+-- ---- marks
+
+-- nothing is passed
+pub Passes-none : (lines : List Line) (p : Place) → Fits lines p → Passes lines p p 0
+Passes-none lines p fits = record { fits = fits; marks = omega arith; rest = refl; accumulator = refl }
+
+-- marks are passed, and then more
+pub Passes-then : (lines : List Line) (p q r : Place) (j k : ℕ) → Passes lines p q j → Passes lines q r k → Passes lines p r (j + k)
+Passes-then lines p q r j k first then =
+    let items : List Item = rest_at lines p in
+    let more : k ≤ prefix_len is_mark (drop j items) = subst (λ xs. k ≤ prefix_len is_mark xs) first.rest then.marks in
+    record {
+      fits = then.fits;
+      marks = prefix_len_then is_mark j k items first.marks more;
+      rest = then.rest ∙ ap (λ xs. drop k xs) first.rest ∙ sym (drop-add j k items);
+      accumulator = then.accumulator ∙ rw (first.accumulator, first.rest) (sym (fold-take-add accumulated p.accumulator j k items));
+    }
+
+-- one mark is passed
+Passes-one : (lines : List Line) (p q : Place) (item : Item) → Fits lines q → rest_at lines p ≡ item ∷ rest_at lines q → is_mark item ≡ true
+    → q.accumulator ≡ accumulated p.accumulator item → Passes lines p q 1
+Passes-one lines p q item fits rest mark accumulator = record {
+  fits = fits;
+  marks = rw (rest, mark) (omega arith);
+  rest = rw rest refl;
+  accumulator = rw rest accumulator;
+}
+
+-- the accumulator is set, or added to
+pub Passes-set : (lines : List Line) (p : Place) (n : ℕ) → Stands lines p (line.Set n)
+    → Passes lines p (record p { line = p.line + 1; done = 0; accumulator = n }) 1
+Passes-set lines p n at =
+    Passes-one lines p (record p { line = p.line + 1; done = 0; accumulator = n }) (Set n) (Fits-behind lines p (line.Set n) n tt at)
+    (rest_at-plain lines p (line.Set n) tt at (stands-done lines p (line.Set n) at) ∙ ap (λ items. Set n ∷ items) (sym (rest_at-behind lines p.line n p.loops))) refl refl
+
+pub Passes-add : (lines : List Line) (p : Place) (n : ℕ) → Stands lines p (line.Add n)
+    → Passes lines p (record p { line = p.line + 1; done = 0; accumulator = (p.accumulator + n) % 4294967296 }) 1
+Passes-add lines p n at =
+    let sum : ℕ = (p.accumulator + n) % 4294967296 in
+    Passes-one lines p (record p { line = p.line + 1; done = 0; accumulator = sum }) (Add n) (Fits-behind lines p (line.Add n) sum tt at)
+    (rest_at-plain lines p (line.Add n) tt at (stands-done lines p (line.Add n) at) ∙ ap (λ items. Add n ∷ items) (sym (rest_at-behind lines p.line sum p.loops))) refl refl
+
+-- a loop is entered
+pub Passes-loop : (lines : List Line) (p : Place) (n : ℕ) → Stands lines p (line.Loop n)
+    → Passes lines p (record p { line = p.line + 1; done = 0; loops = record { body = p.line + 1; left = n - 1 } ∷ p.loops }) 1
+Passes-loop lines p n at =
+    let o : OpenLoop = record { body = p.line + 1; left = n - 1 } in
+    let same : IsCopy o o = record { body = refl; left = omega arith } in
+    let copies : AreCopies (o ∷ p.loops) (open_at lines (p.line + 1)) = rw (open_at-next lines p.line (p.line + 1) (line.Loop n) at.next refl) (same, at.fits.loops) in
+    let next : p.line + 1 ≡ suc p.line = omega arith in
+    let count : n ≡ suc (n - 1) = let some = (stands-good lines p (line.Loop n) at) in omega (arith, some.0) in
+    Passes-one lines p (record p { line = p.line + 1; done = 0; loops = o ∷ p.loops }) Work
+    (Fits-line lines (p.line + 1) p.accumulator (o ∷ p.loops) at.script (next-within lines p (line.Loop n) at) copies)
+    (rest_at-begun lines p (line.Loop n) at (stands-done lines p (line.Loop n) at)
+    ∙ left_of-loop lines n (drop (suc p.line) lines) o p.loops (ap (λ i. drop i lines) next) count
+    ∙ ap (λ items. Work ∷ items) (sym (rest_at-behind lines p.line p.accumulator (o ∷ p.loops))))
+    refl refl
+
+-- a loop is left
+pub Passes-behind : (lines : List Line) (p : Place) (o : OpenLoop) (outer : List OpenLoop) → Stands lines p line.End → p.loops ≡ o ∷ outer → o.left ≡ 0
+    → Passes lines p (record p { line = p.line + 1; done = 0; loops = outer }) 1
+Passes-behind lines p o outer at loops none =
+    let first = copies-first o outer (open_at lines p.line) (subst (λ l. AreCopies l (open_at lines p.line)) loops at.fits.loops) in
+    let copies : AreCopies outer (open_at lines (p.line + 1)) = rw (open_at-next lines p.line (p.line + 1) line.End at.next refl, first.2) first.4 in
+    Passes-one lines p (record p { line = p.line + 1; done = 0; loops = outer }) Work
+    (Fits-line lines (p.line + 1) p.accumulator outer at.script (next-within lines p line.End at) copies)
+    (rest_at-begun lines p line.End at (stands-done lines p line.End at)
+    ∙ ap (λ l. left_of lines (pieces (line.End ∷ drop (suc p.line) lines)) l) loops
+    ∙ left_of-end lines (drop (suc p.line) lines) o outer none
+    ∙ ap (λ items. Work ∷ items) (sym (rest_at-behind lines p.line p.accumulator outer)))
+    refl refl
+
+-- a loop goes round again
+pub Passes-again : (lines : List Line) (p : Place) (o : OpenLoop) (outer : List OpenLoop) → Stands lines p line.End → p.loops ≡ o ∷ outer → 0 < o.left
+    → Passes lines p (record p { line = o.body; done = 0; loops = record o { left = o.left - 1 } ∷ outer }) 1
+Passes-again lines p o outer at loops some =
+    let again : OpenLoop = record o { left = o.left - 1 } in
+    let first = copies-first o outer (open_at lines p.line) (subst (λ l. AreCopies l (open_at lines p.line)) loops at.fits.loops) in
+    let here = encloses-there lines p.line at.fits.line in
+    let encloses = rw (first.2, drop-element lines p.line line.End at.next) at here in
+    let f : OpenLoop = first.0 in
+    let body : o.body ≡ f.body = first.3.body in
+    let copies : AreCopies (again ∷ outer) (open_at lines o.body) = rw (body, encloses.2) (record { body = refl; left = omega (arith, first.3.left) }, first.4) in
+    let within : o.body ≤ length lines = omega (arith, body, encloses.0) in
+    let count : o.left ≡ suc (o.left - 1) = omega (arith, some) in
+    Passes-one lines p (record p { line = o.body; done = 0; loops = again ∷ outer }) Work
+    (Fits-line lines o.body p.accumulator (again ∷ outer) at.script within copies)
+    (rest_at-begun lines p line.End at (stands-done lines p line.End at)
+    ∙ ap (λ l. left_of lines (pieces (line.End ∷ drop (suc p.line) lines)) l) loops
+    ∙ left_of-again lines (drop (suc p.line) lines) o again outer (rw body encloses.1) refl count)
+    refl refl
+
+-- some of a `compute` is passed
+pub Passes-some : (lines : List Line) (p : Place) (n k : ℕ) → Stands lines p (line.Compute n) → p.done + k < n
+    → Passes lines p (record p { done = p.done + k }) k
+Passes-some lines p n k at within =
+    let left : p.done < n = omega arith in
+    let behind : List Item = left_of lines (pieces (drop (suc p.line) lines)) p.loops in
+    let old_rest : rest_at lines p ≡ replicate (n - p.done) Work ++ behind = rest_at-compute lines p n at.next left in
+    let new_rest : rest_at lines (record p { done = p.done + k }) ≡ replicate (n - (p.done + k)) Work ++ behind = rest_at-compute lines (record p { done = p.done + k }) n at.next within in
+    let fewer : k ≤ n - p.done = omega arith in
+    let less : n - p.done - k ≡ n - (p.done + k) = omega arith in
+    record {
+      fits = record { line = at.fits.line; done = rw at.next within; loops = at.fits.loops };
+      marks = rw old_rest (omega (arith, marks_front (n - p.done) behind));
+      rest = rw (old_rest, new_rest, drop-work k (n - p.done) behind fewer, less) refl;
+      accumulator = rw (old_rest, take-work k (n - p.done) behind fewer, fold-work k p.accumulator) refl;
+    }
+
+-- the rest of a `compute` is passed
+pub Passes-whole : (lines : List Line) (p : Place) (n : ℕ) → Stands lines p (line.Compute n)
+    → Passes lines p (record p { line = p.line + 1; done = 0 }) (n - p.done)
+Passes-whole lines p n at =
+    let left : p.done < n = stands-done lines p (line.Compute n) at in
+    let behind : List Item = left_of lines (pieces (drop (suc p.line) lines)) p.loops in
+    let old_rest : rest_at lines p ≡ replicate (n - p.done) Work ++ behind = rest_at-compute lines p n at.next left in
+    let all : n - p.done ≤ n - p.done = omega arith in
+    let none : n - p.done - (n - p.done) ≡ 0 = omega arith in
+    record {
+      fits = Fits-behind lines p (line.Compute n) p.accumulator tt at;
+      marks = rw old_rest (marks_front (n - p.done) behind);
+      rest = rw (old_rest, drop-work (n - p.done) (n - p.done) behind all, none) (rest_at-behind lines p.line p.accumulator p.loops);
+      accumulator = rw (old_rest, take-work (n - p.done) (n - p.done) behind all, fold-work (n - p.done) p.accumulator) refl;
+    }
+
+-- ---- traps
+
+-- a line that is a trap is plain, and no exit
+trap-plain : (l : Line) (t : ScriptTrap) → items_of l ≡ Traps t ∷ [] → IsPlain l
+trap-plain (line.Loop n) t is = cc
+trap-plain line.End t is = cc
+trap-plain (line.Compute n) t is = tt
+trap-plain (line.Set n) t is = tt
+trap-plain (line.Add n) t is = tt
+trap-plain line.Yield t is = tt
+trap-plain (line.Call n) t is = tt
+trap-plain (line.Receive n) t is = tt
+trap-plain line.Reply t is = tt
+trap-plain (line.Lock n) t is = tt
+trap-plain (line.Unlock n) t is = tt
+
+trap-done : (l : Line) (t : ScriptTrap) (done : ℕ) → items_of l ≡ Traps t ∷ [] → CanBeDone (Some l) done → done ≡ 0
+trap-done (line.Compute zero) t done is can = cc
+trap-done (line.Compute (suc n)) t done is can = cc
+trap-done (line.Loop n) t done is can = can
+trap-done line.End t done is can = can
+trap-done (line.Set n) t done is can = can
+trap-done (line.Add n) t done is can = can
+trap-done line.Yield t done is can = can
+trap-done (line.Call n) t done is can = can
+trap-done (line.Receive n) t done is can = can
+trap-done line.Reply t done is can = can
+trap-done (line.Lock n) t done is can = can
+trap-done (line.Unlock n) t done is can = can
+
+-- it is passed
+trap-behind : (l : Line) (t : ScriptTrap) (rest : List Item) → items_of l ≡ Traps t ∷ [] → rest_after (Traps t ∷ rest) (Some t) ≡ rest
+trap-behind (line.Compute zero) t rest is = cc
+trap-behind (line.Compute (suc n)) t rest is = cc
+trap-behind (line.Loop n) t rest is = cc
+trap-behind line.End t rest is = cc
+trap-behind (line.Set n) t rest is = cc
+trap-behind (line.Add n) t rest is = cc
+trap-behind line.Yield t rest is = let same : t ≡ Yield = cc in rw same refl
+trap-behind (line.Call n) t rest is = let same : t ≡ Call n = cc in rw same refl
+trap-behind (line.Receive n) t rest is = let same : t ≡ Receive n = cc in rw same refl
+trap-behind line.Reply t rest is = let same : t ≡ Reply = cc in rw same refl
+trap-behind (line.Lock n) t rest is = let same : t ≡ Lock n = cc in rw same refl
+trap-behind (line.Unlock n) t rest is = let same : t ≡ Unlock n = cc in rw same refl
+
+-- the trap of a line is made
+pub Makes-line : (lines : List Line) (p : Place) (l : Line) (t : ScriptTrap) → Stands lines p l → items_of l ≡ Traps t ∷ []
+    → Makes lines p (record p { line = p.line + 1; done = 0 }) t
+Makes-line lines p l t at is =
+    let plain : IsPlain l = trap-plain l t is in
+    let behind : List Item = left_of lines (pieces (drop (suc p.line) lines)) p.loops in
+    let here : rest_at lines p ≡ Traps t ∷ behind = rest_at-plain lines p l plain at (trap-done l t p.done is (stands-done lines p l at)) ∙ ap (λ items. items ++ behind) is in
+    record {
+      fits = Fits-behind lines p l p.accumulator plain at;
+      stands = rw here refl;
+      rest = rest_at-behind lines p.line p.accumulator p.loops ∙ sym (ap (λ items. rest_after items (Some t)) here ∙ trap-behind l t behind is);
+      accumulator = refl;
+    }
+
+-- behind the last line the exit is made
+pub Makes-exit : (lines : List Line) (p : Place) → Fits lines p → slice_get lines p.line ≡ None → Makes lines p p Exit
+Makes-exit lines p fits none =
+    let past : length lines ≤ p.line = slice_get_none lines p.line none in
+    let undone : p.done ≡ 0 = subst (λ l. CanBeDone l p.done) none fits.done in
+    let exit = left_of-exit lines p.loops in
+    let here : rest_at lines p ≡ Traps Exit ∷ exit.0 = rw (undone, drop_all p.line lines past) exit.1 in
+    record { fits = fits; stands = rw here refl; rest = refl; accumulator = refl }
+
+-- ---- what is made or passed at a line, for the code's own goals
+
+-- of a `compute` as much as is left, and at most so much
+pub Passes-compute : (lines : List Line) (p q : Place) (n most k : ℕ) → Stands lines p (line.Compute n) → k ≡ min most (n - p.done)
+    → (most < n - p.done → q ≡ record p { done = p.done + most }) → (n - p.done ≤ most → q ≡ record p { line = p.line + 1; done = 0 }) → Passes lines p q k
+Passes-compute lines p q n most k at count some all = either (cases_lt most (n - p.done))
+  where
+    either : (most < n - p.done) ⊎ (n - p.done ≤ most) → Passes lines p q k
+    either (inl fewer) =
+        let same : k ≡ most = omega (arith, count, fewer) in
+        rw (some fewer, same) (Passes-some lines p n most at (omega (arith, fewer)))
+    either (inr enough) =
+        let same : k ≡ n - p.done = omega (arith, count, enough) in
+        rw (all enough, same) (Passes-whole lines p n at)
+
+-- an `end`
+pub Passes-end : (lines : List Line) (p q : Place) → Stands lines p line.End
+    → ((o : OpenLoop) (outer : List OpenLoop) → p.loops ≡ o ∷ outer → 0 < o.left → q ≡ record p { line = o.body; done = 0; loops = record o { left = o.left - 1 } ∷ outer })
+    → ((o : OpenLoop) (outer : List OpenLoop) → p.loops ≡ o ∷ outer → o.left ≡ 0 → q ≡ record p { line = p.line + 1; done = 0; loops = outer }) → Passes lines p q 1
+Passes-end lines p q at again behind = of_loops p.loops refl
+  where
+    of_left : (o : OpenLoop) (outer : List OpenLoop) → p.loops ≡ o ∷ outer → (0 < o.left) ⊎ (o.left ≤ 0) → Passes lines p q 1
+    of_left o outer loops (inl some) = rw (again o outer loops some) (Passes-again lines p o outer at loops some)
+    of_left o outer loops (inr none) =
+        let zero_left : o.left ≡ 0 = omega (arith, none) in
+        rw (behind o outer loops zero_left) (Passes-behind lines p o outer at loops zero_left)
+
+    of_loops : (loops : List OpenLoop) → p.loops ≡ loops → Passes lines p q 1
+    of_loops [] none = let some : 0 < length p.loops = stands-nests lines p line.End at in absurd (omega (arith, some, ap length none))
+    of_loops (o ∷ outer) loops = of_left o outer loops (cases_lt 0 o.left)
+
+-- a `compute` is no trap
+pub compute-no_trap : (l : Line) (t : ScriptTrap) → IsCompute l → items_of l ≡ Traps t ∷ [] → ⊥
+compute-no_trap (line.Compute zero) t only is = cc
+compute-no_trap (line.Compute (suc n)) t only is = cc
+compute-no_trap (line.Loop n) t only is = only
+compute-no_trap line.End t only is = only
+compute-no_trap (line.Set n) t only is = only
+compute-no_trap (line.Add n) t only is = only
+compute-no_trap line.Yield t only is = only
+compute-no_trap (line.Call n) t only is = only
+compute-no_trap (line.Receive n) t only is = only
+compute-no_trap line.Reply t only is = only
+compute-no_trap (line.Lock n) t only is = only
+compute-no_trap (line.Unlock n) t only is = only

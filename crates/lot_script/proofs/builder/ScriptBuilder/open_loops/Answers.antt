@@ -1,0 +1,6 @@
+use Rattle.std.proofs.Common.{arith}
+use Rattle.lot_script.proofs.Nesting.{count-most}
+use Rattle.lot_script.proofs.builder.ScriptBuilder.open_loops.Goals as goal
+
+pub returns-clause-most : goal.returns-clause-most
+returns-clause-most c = rw (c.self.invariant.loops) (count-most 0 c.self.inside.lines.items (omega arith) c.self.invariant.nests)

@@ -1,0 +1,7 @@
+use Rattle.std.proofs.Common.{take}
+use Rattle.std.specs.Prelude.{reverse}
+use Rattle.lot_script.specs.Places.{AreCopies}
+use Rattle.lot_script.proofs.open_loops.are_copies.Given as goal
+
+abbrev pub invariant-loop-i : goal.invariant-loop-i
+invariant-loop-i l = AreCopies (reverse (take l.i l.loops)) (reverse (take l.i l.firsts))

@@ -1,0 +1,68 @@
+-- Which lines make a script.
+use Rattle.std.specs.Prelude.{◌≡◌, ℕ, ◌+◌, ◌-◌, ◌<◌, ◌≤◌, ◌==◌, nat_lt, nat_le, Bool, ◌||◌, ⊤, List, [], ◌∷◌, ◌++◌, length, fold, All}
+use Rattle.lot_machine.specs.declared.script.Line.{Line}
+use Rattle.lot_machine.specs.declared.script.Line.TheVariants as line
+use Rattle.lot_machine.specs.declared.input.InputRefusal.{InputRefusal}
+use Rattle.lot_machine.specs.declared.input.InputRefusal.TheVariants.{BadLine, BadNumber, TooDeep, TooLong}
+use Rattle.lot_machine.specs.Bounds.{IsBetween}
+
+-- the lines of a script so far, and how many loops are open behind them
+pub record Draft : Type 0 where
+  pub lines : List Line
+  pub loops : ℕ
+
+-- how many loops are open behind a line, where so many are open in front of it
+abbrev pub loops_behind : ℕ → Line → ℕ
+loops_behind loops (line.Loop n) = loops + 1
+loops_behind loops line.End = loops - 1
+loops_behind loops other = loops
+
+-- one line more
+abbrev pub pushed : Draft → Line → Draft
+pushed d l = record { lines = d.lines ++ l ∷ []; loops = loops_behind d.loops l }
+
+-- a `compute` has a tick or more, and a `loop` 1 to 65535 copies
+abbrev pub IsLine : Line → Type 0
+IsLine (line.Compute n) = 0 < n
+IsLine (line.Loop n) = IsBetween 1 65535 n
+IsLine other = ⊤
+
+-- eight loops may be open at once, and an `end` ends an open one
+abbrev pub CanNest : ℕ → Line → Type 0
+CanNest loops (line.Loop n) = loops < 8
+CanNest loops line.End = 0 < loops
+CanNest loops other = ⊤
+
+-- each of the lines nests, where so many loops are open in front of the first
+abbrev pub Nests : ℕ → List Line → Type 0
+Nests loops [] = ⊤
+Nests loops (l ∷ lines) = CanNest loops l × Nests (loops_behind loops l) lines
+
+-- how many loops are open behind the lines
+abbrev pub open_count : List Line → ℕ
+open_count lines = fold loops_behind 0 lines
+
+-- the lines may begin a script, and so many loops are open behind them
+pub record IsDraft (d : Draft) : Type 0 where
+  pub count : length d.lines ≤ 1024
+  pub lines : All IsLine d.lines
+  pub nests : Nests 0 d.lines
+  pub loops : d.loops ≡ open_count d.lines
+
+-- the lines make a script: at most 1024, each within its bounds, and each loop ended
+pub record IsScript (lines : List Line) : Type 0 where
+  pub count : length lines ≤ 1024
+  pub each : All IsLine lines
+  pub nests : Nests 0 lines
+  pub closed : open_count lines ≡ 0
+
+-- whether there are as many lines as there may be
+abbrev pub is_full : Draft → Bool
+is_full d = nat_le 1024 (length d.lines)
+
+-- why a line can't come next, in order
+abbrev pub line_checks : Draft → Line → List (Bool × InputRefusal)
+line_checks d (line.Compute n) = (n == 0, BadNumber) ∷ (is_full d, TooLong) ∷ []
+line_checks d (line.Loop n) = (n == 0 || nat_lt 65535 n, BadNumber) ∷ (nat_le 8 d.loops, TooDeep) ∷ (is_full d, TooLong) ∷ []
+line_checks d line.End = (d.loops == 0, BadLine) ∷ (is_full d, TooLong) ∷ []
+line_checks d other = (is_full d, TooLong) ∷ []

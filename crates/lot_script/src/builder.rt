@@ -1,0 +1,116 @@
+//! Scripts as they are written.
+ghost use Rattle.std.specs.Prelude.{◌≡◌, ◌<◌, ◌≤◌, [], length, OnOk, OnErr};
+ghost use Rattle.lot_machine.specs.Reading.{checked};
+ghost use Rattle.lot_script.specs.Drafts.{IsLine, CanNest, line_checks, loops_behind, pushed};
+
+use crate::Script;
+use lot_machine::{InputRefusal, Line};
+use std::alloc::{AllocError, Global};
+use std::marker::Model;
+
+/// The lines of a script so far, of which there may be 1024, with 8 loops open at once.
+#[derive(Debug, Drop)]
+pub struct ScriptBuilder {
+    lines: Vec<Line>,
+    open_loops: u32,
+}
+
+impl Model for ScriptBuilder {
+    ghost use Rattle.lot_script.specs.Drafts.{Draft, IsDraft};
+
+    ghost Value = { Draft };
+
+    ghost view = { λ b. record { lines = b.lines.items; loops = b.open_loops } };
+
+    ghost invariant = { λ b. IsDraft (record { lines = b.lines.items; loops = b.open_loops }) };
+}
+
+impl ScriptBuilder {
+    /// No line yet. It takes no memory.
+    pub fn new(alloc: Global) -> Self
+        ensures { result ≡ record { lines = []; loops = 0 } }
+    {
+        ScriptBuilder {
+            lines: Vec::new(alloc),
+            open_loops: 0,
+        }
+    }
+
+    /// How many lines there are, at most 1024.
+    pub fn len(&self) -> usize
+        ensures count { result ≡ length self.now.lines }
+        ensures most { result ≤ 1024 }
+    {
+        self.lines.len()
+    }
+
+    /// How many loops are open, at most 8.
+    pub fn open_loops(&self) -> u32
+        ensures count { result ≡ self.now.loops }
+        ensures most { result ≤ 8 }
+    {
+        self.open_loops
+    }
+
+    /// Whether the line can come next; else the refusal that an input with it gets: `BadNumber` for a `compute` of 0 and a
+    /// `loop` of 0 or over 65535, `TooDeep` for a ninth open loop, `BadLine` for an `end` without a loop, and `TooLong` for
+    /// line 1025, checked in this order.
+    pub fn check(&self, line: Line) -> Result<(), InputRefusal>
+        ensures checks { result ≡ checked (line_checks self.now line) tt }
+        ensures number { OnOk result (IsLine line) }
+        ensures nesting { OnOk result (CanNest self.now.loops line) }
+        ensures room { OnOk result (length self.now.lines < 1024) }
+    {
+        match line {
+            Line::Compute(0) => return Err(InputRefusal::BadNumber),
+            Line::Loop(times) if times == 0 || 65535 < times => {
+                return Err(InputRefusal::BadNumber);
+            }
+            Line::Loop(_) if 8 <= self.open_loops => return Err(InputRefusal::TooDeep),
+            Line::End if self.open_loops == 0 => return Err(InputRefusal::BadLine),
+            _ => {}
+        }
+        if 1024 <= self.lines.len() {
+            return Err(InputRefusal::TooLong);
+        }
+        Ok(())
+    }
+
+    /// One line more. Want of memory changes nothing.
+    pub fn push(&mut self, line: Line) -> Result<(), AllocError>
+        requires number { IsLine line }
+        requires nesting { CanNest self.old.loops line }
+        requires room { length self.old.lines < 1024 }
+        ensures ok { OnOk result (self.new ≡ pushed self.old line) }
+        ensures err { OnErr result (self.new ≡ self.old) }
+    {
+        let open_loops = loops_behind(self.open_loops, line);
+        self.lines.push(line)?;
+        self.open_loops = open_loops;
+        Ok(())
+    }
+
+    /// The script of these lines.
+    pub fn finish(self) -> Script
+        requires { self.loops ≡ 0 }
+        ensures { result ≡ self.lines }
+    {
+        let ScriptBuilder {
+            lines,
+            open_loops: _,
+        } = self;
+        Script { lines }
+    }
+}
+
+/// How many loops are open behind a line, where so many are open in front of it.
+fn loops_behind(open_loops: u32, line: Line) -> u32
+    requires { CanNest open_loops line }
+    ensures { result ≡ loops_behind open_loops line }
+{
+    match line {
+        Line::Loop(_) => open_loops + 1,
+        Line::End => open_loops - 1,
+        _ => open_loops,
+    }
+}

@@ -1,0 +1,135 @@
+//! The loops that a thread is in.
+ghost use Rattle.std.specs.Prelude.{◌≡◌, ◌↔◌, ◌<◌, [], ◌∷◌, length, reverse, IsTrue};
+ghost use Rattle.lot_script.specs.Drafts.{CanNest, IsLine};
+ghost use Rattle.lot_script.specs.Places.{AreCopies, IsCopy, open_after};
+
+use arrayvec::ArrayVec;
+use lot_machine::Line;
+use std::marker::Model;
+
+/// A loop that a thread is in.
+#[derive(Clone, Copy, Debug, Default, PartialEq, Eq)]
+pub(crate) struct OpenLoop {
+    /// The line at which its body begins.
+    pub(crate) body: usize,
+    /// How many copies of the body come behind this one.
+    pub(crate) left: u32,
+}
+
+impl OpenLoop {
+    /// Whether it is the other loop, in its first copy or a later one.
+    fn is_copy(self, first: OpenLoop) -> bool
+        ensures { IsTrue result ↔ IsCopy self first }
+    {
+        self.body == first.body && self.left <= first.left
+    }
+}
+
+/// The loops that are open somewhere, at most 8. The contracts see the innermost first.
+#[derive(Debug, PartialEq, Eq, Drop)]
+pub(crate) struct OpenLoops {
+    /// The outermost first.
+    stack: ArrayVec<OpenLoop, 8>,
+}
+
+impl Model for OpenLoops {
+    ghost use Rattle.std.specs.Prelude.{◌≤◌, List, length, reverse};
+    ghost use Rattle.std.proofs.Common.{ap};
+    ghost use Rattle.std.proofs.lemmas.List.{reverse-reverse};
+    ghost use Rattle.lot_script.specs.declared.open_loops.OpenLoop.{OpenLoop};
+
+    ghost Value = { List OpenLoop };
+
+    ghost view = { λ l. reverse l.stack.items };
+
+    ghost inverse = { λ loops. record { stack = record { items = reverse loops } } };
+
+    ghost inverse_ok = { λ l h. ap (λ loops. record { stack = record { items = loops } }) (reverse-reverse l.stack.items) };
+
+    ghost invariant = { λ l. length l.stack.items ≤ 8 };
+}
+
+impl OpenLoops {
+    /// No loop.
+    pub(crate) fn new() -> Self
+        ensures { result ≡ [] }
+    {
+        OpenLoops {
+            stack: ArrayVec::new(),
+        }
+    }
+
+    /// The same loops again. It takes no memory.
+    pub(crate) fn copied(&self) -> Self
+        ensures { result ≡ self.now }
+    {
+        let mut stack = ArrayVec::new();
+        let _ = stack.try_extend_from_slice(self.stack.as_slice());
+        OpenLoops { stack }
+    }
+
+    /// Whether they are the same loops, with as many copies left of each.
+    pub(crate) fn is_same(&self, other: &OpenLoops) -> bool
+        ensures { IsTrue result ↔ (self.now ≡ other.now) }
+    {
+        self.stack.as_slice() == other.stack.as_slice()
+    }
+
+    /// This loop is innermost now.
+    pub(crate) fn push(&mut self, innermost: OpenLoop)
+        requires { length self.old < 8 }
+        ensures { self.new ≡ innermost ∷ self.old }
+    {
+        self.stack.push(innermost);
+    }
+
+    /// Takes the innermost loop out.
+    pub(crate) fn pop(&mut self) -> OpenLoop
+        requires { 0 < length self.old }
+        ensures innermost { self.old ≡ result ∷ self.new }
+        ensures room { length self.new < 8 }
+    {
+        self.stack.pop().unwrap()
+    }
+
+    /// Goes past the line of this number: a loop is opened by a `loop`, in its first copy, and closed by an `end`.
+    pub(crate) fn follow(&mut self, number: usize, line: Line)
+        requires line { IsLine line }
+        requires nests { CanNest (length self.old) line }
+        requires number { number < 1024 }
+        ensures { self.new ≡ open_after number line self.old }
+    {
+        match line {
+            Line::Loop(times) => self.push(OpenLoop {
+                body: number + 1,
+                left: times - 1,
+            }),
+            Line::End => {
+                self.pop();
+            }
+            _ => {}
+        }
+    }
+
+    /// Whether they are these loops, each in its first copy or a later one.
+    pub(crate) fn are_copies(&self, firsts: &OpenLoops) -> bool
+        ensures { IsTrue result ↔ AreCopies self.now firsts.now }
+    {
+        are_copies(self.stack.as_slice(), firsts.stack.as_slice())
+    }
+}
+
+/// Whether the loops are these, each in its first copy or a later one. Both have the outermost first.
+fn are_copies(loops: &[OpenLoop], firsts: &[OpenLoop]) -> bool
+    ensures { IsTrue result ↔ AreCopies (reverse loops.now) (reverse firsts.now) }
+{
+    if loops.len() != firsts.len() {
+        return false;
+    }
+    for i in 0..loops.len() {
+        if !loops[i].is_copy(firsts[i]) {
+            return false;
+        }
+    }
+    true
+}

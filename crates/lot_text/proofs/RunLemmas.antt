@@ -1,0 +1,49 @@
+-- Runs of turns of one actor.
+use Rattle.std.proofs.Common.{◌≡◌, ◌≢◌, ◌≤◌, ◌+◌, ◌%◌, ◌==◌, ◌↔◌, Bool, true, false, ℕ, Result, Ok, List, [], ◌∷◌, ◌++◌, length, replicate, refl, sym, arith, ◌∙◌, length-append}
+use Rattle.std.specs.Prelude.{All, IsTrue, sum_by}
+use Rattle.std.proofs.lemmas.Bool.{ne_eqb, true≢false}
+use Rattle.std.proofs.lemmas.List.{length-replicate}
+use Rattle.std.proofs.lemmas.List.Sums.{sum_by-cons}
+use Rattle.std.proofs.lemmas.List.Elements.{All-append, All-replicate, All-nil, All-head, All-tail}
+use Rattle.lot_machine.specs.declared.input.InputRefusal.{InputRefusal}
+use Rattle.lot_machine.specs.declared.input.BodyWord.TheVariants as body
+use Rattle.lot_machine.specs.Reading.{Reading, each_pair}
+use Rattle.lot_machine.specs.Grammar.{ActorRun, actors_of, add_runs, body_after_header, run_of}
+use Rattle.lot_text.specs.Readings.{behind_header, pairs_added}
+
+-- fewer than two tokens are no pair
+pub each_pair-none : {A : Type 0} (read : List ℕ → List ℕ → Result A InputRefusal) (tokens : List (List ℕ)) → length tokens ≤ 1 → each_pair read tokens ≡ Ok []
+each_pair-none read [] few = refl
+each_pair-none read (token ∷ []) few = refl
+each_pair-none read (first ∷ second ∷ tokens) few = absurd (omega (arith, few))
+
+-- as many actors as the runs have turns
+pub length-actors_of : (runs : List ActorRun) → length (actors_of runs) ≡ sum_by (λ (run : ActorRun). run.count) runs
+length-actors_of [] = refl
+length-actors_of (run ∷ runs) =
+    let turns : sum_by (λ (r : ActorRun). r.count) (run ∷ runs) ≡ run.count + sum_by (λ (r : ActorRun). r.count) runs = sum_by-cons (λ (r : ActorRun). r.count) run runs in
+    let actors : length (actors_of (run ∷ runs)) ≡ length (replicate run.count run.actor ++ actors_of runs) = refl in
+    omega (arith, turns, actors, length-append (replicate run.count run.actor) (actors_of runs), length-replicate run.count run.actor, length-actors_of runs)
+
+-- the actors are those of the runs
+pub All-actors_of : (p : ℕ) (runs : List ActorRun) → All (λ (run : ActorRun). run.actor ≤ p) runs → All (λ (actor : ℕ). actor ≤ p) (actors_of runs)
+All-actors_of p [] each = All-nil _
+All-actors_of p (run ∷ runs) each =
+    All-append (λ (a : ℕ). a ≤ p) (replicate run.count run.actor) (actors_of runs)
+    (All-replicate (λ (a : ℕ). a ≤ p) run.count run.actor (All-head (λ (r : ActorRun). r.actor ≤ p) run runs each))
+    (All-actors_of p runs (All-tail (λ (r : ActorRun). r.actor ≤ p) run runs each))
+
+-- an odd number of tokens is refused, and so is a line of runs where the unit is 1: else the runs are read, and then added
+pub runs_line-pairs : (n : ℕ) (before r : Reading) (tokens : List (List ℕ)) (is_empty are_pairs : Bool) → before ≡ r
+    → IsTrue is_empty ↔ (length tokens ≡ 0) → is_empty ≡ false → before.unit ≢ 1 → IsTrue are_pairs ↔ (length tokens % 2 ≡ 0) → are_pairs ≡ true
+    → body_after_header n r body.Runs tokens ≡ behind_header (pairs_added r tokens)
+runs_line-pairs n before r [] is_empty are_pairs same empty none finer pairs all = absurd (true≢false (sym (empty.1 refl) ∙ none))
+runs_line-pairs n before r (first ∷ others) is_empty are_pairs same empty none finer pairs all =
+    let unit : (r.unit == 1) ≡ false = rw (← same) (ne_eqb before.unit 1 finer) in
+    let even : (length (first ∷ others) % 2 == 1) ≡ false = rw (pairs.0 all) refl in
+    rw (unit, even) refl
+
+-- runs that were read are added
+pub pairs_added-read : (before r : Reading) (tokens : List (List ℕ)) (runs : List ActorRun) → before ≡ r → each_pair (run_of before.processors) tokens ≡ Ok runs
+    → pairs_added r tokens ≡ add_runs r runs
+pairs_added-read before r tokens runs same read = rw (← same, read) refl

@@ -1,0 +1,6 @@
+use Rattle.std.proofs.Common.{◌≡◌, take}
+use Rattle.lot_machine.specs.Grammar.{actors_of}
+use Rattle.lot_text.proofs.runs.actors_of.Given as goal
+
+abbrev pub invariant-loop-run : goal.invariant-loop-run
+invariant-loop-run l = l.actors.items ≡ actors_of (take l.run-index l.runs)
