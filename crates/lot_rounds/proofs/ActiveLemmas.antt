@@ -1,22 +1,21 @@
 -- Which tickets are active, as it is listed and as the definitions say.
-use Rattle.std.proofs.Common.{◌≡◌, ℕ, zero, suc, ◌+◌, ◌-◌, ◌<◌, ◌≤◌, ◌==◌, ◌&&◌, ◌||◌, Bool, true, false, Option, Some, None, List, length, get_or, vec_len, filter_map, refl, ap, sym, ◌∙◌, arith}
-use Rattle.std.specs.List.{All, list_any}
+use Rattle.std.proofs.Common.{◌≡◌, ℕ, zero, suc, ◌+◌, ◌-◌, ◌<◌, ◌≤◌, ◌==◌, ◌&&◌, Bool, true, false, Option, Some, None, List, length, get_or, refl, ap, sym, ◌∙◌, arith}
+use Rattle.std.specs.List.{All}
 use Rattle.std.specs.Option.{IfSome, option_flatten}
 use Rattle.std.proofs.lemmas.Option.{slice_get-get_or}
 use Rattle.lot_machine.specs.declared.ticket.Ticket.{Ticket}
 use Rattle.lot_machine.specs.declared.ticket.Target.{Target}
 use Rattle.lot_machine.specs.declared.ticket.Target.TheVariants.{Unfunded, Currency, Thread}
 use Rattle.lot_machine.specs.Numbered.{option_any}
-use Rattle.lot_machine.specs.Funding.{Funding, all_tickets, issued_in, ticket_at, would_cycle, reaches_within, currency_funded, WouldCycle}
+use Rattle.lot_machine.specs.Funding.{Funding, all_tickets, ticket_at}
 use Rattle.lot_machine.specs.Lends.{is_backed}
 use Rattle.lot_machine.specs.Activity.{is_active, activates_within}
 use Rattle.lot_machine.specs.Facts.{HasNoCycle, FundsThere}
 use Rattle.lot_machine.proofs.Tickets.{list_any-filter, list_any-filter_map, ticket_in-suc, target-of}
 use Rattle.lot_machine.proofs.LendDepth.{is_backed-exact}
-use Rattle.lot_machine.proofs.TicketChains.{activates_within-found, activates_within-chain, reaches_within-found, reaches_within-from}
-use Rattle.lot_machine.proofs.TicketDepth.{chain-short, is_active-exact, would_cycle-exact}
-use Rattle.lot_rounds.specs.declared.shares.Activity.{Activity}
-use Rattle.lot_rounds.specs.Tables.{AreWithin, IsTargetWithin, IsTicketWithin, flagged, target_leads, ticket_leads, leads_within, is_listed_active}
+use Rattle.lot_machine.proofs.TicketChains.{activates_within-found, activates_within-chain}
+use Rattle.lot_machine.proofs.TicketDepth.{chain-short, is_active-exact}
+use Rattle.lot_rounds.specs.Tables.{AreWithin, IsTargetWithin, IsTicketWithin, flagged, target_leads, ticket_leads, leads_within}
 use Rattle.lot_rounds.proofs.ListLemmas.{any-on_all}
 
 -- tests that follow from each other agree

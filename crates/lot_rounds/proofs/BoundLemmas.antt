@@ -1,11 +1,10 @@
 -- No currency and no thread is worth more than base's active tickets.
-use Rattle.std.proofs.Common.{◌≡◌, ◌≢◌, ℕ, zero, suc, ◌+◌, ◌-◌, ◌*◌, ◌/◌, ◌<◌, ◌≤◌, ◌==◌, ◌⊎◌, inl, inr, Bool, true, false, Option, Some, None, List, [], ◌∷◌, length, get_or, filter, filter_map, sum_by, cond, if◌then◌else◌, refl, ap, sym, ◌∙◌, arith}
-use Rattle.std.specs.List.{range_with_len}
+use Rattle.std.proofs.Common.{◌≡◌, ℕ, zero, suc, ◌+◌, ◌*◌, ◌/◌, ◌<◌, ◌≤◌, ◌==◌, Bool, true, false, List, length, sum_by, cond, if◌then◌else◌, arith}
 use Rattle.std.proofs.Math.Nat.{mul-le-mul_right, div-zero, div-mul-le_self, le-div_iff_mul-le}
 use Rattle.lot_machine.specs.declared.ticket.Ticket.{Ticket}
 use Rattle.lot_machine.specs.Funding.{Funding, user_currency_count, backing_currency}
 use Rattle.lot_machine.specs.Activity.{is_active, active_amount}
-use Rattle.lot_machine.specs.Value.{ticket_value, ticket_value_within, currency_value, currency_value_within, own_value, thread_value}
+use Rattle.lot_machine.specs.Value.{ticket_value, ticket_value_within, currency_value_within, own_value, thread_value}
 use Rattle.lot_machine.specs.Numbered.{numbers}
 use Rattle.lot_machine.specs.Lends.{lends_lead}
 use Rattle.lot_machine.specs.Facts.{HasNoCycle, FundsThere}

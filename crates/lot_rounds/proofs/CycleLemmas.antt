@@ -1,11 +1,10 @@
 -- Which currencies lead to one, as it is found in rounds and as the definitions say.
-use Rattle.std.proofs.Common.{◌≡◌, ℕ, zero, suc, ◌+◌, ◌-◌, ◌<◌, ◌≤◌, ◌==◌, ◌&&◌, ◌||◌, ◌⊎◌, inl, inr, Bool, true, false, Option, Some, None, List, length, filter_map, refl, ap, sym, ◌∙◌, arith}
-use Rattle.std.specs.List.{All, list_any}
+use Rattle.std.proofs.Common.{◌≡◌, ℕ, zero, suc, ◌-◌, ◌<◌, ◌≤◌, ◌==◌, ◌&&◌, ◌||◌, inl, inr, Bool, true, false, Option, Some, None, List, length, refl, ap, sym, ◌∙◌, arith}
 use Rattle.lot_machine.specs.declared.ticket.Ticket.{Ticket}
 use Rattle.lot_machine.specs.declared.ticket.Target.{Target}
 use Rattle.lot_machine.specs.declared.ticket.Target.TheVariants.{Unfunded, Currency, Thread}
 use Rattle.lot_machine.specs.Numbered.{option_any}
-use Rattle.lot_machine.specs.Funding.{Funding, all_tickets, issued_in, issuer_of, reaches_within, would_cycle, currency_funded, currencies_funded_by, IsChain, WouldCycle}
+use Rattle.lot_machine.specs.Funding.{Funding, all_tickets, issued_in, reaches_within, would_cycle, currency_funded, WouldCycle}
 use Rattle.lot_machine.specs.Facts.{HasNoCycle, FundsThere}
 use Rattle.lot_machine.proofs.Tickets.{list_any-filter, list_any-filter_map}
 use Rattle.lot_machine.proofs.TicketChains.{ShortLeads, reaches_within-found, reaches_within-from}

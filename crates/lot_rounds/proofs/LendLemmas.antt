@@ -1,19 +1,12 @@
 -- Chains of lends, followed one lend after another.
-use Rattle.std.proofs.Common.{◌≡◌, ℕ, zero, suc, ◌+◌, ◌-◌, ◌<◌, ◌≤◌, ◌==◌, ◌||◌, Bool, true, false, cond, Option, Some, None, List, length, map, sum_by, slice_index, refl, ap, sym, ◌∙◌, arith}
+use Rattle.std.proofs.Common.{◌≡◌, ℕ, zero, suc, ◌+◌, ◌-◌, ◌<◌, ◌≤◌, ◌==◌, ◌||◌, Bool, true, false, cond, Some, None, List, sum_by, slice_index, refl, ap, ◌∙◌, arith}
 use Rattle.std.proofs.lemmas.Bool.{eqb-true}
-use Rattle.std.proofs.lemmas.List.{length-map}
 use Rattle.std.proofs.lemmas.List.Sums.{sum_by-cons}
 use Rattle.std.specs.List.{range_with_len}
-use Rattle.lot_machine.specs.declared.record.Record.{Record}
 use Rattle.lot_machine.specs.Funding.{Funding}
-use Rattle.lot_machine.specs.Lends.{LendsOnTo, borrower_of, is_live, is_backed, is_backed_within, lends_lead_within}
+use Rattle.lot_machine.specs.Lends.{LendsOnTo, borrower_of, is_live, is_backed_within, lends_lead_within}
 use Rattle.lot_machine.proofs.LendChains.{lends_lead_within-found}
-use Rattle.lot_machine.specs.State.{lend_of, live_in}
-use Rattle.lot_rounds.specs.Tables.{LendsAre, lent}
-
--- as many lends are listed as there are threads
-pub lend-count : (f : Funding) (records : List Record) (owners : List (Option ℕ)) → LendsAre f records owners → length f.lends ≡ length records
-lend-count f records owners are = ap length are.0 ∙ length-map records (λ (r : Record). lend_of r.status)
+use Rattle.lot_rounds.specs.Tables.{lent}
 
 module _ (f : Funding) (live : List Bool) (t : ℕ) where
   -- a live thread is backed

@@ -1,5 +1,5 @@
 -- Tests and sums over lists whose elements have a property.
-use Rattle.std.proofs.Common.{◌≡◌, ℕ, ◌+◌, ◌<◌, ◌≤◌, Option, Some, None, cond, zero, suc, filter, filter_map, Bool, length, get_or, replicate, true, false, ◌&&◌, ◌⊎◌, inl, inr, List, [], ◌∷◌, sum_by, refl, ap, arith, ◌||◌}
+use Rattle.std.proofs.Common.{◌≡◌, ℕ, ◌+◌, ◌<◌, ◌≤◌, Option, Some, None, cond, zero, suc, filter, filter_map, Bool, replicate, true, false, List, [], ◌∷◌, sum_by, refl, arith}
 use Rattle.lot_rounds.specs.Tables.{flagged}
 use Rattle.std.specs.List.{All, list_any, range_with_len}
 use Rattle.std.proofs.lemmas.List.Elements.{All-head, All-tail}

@@ -1,5 +1,5 @@
 -- What is listed after activity and values were listed is what the definitions say.
-use Rattle.std.proofs.Common.{◌≡◌, ℕ, zero, suc, ◌+◌, ◌-◌, ◌*◌, ◌<◌, ◌≤◌, ◌^◌, Bool, Option, Some, None, is_some, option_and_then, ◌==◌, ◌||◌, List, [], ◌∷◌, length, map, get_or, sum_by, slice_index, cond, refl, ap, sym, ◌∙◌, arith}
+use Rattle.std.proofs.Common.{◌≡◌, ℕ, zero, suc, ◌+◌, ◌-◌, ◌*◌, ◌<◌, ◌≤◌, ◌^◌, Option, Some, None, is_some, option_and_then, ◌==◌, ◌||◌, List, [], ◌∷◌, length, map, get_or, sum_by, slice_index, cond, refl, ap, sym, ◌∙◌, arith}
 use Rattle.std.specs.List.{All, range_with_len}
 use Rattle.std.specs.Option.{IfSome}
 use Rattle.std.proofs.lemmas.Option.{slice_get-get_or, slice_get_within}
@@ -12,13 +12,13 @@ use Rattle.lot_machine.specs.Numbered.{at_number, option_any}
 use Rattle.lot_machine.specs.Funding.{Funding, ticket_at}
 use Rattle.lot_machine.specs.Lends.{LendsOnTo, IsLendChain, borrower, borrower_of, lends_lead, lends_lead_within, is_backed}
 use Rattle.lot_machine.specs.Activity.{is_active, active_amount}
-use Rattle.lot_machine.specs.Value.{ticket_value, currency_value, own_value, thread_value}
+use Rattle.lot_machine.specs.Value.{own_value, thread_value}
 use Rattle.lot_machine.specs.State.{live_in, lend_of}
 use Rattle.lot_machine.specs.Facts.{HasNoCycle, FundsThere}
 use Rattle.lot_machine.proofs.Sums.{sum-filter}
 use Rattle.lot_machine.proofs.Tickets.{place_of}
 use Rattle.lot_rounds.specs.declared.shares.Activity.{Activity}
-use Rattle.lot_rounds.specs.Tables.{AreWithin, IsTicketWithin, flagged, funding_in, leads_within, lends_in, lent, lent_to, is_listed_active, amount_added, share, added_to_thread, worth_after}
+use Rattle.lot_rounds.specs.Tables.{AreWithin, IsTicketWithin, flagged, funding_in, leads_within, lends_in, lent, lent_to, is_listed_active, amount_added, added_to_thread, worth_after}
 use Rattle.lot_rounds.specs.Listed.{IsSettled}
 use Rattle.lot_rounds.proofs.ListLemmas.{sum-range}
 use Rattle.lot_rounds.proofs.ActiveLemmas.{listed-active}

@@ -1,5 +1,5 @@
 -- What a ticket adds to what it funds.
-use Rattle.std.proofs.Common.{◌≡◌, ℕ, ◌+◌, ◌==◌, ◌<◌, true, Option, Some, None, List, cond, refl, ap}
+use Rattle.std.proofs.Common.{◌≡◌, ℕ, Option, Some, refl}
 use Rattle.std.proofs.lemmas.Bool.{eq-eqb}
 use Rattle.lot_machine.specs.declared.ticket.Ticket.{Ticket}
 use Rattle.lot_machine.specs.declared.ticket.Target.TheVariants.{Currency, Thread}

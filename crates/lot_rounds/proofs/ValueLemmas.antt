@@ -1,11 +1,11 @@
 -- What is listed of currencies, tickets and threads is what the definitions say they are worth.
-use Rattle.std.proofs.Common.{◌≡◌, ℕ, zero, suc, ◌+◌, ◌-◌, ◌*◌, ◌/◌, ◌<◌, ◌≤◌, ◌==◌, ◌&&◌, Bool, true, false, Option, Some, None, List, length, drop, get_or, vec_len, sum_by, slice_index, filter, filter_map, count_by, cond, if◌then◌else◌, refl, ap, sym, ◌∙◌, arith}
-use Rattle.std.specs.List.{All, range_with_len}
+use Rattle.std.proofs.Common.{◌≡◌, ℕ, zero, suc, ◌-◌, ◌*◌, ◌/◌, ◌<◌, ◌≤◌, ◌==◌, ◌&&◌, Bool, true, false, Option, List, length, drop, sum_by, slice_index, cond, if◌then◌else◌, refl, ap, sym, ◌∙◌, arith}
+use Rattle.std.specs.List.{All}
 use Rattle.std.specs.Option.{IfSome}
 use Rattle.std.proofs.Math.Nat.{zero-div}
 use Rattle.std.proofs.lemmas.List.Sums.{count_by-le-length}
 use Rattle.lot_machine.specs.declared.ticket.Ticket.{Ticket}
-use Rattle.lot_machine.specs.Funding.{Funding, all_tickets, issued_in, backing_currency, backing_thread, is_currency, is_thread, user_currency_count}
+use Rattle.lot_machine.specs.Funding.{Funding, issued_in, backing_currency, is_currency, is_thread, user_currency_count}
 use Rattle.lot_machine.specs.Activity.{is_active, active_amount}
 use Rattle.lot_machine.specs.Value.{ticket_value, ticket_value_within, currency_value, currency_value_within, own_value}
 use Rattle.lot_machine.specs.Facts.{HasNoCycle, FundsThere}
@@ -13,7 +13,7 @@ use Rattle.lot_machine.proofs.Sums.{sum-filter, sum-same}
 use Rattle.std.proofs.lemmas.List.{length-drop}
 use Rattle.lot_machine.proofs.ValueDepth.{depth-enough}
 use Rattle.lot_rounds.specs.declared.shares.Activity.{Activity}
-use Rattle.lot_rounds.specs.Tables.{target_leads, flagged, is_listed_active, amount_added, share, added_to_currency, added_to_thread, worth_after}
+use Rattle.lot_rounds.specs.Tables.{is_listed_active, amount_added, share, added_to_currency, added_to_thread, worth_after}
 use Rattle.lot_rounds.proofs.ListLemmas.{sum-there}
 
 -- both tests, one after the other

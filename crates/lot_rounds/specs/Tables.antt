@@ -1,5 +1,5 @@
 -- What is listed of a funding graph, and what one ticket adds to it (4.4).
-use Rattle.std.specs.Prelude.{◌≡◌, ℕ, zero, suc, ◌+◌, ◌-◌, ◌*◌, ◌/◌, ◌==◌, ◌<◌, ◌≤◌, ⊤, All, IfSome, Bool, false, ◌&&◌, ◌||◌, Option, Some, None, is_some, List, [], length, vec_len, map, sum_by, slice_index, slice_index_or, if◌then◌else◌}
+use Rattle.std.specs.Prelude.{◌≡◌, ℕ, zero, suc, ◌-◌, ◌*◌, ◌/◌, ◌==◌, ◌<◌, ◌≤◌, ⊤, All, IfSome, Bool, false, ◌&&◌, ◌||◌, Option, Some, None, is_some, List, [], vec_len, map, sum_by, slice_index, slice_index_or, if◌then◌else◌}
 use Rattle.std.specs.List.{list_any}
 use Rattle.lot_machine.specs.declared.ticket.Ticket.{Ticket}
 use Rattle.lot_machine.specs.declared.ticket.Target.{Target}
@@ -7,7 +7,7 @@ use Rattle.lot_machine.specs.declared.ticket.Target.TheVariants.{Unfunded, Curre
 use Rattle.lot_machine.specs.declared.record.Record.{Record}
 use Rattle.lot_machine.specs.Numbered.{numbers, option_any}
 use Rattle.lot_machine.specs.Funding.{Funding, is_currency, is_thread}
-use Rattle.lot_machine.specs.Lends.{is_backed, lends_lead}
+use Rattle.lot_machine.specs.Lends.{lends_lead}
 use Rattle.lot_machine.specs.State.{lend_of}
 use Rattle.lot_rounds.specs.declared.shares.Activity.{Activity}
 
@@ -38,10 +38,6 @@ AreWithin currencies threads tickets = All (λ o. IfSome o (IsTicketWithin curre
 -- whether the number is flagged
 abbrev pub flagged : List Bool → ℕ → Bool
 flagged flags n = slice_index_or flags n false
-
--- it is listed of each thread whether it is backed
-abbrev pub AreBacked : Funding → List Bool → List Bool → Type 0
-AreBacked f live backed = (place : ℕ) → place < length backed → flagged backed place ≡ is_backed f live (place + 1)
 
 -- whether the target leads on: a backed thread does, and a currency as it is said of it
 abbrev pub target_leads : List Bool → (ℕ → Bool) → Target → Bool

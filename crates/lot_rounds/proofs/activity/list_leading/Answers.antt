@@ -1,4 +1,4 @@
-use Rattle.std.proofs.Common.{◌≡◌, ℕ, ◌+◌, ◌<◌, length, vec_len, ap, sym, ◌∙◌, rules, arith}
+use Rattle.std.proofs.Common.{◌≡◌, ℕ, ◌+◌, ◌<◌, length, vec_len, sym, ◌∙◌, arith}
 use Rattle.lot_rounds.specs.Tables.{flagged, leads_within}
 use Rattle.lot_rounds.proofs.LeadLemmas.{led-found, led-stays}
 use Rattle.lot_rounds.proofs.activity.list_leading.Goals as goal

@@ -1,5 +1,4 @@
-use Rattle.std.proofs.Common.{◌-◌, length, sym, ◌∙◌, ap, arith}
-use Rattle.lot_machine.specs.Lends.{is_backed_within}
+use Rattle.std.proofs.Common.{◌-◌, length, sym, ◌∙◌}
 use Rattle.lot_machine.specs.State.{live_in}
 use Rattle.lot_rounds.proofs.LendLemmas.{backed-live, backed-alone, backed-on}
 use Rattle.lot_rounds.proofs.lends.is_backed.Goals as goal

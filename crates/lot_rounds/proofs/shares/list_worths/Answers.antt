@@ -1,5 +1,5 @@
-use Rattle.std.proofs.Common.{◌≡◌, ℕ, ◌+◌, ◌<◌, suc, vec_len, slice_index, ap, sym, ◌∙◌, arith}
-use Rattle.lot_rounds.specs.Tables.{worth_after, added_to_currency}
+use Rattle.std.proofs.Common.{◌≡◌, ℕ, ◌+◌, ◌<◌, suc, vec_len, slice_index, sym, ◌∙◌, arith}
+use Rattle.lot_rounds.specs.Tables.{worth_after}
 use Rattle.lot_rounds.proofs.WorthLemmas.{worth-next, worth-found, worth-stays}
 use Rattle.lot_rounds.proofs.shares.list_worths.Goals as goal
 

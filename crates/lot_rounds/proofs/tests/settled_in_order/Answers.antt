@@ -1,4 +1,3 @@
-use Rattle.std.proofs.Common.{is_some, map}
 use Rattle.lot_machine.specs.State.{live_in}
 use Rattle.lot_machine.proofs.BaseKept.{active-bounded}
 use Rattle.lot_rounds.specs.Tables.{funding_in}

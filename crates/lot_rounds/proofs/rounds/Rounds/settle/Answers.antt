@@ -1,8 +1,8 @@
-use Rattle.std.proofs.Common.{◌≡◌, ℕ, ◌+◌, ◌<◌, ◌≤◌, List, length, vec_len, sum_by, slice_index, ap, refl, sym, ◌∙◌, arith}
+use Rattle.std.proofs.Common.{◌≡◌, ℕ, ◌+◌, ◌<◌, List, length, vec_len, sum_by, slice_index, ap, refl, ◌∙◌, arith}
 use Rattle.lot_machine.specs.State.{live_in}
 use Rattle.lot_machine.specs.Value.{own_value}
 use Rattle.lot_rounds.specs.Tables.{funding_in, worth_after, added_to_thread, lends_in, lent_to}
-use Rattle.lot_rounds.proofs.SettledLemmas.{worth-small, own-is, own-small, lent-small, no-lend_cycle, settled}
+use Rattle.lot_rounds.proofs.SettledLemmas.{worth-small, own-is, own-small, lent-small, settled}
 use Rattle.lot_rounds.proofs.rounds.Rounds.settle.Goals as goal
 
 pub list_worths-requires-clause-small : goal.list_worths-requires-clause-small

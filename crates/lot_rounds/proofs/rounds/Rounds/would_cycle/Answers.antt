@@ -1,4 +1,4 @@
-use Rattle.std.proofs.Common.{◌≡◌, ℕ, ◌<◌, ◌≤◌, Some, false, length, vec_len, replicate, ap, refl, sym, ◌∙◌, arith}
+use Rattle.std.proofs.Common.{◌≡◌, ℕ, ◌<◌, ◌≤◌, Some, false, length, vec_len, ap, sym, ◌∙◌, arith}
 use Rattle.lot_rounds.specs.Tables.{flagged, leads_within}
 use Rattle.std.proofs.lemmas.List.{get_or_default}
 use Rattle.lot_rounds.proofs.ListLemmas.{none-flagged}
