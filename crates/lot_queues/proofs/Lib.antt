@@ -5,3 +5,4 @@ pub mod Changed
 pub mod Holds
 pub mod Pushed
 pub mod Taken
+pub mod Callers

@@ -1,6 +1,6 @@
 -- A thread that is taken from a queue.
-use Rattle.std.proofs.Common.{◌≡◌, ℕ, zero, suc, ◌+◌, ◌-◌, ◌^◌, ◌<◌, ◌≤◌, ◌⊎◌, inl, inr, Option, Some, None, List, [], ◌∷◌, ◌++◌, Contains, length, map, drop, ap, ap₂, sym, ◌∙◌, refl, subst, arith, option_map, slice_get, unwrap_or}
-use Rattle.std.specs.Option.{IfSome}
+use Rattle.std.proofs.Common.{◌≡◌, ℕ, zero, suc, ◌+◌, ◌-◌, ◌^◌, ◌<◌, ◌≤◌, ◌⊎◌, inl, inr, Bool, true, false, not, IsTrue, Option, Some, None, List, [], ◌∷◌, ◌++◌, Contains, length, map, drop, ap, ap₂, sym, ◌∙◌, refl, subst, arith, option_map, slice_get, unwrap_or}
+use Rattle.std.specs.Option.{IfSome, IfNone, is_some}
 use Rattle.std.specs.List.{remove}
 use Rattle.std.proofs.lemmas.Bool.{cases_lt}
 use Rattle.std.proofs.lemmas.Option.{slice_get-map, slice_get_within, slice_get_past, get_or_from_slice_get, slice_get_read}
@@ -16,7 +16,7 @@ use Rattle.lot_queues.specs.Fields.{Fields, IsLaidOut, threads_in, calls_list, r
 use Rattle.lot_queues.proofs.Elements.{contains-nothing, contains-drop, contains-remove, contains-node, map-drop, map-remove}
 use Rattle.lot_queues.proofs.Nowhere.{away-to, away-less}
 use Rattle.lot_queues.proofs.Changed.{with_lists, relisted-within}
-use Rattle.lot_queues.proofs.Holds.{Holds, away, nowhere, there, waiters-below, calls-are, receivers-are, waiters-are, clients-are, set-calls, set-receivers, set-waiters, set-clients}
+use Rattle.lot_queues.proofs.Holds.{Holds, away, free, nowhere, there, waiters-below, calls-are, receivers-are, waiters-are, clients-are, set-calls, set-receivers, set-waiters, set-clients}
 
 -- ---- what was taken
 
@@ -47,6 +47,16 @@ module _ {f : Fields} {q : QueueLists} (held : Holds f q) where
   pub has-sent : (list : ℕ) (o : Option ℕ) (sent : List ℕ) → sent ≡ f.sent → o ≡ node_at f.lists list 0 → IfSome o (λ n. n < length sent)
   has-sent list None sent sent_is is = tt
   has-sent list (Some n) sent sent_is is = omega (arith, ap (length {A = ℕ}) sent_is, node-made list 0 n (sym is), held.laid.threads, held.laid.sent)
+
+  -- whether no list has the thread
+  pub nowhere-test : (t node : ℕ) (o : Option ℕ) (test : Bool) → IsThere q.clients t → node ≡ t - 1 → is_some o ≡ not test → IfSome o (λ list. Contains (nodes_of f.lists list) node) → IfNone o (IsFree f.lists node)
+      → (IsTrue test → IsNowhere q t) × (IsNowhere q t → IsTrue test)
+  nowhere-test t node None true within node_is test_is found none =
+      (λ yes. nowhere held t (away-to f.lists t node (omega (arith, node_is, within.0)) none), λ stands. refl)
+  nowhere-test t node None false within node_is test_is found none = cc
+  nowhere-test t node (Some list) true within node_is test_is found none = cc
+  nowhere-test t node (Some list) false within node_is test_is found none =
+      (λ yes. cc, λ stands. absurd (free held t node within node_is stands list found))
 
   -- ---- the first is taken
 

@@ -5,7 +5,11 @@
 //! All room is made in `Queues::new`, so no other call can fail.
 #![tactic(auto)]
 
+pub mod laws;
 mod layout;
 mod queues;
+
+#[cfg(test)]
+mod tests;
 
 pub use queues::{Queues, TakenCall};

@@ -1,5 +1,5 @@
 //! The queues.
-ghost use Rattle.std.specs.Prelude.{◌≡◌, ◌+◌, ◌<◌, ◌≤◌, ◌^◌, ◌++◌, ◌∷◌, [], ℕ, IfOk, IfSome, Contains, drop, length, map, remove, option_map, slice_get, vec_capacity};
+ghost use Rattle.std.specs.Prelude.{◌≡◌, ◌↔◌, ◌+◌, ◌<◌, ◌≤◌, ◌^◌, ◌++◌, ◌∷◌, [], ℕ, IfNone, IfOk, IfSome, IsTrue, drop, length, map, remove, option_map, slice_get, vec_capacity};
 ghost use Rattle.lot_machine.specs.Numbered.{set_number};
 ghost use Rattle.lot_machine.specs.Ports as machine;
 ghost use Rattle.lot_machine.specs.Ports.{port_at, clients_of, with_client};
@@ -77,6 +77,13 @@ impl Queues {
         self.layout.room
     }
 
+    /// How many threads there are.
+    pub fn threads(&self) -> u32
+        ensures { result ≡ length self.now.clients }
+    {
+        self.threads
+    }
+
     /// How many ports there are.
     pub fn ports(&self) -> u32
         ensures { result ≡ length self.now.ports }
@@ -99,6 +106,14 @@ impl Queues {
         self.threads += 1;
     }
 
+    /// Whether a thread stands in no queue: the test of what the calls that put it into one require.
+    pub fn is_nowhere(&self, thread: u32) -> bool
+        requires { IsThere self.now.clients thread }
+        ensures { IsTrue result ↔ IsNowhere self.now thread }
+    {
+        self.lists.list_of(node_of(thread)).is_none()
+    }
+
     /// Puts a thread's call behind those that wait at a port.
     pub fn push_call(&mut self, port: u32, caller: u32, number: u32)
         requires port_there { IsThere self.old.ports port }
@@ -116,6 +131,7 @@ impl Queues {
         requires port_there { IsThere self.old.ports port }
         ensures first { option_map queued_call result ≡ slice_get (port_at self.old.ports port).calls 0 }
         ensures rest { self.new ≡ record self.old { ports = with_calls self.old.ports port (drop 1 (port_at self.old.ports port).calls) } }
+        ensures unchanged { IfNone result (self.new ≡ self.old) }
         ensures there { IfSome result (λ call. IsThere self.new.clients call.caller) }
         ensures nowhere { IfSome result (λ call. IsNowhere self.new call.caller) }
         ensures others { (t : ℕ) → IsNowhere self.old t → IsNowhere self.new t }
@@ -140,6 +156,7 @@ impl Queues {
         requires port_there { IsThere self.old.ports port }
         ensures first { result ≡ slice_get (port_at self.old.ports port).receivers 0 }
         ensures rest { self.new ≡ record self.old { ports = with_receivers self.old.ports port (drop 1 (port_at self.old.ports port).receivers) } }
+        ensures unchanged { IfNone result (self.new ≡ self.old) }
         ensures there { IfSome result (IsThere self.new.clients) }
         ensures nowhere { IfSome result (IsNowhere self.new) }
         ensures others { (t : ℕ) → IsNowhere self.old t → IsNowhere self.new t }
@@ -171,6 +188,7 @@ impl Queues {
         requires server_there { IsThere self.old.clients server }
         ensures first { result ≡ machine.first_client self.old.clients server }
         ensures rest { self.new ≡ record self.old { clients = set_number self.old.clients server (drop 1 (clients_of self.old.clients server)) } }
+        ensures unchanged { IfNone result (self.new ≡ self.old) }
         ensures there { IfSome result (IsThere self.new.clients) }
         ensures nowhere { IfSome result (IsNowhere self.new) }
         ensures others { (t : ℕ) → IsNowhere self.old t → IsNowhere self.new t }
