@@ -112,6 +112,24 @@ fn check_waiters(
     Ok(())
 }
 
+/// Takes the waiter at a place, as a lottery picks it.
+fn take_waiter_at(
+    rt: &impl Abort,
+    alloc: Global,
+    queues: &mut Queues,
+    mutex: u32,
+    place: usize,
+) -> Result<u32, AllocError> {
+    let mut out = Vec::with_capacity(alloc, THREADS as usize)?;
+    assert!(rt; queues.room() as usize <= out.capacity());
+    assert!(rt; has_mutex(queues, mutex));
+    queues.list_waiters(mutex, &mut out);
+    assert!(rt; place < out.len());
+    let thread = out[place];
+    queues.take_waiter(thread);
+    Ok(thread)
+}
+
 #[test]
 fn the_longest_waiting_is_taken_first(rt: HostRuntime) -> Result<(), Fail> {
     let mut queues = full(&rt, rt.alloc())?;
@@ -184,6 +202,11 @@ fn a_waiter_is_taken_from_its_place(rt: HostRuntime) -> Result<(), Fail> {
         push(&rt, &mut queues, Queue::Waiters(2), thread);
     }
     check_waiters(&rt, rt.alloc(), &queues, 2, &[2, 5, 1, 4])?;
+    for (place, expected) in [(1, 5), (2, 4), (0, 2), (0, 1)] {
+        let taken = take_waiter_at(&rt, rt.alloc(), &mut queues, 2, place)?;
+        assert_eq!(rt; taken, expected);
+    }
+    check_waiters(&rt, rt.alloc(), &queues, 2, &[])?;
     Ok(())
 }
 
