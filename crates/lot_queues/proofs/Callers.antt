@@ -1,14 +1,13 @@
 -- What a caller of `Queues` rests on: lemmas over variables.
-use Rattle.std.proofs.Common.{◌≡◌, ℕ, zero, suc, ◌+◌, ◌-◌, ◌<◌, ◌||◌, Bool, true, false, IsTrue, Option, Some, None, List, [], ◌∷◌, Contains, length, map, drop, get_or, ap, ap₂, sym, ◌∙◌, refl, subst, arith, set, slice_get, unwrap_or}
+use Rattle.std.proofs.Common.{◌≡◌, ℕ, zero, suc, ◌-◌, ◌||◌, true, false, IsTrue, Option, Some, None, List, [], ◌∷◌, Contains, length, map, drop, get_or, ap, sym, ◌∙◌, refl, arith, set, slice_get, unwrap_or}
 use Rattle.std.proofs.lemmas.List.{get_or-set_same}
 use Rattle.std.proofs.lemmas.Option.{slice_get_within, get_or_from_slice_get, slice_get_read, unwrap_or-slice_get}
 use Rattle.lot_machine.specs.declared.record.Record.{Record}
 use Rattle.lot_machine.specs.declared.record.Status.{Status}
-use Rattle.lot_machine.specs.declared.record.Status.TheVariants.{Ready, Running, Receiving, Queued, Served, Waiting, Dead}
+use Rattle.lot_machine.specs.declared.record.Status.TheVariants.{Running, Receiving, Queued, Served, Waiting}
 use Rattle.lot_machine.specs.Numbered.{at_number, set_number}
 use Rattle.lot_machine.specs.Order.{IsQueue, HasQueues}
 use Rattle.lot_machine.specs.State.{Port, Mutex, QueuedCall, is_live_status, is_dead, status_of}
-use Rattle.lot_machine.specs.Ports.{port_at, clients_of}
 use Rattle.lot_machine.specs.Mutexes.{mutex_at}
 use Rattle.lot_machine.proofs.Tickets.{at_number-suc, some-injective}
 use Rattle.lot_queues.specs.QueueLists.{QueueLists, IsThere, IsNowhere, IsWaiter, with_waiters, with_owner}

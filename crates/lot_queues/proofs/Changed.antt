@@ -1,18 +1,15 @@
 -- What becomes of the queues where one of the lists changes.
-use Rattle.std.proofs.Common.{◌≡◌, ℕ, ◌+◌, ◌-◌, ◌<◌, ◌≤◌, ◌⊎◌, inl, inr, Option, Some, None, List, [], ◌∷◌, ◌++◌, Contains, length, map, set, ap, ap₂, sym, ◌∙◌, refl, subst, arith, length-set, get_or-set_other, slice_set, slice_index_or}
-use Rattle.std.specs.List.{range_with_len}
+use Rattle.std.proofs.Common.{◌≡◌, ℕ, ◌+◌, ◌-◌, ◌<◌, ◌≤◌, ◌⊎◌, inl, inr, Option, List, [], Contains, length, map, set, ap, ap₂, sym, ◌∙◌, refl, subst, arith, length-set, get_or-set_other}
 use Rattle.std.proofs.lemmas.Bool.{cases_eq}
 use Rattle.std.proofs.lemmas.List.{get_or-set_same}
-use Rattle.lot_machine.specs.Numbered.{at_number, set_number}
+use Rattle.lot_machine.specs.Numbered.{set_number}
 use Rattle.lot_machine.specs.State.{Port, Mutex, QueuedCall}
-use Rattle.lot_machine.specs.Ports.{port_at, clients_of}
-use Rattle.lot_machine.specs.Mutexes.{mutex_at}
 use Rattle.lot_lists.specs.NodeLists.{NodeLists, nodes_of, IsFree, IsConsistent}
-use Rattle.lot_queues.specs.QueueLists.{QueueLists, IsThere, IsNowhere, callers_at, with_calls, with_receivers, with_waiters, with_owner}
-use Rattle.lot_queues.specs.Fields.{Fields, seen, IsLaidOut, threads_in, clients_in, port_in, mutex_in, calls_list, receivers_list, waiters_list, list_count, call_of, relisted}
+use Rattle.lot_queues.specs.QueueLists.{QueueLists, with_calls, with_receivers, with_waiters}
+use Rattle.lot_queues.specs.Fields.{Fields, seen, IsLaidOut, clients_in, port_in, mutex_in, calls_list, receivers_list, waiters_list, call_of, relisted}
 use Rattle.lot_queues.proofs.Elements.{calls-kept}
 use Rattle.lot_queues.proofs.Tables.{table, table-same, table-set}
-use Rattle.lot_queues.proofs.Nowhere.{port-at, mutex-at, clients-at}
+use Rattle.lot_queues.proofs.Nowhere.{port-at, mutex-at}
 
 -- the fields with these lists
 abbrev pub with_lists : Fields → NodeLists → Fields

@@ -1,10 +1,9 @@
 -- The fields against the value that clauses see, as each method opens and closes it.
-use Rattle.std.proofs.Common.{◌≡◌, ℕ, ◌+◌, ◌-◌, ◌<◌, ◌≤◌, ◌⊎◌, inl, inr, Option, Some, None, List, [], ◌∷◌, ◌++◌, Contains, length, map, set, drop, ap, ap₂, sym, ◌∙◌, refl, subst, arith, length-set, get_or-set_other, slice_set, slice_index_or, replicate, get_or}
-use Rattle.std.specs.List.{range_with_len}
+use Rattle.std.proofs.Common.{◌≡◌, ℕ, ◌+◌, ◌-◌, ◌<◌, ◌≤◌, inl, inr, Option, None, List, [], ◌∷◌, ◌++◌, Contains, length, map, set, ap, ap₂, sym, ◌∙◌, refl, subst, arith, length-set, get_or-set_other, slice_index_or, replicate, get_or}
 use Rattle.std.proofs.lemmas.Bool.{cases_lt}
 use Rattle.std.proofs.lemmas.List.{get_or-set_same, get_or-replicate, get_or_past, length-replicate, same_lists, length-map, get_or-map, get_or_default}
 use Rattle.std.proofs.lemmas.List.FromFn.{get_or-map-range_with_len}
-use Rattle.lot_machine.specs.Numbered.{at_number, set_number}
+use Rattle.lot_machine.specs.Numbered.{set_number}
 use Rattle.lot_machine.specs.State.{Port, Mutex, QueuedCall}
 use Rattle.lot_machine.specs.Ports.{port_at, clients_of}
 use Rattle.lot_machine.specs.Mutexes.{mutex_at}
@@ -13,8 +12,8 @@ use Rattle.lot_queues.specs.declared.layout.Layout.{Layout}
 use Rattle.lot_queues.specs.QueueLists.{QueueLists, IsThere, IsNowhere, empty_queues, with_calls, with_receivers, with_waiters, with_owner}
 use Rattle.lot_queues.specs.Fields.{Fields, seen, IsLaidOut, threads_in, clients_in, port_in, mutex_in, calls_list, receivers_list, waiters_list, list_count, call_of, relisted}
 use Rattle.lot_queues.proofs.Elements.{contains-nothing}
-use Rattle.lot_queues.proofs.Tables.{table, table-same, table-set, table-more, table-alike, table-length}
-use Rattle.lot_queues.proofs.Nowhere.{port-at, mutex-at, clients-at, free-from, away-from, nowhere-from, thread-there, IsAway}
+use Rattle.lot_queues.proofs.Tables.{table, table-set, table-more, table-alike, table-length}
+use Rattle.lot_queues.proofs.Nowhere.{port-at, mutex-at, clients-at, free-from, away-from, nowhere-from, IsAway}
 use Rattle.lot_queues.proofs.Changed.{with_lists, same-queues, same-mutex, same-port, calls-seen, receivers-seen, waiters-seen, clients-seen, laid-relisted}
 
 -- The fields hold the value.

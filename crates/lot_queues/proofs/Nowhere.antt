@@ -1,14 +1,13 @@
 -- Each queue is one of the lists, so a thread that stands in no queue is in no list, and the other way round.
-use Rattle.std.proofs.Common.{◌≡◌, ℕ, zero, suc, ◌+◌, ◌-◌, ◌<◌, ◌≤◌, ◌⊎◌, inl, inr, Option, Some, None, List, [], Contains, length, map, ap, sym, ◌∙◌, refl, subst, arith, unwrap_or}
+use Rattle.std.proofs.Common.{◌≡◌, ℕ, zero, suc, ◌+◌, ◌-◌, ◌<◌, ◌≤◌, ◌⊎◌, inl, inr, Option, None, List, [], Contains, length, map, ap, sym, ◌∙◌, refl, subst, arith, unwrap_or}
 use Rattle.std.proofs.lemmas.Bool.{cases_lt}
 use Rattle.std.proofs.lemmas.List.{get_or_past}
-use Rattle.lot_machine.specs.Numbered.{at_number}
 use Rattle.lot_machine.specs.State.{Port, Mutex, QueuedCall}
 use Rattle.lot_machine.specs.Ports.{port_at, clients_of}
 use Rattle.lot_machine.specs.Mutexes.{mutex_at}
-use Rattle.lot_lists.specs.NodeLists.{NodeLists, nodes_of, IsFree, IsConsistent}
-use Rattle.lot_queues.specs.QueueLists.{QueueLists, IsThere, IsNowhere, callers_at}
-use Rattle.lot_queues.specs.Fields.{Fields, seen, IsLaidOut, threads_in, clients_in, port_in, mutex_in, calls_list, receivers_list, waiters_list, call_of}
+use Rattle.lot_lists.specs.NodeLists.{NodeLists, nodes_of, IsFree}
+use Rattle.lot_queues.specs.QueueLists.{IsThere, IsNowhere, callers_at}
+use Rattle.lot_queues.specs.Fields.{Fields, seen, IsLaidOut, threads_in, clients_in, port_in, mutex_in, calls_list, receivers_list, waiters_list}
 use Rattle.lot_queues.proofs.Elements.{contains-nothing, contains-thread, contains-node, callers}
 use Rattle.lot_queues.proofs.Tables.{table-length, table-at, table-past}
 

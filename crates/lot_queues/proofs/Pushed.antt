@@ -1,5 +1,5 @@
 -- A thread that is put behind those of a queue.
-use Rattle.std.proofs.Common.{◌≡◌, ℕ, ◌+◌, ◌-◌, ◌<◌, ◌⊎◌, inl, inr, List, [], ◌∷◌, ◌++◌, Contains, length, map, set, ap, ap₂, sym, ◌∙◌, subst, arith, length-set, slice_index}
+use Rattle.std.proofs.Common.{◌≡◌, ℕ, ◌+◌, ◌-◌, ◌<◌, inl, inr, List, [], ◌∷◌, ◌++◌, Contains, map, set, ap, ap₂, sym, ◌∙◌, subst, arith, length-set, slice_index}
 use Rattle.std.proofs.lemmas.List.{get_or-set_same}
 use Rattle.std.proofs.lemmas.List.Elements.{Contains-push_cases}
 use Rattle.lot_machine.specs.State.{QueuedCall}
@@ -7,7 +7,7 @@ use Rattle.lot_machine.specs.Ports.{port_at, clients_of, with_client}
 use Rattle.lot_machine.specs.Mutexes.{mutex_at}
 use Rattle.lot_lists.specs.NodeLists.{NodeLists, nodes_of, IsFree, IsConsistent, with_pushed}
 use Rattle.lot_queues.specs.QueueLists.{QueueLists, IsThere, IsNowhere, with_calls, with_receivers, with_waiters}
-use Rattle.lot_queues.specs.Fields.{Fields, IsLaidOut, threads_in, calls_list, receivers_list, waiters_list, call_of}
+use Rattle.lot_queues.specs.Fields.{Fields, threads_in, calls_list, receivers_list, waiters_list, call_of}
 use Rattle.lot_queues.proofs.Elements.{map-push}
 use Rattle.lot_queues.proofs.Changed.{with_lists, sent-kept}
 use Rattle.lot_queues.proofs.Holds.{Holds, in-threads, node-below, free, calls-are, receivers-are, waiters-are, clients-are, set-calls, set-receivers, set-waiters, set-clients}

@@ -1,10 +1,10 @@
 -- A thread that is taken from a queue.
-use Rattle.std.proofs.Common.{◌≡◌, ℕ, zero, suc, ◌+◌, ◌-◌, ◌^◌, ◌<◌, ◌≤◌, ◌⊎◌, inl, inr, Bool, true, false, not, IsTrue, Option, Some, None, List, [], ◌∷◌, ◌++◌, Contains, length, map, drop, ap, ap₂, sym, ◌∙◌, refl, subst, arith, option_map, slice_get, unwrap_or}
+use Rattle.std.proofs.Common.{◌≡◌, ℕ, zero, suc, ◌+◌, ◌-◌, ◌^◌, ◌<◌, ◌≤◌, inl, inr, Bool, true, false, not, IsTrue, Option, Some, None, List, [], Contains, length, map, drop, ap, ap₂, sym, ◌∙◌, refl, subst, arith, option_map, slice_get, unwrap_or}
 use Rattle.std.specs.Option.{IfSome, IfNone, is_some}
 use Rattle.std.specs.List.{remove}
 use Rattle.std.proofs.lemmas.Bool.{cases_lt}
 use Rattle.std.proofs.lemmas.Option.{slice_get-map, slice_get_within, slice_get_past, get_or_from_slice_get, slice_get_read}
-use Rattle.lot_machine.specs.State.{Port, Mutex, QueuedCall}
+use Rattle.lot_machine.specs.State.{Mutex, QueuedCall}
 use Rattle.lot_machine.specs.Numbered.{at_number, set_number}
 use Rattle.lot_machine.specs.Ports.{port_at, clients_of}
 use Rattle.lot_machine.specs.Mutexes.{mutex_at}
@@ -12,8 +12,8 @@ use Rattle.lot_machine.proofs.Tickets.{at_number-suc, some-injective}
 use Rattle.lot_lists.specs.NodeLists.{NodeLists, nodes_of, node_at, IsFree, IsListed, IsConsistent, with_removed}
 use Rattle.lot_queues.specs.declared.queues.TakenCall.{TakenCall}
 use Rattle.lot_queues.specs.QueueLists.{QueueLists, IsThere, IsNowhere, IsWaiter, with_calls, with_receivers, with_waiters}
-use Rattle.lot_queues.specs.Fields.{Fields, IsLaidOut, threads_in, calls_list, receivers_list, waiters_list, call_of, relisted}
-use Rattle.lot_queues.proofs.Elements.{contains-nothing, contains-drop, contains-remove, contains-node, map-drop, map-remove}
+use Rattle.lot_queues.specs.Fields.{Fields, threads_in, calls_list, receivers_list, waiters_list, call_of, relisted}
+use Rattle.lot_queues.proofs.Elements.{contains-drop, contains-remove, contains-node, map-drop, map-remove}
 use Rattle.lot_queues.proofs.Nowhere.{away-to, away-less}
 use Rattle.lot_queues.proofs.Changed.{with_lists, relisted-within}
 use Rattle.lot_queues.proofs.Holds.{Holds, away, free, nowhere, there, waiters-below, calls-are, receivers-are, waiters-are, clients-are, set-calls, set-receivers, set-waiters, set-clients}

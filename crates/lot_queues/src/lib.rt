@@ -8,7 +8,6 @@
 pub mod laws;
 mod layout;
 mod queues;
-
 #[cfg(test)]
 mod tests;
 

@@ -48,12 +48,7 @@ impl Queues {
     /// Empty ports, free mutexes, and room for so many threads, of which there are none yet.
     ///
     /// `AllocError` where memory runs out, or where the queues and the threads together are more than a `u32` can number.
-    pub fn new(
-        alloc: Global,
-        ports: u32,
-        mutexes: u32,
-        threads: u32,
-    ) -> Result<Self, AllocError>
+    pub fn new(alloc: Global, ports: u32, mutexes: u32, threads: u32) -> Result<Self, AllocError>
         ensures { IfOk result (λ made. made ≡ empty_queues ports mutexes threads) }
     {
         let layout = Layout {

@@ -8,7 +8,9 @@ use std::process::Abort;
 use std::test::Fail;
 
 const PORTS: u32 = 2;
+
 const MUTEXES: u32 = 3;
+
 const THREADS: u32 = 5;
 
 fn has_port(queues: &Queues, port: u32) -> bool

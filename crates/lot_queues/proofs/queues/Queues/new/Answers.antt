@@ -1,6 +1,6 @@
 use Rattle.std.proofs.Common.{◌≡◌, ◌∙◌, ap, None, replicate, rules}
 use Rattle.lot_lists.specs.NodeLists.{empty_lists}
-use Rattle.lot_queues.proofs.Holds.{Holds, start}
+use Rattle.lot_queues.proofs.Holds.{start}
 use Rattle.lot_queues.proofs.queues.Queues.new.Goals as goal
 
 pub invariant_of-result : goal.invariant_of-result

@@ -1,6 +1,6 @@
 use Rattle.std.proofs.Common.{arith, None, ◌∙◌, sym}
 use Rattle.std.proofs.lemmas.List.{get_or_default}
-use Rattle.lot_queues.proofs.Holds.{Holds, opened, in-mutexes, owner-is}
+use Rattle.lot_queues.proofs.Holds.{opened, in-mutexes, owner-is}
 use Rattle.lot_queues.proofs.queues.Queues.owner.Goals as goal
 
 pub index-requires : goal.index-requires

@@ -1,4 +1,4 @@
-use Rattle.lot_queues.proofs.Holds.{Holds, opened, calls-below, node-below, free}
+use Rattle.lot_queues.proofs.Holds.{opened, calls-below, node-below, free}
 use Rattle.lot_queues.proofs.Pushed.{push-call}
 use Rattle.lot_queues.proofs.queues.Queues.push_call.Goals as goal
 

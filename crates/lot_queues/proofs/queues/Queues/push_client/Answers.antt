@@ -1,4 +1,4 @@
-use Rattle.lot_queues.proofs.Holds.{Holds, opened, clients-below, node-below, free}
+use Rattle.lot_queues.proofs.Holds.{opened, clients-below, node-below, free}
 use Rattle.lot_queues.proofs.Pushed.{push-client}
 use Rattle.lot_queues.proofs.queues.Queues.push_client.Goals as goal
 

@@ -1,4 +1,4 @@
-use Rattle.lot_queues.proofs.Holds.{Holds, opened, receivers-below, node-below, free}
+use Rattle.lot_queues.proofs.Holds.{opened, receivers-below, node-below, free}
 use Rattle.lot_queues.proofs.Pushed.{push-receiver}
 use Rattle.lot_queues.proofs.queues.Queues.push_receiver.Goals as goal
 

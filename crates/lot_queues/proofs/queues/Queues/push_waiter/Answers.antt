@@ -1,4 +1,4 @@
-use Rattle.lot_queues.proofs.Holds.{Holds, opened, waiters-below, node-below, free}
+use Rattle.lot_queues.proofs.Holds.{opened, waiters-below, node-below, free}
 use Rattle.lot_queues.proofs.Pushed.{push-waiter}
 use Rattle.lot_queues.proofs.queues.Queues.push_waiter.Goals as goal
 

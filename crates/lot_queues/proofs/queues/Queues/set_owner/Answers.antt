@@ -1,5 +1,5 @@
 use Rattle.std.proofs.Common.{◌-◌, arith, refl}
-use Rattle.lot_queues.proofs.Holds.{Holds, opened, in-mutexes, set-owner}
+use Rattle.lot_queues.proofs.Holds.{opened, in-mutexes, set-owner}
 use Rattle.lot_queues.proofs.queues.Queues.set_owner.Goals as goal
 
 pub index_mut-requires : goal.index_mut-requires

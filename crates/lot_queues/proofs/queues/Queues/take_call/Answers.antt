@@ -1,6 +1,4 @@
-use Rattle.std.proofs.Common.{◌≡◌, refl}
-use Rattle.lot_queues.specs.QueueLists.{IsThere, IsNowhere}
-use Rattle.lot_queues.proofs.Holds.{Holds, itself, opened, calls-below, calls-are}
+use Rattle.lot_queues.proofs.Holds.{itself, opened, calls-below, calls-are}
 use Rattle.lot_queues.proofs.Taken.{fits, has-sent, caller-there, caller-nowhere, first-call, first-within, others-nowhere, take-call}
 use Rattle.lot_queues.proofs.queues.Queues.take_call.Goals as goal
 

@@ -1,5 +1,4 @@
-use Rattle.std.proofs.Common.{◌≡◌, refl}
-use Rattle.lot_queues.proofs.Holds.{Holds, itself, opened, clients-below, clients-are}
+use Rattle.lot_queues.proofs.Holds.{itself, opened, clients-below, clients-are}
 use Rattle.lot_queues.proofs.Taken.{fits, first-thread, first-within, taken-there, taken-nowhere, others-nowhere, take-client}
 use Rattle.lot_queues.proofs.queues.Queues.take_client.Goals as goal
 

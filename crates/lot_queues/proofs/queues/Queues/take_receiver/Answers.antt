@@ -1,5 +1,4 @@
-use Rattle.std.proofs.Common.{◌≡◌, refl}
-use Rattle.lot_queues.proofs.Holds.{Holds, itself, opened, receivers-below, receivers-are}
+use Rattle.lot_queues.proofs.Holds.{itself, opened, receivers-below, receivers-are}
 use Rattle.lot_queues.proofs.Taken.{fits, first-thread, first-within, taken-there, taken-nowhere, others-nowhere, take-receiver}
 use Rattle.lot_queues.proofs.queues.Queues.take_receiver.Goals as goal
 
