@@ -1,0 +1,13 @@
+use Rattle.std.proofs.Common.{arith, ap, sym, ◌∙◌}
+use Rattle.lot_queues.specs.Fields.{threads_in}
+use Rattle.lot_queues.proofs.Holds.{opened, waiters-below, waiters-are, room-is}
+use Rattle.lot_queues.proofs.queues.Queues.list_waiters.Goals as goal
+
+pub list_threads-requires-clause-list : goal.list_threads-requires-clause-list
+list_threads-requires-clause-list c = waiters-below (opened _ _ c.self.view_is c.self.invariant) _ _ c.requires.mutex_there c.waiters.ensures
+
+pub list_threads-requires-clause-room : goal.list_threads-requires-clause-room
+list_threads-requires-clause-room c = let held = opened _ _ c.self.view_is c.self.invariant in omega (arith, c.requires.room, room-is held, held.laid.nodes)
+
+pub returns-clause-waiters : goal.returns-clause-waiters
+returns-clause-waiters c = c.list_threads.ensures.threads ∙ ap (threads_in c.self.inside.lists) c.waiters.ensures ∙ sym (waiters-are (opened _ _ c.self.view_is c.self.invariant) _ c.requires.mutex_there)

@@ -1,0 +1,3 @@
+pub mod QueueLists
+pub mod Calls
+pub mod Fields

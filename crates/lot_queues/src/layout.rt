@@ -1,0 +1,49 @@
+//! Which list holds which queue.
+ghost use Rattle.std.specs.Prelude.{◌≡◌, ◌-◌, ◌<◌};
+ghost use Rattle.lot_queues.specs.Fields as fields;
+
+/// How many threads there is room for, and how many ports and mutexes there are.
+#[derive(Clone, Copy, Debug)]
+pub(crate) struct Layout {
+    pub(crate) room: u32,
+    pub(crate) ports: u32,
+    pub(crate) mutexes: u32,
+}
+
+impl Layout {
+    /// How many lists there are.
+    pub(crate) fn list_count(self) -> usize
+        ensures { result ≡ fields.list_count self }
+    {
+        self.room as usize + self.ports as usize + self.ports as usize + self.mutexes as usize
+    }
+
+    pub(crate) fn calls(self, port: u32) -> usize
+        requires { 0 < port }
+        ensures { result ≡ fields.calls_list self port }
+    {
+        self.room as usize + (port as usize - 1)
+    }
+
+    pub(crate) fn receivers(self, port: u32) -> usize
+        requires { 0 < port }
+        ensures { result ≡ fields.receivers_list self port }
+    {
+        self.room as usize + self.ports as usize + (port as usize - 1)
+    }
+
+    pub(crate) fn waiters(self, mutex: u32) -> usize
+        requires { 0 < mutex }
+        ensures { result ≡ fields.waiters_list self mutex }
+    {
+        self.room as usize + self.ports as usize + self.ports as usize + (mutex as usize - 1)
+    }
+}
+
+/// The node of a thread, which is the list of its clients too.
+pub(crate) fn node_of(thread: u32) -> usize
+    requires { 0 < thread }
+    ensures { result ≡ thread - 1 }
+{
+    thread as usize - 1
+}
