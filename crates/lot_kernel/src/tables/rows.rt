@@ -37,6 +37,7 @@ impl Tables {
         ensures state { self.new ≡ self.old }
     {
         let found = ticket_at(&self.tickets, u64::from(ticket))?;
+        // A currency that issues is there. Were it not, the definitions would show an empty name.
         let issuer = self.currency_name(found.issuer).or(Name::new(""))?;
         let worth = self.ticket_worth(ticket, found);
         Some(TicketRow {
