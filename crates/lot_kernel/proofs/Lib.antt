@@ -2,5 +2,4 @@ pub mod LotteryLemmas
 pub mod NumberedLemmas
 pub mod OrderLemmas
 pub mod HeldLemmas
-pub mod RowLemmas
 pub mod RunningLemmas

@@ -114,14 +114,8 @@ map-passing f g test a (suc n) same = at (test a) refl (map-passing f g test (a 
 -- ---- a state in order
 
 module _ (s : State) (owners : List (Option ℕ)) (same : map (λ (m : Mutex). m.owner) s.mutexes ≡ owners) (order : IsInOrder s) where
-  funding-is : funding_of s ≡ funding_in s.currencies s.tickets s.records owners
-  funding-is = rw same refl
-
   pub settle-no_cycle : HasNoCycle (funding_in s.currencies s.tickets s.records owners)
   settle-no_cycle = rw (← same) order.no_cycle
-
-  pub settle-there : FundsThere (funding_in s.currencies s.tickets s.records owners)
-  settle-there = order.funds_there
 
   pub settle-base : active_amount (funding_in s.currencies s.tickets s.records owners) (live_in s.records) 0 * s.limits.unit < 2 ^ 56
   settle-base = rw (← same) (order-sound s order).bounded.base
