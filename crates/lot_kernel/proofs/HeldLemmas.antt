@@ -1,16 +1,20 @@
 -- What holds of the tables goes on to hold through their changes.
-use Rattle.std.proofs.Common.{◌≡◌, ℕ, zero, suc, ◌-◌, ◌≤◌, ◌==◌, Bool, true, false, Option, Some, None, List, [], ◌∷◌, ◌++◌, length, if◌then◌else◌, option_map, refl}
+use Rattle.std.proofs.Common.{◌≡◌, ℕ, zero, suc, ◌-◌, ◌<◌, ◌≤◌, ◌==◌, nat_lt, ltb-true, Bool, true, false, Option, Some, None, List, [], ◌∷◌, ◌++◌, length, if◌then◌else◌, option_map, refl}
 use Rattle.std.specs.List.{All, slice_get}
 use Rattle.std.specs.Option.{IfSome, option_flatten}
 use Rattle.std.proofs.lemmas.List.Elements.{All-set, All-head, All-tail, All-push, All-weaker}
 use Rattle.lot_machine.specs.declared.ticket.Ticket.{Ticket}
 use Rattle.lot_machine.specs.declared.ticket.Target.{Target}
 use Rattle.lot_machine.specs.declared.record.Record.{Record}
+use Rattle.lot_machine.specs.declared.record.Status.TheVariants.{Ready, Running}
+use Rattle.lot_machine.specs.declared.after.After.{After}
+use Rattle.lot_machine.specs.declared.after.After.TheVariants.{GoesOn, Leaves, Ends}
+use Rattle.lot_machine.specs.Traps.{after_trap, with_ticks}
 use Rattle.lot_machine.specs.Numbered.{at_number, set_number}
 use Rattle.lot_machine.specs.Funding.{ticket_in, with_target, retargeted}
 use Rattle.lot_machine.specs.State.{change_record}
 use Rattle.lot_rounds.specs.Tables.{AreWithin, IsTargetWithin, IsTicketWithin}
-use Rattle.lot_kernel.specs.Held.{IsTimely}
+use Rattle.lot_kernel.specs.Held.{IsTimely, IsLeaving}
 use Rattle.lot_kernel.proofs.OrderLemmas.{within-more}
 
 module _ {A : Type 0} (P : A → Type 0) where
@@ -57,3 +61,17 @@ timely-changed quantum records change t stays timely = at (at_number records t) 
     at : (o : Option Record) → at_number records t ≡ o → All (IsTimely quantum) (change_record change records t)
     at None e = rw e timely
     at (Some r) e = rw e (All-set (IsTimely quantum) records (t - 1) (change r) (stays r (rw e at (all_at_number (IsTimely quantum) records t timely))) timely)
+
+-- the record of a thread after its trap is timely
+pub timely-finished : (quantum p used ticks : ℕ) (after : After) → 0 < used → IsLeaving quantum after → (r : Record) → IsTimely quantum r → IsTimely quantum (with_ticks ticks (after_trap after p used quantum r))
+timely-finished quantum p used ticks GoesOn some leaves r timely = at (nat_lt used quantum) refl
+  where
+    at : (b : Bool) → nat_lt used quantum ≡ b → IsTimely quantum (with_ticks ticks (if b then record r { status = Running p used } else record r { status = Ready; compensation = None }))
+    at true below = (timely.0, ltb-true used quantum below)
+    at false below = (tt, tt)
+timely-finished quantum p used ticks (Leaves status) some leaves r timely = (at (nat_lt used quantum), leaves)
+  where
+    at : (b : Bool) → IfSome (if b then Some used else None) (λ n. 0 < n)
+    at true = some
+    at false = tt
+timely-finished quantum p used ticks Ends some leaves r timely = (tt, tt)

@@ -3,3 +3,4 @@ pub mod NumberedLemmas
 pub mod OrderLemmas
 pub mod HeldLemmas
 pub mod RunningLemmas
+pub mod TrapLemmas

@@ -1,5 +1,5 @@
 -- What a state that is in order gives to what is computed of it.
-use Rattle.std.proofs.Common.{◌≡◌, ℕ, zero, suc, ◌+◌, ◌-◌, ◌*◌, ◌<◌, ◌≤◌, ◌==◌, ◌^◌, Bool, true, false, Option, Some, None, is_some, List, [], ◌∷◌, length, map, filter, filter_map, get_or, sum_by, slice_index, replicate, option_and_then, cond, refl, ap, sym, ◌∙◌, arith}
+use Rattle.std.proofs.Common.{◌≡◌, ℕ, zero, suc, ◌+◌, ◌-◌, ◌*◌, ◌<◌, ◌≤◌, ◌==◌, ◌^◌, Bool, true, false, Option, Some, None, is_some, List, [], ◌∷◌, length, map, filter, filter_map, get_or, sum_by, slice_index, option_and_then, cond, refl, ap, sym, ◌∙◌, arith}
 use Rattle.std.specs.List.{All, range_with_len, slice_get}
 use Rattle.std.specs.Option.{IfSome}
 use Rattle.std.proofs.lemmas.Bool.{eq-eqb}
@@ -25,14 +25,6 @@ use Rattle.lot_rounds.specs.Tables.{AreWithin, IsTargetWithin, IsTicketWithin, f
 use Rattle.lot_rounds.specs.Listed.{Listed, IsSettled, listed_value}
 use Rattle.lot_rounds.proofs.BoundLemmas.{owned-bounded}
 use Rattle.lot_kernel.specs.Draws.{weight_listed}
-
--- free mutexes have no owner
-pub owners-free : (n : ℕ) (owners : List (Option ℕ)) → owners ≡ replicate n None → map (λ (m : Mutex). m.owner) (replicate n (record { owner = None; waiters = [] })) ≡ owners
-owners-free n owners free = from n ∙ sym free
-  where
-    from : (k : ℕ) → map (λ (m : Mutex). m.owner) (replicate k (record { owner = None; waiters = [] })) ≡ replicate k None
-    from zero = refl
-    from (suc k) = ap (λ (os : List (Option ℕ)). None ∷ os) (from k)
 
 -- ---- tickets within the tables
 

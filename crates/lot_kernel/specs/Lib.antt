@@ -1,3 +1,3 @@
-pub mod Served
+pub mod Trapped
 pub mod Held
 pub mod Draws

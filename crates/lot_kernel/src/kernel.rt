@@ -1,11 +1,10 @@
 //! The kernel and its events.
-ghost use Rattle.std.specs.Prelude.{◌≡◌, ◌<◌, ◌≤◌, ◌^◌, None, Some, IfOk, IfSome, MatchOption, length, option_map, All};
+ghost use Rattle.std.specs.Prelude.{◌≡◌, ◌<◌, ◌≤◌, ◌^◌, None, Some, IfOk, IfSome, MatchOption, length, option_map};
 ghost use Rattle.lot_machine.specs.Numbered as numbered;
 ghost use Rattle.lot_machine.specs.State.{funding_of, opening, sizes_of, thread_on, used_by};
 ghost use Rattle.lot_machine.specs.Step.{step, replies, state_after};
 ghost use Rattle.lot_machine.specs.Facts.{HasNoCycle, IsSound, base_value, live_value};
 ghost use Rattle.lot_machine.specs.Rows as rows;
-ghost use Rattle.lot_kernel.specs.Served.{IsServed};
 
 use crate::running::Runner;
 use crate::tables::Tables;
@@ -58,9 +57,8 @@ impl Kernel {
         self.tables.limits().unit
     }
 
-    /// One event, of those that are served. It takes no memory, and a refused one changes nothing.
+    /// One event. It takes no memory, and a refused one changes nothing but for a trap's: that one costs its ticks.
     pub fn event(&mut self, event: &Event) -> Reply
-        requires { IsServed event.now }
         ensures reply { result ≡ (step self.old event.now).reply }
         ensures state { self.new ≡ (step self.old event.now).state }
         ensures sound { IsSound self.new }
@@ -68,10 +66,9 @@ impl Kernel {
         self.tables.event(event)
     }
 
-    /// Events in order, of those that are served, and the reply to each in its place in `out`. It takes no memory.
+    /// Events in order, and the reply to each in its place in `out`. It takes no memory.
     pub fn run(&mut self, events: &[Event], out: &mut [Reply])
-        requires lengths { length events.now ≡ length out.old }
-        requires served { All IsServed events.now }
+        requires { length events.now ≡ length out.old }
         ensures replies { out.new ≡ replies self.old events.now }
         ensures state { self.new ≡ state_after self.old events.now }
     {

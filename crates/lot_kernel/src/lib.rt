@@ -2,10 +2,13 @@
 #![tactic(auto)]
 
 mod counts;
+mod effect;
 mod kernel;
 mod lotteries;
+mod mutexes;
 mod names;
 mod numbered;
+mod ports;
 mod running;
 mod tables;
 #[cfg(test)]

@@ -1,5 +1,5 @@
 //! What a draw works on: the Ready threads and what each weighs.
-ghost use Rattle.std.specs.Prelude.{◌≡◌, ◌<◌, ◌≤◌, ◌^◌, ℕ, All, IfSome, length, map, sum, vec_capacity};
+ghost use Rattle.std.specs.Prelude.{◌≡◌, ◌-◌, ◌<◌, ◌≤◌, ◌^◌, ℕ, All, IfSome, length, map, slice_index, sum, vec_capacity};
 ghost use Rattle.lot_machine.specs.State as states;
 ghost use Rattle.lot_machine.specs.State.{ready_threads};
 ghost use Rattle.lot_kernel.specs.Draws.{weight_listed, winner_among};
@@ -58,6 +58,19 @@ pub(crate) fn list_weights(
             ready.push_reserved(place as u32 + 1);
             weights.push_reserved(weight(values[place], record.compensation, quantum));
         }
+    }
+}
+
+/// Lists what each of these threads is worth.
+pub(crate) fn list_worths(threads: &[u32], values: &[u64], worths: &mut Vec<u128>)
+    requires there { All (λ t. (0 < t) × (t ≤ length values.now)) threads.now }
+    requires room { length threads.now ≤ vec_capacity worths.old }
+    ensures worths { worths.new.items ≡ map (λ t. slice_index values.now (t - 1)) threads.now }
+    ensures room { vec_capacity worths.new ≡ vec_capacity worths.old }
+{
+    worths.clear();
+    for thread in threads {
+        worths.push_reserved(u128::from(values[*thread as usize - 1]));
     }
 }
 

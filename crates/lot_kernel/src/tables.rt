@@ -3,13 +3,14 @@ ghost use Rattle.std.specs.Prelude.{◌≡◌, IfOk};
 ghost use Rattle.lot_machine.specs.State.{opening, sizes_of};
 ghost use Rattle.lot_machine.specs.Step.{step};
 ghost use Rattle.lot_machine.specs.Order.{IsInOrder};
-ghost use Rattle.lot_kernel.specs.Served.{IsServed};
 
 mod commands;
 mod processors;
 mod rows;
+mod traps;
 
 use lot_machine::{Event, Limits, Name, Record, Reply, Thread, Ticket};
+use lot_queues::Queues;
 use lot_rounds::Rounds;
 use std::alloc::{AllocError, Global};
 use std::marker::Model;
@@ -24,29 +25,28 @@ pub(crate) struct Tables {
     tickets: Vec<Option<Ticket>>,
     threads: Vec<Thread>,
     records: Vec<Record>,
-    /// Who owns each mutex.
-    owners: Vec<Option<u32>>,
+    queues: Queues,
     /// What is active and what everything is worth.
     rounds: Rounds,
-    /// For a draw: the Ready threads, and what each weighs.
+    /// For a lottery: the Ready threads or the waiters for a mutex, and what each weighs.
     ready: Vec<u32>,
     weights: Vec<u128>,
 }
 
 impl Model for Tables {
-    ghost use Rattle.std.specs.Prelude.{◌≡◌, ◌+◌, ◌≤◌, All, None, length, replicate, vec_len, vec_capacity};
+    ghost use Rattle.std.specs.Prelude.{◌≡◌, ◌+◌, ◌≤◌, All, length, vec_len, vec_capacity};
     ghost use Rattle.lot_machine.specs.State.{State, sizes_of};
     ghost use Rattle.lot_rounds.specs.Tables.{AreWithin};
     ghost use Rattle.lot_kernel.specs.Held.{held, IsTimely};
 
     ghost Value = { State };
 
-    ghost view = { λ k. held (sizes_of k.limits) k.currencies.items k.tickets.items k.threads.items k.records.items };
+    ghost view = { λ k. held (sizes_of k.limits) k.currencies.items k.tickets.items k.threads.items k.records.items k.queues };
 
     ghost invariant = { λ k. record {
       within : AreWithin (vec_len k.currencies) (vec_len k.records) k.tickets.items;
       timely : All (IsTimely k.limits.quantum) k.records.items;
-      owners : k.owners.items ≡ replicate k.limits.mutexes None;
+      clients : length k.queues.clients ≡ vec_len k.records;
       records : vec_len k.records ≡ vec_len k.threads;
       tickets : vec_len k.tickets ≤ k.limits.tickets;
       currencies : vec_len k.currencies ≤ k.limits.currencies + 1;
@@ -55,6 +55,7 @@ impl Model for Tables {
       currency_room : k.limits.currencies + 1 ≤ vec_capacity k.currencies;
       thread_room : k.limits.threads ≤ vec_capacity k.threads;
       record_room : k.limits.threads ≤ vec_capacity k.records;
+      queue_room : k.queues.room ≡ k.limits.threads;
       worths_room : length k.rounds.worths ≡ k.limits.currencies + 1;
       values_room : length k.rounds.values ≡ k.limits.threads;
       ready_room : k.limits.threads ≤ vec_capacity k.ready;
@@ -77,7 +78,7 @@ impl Tables {
             tickets: Vec::with_capacity(alloc, limits.tickets as usize)?,
             threads: Vec::with_capacity(alloc, threads)?,
             records: Vec::with_capacity(alloc, threads)?,
-            owners: vec![in alloc; None; limits.mutexes as usize]?,
+            queues: Queues::new(alloc, limits.ports, limits.mutexes, limits.threads)?,
             rounds: Rounds::new(alloc, currencies, threads)?,
             ready: Vec::with_capacity(alloc, threads)?,
             weights: Vec::with_capacity(alloc, threads)?,
@@ -90,10 +91,9 @@ impl Tables {
         self.limits
     }
 
-    /// One event, of those that are served.
+    /// One event.
     pub(crate) fn event(&mut self, event: &Event) -> Reply
-        requires served { IsServed event.now }
-        requires order { IsInOrder self.old }
+        requires { IsInOrder self.old }
         ensures reply { result ≡ (step self.old event.now).reply }
         ensures state { self.new ≡ (step self.old event.now).state }
     {

@@ -31,8 +31,9 @@ use Rattle.lot_machine.specs.Lends.{lends_on_to, LendsTo, borrower}
 use Rattle.lot_machine.specs.Lottery.{winner}
 use Rattle.lot_machine.specs.State.{State, Port, Mutex, QueuedCall, opening, funding_of, lend_of, status_of, is_ready, ready_threads, thread_on, change_record, value_of, weight_of}
 use Rattle.lot_machine.specs.Commands.{currency_named, target_named, currency_or_base, is_good_name, is_taken, is_no_script, is_bad_amount, are_tickets_full, are_threads_full, with_thread, command_effect, command_step}
-use Rattle.lot_machine.specs.Traps.{After, after_trap, with_ticks}
-use Rattle.lot_machine.specs.Traps.After.{GoesOn, Leaves, Ends}
+use Rattle.lot_machine.specs.declared.after.After.{After}
+use Rattle.lot_machine.specs.Traps.{after_trap, with_ticks}
+use Rattle.lot_machine.specs.declared.after.After.TheVariants.{GoesOn, Leaves, Ends}
 use Rattle.lot_machine.specs.Ports.{first_client}
 use Rattle.lot_machine.specs.Mutexes.{mutex_at}
 use Rattle.lot_machine.specs.Step.{Effect, is_bad_processor, started, draw, expire, owns, trap_refusal, trap_effect, checked_effect, trap, thread_there, used_there, event_effect, step, state_after}

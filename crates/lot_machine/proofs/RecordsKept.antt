@@ -9,8 +9,9 @@ use Rattle.lot_machine.specs.declared.record.Status.{Status}
 use Rattle.lot_machine.specs.declared.record.Status.TheVariants.{Ready, Running, Queued, Receiving, Served, Waiting, Dead}
 use Rattle.lot_machine.specs.Numbered.{at_number, set_number, numbers}
 use Rattle.lot_machine.specs.State.{status_of, used_on, used_by, thread_on, change_record}
-use Rattle.lot_machine.specs.Traps.{After, after_trap, with_ticks}
-use Rattle.lot_machine.specs.Traps.After.{GoesOn, Leaves, Ends}
+use Rattle.lot_machine.specs.declared.after.After.{After}
+use Rattle.lot_machine.specs.Traps.{after_trap, with_ticks}
+use Rattle.lot_machine.specs.declared.after.After.TheVariants.{GoesOn, Leaves, Ends}
 use Rattle.lot_machine.specs.Facts.{RunsApart}
 use Rattle.lot_machine.proofs.Changes.{number-set, number-push, number-there}
 use Rattle.lot_machine.proofs.Tickets.{at_number-suc, some-injective}

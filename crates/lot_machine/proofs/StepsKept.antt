@@ -14,8 +14,8 @@ use Rattle.lot_machine.specs.declared.drawn.Drawn.{Drawn}
 use Rattle.lot_machine.specs.State.{State, QueuedCall, Port, Mutex, thread_on, change_record, ready_threads, value_of, weight_of}
 use Rattle.lot_machine.specs.Lottery.{winner}
 use Rattle.lot_machine.specs.Commands.{with_thread, command_effect, command_step}
-use Rattle.lot_machine.specs.Traps.{After}
-use Rattle.lot_machine.specs.Traps.After.{GoesOn, Leaves}
+use Rattle.lot_machine.specs.declared.after.After.{After}
+use Rattle.lot_machine.specs.declared.after.After.TheVariants.{GoesOn, Leaves}
 use Rattle.lot_machine.specs.Ports.{port_at, first_client, call, receive, reply}
 use Rattle.lot_machine.specs.Mutexes.{mutex_at, lock, unlock}
 use Rattle.lot_machine.specs.Step.{Effect, is_bad_processor, started, draw, expire, trap_refusal, trap_effect, checked_effect, trap, thread_there, used_there, event_effect, step}

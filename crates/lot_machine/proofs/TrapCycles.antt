@@ -15,8 +15,8 @@ use Rattle.lot_machine.specs.Numbered.{at_number, set_number, option_any}
 use Rattle.lot_machine.specs.Funding.{Funding, owner_of}
 use Rattle.lot_machine.specs.Lends.{borrower, LendsLead, lends_lead, lends_on_to}
 use Rattle.lot_machine.specs.State.{State, Mutex, QueuedCall, funding_of, lend_of, status_of, change_record}
-use Rattle.lot_machine.specs.Traps.{After}
-use Rattle.lot_machine.specs.Traps.After.{GoesOn, Leaves}
+use Rattle.lot_machine.specs.declared.after.After.{After}
+use Rattle.lot_machine.specs.declared.after.After.TheVariants.{GoesOn, Leaves}
 use Rattle.lot_machine.specs.Ports.{first_client, port_at, call, receive, reply}
 use Rattle.lot_machine.specs.Mutexes.{mutex_at, lock, unlock}
 use Rattle.lot_machine.specs.Facts.{HasNoCycle}
@@ -34,7 +34,7 @@ at_number-map v xs zero = refl
 at_number-map v xs (suc i) = at_number-suc (map v xs) i ∙ slice_get-map v xs i ∙ ap (option_map v) (sym (at_number-suc xs i))
 
 -- what a thread lends to, from its status
-lend-at : (records : List Record) (t : ℕ) (now : Status) → status_of records t ≡ Some now → at_number (map (λ (r : Record). lend_of r.status) records) t ≡ Some (lend_of now)
+pub lend-at : (records : List Record) (t : ℕ) (now : Status) → status_of records t ≡ Some now → at_number (map (λ (r : Record). lend_of r.status) records) t ≡ Some (lend_of now)
 lend-at records t now e = at_number-map (λ (r : Record). lend_of r.status) records t ∙ from (at_number records t) e
   where
     from : (o : Option Record) → option_map (λ (r : Record). r.status) o ≡ Some now → option_map (λ (r : Record). lend_of r.status) o ≡ Some (lend_of now)

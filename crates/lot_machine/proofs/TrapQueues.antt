@@ -9,8 +9,8 @@ use Rattle.lot_machine.specs.declared.drawn.Drawn.{Drawn}
 use Rattle.lot_machine.specs.Lottery.{winner}
 use Rattle.lot_machine.specs.Numbered.{at_number, set_number}
 use Rattle.lot_machine.specs.State.{Port, Mutex, QueuedCall, status_of, change_record}
-use Rattle.lot_machine.specs.Traps.{After}
-use Rattle.lot_machine.specs.Traps.After.{GoesOn, Leaves}
+use Rattle.lot_machine.specs.declared.after.After.{After}
+use Rattle.lot_machine.specs.declared.after.After.TheVariants.{GoesOn, Leaves}
 use Rattle.lot_machine.specs.Ports.{clients_of, first_client, port_at, call, receive, reply}
 use Rattle.lot_machine.specs.Mutexes.{mutex_at, lock, unlock}
 use Rattle.lot_machine.specs.Order.{IsQueue, HasQueues}

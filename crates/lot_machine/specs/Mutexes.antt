@@ -8,8 +8,8 @@ use Rattle.lot_machine.specs.Numbered.{at_number, set_number}
 use Rattle.lot_machine.specs.declared.drawn.Drawn.{Drawn}
 use Rattle.lot_machine.specs.Lottery.{winner}
 use Rattle.lot_machine.specs.State.{Mutex, change_record}
-use Rattle.lot_machine.specs.Traps.{After}
-use Rattle.lot_machine.specs.Traps.After.{GoesOn, Leaves}
+use Rattle.lot_machine.specs.declared.after.After.{After}
+use Rattle.lot_machine.specs.declared.after.After.TheVariants.{GoesOn, Leaves}
 
 -- the threads and the mutexes after a trap, what came of it, and how the thread that made it leaves its processor
 pub record MutexTrap : Type 0 where

@@ -20,8 +20,9 @@ use Rattle.lot_machine.specs.declared.drawn.Drawn.{Drawn}
 use Rattle.lot_machine.specs.Lottery.{winner}
 use Rattle.lot_machine.specs.State.{State, funding_of, ready_threads, thread_on, used_by, value_of, weight_of, change_record, saturated}
 use Rattle.lot_machine.specs.Commands.{Step, first_failing, unless_refused, command_step}
-use Rattle.lot_machine.specs.Traps.{After, after_trap, with_ticks}
-use Rattle.lot_machine.specs.Traps.After.{GoesOn, Leaves, Ends}
+use Rattle.lot_machine.specs.declared.after.After.{After}
+use Rattle.lot_machine.specs.Traps.{after_trap, with_ticks}
+use Rattle.lot_machine.specs.declared.after.After.TheVariants.{GoesOn, Leaves, Ends}
 use Rattle.lot_machine.specs.Ports.{PortTrap, first_client, call, receive, reply}
 use Rattle.lot_machine.specs.Mutexes.{MutexTrap, mutex_at, lock, unlock}
 

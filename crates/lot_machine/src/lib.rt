@@ -2,6 +2,7 @@
 #![tactic(auto)]
 
 mod action;
+mod after;
 mod command;
 mod drawn;
 mod event;
@@ -24,6 +25,7 @@ mod ticket;
 pub mod worked;
 
 pub use action::Action;
+pub use after::After;
 pub use command::{Command, Kind};
 pub use drawn::Drawn;
 pub use event::Event;

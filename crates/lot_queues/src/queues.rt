@@ -1,5 +1,5 @@
 //! The queues.
-ghost use Rattle.std.specs.Prelude.{◌≡◌, ◌↔◌, ◌+◌, ◌<◌, ◌≤◌, ◌^◌, ◌++◌, ◌∷◌, [], ℕ, IfNone, IfOk, IfSome, IsTrue, drop, length, map, remove, option_map, slice_get, vec_capacity};
+ghost use Rattle.std.specs.Prelude.{◌≡◌, ◌↔◌, ◌+◌, ◌<◌, ◌≤◌, ◌^◌, ◌++◌, ◌∷◌, [], ℕ, IfNone, IfOk, IfSome, IsTrue, drop, length, map, remove, option_map, slice_get, vec_len, vec_capacity};
 ghost use Rattle.lot_machine.specs.Numbered.{set_number};
 ghost use Rattle.lot_machine.specs.Ports as machine;
 ghost use Rattle.lot_machine.specs.Ports.{port_at, clients_of, with_client};
@@ -243,6 +243,7 @@ impl Queues {
         requires mutex_there { IsThere self.now.mutexes mutex }
         requires room { self.now.room ≤ vec_capacity out.old }
         ensures waiters { out.new.items ≡ (mutex_at self.now.mutexes mutex).waiters }
+        ensures few { vec_len out.new ≤ self.now.room }
         ensures room { vec_capacity out.new ≡ vec_capacity out.old }
     {
         list_threads(&self.lists, self.layout.waiters(mutex), out);
@@ -290,6 +291,7 @@ fn list_threads(lists: &Lists, list: usize, out: &mut Vec<u32>)
     requires list { list < length lists.now.lists }
     requires room { lists.now.nodes ≤ vec_capacity out.old }
     ensures threads { out.new.items ≡ threads_in lists.now list }
+    ensures few { vec_len out.new ≤ lists.now.nodes }
     ensures room { vec_capacity out.new ≡ vec_capacity out.old }
 {
     out.clear();

@@ -23,6 +23,21 @@ module _ (f : Funding) (live : List Bool) (t : ℕ) where
   pub backed-on : (n i s : ℕ) → i < n → is_live live t ≡ false → borrower_of f t ≡ Some s → is_backed_within (n - i) f live t ≡ is_backed_within (n - (i + 1)) f live s
   backed-on n i s below not lends = let left : n - i ≡ suc (n - (i + 1)) = omega (arith, below) in rw (left, not, lends) refl
 
+module _ (f : Funding) (s t : ℕ) where
+  -- the lends of a thread lead to itself
+  pub lead-there : (k : ℕ) → (s == t) ≡ true → lends_lead_within k f s t ≡ true
+  lead-there zero is = is
+  lead-there (suc k) is = rw is refl
+
+  -- those of another that lends to nobody lead nowhere
+  pub lead-nowhere : (k : ℕ) → (s == t) ≡ false → borrower_of f s ≡ None → lends_lead_within k f s t ≡ false
+  lead-nowhere zero not none = not
+  lead-nowhere (suc k) not none = rw (not, none) refl
+
+  -- else they lead where the borrower's do
+  pub lead-further : (n i x : ℕ) → i < n → (s == t) ≡ false → borrower_of f s ≡ Some x → lends_lead_within (n - i) f s t ≡ lends_lead_within (n - (i + 1)) f x t
+  lead-further n i x below not lends = let left : n - i ≡ suc (n - (i + 1)) = omega (arith, below) in rw (left, not, lends) refl
+
 module _ (f : Funding) (s t amount : ℕ) where
   -- what a thread owns goes to itself
   pub itself-within : (k : ℕ) → cond (s == t) amount 0 ≤ cond (lends_lead_within k f s t) amount 0

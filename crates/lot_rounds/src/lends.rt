@@ -66,6 +66,36 @@ fn is_backed(records: &[Record], owners: &[Option<u32>], thread: u32) -> bool
     is_live(records, at)
 }
 
+/// Whether a chain of one lend or more leads from one thread to another (6.1).
+///
+/// A lock that would wait for an owner whose lends lead to the caller would make a cycle. The chain is followed, a step
+/// for each thread at most.
+pub fn lends_on_to(records: &[Record], owners: &[Option<u32>], from: u32, to: u32) -> bool
+    ensures { (f : Funding) → LendsAre f records.now owners.now → result ≡ lends.lends_on_to f from to }
+{
+    match borrower_of(records, owners, from) {
+        Some(next) => lends_lead(records, owners, next, to),
+        None => false,
+    }
+}
+
+/// Whether a chain of lends, perhaps empty, leads from one thread to another.
+fn lends_lead(records: &[Record], owners: &[Option<u32>], from: u32, to: u32) -> bool
+    ensures { (f : Funding) → LendsAre f records.now owners.now → result ≡ lends.lends_lead f from to }
+{
+    let mut at = from;
+    for _ in 0..records.len() {
+        if at == to {
+            return true;
+        }
+        let Some(next) = borrower_of(records, owners, at) else {
+            return false;
+        };
+        at = next;
+    }
+    at == to
+}
+
 /// Lists which threads are backed.
 pub(crate) fn list_backed(records: &[Record], owners: &[Option<u32>], backed: &mut Vec<bool>)
     requires few { length records.now < 2 ^ 32 }

@@ -8,4 +8,5 @@ mod shares;
 #[cfg(test)]
 mod tests;
 
+pub use lends::lends_on_to;
 pub use rounds::Rounds;

@@ -151,6 +151,7 @@ impl Tables {
             quanta: 0,
             ticks: 0,
         });
+        self.queues.add_thread();
     }
 
     fn make_funded(&mut self, amount: u64, currency: &Name, name: &Name, script: u32) -> Reply

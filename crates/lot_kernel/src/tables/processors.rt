@@ -1,7 +1,6 @@
 //! What happens on a processor: draws, expiries and traps.
 ghost use Rattle.std.specs.Prelude.{◌≡◌, ◌<◌, ◌≤◌, Some, None, IfSome, MatchOption, length, map, option_map};
 ghost use Rattle.lot_machine.specs.declared.event.Event.TheVariants as event;
-ghost use Rattle.lot_machine.specs.declared.action.Action.TheVariants.{Exit};
 ghost use Rattle.lot_machine.specs.Numbered as numbered;
 ghost use Rattle.lot_machine.specs.Step as steps;
 ghost use Rattle.lot_machine.specs.Step.{step};
@@ -9,13 +8,13 @@ ghost use Rattle.lot_machine.specs.Lottery as lottery;
 ghost use Rattle.lot_machine.specs.Order.{IsInOrder};
 ghost use Rattle.lot_machine.specs.State.{ready_threads, thread_on, used_by, weight_of};
 ghost use Rattle.lot_kernel.specs.Draws.{winner_among};
-ghost use Rattle.lot_kernel.specs.Served.{IsServedAction};
+ghost use Rattle.lot_kernel.specs.Trapped.{IsRunning, trapped};
 
 use crate::lotteries::{Winner, list_weights};
-use crate::running::{self, Runner, runner_on};
+use crate::running::{self, Runner, Trap, runner_on};
 use crate::tables::Tables;
 use lot_draw::winner;
-use lot_machine::{Action, Outcome, Refusal, Reply};
+use lot_machine::{Action, Refusal, Reply};
 
 impl Tables {
     /// Who runs on the processor, `None` exactly where nobody does. The ticks used are below the quantum.
@@ -74,7 +73,7 @@ impl Tables {
             &self.currencies,
             &self.tickets,
             &self.records,
-            &self.owners,
+            self.queues.owners(),
             self.limits.unit,
         );
         list_weights(
@@ -105,21 +104,11 @@ impl Tables {
         Reply::Expired { thread, ticks }
     }
 
-    /// A trap on a processor, of those that are served.
+    /// A trap on a processor, with the ticks that were run before it.
     pub(super) fn trap(&mut self, processor: u32, ran: u32, action: Action) -> Reply
-        requires { IsServedAction action }
+        requires { IsInOrder self.old }
         ensures reply { result ≡ (step self.old (event.Trap processor ran action)).reply }
         ensures state { self.new ≡ (step self.old (event.Trap processor ran action)).state }
-    {
-        match action {
-            Action::Exit => self.exit(processor, ran),
-            _ => unreachable!(),
-        }
-    }
-
-    fn exit(&mut self, processor: u32, ran: u32) -> Reply
-        ensures reply { result ≡ (step self.old (event.Trap processor ran Exit)).reply }
-        ensures state { self.new ≡ (step self.old (event.Trap processor ran Exit)).state }
     {
         if self.is_bad_processor(processor) {
             return Reply::Refused(Refusal::BadProcessor);
@@ -130,14 +119,33 @@ impl Tables {
         if u64::from(runner.used) + u64::from(ran) + 1 > u64::from(self.limits.quantum) {
             return Reply::Refused(Refusal::BadTicks);
         }
-        let thread = runner.thread;
-        let ticks = ran + 1;
-        running::end(&mut self.records, thread, ticks);
+        self.make_trap(
+            Trap {
+                processor,
+                thread: runner.thread,
+                ticks: ran + 1,
+                used: runner.used + ran + 1,
+            },
+            action,
+        )
+    }
+
+    /// A trap that costs no more than what is left of its thread's quantum.
+    fn make_trap(&mut self, trap: Trap, action: Action) -> Reply
+        requires order { IsInOrder self.old }
+        requires runs { IsRunning self.old.records trap.thread }
+        requires used { 0 < trap.used }
+        ensures reply { result ≡ (trapped self.old trap action).reply }
+        ensures state { self.new ≡ (trapped self.old trap action).state }
+    {
+        let effect = self.act(trap.thread, action);
+        let quantum = self.limits.quantum;
+        running::finish(&mut self.records, trap, effect.after, quantum);
         Reply::Trapped {
-            thread,
-            ticks,
-            outcome: Outcome::Exited,
-            ends: false,
+            thread: trap.thread,
+            ticks: trap.ticks,
+            outcome: effect.outcome,
+            ends: running::has_ended(trap, effect.after, quantum),
         }
     }
 

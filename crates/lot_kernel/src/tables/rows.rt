@@ -98,7 +98,7 @@ impl Tables {
             &self.currencies,
             &self.tickets,
             &self.records,
-            &self.owners,
+            self.queues.owners(),
             self.limits.unit,
         );
         TicketWorth {
@@ -119,7 +119,7 @@ impl Tables {
             &self.currencies,
             &self.tickets,
             &self.records,
-            &self.owners,
+            self.queues.owners(),
             self.limits.unit,
         );
         let active_amount = self.rounds.active_amount(currency);
@@ -146,7 +146,7 @@ impl Tables {
             &self.currencies,
             &self.tickets,
             &self.records,
-            &self.owners,
+            self.queues.owners(),
             self.limits.unit,
         );
         self.rounds.values()[thread as usize - 1]

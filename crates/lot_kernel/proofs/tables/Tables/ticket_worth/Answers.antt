@@ -1,22 +1,22 @@
-use Rattle.std.proofs.Common.{length, ◌≤◌, ◌∙◌, rules, arith}
+use Rattle.std.proofs.Common.{sym, length, ◌≤◌, ◌∙◌, rules, arith}
 use Rattle.lot_kernel.specs.contracts.tables.Tables.{the_view}
 use Rattle.lot_rounds.specs.Tables.{IsTicketWithin}
-use Rattle.lot_kernel.proofs.OrderLemmas.{owners-free, settle-no_cycle, settle-base, settled-of, within-at, within-more, value-small}
+use Rattle.lot_kernel.proofs.OrderLemmas.{settle-no_cycle, settle-base, settled-of, within-at, within-more, value-small}
 use Rattle.lot_kernel.proofs.tables.Tables.ticket_worth.Goals as goal
 
 pub settle-requires-clause-no_cycle : goal.settle-requires-clause-no_cycle
 settle-requires-clause-no_cycle c =
     let s = the_view c.self.inside in
     let order = rw (← c.self.view_is) at c.requires.order in
-    rw (c.deref.ensures.value, c.deref-2.ensures.value, c.deref-3.ensures.value, c.deref-4.ensures.value)
-    (settle-no_cycle s c.self.inside.owners.items (owners-free c.self.inside.limits.mutexes c.self.inside.owners.items c.self.invariant.owners) order)
+    rw (c.deref.ensures.value, c.deref-2.ensures.value, c.deref-3.ensures.value)
+    (settle-no_cycle s _ (sym c.owners.ensures) order)
 
 pub settle-requires-clause-base : goal.settle-requires-clause-base
 settle-requires-clause-base c =
     let s = the_view c.self.inside in
     let order = rw (← c.self.view_is) at c.requires.order in
-    rw (c.deref.ensures.value, c.deref-2.ensures.value, c.deref-3.ensures.value, c.deref-4.ensures.value)
-    (settle-base s c.self.inside.owners.items (owners-free c.self.inside.limits.mutexes c.self.inside.owners.items c.self.invariant.owners) order)
+    rw (c.deref.ensures.value, c.deref-2.ensures.value, c.deref-3.ensures.value)
+    (settle-base s _ (sym c.owners.ensures) order)
 
 pub is_active-requires : goal.is_active-requires
 is_active-requires c =
@@ -41,20 +41,19 @@ ticket_value-requires-clause-small c =
     let s = the_view c.self.inside in
     let order = rw (← c.self.view_is) at c.requires.order in
     let settled =
-    settled-of s c.self.inside.owners.items (owners-free c.self.inside.limits.mutexes c.self.inside.owners.items c.self.invariant.owners) order c.settle.new.self
-    (rw (c.deref.ensures.value, c.deref-2.ensures.value, c.deref-3.ensures.value, c.deref-4.ensures.value) at c.settle.ensures.settled) in
+    settled-of s _ (sym c.owners.ensures) order c.settle.new.self
+    (rw (c.deref.ensures.value, c.deref-2.ensures.value, c.deref-3.ensures.value) at c.settle.ensures.settled) in
     let there = rw (← c.self.view_is) at c.requires.there in
-    let mutexes = owners-free c.self.inside.limits.mutexes c.self.inside.owners.items c.self.invariant.owners in
     let inside = within-at _ _ c.self.inside.tickets.items c.self.invariant.within c.args.number c.args.ticket there in
-    value-small s c.self.inside.owners.items mutexes order c.settle.new.self settled c.args.number c.args.ticket (within-more _ _ _ _ (omega arith) (omega arith) c.args.ticket inside) there
+    value-small s _ (sym c.owners.ensures) order c.settle.new.self settled c.args.number c.args.ticket (within-more _ _ _ _ (omega arith) (omega arith) c.args.ticket inside) there
 
 pub returns-clause-active : goal.returns-clause-active
 returns-clause-active c =
     let s = the_view c.self.inside in
     let order = rw (← c.self.view_is) at c.requires.order in
     let settled =
-    settled-of s c.self.inside.owners.items (owners-free c.self.inside.limits.mutexes c.self.inside.owners.items c.self.invariant.owners) order c.settle.new.self
-    (rw (c.deref.ensures.value, c.deref-2.ensures.value, c.deref-3.ensures.value, c.deref-4.ensures.value) at c.settle.ensures.settled) in
+    settled-of s _ (sym c.owners.ensures) order c.settle.new.self
+    (rw (c.deref.ensures.value, c.deref-2.ensures.value, c.deref-3.ensures.value) at c.settle.ensures.settled) in
     let there = rw (← c.self.view_is) at c.requires.there in
     rw (← c.self.view_is) (c.is_active.ensures ∙ settled.active c.args.number c.args.ticket there)
 
@@ -63,7 +62,7 @@ returns-clause-value c =
     let s = the_view c.self.inside in
     let order = rw (← c.self.view_is) at c.requires.order in
     let settled =
-    settled-of s c.self.inside.owners.items (owners-free c.self.inside.limits.mutexes c.self.inside.owners.items c.self.invariant.owners) order c.settle.new.self
-    (rw (c.deref.ensures.value, c.deref-2.ensures.value, c.deref-3.ensures.value, c.deref-4.ensures.value) at c.settle.ensures.settled) in
+    settled-of s _ (sym c.owners.ensures) order c.settle.new.self
+    (rw (c.deref.ensures.value, c.deref-2.ensures.value, c.deref-3.ensures.value) at c.settle.ensures.settled) in
     let there = rw (← c.self.view_is) at c.requires.there in
     rw (← c.self.view_is) (c.ticket_value.ensures ∙ settled.tickets c.args.number c.args.ticket there)

@@ -11,3 +11,6 @@ list_threads-requires-clause-room c = let held = opened _ _ c.self.view_is c.sel
 
 pub returns-clause-waiters : goal.returns-clause-waiters
 returns-clause-waiters c = c.list_threads.ensures.threads ∙ ap (threads_in c.self.inside.lists) c.waiters.ensures ∙ sym (waiters-are (opened _ _ c.self.view_is c.self.invariant) _ c.requires.mutex_there)
+
+pub returns-clause-few : goal.returns-clause-few
+returns-clause-few c = let held = opened _ _ c.self.view_is c.self.invariant in omega (arith, c.list_threads.ensures.few, room-is held, held.laid.nodes)
