@@ -1,3 +1,5 @@
+mod traps;
+
 use crate::{
     Action, Command, CurrencyRow, Event, Kernel, Kind, Limits, Name, Outcome, Refusal, Reply,
     Status, ThreadRow, TicketRow,
@@ -270,14 +272,20 @@ fn events_out_of_place(rt: HostRuntime) -> Result<(), Fail> {
     )
 }
 
+/// Gives one thread all the tickets that there may be, of the largest amount.
+fn fund_fully(kernel: &mut Kernel) -> Result<(), Fail> {
+    answer(kernel, Line::Mkthr("a", 1))?;
+    for ticket in 1..=65535 {
+        answer(kernel, Line::Mktkt(4294967295, "base"))?;
+        answer(kernel, Line::Fund(ticket, "a"))?;
+    }
+    Ok(())
+}
+
 /// All the tickets that there may be, of the largest amount.
 fn all_tickets(rt: &impl Abort, alloc: Global, unit: u32, total: u128) -> Result<(), Fail> {
     let mut kernel = largest(alloc, unit)?;
-    answer(&mut kernel, Line::Mkthr("a", 1))?;
-    for ticket in 1..=65535 {
-        answer(&mut kernel, Line::Mktkt(4294967295, "base"))?;
-        answer(&mut kernel, Line::Fund(ticket, "a"))?;
-    }
+    fund_fully(&mut kernel)?;
     let refusals = [
         (Line::Mktkt(1, "base"), refused(Refusal::Full)),
         (Line::Mktkt(0, "base"), refused(Refusal::BadAmount)),
@@ -292,6 +300,26 @@ fn all_tickets(rt: &impl Abort, alloc: Global, unit: u32, total: u128) -> Result
 fn largest_totals(rt: HostRuntime) -> Result<(), Fail> {
     all_tickets(&rt, rt.alloc(), 1, 281470681677825)?;
     all_tickets(&rt, rt.alloc(), 256, 72056494509523200)
+}
+
+/// The largest total of all: every ticket, the finer unit, and the largest compensation.
+#[test]
+fn largest_compensated_total(rt: HostRuntime) -> Result<(), Fail> {
+    let limits = Limits::new(65535, 4096, 4096, 2, 2, 2, 1, 1000)
+        .and_then(|limits| limits.with_unit(256))
+        .ok_or("limits")?;
+    let mut kernel = Kernel::new(rt.alloc(), limits)?;
+    fund_fully(&mut kernel)?;
+    let mut out = [Reply::Idle; 3];
+    let events = [
+        Event::Draw(1, 0),
+        Event::Trap(1, 0, Action::Yield),
+        Event::Draw(1, u64::MAX),
+    ];
+    kernel.run(&events, &mut out);
+    let last = won(1, 18446744073709551615, 72056494509523200000);
+    assert_eq!(rt; out[2], last);
+    Ok(())
 }
 
 #[test]

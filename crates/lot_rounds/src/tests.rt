@@ -4,8 +4,8 @@ ghost use Rattle.lot_machine.specs.Lends.{LendsTo};
 ghost use Rattle.lot_machine.specs.declared.ticket.Target.TheVariants as to;
 ghost use Rattle.lot_rounds.specs.Tables.{AreWithin, IsTicketWithin, lends_in};
 
-use crate::Rounds;
 use crate::lends::borrower_of;
+use crate::{Rounds, lends_on_to};
 use lot_machine::{Name, Record, Status, Target, Ticket};
 use std::alloc::{AllocError, Global};
 use std::process::Abort;
@@ -534,6 +534,37 @@ fn cycles(rt: HostRuntime) -> Result<(), Fail> {
         let funding = tickets.get(..there).ok_or("tickets")?;
         let answer = makes_cycle(&rt, rt.alloc(), funding, issuer, currency)?;
         assert_eq!(&rt; answer, cycle, "{there} tickets, {issuer} to {currency}");
+    }
+    Ok(())
+}
+
+#[test]
+fn chains_of_lends(rt: HostRuntime) -> Result<(), Fail> {
+    // Thread 1 waits for the mutex of thread 2, which is served by thread 3; thread 4 waits for a free one.
+    let statuses = [
+        Status::Waiting(1),
+        Status::Served(3),
+        Status::Ready,
+        Status::Waiting(2),
+    ];
+    let records = records_of(rt.alloc(), &statuses)?;
+    let owners = [Some(2), None];
+    for (from, to, leads) in [
+        (1, 2, true),
+        (1, 3, true),
+        (2, 3, true),
+        (1, 1, false),
+        (2, 1, false),
+        (3, 3, false),
+        (4, 2, false),
+        (0, 1, false),
+        (9, 1, false),
+    ] {
+        assert_eq!(rt;
+            lends_on_to(&records, &owners, from, to),
+            leads,
+            "{from} to {to}"
+        );
     }
     Ok(())
 }
