@@ -1,1 +1,4 @@
 pub mod Seen
+pub mod Steps
+pub mod Held
+pub mod Turns

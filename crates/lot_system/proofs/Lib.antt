@@ -1,0 +1,6 @@
+pub mod StepFacts
+pub mod ReplyFacts
+pub mod Runs
+pub mod PlaceFacts
+pub mod TurnFacts
+pub mod ServedFacts
