@@ -2,3 +2,4 @@ pub mod Seen
 pub mod Steps
 pub mod Held
 pub mod Turns
+pub mod Counted

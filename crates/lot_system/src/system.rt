@@ -3,13 +3,15 @@ ghost use Rattle.std.specs.Prelude.{◌≡◌, ◌↔◌, ◌<◌, ◌≤◌, []
 ghost use Rattle.lot_machine.specs.Bounds.{IsBetween};
 ghost use Rattle.lot_machine.specs.World.Answer.{Answered};
 ghost use Rattle.lot_machine.specs.World.{IsLegal, sys};
+ghost use Rattle.lot_machine.specs.Report.{turns_made, turns_of};
 ghost use Rattle.lot_script.specs.Exits.{OnlyCompute};
+ghost use Rattle.lot_system.specs.Counted.{counted};
 ghost use Rattle.lot_system.specs.Seen.{after_turn, world_of};
 ghost use Rattle.lot_system.specs.Turns.{Answers, Faults, Goes, IsEnded, IsFresh, IsWorkOf};
 
 use crate::TurnFault;
 use crate::contexts::{contexts_for, follow_command, follow_turn};
-use crate::counts::Counts;
+use crate::counts::{Counts, count_turn, no_counts};
 use crate::generators::{generators_of, next_number, pass_number};
 use crate::turn::{Answer, Work, event_of, matches_work};
 use lot_draw::ParkMiller;
@@ -37,15 +39,19 @@ pub struct System {
     history: Vec<u8>,
     /// Each actor's, the console first.
     counts: Vec<Counts>,
+    /// All actors'.
+    total: Counts,
     room: u32,
 }
 
 impl Model for System {
-    ghost use Rattle.std.specs.Prelude.{◌≡◌, ◌==◌, ◌+◌, ◌≤◌, All, count_by, vec_len, vec_capacity};
+    ghost use Rattle.std.specs.Prelude.{◌≡◌, ◌==◌, ◌+◌, ◌≤◌, All, count_by, length, vec_len, vec_capacity};
+    ghost use Rattle.lot_machine.specs.Report.{turns_made};
     ghost use Rattle.lot_machine.specs.World.{IsLegal, sysrun};
     ghost use Rattle.lot_script.specs.Exits.{OnlyCompute};
     ghost use Rattle.lot_text.specs.Programs.{IsProgram};
     ghost use Rattle.lot_system.specs.Seen.{Seen};
+    ghost use Rattle.lot_system.specs.Counted.{AreCounts, IsCount};
     ghost use Rattle.lot_system.specs.Held.{IsHeld};
 
     ghost Value = { Seen };
@@ -60,6 +66,8 @@ impl Model for System {
       generators : vec_len s.generators ≡ s.program.limits.processors;
       spent : s.spent ≡ count_by (λ actor. actor == 0) s.history.items;
       counts : vec_len s.counts ≡ s.program.limits.processors + 1;
+      each_counted : AreCounts (turns_made s.program s.history.items) (length s.history.items) s.counts.items;
+      total_counted : IsCount (turns_made s.program s.history.items) (length s.history.items) s.total;
       threads : s.program.limits.threads ≤ vec_capacity s.contexts;
       room : s.room ≤ vec_capacity s.history;
     } };
@@ -80,7 +88,8 @@ impl System {
             generators: generators_of(alloc, program)?,
             contexts: contexts_for(alloc, limits.threads)?,
             history: Vec::with_capacity(alloc, room as usize)?,
-            counts: vec![in alloc; Counts::NONE; limits.processors as usize + 1]?,
+            counts: no_counts(alloc, limits.processors as usize + 1)?,
+            total: Counts::NONE,
             room,
         })
     }
@@ -184,7 +193,8 @@ impl System {
         let reply = self.kernel.event(&event);
         self.spent += 1;
         follow_command(&mut self.contexts, &self.program, &self.kernel, reply);
-        self.counts[0] = self.counts[0].with_turn(reply);
+        count_turn(&mut self.counts, 0, reply);
+        self.total = self.total.with_turn(reply);
         self.history.push_reserved(0);
         (event, reply)
     }
@@ -201,7 +211,8 @@ impl System {
         pass_number(&mut self.generators, actor, &event);
         let reply = self.kernel.event(&event);
         follow_turn(&mut self.contexts, slice, reply);
-        self.counts[actor as usize] = self.counts[actor as usize].with_turn(reply);
+        count_turn(&mut self.counts, actor, reply);
+        self.total = self.total.with_turn(reply);
         self.history.push_reserved(actor as u8);
         (event, reply)
     }
@@ -233,10 +244,17 @@ impl System {
     }
 
     /// What was counted of the actor's turns.
-    pub(crate) fn counts(&self, actor: u32) -> Counts {
-        match self.counts.get(actor as usize) {
-            Some(counts) => *counts,
-            None => Counts::NONE,
-        }
+    pub(crate) fn counts(&self, actor: u32) -> Counts
+        requires { actor ≤ self.now.setting.program.limits.processors }
+        ensures { result ≡ counted (turns_of actor (turns_made self.now.setting.program self.now.history)) }
+    {
+        self.counts[actor as usize]
+    }
+
+    /// What was counted of all turns.
+    pub(crate) fn total(&self) -> Counts
+        ensures { result ≡ counted (turns_made self.now.setting.program self.now.history) }
+    {
+        self.total
     }
 }
