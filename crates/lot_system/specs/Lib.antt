@@ -1,1 +1,5 @@
 pub mod Seen
+pub mod Steps
+pub mod Held
+pub mod Turns
+pub mod Counted

@@ -1,8 +1,14 @@
-//! What is counted of an actor's turns.
+//! What is counted of turns.
+ghost use Rattle.std.specs.Prelude.{◌≡◌, ◌+◌, ◌<◌, ◌++◌, [], ◌∷◌, ℕ, List, IfOk, vec_len};
+ghost use Rattle.lot_machine.specs.declared.event.Event.{Event as EventRecord};
+ghost use Rattle.lot_machine.specs.Report.{ActorTurn};
+ghost use Rattle.lot_machine.specs.World.Answer.{Answered};
+ghost use Rattle.lot_system.specs.Counted.{AreCounts, IsCount, IsSmall, counted_with};
 
 use lot_machine::Reply;
+use std::alloc::{AllocError, Global};
 
-/// What is counted of an actor's turns.
+/// What is counted of turns.
 #[derive(Clone, Copy, Debug, PartialEq, Eq)]
 pub(crate) struct Counts {
     pub(crate) turns: u64,
@@ -15,7 +21,7 @@ pub(crate) struct Counts {
 }
 
 impl Counts {
-    /// Of an actor that has had no turn.
+    /// Of no turn.
     pub(crate) const NONE: Counts = Counts {
         turns: 0,
         quanta: 0,
@@ -23,30 +29,49 @@ impl Counts {
         ticks: 0,
     };
 
-    /// With one turn more, that was answered so. No count goes beyond the greatest `u64`.
-    pub(crate) fn with_turn(self, reply: Reply) -> Counts {
-        let (quanta, idles, ticks) = match reply {
-            Reply::Winner { .. } => (1, 0, 0),
-            Reply::Idle => (0, 1, 0),
-            Reply::Expired { ticks, .. } => (0, 0, u64::from(ticks)),
-            Reply::Trapped { ticks, .. } => (0, 0, u64::from(ticks)),
-            _ => (0, 0, 0),
-        };
-        Counts {
-            turns: self.turns.saturating_add(1),
-            quanta: self.quanta.saturating_add(quanta),
-            idles: self.idles.saturating_add(idles),
-            ticks: self.ticks.saturating_add(ticks),
+    /// With one turn more, that was answered so.
+    pub(crate) fn with_turn(self, reply: Reply) -> Counts
+        requires { (n : ℕ) × (n < 4294967295) × IsSmall n self }
+        ensures exact { result ≡ counted_with self reply }
+        ensures small { (n : ℕ) → IsSmall n self → IsSmall (n + 1) result }
+    {
+        let turns = self.turns + 1;
+        match reply {
+            Reply::Winner { .. } => Counts {
+                turns,
+                quanta: self.quanta + 1,
+                ..self
+            },
+            Reply::Idle => Counts {
+                turns,
+                idles: self.idles + 1,
+                ..self
+            },
+            Reply::Expired { ticks, .. } | Reply::Trapped { ticks, .. } => Counts {
+                turns,
+                ticks: self.ticks + u64::from(ticks),
+                ..self
+            },
+            _ => Counts { turns, ..self },
         }
     }
+}
 
-    /// These and the others together.
-    pub(crate) fn plus(self, others: Counts) -> Counts {
-        Counts {
-            turns: self.turns.saturating_add(others.turns),
-            quanta: self.quanta.saturating_add(others.quanta),
-            idles: self.idles.saturating_add(others.idles),
-            ticks: self.ticks.saturating_add(others.ticks),
-        }
-    }
+/// The counts of so many actors that have had no turn.
+pub(crate) fn no_counts(alloc: Global, actors: usize) -> Result<Vec<Counts>, AllocError>
+    ensures none { IfOk result (λ counts. AreCounts [] 0 counts.items) }
+    ensures count { IfOk result (λ counts. vec_len counts ≡ actors) }
+{
+    vec![in alloc; Counts::NONE; actors]
+}
+
+/// Counts an actor's turn that was answered so.
+pub(crate) fn count_turn(counts: &mut Vec<Counts>, actor: u32, reply: Reply)
+    requires there { actor < vec_len counts.old }
+    requires few { (turns : List ActorTurn) × (n : ℕ) × (n < 4294967295) × AreCounts turns n counts.old.items }
+    ensures exact { (turns : List ActorTurn) (n : ℕ) (e : EventRecord) → AreCounts turns n counts.old.items → AreCounts (turns ++ record { actor = actor; answer = Answered e reply } ∷ []) (n + 1) counts.new.items }
+    ensures count { vec_len counts.new ≡ vec_len counts.old }
+{
+    let place = actor as usize;
+    counts[place] = counts[place].with_turn(reply);
 }

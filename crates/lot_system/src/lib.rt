@@ -2,11 +2,12 @@
 //! makes the turns of a schedule.
 #![tactic(auto)]
 
+mod contexts;
 mod counts;
 mod fault;
+mod generators;
 mod input;
 mod listing;
-mod opening;
 mod playing;
 mod report;
 mod served;

@@ -5,7 +5,7 @@ ghost use Rattle.lot_script.specs.Exits.{OnlyCompute};
 use crate::listing::write_listing;
 use crate::report::write_report;
 use crate::served::is_served;
-use crate::turn::{Answer, Work, script_numbered};
+use crate::turn::{Answer, Work};
 use crate::{PlayFault, System, TurnFault, read_input};
 use lot_machine::{InputFault, InputRefusal, Reply};
 use lot_print::{EndedLine, FaultLine, ReplyLine};
@@ -80,8 +80,8 @@ fn play_turn<W: Write>(
     actor: u32,
     writer: &mut Watched<W>,
 ) -> Result<(), PlayFault>
-    requires { actor ≤ system.old.processors }
-    ensures { system.new.processors ≡ system.old.processors }
+    requires { actor ≤ system.old.setting.program.limits.processors }
+    ensures { system.new.setting ≡ system.old.setting }
 {
     let work = system.work(actor);
     let slice = work.and_then(|work| slice_of(program, work));
@@ -117,7 +117,9 @@ fn write_answer<W: Write>(
 
 /// The slice of a thread's script that is its work, where the program's script is the one that it fits.
 fn slice_of(program: &Program, work: Work) -> Option<Slice<'_>> {
-    let script = script_numbered(program.scripts(), work.script)?;
+    let script = program
+        .scripts()
+        .get((work.script as usize).checked_sub(1)?)?;
     let is_budget = 0 < work.budget && work.budget <= 1000;
     if !is_budget || !script.fits(&work.context) {
         return None;

@@ -29,13 +29,11 @@ fn write_threads<W: Write>(system: &mut System, writer: &mut Watched<W>) -> Resu
 
 /// Writes each processor's line, and the totals of all actors.
 fn write_processors<W: Write>(system: &System, writer: &mut Watched<W>) -> Result<(), PlayFault> {
-    let mut total = system.counts(0);
     for processor in 1..65 {
         if processor > system.processors() {
             break;
         }
         let counts = system.counts(processor);
-        total = total.plus(counts);
         write!(writer, "{}", processor_total(processor, counts)).map_err(|_| PlayFault::Write)?;
     }
     let Counts {
@@ -43,7 +41,7 @@ fn write_processors<W: Write>(system: &System, writer: &mut Watched<W>) -> Resul
         quanta,
         ticks,
         ..
-    } = total;
+    } = system.total();
     write!(
         writer,
         "{}",

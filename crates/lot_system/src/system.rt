@@ -1,57 +1,74 @@
 //! The system.
-ghost use Rattle.std.specs.Prelude.{◌≡◌, ◌≤◌, ◌++◌, [], ◌∷◌, All, IfOk, IfSome, OnOk, OnErr};
-ghost use Rattle.lot_kernel.specs.Served.{IsServed};
+ghost use Rattle.std.specs.Prelude.{◌≡◌, ◌↔◌, ◌<◌, ◌≤◌, [], All, IfOk, IfErr, IsTrue, length};
+ghost use Rattle.lot_machine.specs.Bounds.{IsBetween};
+ghost use Rattle.lot_machine.specs.World.Answer.{Answered};
+ghost use Rattle.lot_machine.specs.World.{IsLegal, sys};
+ghost use Rattle.lot_machine.specs.Report.{turns_made, turns_of};
 ghost use Rattle.lot_script.specs.Exits.{OnlyCompute};
+ghost use Rattle.lot_system.specs.Counted.{counted};
+ghost use Rattle.lot_system.specs.Seen.{after_turn, world_of};
+ghost use Rattle.lot_system.specs.Turns.{Answers, Faults, Goes, IsEnded, IsFresh, IsWorkOf};
 
 use crate::TurnFault;
-use crate::counts::Counts;
-use crate::opening::{commands_of, contexts_for, generators_of, scripts_of};
-use crate::turn::{Answer, Work, action_of, is_slice_of, script_numbered};
+use crate::contexts::{contexts_for, follow_command, follow_turn};
+use crate::counts::{Counts, count_turn, no_counts};
+use crate::generators::{generators_of, next_number, pass_number};
+use crate::turn::{Answer, Work, event_of, matches_work};
 use lot_draw::ParkMiller;
 use lot_kernel::Kernel;
-use lot_machine::{Command, CurrencyRow, Event, Limits, Reply, ThreadRow, TicketRow};
-use lot_script::{Context, Script, Slice};
+use lot_machine::{CurrencyRow, Event, Limits, Reply, ThreadRow, TicketRow};
+use lot_script::{Context, Slice};
 use lot_text::Program;
 use std::alloc::{AllocError, Global};
 use std::marker::Model;
 
 /// A kernel with a console and processors that have turns. Actor 0 is the console, and the others are the processors.
 ///
-/// All its room is made by `open`, and no turn takes memory.
+/// Contracts see it as its program, its room and its history: all else is what the program's run over the history comes
+/// to. All its room is made by `open`, and no turn takes memory.
 #[derive(Drop)]
 pub struct System {
     kernel: Kernel,
-    scripts: Vec<Script>,
-    commands: Vec<Command>,
+    program: Program,
     /// How many commands were run.
     spent: usize,
     /// Each processor's generator.
     generators: Vec<ParkMiller>,
-    /// Where each thread is in its script, for as many as may be made.
-    contexts: Vec<Option<Context>>,
+    /// Where each thread is in its script.
+    contexts: Vec<Context>,
     history: Vec<u8>,
     /// Each actor's, the console first.
     counts: Vec<Counts>,
-    processors: u32,
+    /// All actors'.
+    total: Counts,
     room: u32,
 }
 
 impl Model for System {
-    ghost use Rattle.std.specs.Prelude.{◌≡◌, ◌+◌, ◌≤◌, All, vec_len, vec_capacity};
+    ghost use Rattle.std.specs.Prelude.{◌≡◌, ◌==◌, ◌+◌, ◌≤◌, All, count_by, length, vec_len, vec_capacity};
+    ghost use Rattle.lot_machine.specs.Report.{turns_made};
+    ghost use Rattle.lot_machine.specs.World.{IsLegal, sysrun};
     ghost use Rattle.lot_script.specs.Exits.{OnlyCompute};
+    ghost use Rattle.lot_text.specs.Programs.{IsProgram};
     ghost use Rattle.lot_system.specs.Seen.{Seen};
+    ghost use Rattle.lot_system.specs.Counted.{AreCounts, IsCount};
+    ghost use Rattle.lot_system.specs.Held.{IsHeld};
 
     ghost Value = { Seen };
 
-    ghost view = { λ s. record { processors = s.processors; room = s.room; history = s.history.items } };
+    ghost view = { λ s. record { setting = record { program = s.program; room = s.room }; history = s.history.items } };
 
     ghost invariant = { λ s. record {
-      exits : All OnlyCompute s.scripts.items;
-      spent : s.spent ≤ vec_len s.commands;
-      generators : vec_len s.generators ≡ s.processors;
-      counts : vec_len s.counts ≡ s.processors + 1;
-      processors : s.processors ≤ 64;
-      within_room : vec_len s.history ≤ s.room;
+      served : All OnlyCompute s.program.scripts;
+      program : IsProgram s.program;
+      legal : IsLegal s.program s.room s.history.items;
+      held : IsHeld s.program (sysrun s.program s.history.items) s.kernel s.contexts.items s.generators.items s.spent;
+      generators : vec_len s.generators ≡ s.program.limits.processors;
+      spent : s.spent ≡ count_by (λ actor. actor == 0) s.history.items;
+      counts : vec_len s.counts ≡ s.program.limits.processors + 1;
+      each_counted : AreCounts (turns_made s.program s.history.items) (length s.history.items) s.counts.items;
+      total_counted : IsCount (turns_made s.program s.history.items) (length s.history.items) s.total;
+      threads : s.program.limits.threads ≤ vec_capacity s.contexts;
       room : s.room ≤ vec_capacity s.history;
     } };
 }
@@ -60,78 +77,76 @@ impl System {
     /// A system of this program with room for so many turns. It takes all the memory that the system will ever use, and
     /// fails only for want of it.
     pub fn open(alloc: Global, program: &Program, room: u32) -> Result<System, AllocError>
-        requires scripts { All OnlyCompute program.now.scripts }
-        ensures room { IfOk result (λ s. s.room ≡ room) }
-        ensures processors { IfOk result (λ s. s.processors ≡ program.now.limits.processors) }
-        ensures history { IfOk result (λ s. s.history ≡ []) }
+        requires served { All OnlyCompute program.now.scripts }
+        ensures { IfOk result (λ s. s ≡ record { setting = record { program = program.now; room = room }; history = [] }) }
     {
         let limits = program.limits();
         Ok(System {
             kernel: Kernel::new(alloc, limits)?,
-            scripts: scripts_of(alloc, program)?,
-            commands: commands_of(alloc, program)?,
+            program: program.copied(alloc)?,
             spent: 0,
             generators: generators_of(alloc, program)?,
             contexts: contexts_for(alloc, limits.threads)?,
             history: Vec::with_capacity(alloc, room as usize)?,
-            counts: vec![in alloc; Counts::NONE; limits.processors as usize + 1]?,
-            processors: limits.processors,
+            counts: no_counts(alloc, limits.processors as usize + 1)?,
+            total: Counts::NONE,
             room,
         })
     }
 
     /// The number of processors.
     pub fn processors(&self) -> u32
-        ensures { result ≡ self.now.processors }
+        ensures { result ≡ self.now.setting.program.limits.processors }
     {
-        self.processors
+        self.program.limits().processors
     }
 
     /// The actors of the turns so far.
     pub fn history(&self) -> &[u8]
-        ensures { result.now ≡ self.now.history }
+        ensures items { result.now ≡ self.now.history }
+        ensures legal { IsLegal self.now.setting.program self.now.setting.room self.now.history }
     {
         &self.history
     }
 
     /// What the thread on the processor is to do next, if one runs there. The console has none.
-    pub fn work(&self, actor: u32) -> Option<Work> {
+    pub fn work(&self, actor: u32) -> Option<Work>
+        ensures work { IsWorkOf self.now actor result }
+        ensures legal { IsLegal self.now.setting.program self.now.setting.room self.now.history }
+    {
+        let _ = &self.spent;
+        if actor == 0 {
+            return None;
+        }
         let runner = self.kernel.runner(actor)?;
-        let script = self.kernel.script_of(runner.thread)?;
-        let context = self.contexts.get(runner.thread as usize - 1)?.as_ref()?;
+        let script = self.kernel.script_of(runner.thread).unwrap();
         Some(Work {
             thread: runner.thread,
             script,
-            context: context.copied(),
+            context: self.contexts[runner.thread as usize - 1].copied(),
             budget: self.kernel.limits().quantum - runner.used,
         })
     }
 
     /// One turn of an actor: the console's next command, a draw of a processor without a thread, or the slice of the
-    /// thread on a processor. A fault changes nothing.
+    /// thread on a processor. A fault changes nothing. It takes no memory.
     pub fn turn(&mut self, actor: u32, slice: Option<Slice>) -> Result<Answer, TurnFault>
-        requires { actor ≤ self.old.processors }
-        ensures processors { self.new.processors ≡ self.old.processors }
-        ensures room { self.new.room ≡ self.old.room }
-        ensures ok { OnOk result (self.new.history ≡ self.old.history ++ actor ∷ []) }
-        ensures err { OnErr result (self.new ≡ self.old) }
+        requires { actor ≤ self.old.setting.program.limits.processors }
+        ensures ok { IfOk result (λ answer. Goes self.old actor slice.entry × (self.new ≡ after_turn self.old actor) × Answers self.old actor answer) }
+        ensures err { IfErr result (λ fault. Faults self.old actor slice.entry fault × (self.new ≡ self.old)) }
+        ensures legal { IsLegal self.new.setting.program self.new.setting.room self.new.history }
     {
         let work = self.work(actor);
-        if !is_slice_of(&work, &slice, &self.scripts) {
+        if !matches_work(&self.program, &work, &slice) {
             return Err(TurnFault::Stale(work));
         }
-        if actor == 0 && self.spent >= self.commands.len() {
+        if self.is_ended(actor) {
             return Err(TurnFault::Ended);
         }
-        if self.history.len() >= self.room as usize {
+        if self.is_full() {
             return Err(TurnFault::HistoryFull);
         }
-        let event = self.next_event(actor, &slice);
-        let reply = self.kernel.event(&event);
-        self.move_on(reply, &slice);
-        let counts = &mut self.counts[actor as usize];
-        *counts = counts.with_turn(reply);
-        self.history.push_reserved(actor as u8);
+        let (event, reply) = self.made(actor, &slice);
         Ok(Answer {
             event,
             reply,
@@ -139,72 +154,67 @@ impl System {
         })
     }
 
-    /// The event of the actor's turn, with this slice where it has work. It takes the next command or the next number.
-    fn next_event(&mut self, actor: u32, slice: &Option<Slice>) -> Event
-        requires actor { actor ≤ self.old.processors }
-        requires exits { IfSome slice.now (λ s. OnlyCompute s.lines) }
-        ensures served { IsServed result }
-        ensures state { self.new ≡ self.old }
+    /// Whether the actor is the console, and no command is left.
+    fn is_ended(&self, actor: u32) -> bool
+        ensures { IsTrue result ↔ IsEnded self.now actor }
     {
-        if actor == 0 && self.spent < self.commands.len() {
-            self.spent += 1;
-            return Event::Command(self.commands[self.spent - 1].copied());
-        }
-        match slice {
-            None => Event::Draw(actor, self.number(actor)),
-            Some(slice) => match slice.trap() {
-                None => Event::Expire(actor),
-                Some(trap) => Event::Trap(actor, slice.ticks(), action_of(trap)),
-            },
+        actor == 0 && self.spent >= self.program.commands().len()
+    }
+
+    /// Whether there is no room for a turn more.
+    fn is_full(&self) -> bool
+        ensures { IsTrue result ↔ (self.now.setting.room ≤ length self.now.history) }
+    {
+        self.history.len() >= self.room as usize
+    }
+
+    /// A turn that goes: what it was, and what the kernel replied.
+    fn made(&mut self, actor: u32, slice: &Option<Slice>) -> (Event, Reply)
+        requires actor { actor ≤ self.old.setting.program.limits.processors }
+        requires goes { Goes self.old actor slice.now }
+        ensures seen { self.new ≡ after_turn self.old actor }
+        ensures answer { (sys self.old.setting.program (world_of self.old) actor).answer ≡ Answered result.0 result.1 }
+    {
+        if actor == 0 {
+            self.console_turn()
+        } else {
+            self.processor_turn(actor, slice)
         }
     }
 
-    /// The next number of the actor's generator; 0 where it has none.
-    fn number(&mut self, actor: u32) -> u64
-        ensures state { self.new ≡ self.old }
+    /// The console's next command.
+    fn console_turn(&mut self) -> (Event, Reply)
+        requires left { ¬ IsEnded self.old 0 }
+        requires room { length self.old.history < self.old.setting.room }
+        ensures seen { self.new ≡ after_turn self.old 0 }
+        ensures answer { (sys self.old.setting.program (world_of self.old) 0).answer ≡ Answered result.0 result.1 }
     {
-        match actor.checked_sub(1) {
-            Some(place) => match self.generators.get_mut(place as usize) {
-                Some(generator) => generator.number(),
-                None => 0,
-            },
-            None => 0,
-        }
+        let event = Event::Command(self.program.commands()[self.spent].copied());
+        let reply = self.kernel.event(&event);
+        self.spent += 1;
+        follow_command(&mut self.contexts, &self.program, &self.kernel, reply);
+        count_turn(&mut self.counts, 0, reply);
+        self.total = self.total.with_turn(reply);
+        self.history.push_reserved(0);
+        (event, reply)
     }
 
-    /// Moves the contexts on: a thread that was made begins its script, one that ran is at the end of its slice, and one
-    /// that was handed a number has it as its accumulator.
-    fn move_on(&mut self, reply: Reply, slice: &Option<Slice>)
-        ensures state { self.new ≡ self.old }
+    /// A processor's draw, or the slice of the thread that runs there.
+    fn processor_turn(&mut self, actor: u32, slice: &Option<Slice>) -> (Event, Reply)
+        requires actor { IsBetween 1 self.old.setting.program.limits.processors actor }
+        requires fresh { IsFresh self.old actor slice.now }
+        requires room { length self.old.history < self.old.setting.room }
+        ensures seen { self.new ≡ after_turn self.old actor }
+        ensures answer { (sys self.old.setting.program (world_of self.old) actor).answer ≡ Answered result.0 result.1 }
     {
-        match reply {
-            Reply::Thread(thread) | Reply::Funded { thread, .. } => {
-                let start = self.start_of(thread);
-                self.set_context(thread, start);
-            }
-            Reply::Expired { thread, .. } | Reply::Trapped { thread, .. } => {
-                let end = slice.as_ref().map(|slice| slice.end().copied());
-                self.set_context(thread, end);
-            }
-            _ => {}
-        }
-    }
-
-    /// Where the thread begins in its script.
-    fn start_of(&self, thread: u32) -> Option<Context> {
-        let script = self.kernel.script_of(thread)?;
-        Some(script_numbered(&self.scripts, script)?.start())
-    }
-
-    /// The thread is here in its script from now on.
-    fn set_context(&mut self, thread: u32, context: Option<Context>)
-        ensures state { self.new ≡ self.old }
-    {
-        if let Some(place) = thread.checked_sub(1)
-            && let Some(here) = self.contexts.get_mut(place as usize)
-        {
-            *here = context;
-        }
+        let event = event_of(actor, slice, next_number(&self.generators, actor));
+        pass_number(&mut self.generators, actor, &event);
+        let reply = self.kernel.event(&event);
+        follow_turn(&mut self.contexts, slice, reply);
+        count_turn(&mut self.counts, actor, reply);
+        self.total = self.total.with_turn(reply);
+        self.history.push_reserved(actor as u8);
+        (event, reply)
     }
 
     /// The limits of the program.
@@ -234,10 +244,17 @@ impl System {
     }
 
     /// What was counted of the actor's turns.
-    pub(crate) fn counts(&self, actor: u32) -> Counts {
-        match self.counts.get(actor as usize) {
-            Some(counts) => *counts,
-            None => Counts::NONE,
-        }
+    pub(crate) fn counts(&self, actor: u32) -> Counts
+        requires { actor ≤ self.now.setting.program.limits.processors }
+        ensures { result ≡ counted (turns_of actor (turns_made self.now.setting.program self.now.history)) }
+    {
+        self.counts[actor as usize]
+    }
+
+    /// What was counted of all turns.
+    pub(crate) fn total(&self) -> Counts
+        ensures { result ≡ counted (turns_made self.now.setting.program self.now.history) }
+    {
+        self.total
     }
 }

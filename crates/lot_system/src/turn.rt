@@ -1,10 +1,17 @@
 //! What an actor has to do, and what its turn answers.
-ghost use Rattle.std.specs.Prelude.{All, IfSome, IsTrue};
-ghost use Rattle.lot_kernel.specs.Served.{IsServedAction};
+ghost use Rattle.std.specs.Prelude.{◌≡◌, ◌↔◌, ℕ, IfSome, IsTrue, length};
+ghost use Rattle.lot_kernel.specs.Served.{IsServed, IsServedAction};
+ghost use Rattle.lot_machine.specs.declared.event.Event.TheVariants as event;
+ghost use Rattle.lot_machine.specs.Bounds.{IsBetween};
+ghost use Rattle.lot_machine.specs.World as world;
 ghost use Rattle.lot_script.specs.Exits.{IsExit, OnlyCompute};
+ghost use Rattle.lot_script.specs.Slices.{IsSlice};
+ghost use Rattle.lot_system.specs.Steps.{done_of, event_given};
+ghost use Rattle.lot_system.specs.Turns.{IsSliceOf, Matches};
 
 use lot_machine::{Action, Event, Reply, ScriptTrap};
-use lot_script::{Context, Script, Slice};
+use lot_script::{Context, Slice};
+use lot_text::Program;
 
 /// What the thread on a processor is to do next.
 #[derive(Debug, PartialEq, Eq, Drop)]
@@ -28,47 +35,85 @@ pub struct Answer {
 
 /// Whether the slice is that of the work: there is none of either, or its script has the same lines, and start and budget
 /// are the work's.
-pub(crate) fn is_slice_of(work: &Option<Work>, slice: &Option<Slice>, scripts: &[Script]) -> bool
-    requires { All OnlyCompute scripts.now }
-    ensures { IsTrue result → IfSome slice.now (λ s. OnlyCompute s.lines) }
+pub(crate) fn matches_work(program: &Program, work: &Option<Work>, slice: &Option<Slice>) -> bool
+    requires { IfSome work.now (λ w. IsBetween 1 (length program.now.scripts) w.script) }
+    ensures { IsTrue result ↔ Matches program.now work.now slice.now }
 {
     match (work, slice) {
         (None, None) => true,
-        (Some(work), Some(slice)) => {
-            is_script(scripts, work.script, slice.script())
-                && *slice.start() == work.context
-                && slice.budget() == work.budget
-        }
+        (Some(work), Some(slice)) => is_slice_of(program, work, slice),
         _ => false,
     }
 }
 
-/// Whether the script with this number has the same lines as the other.
-fn is_script(scripts: &[Script], number: u32, other: &Script) -> bool
-    requires { All OnlyCompute scripts.now }
-    ensures { IsTrue result → OnlyCompute other.now }
+/// Whether it is one of the work's script, from the work's place, with the work's budget.
+fn is_slice_of(program: &Program, work: &Work, slice: &Slice) -> bool
+    requires { IsBetween 1 (length program.now.scripts) work.now.script }
+    ensures { IsTrue result ↔ IsSliceOf program.now work.now slice.now }
 {
-    match script_numbered(scripts, number) {
-        Some(script) => script.is_same(other),
-        None => false,
+    let script = &program.scripts()[work.script as usize - 1];
+    script.is_same(slice.script())
+        && slice.start().is_same(&work.context)
+        && slice.budget() == work.budget
+}
+
+/// The event of a processor's turn with this slice, or a draw without one, where this is the processor's next number.
+pub(crate) fn event_of(actor: u32, slice: &Option<Slice>, drawn: u64) -> Event
+    ensures event { result ≡ event_given actor drawn slice.now }
+    ensures exact { IfSome slice.now IsSlice }
+    ensures served { IfSome slice.now (λ s. OnlyCompute s.lines) → IsServed result }
+{
+    match slice {
+        None => Event::Draw(actor, drawn),
+        Some(slice) => slice_event(actor, slice, drawn),
     }
 }
 
-/// The script with this number, if there is one.
-pub(crate) fn script_numbered(scripts: &[Script], number: u32) -> Option<&Script>
-    ensures { All OnlyCompute scripts.now → IfSome result (λ script. OnlyCompute script.now) }
+/// The slice as an event: an expiry, or its ticks and then its trap.
+fn slice_event(actor: u32, slice: &Slice, drawn: u64) -> Event
+    ensures event { result ≡ world.event_of_slice actor drawn (done_of slice.now) }
+    ensures exact { IsSlice slice.now }
+    ensures served { OnlyCompute slice.now.lines → IsServed result }
 {
-    let place = (number as usize).checked_sub(1)?;
-    scripts.get(place)
+    match slice.trap() {
+        None => Event::Expire(actor),
+        Some(trap) => Event::Trap(
+            actor,
+            slice.ticks(),
+            action_of(trap, slice.end().accumulator(), drawn),
+        ),
+    }
 }
 
-/// A trap of a script as the kernel is asked for it, of those that are served.
-pub(crate) fn action_of(trap: ScriptTrap) -> Action
-    requires { IsExit trap }
-    ensures { IsServedAction result }
+/// A trap of a script as the kernel is asked for it. Calls and replies carry the accumulator, and an unlock the drawn number.
+fn action_of(trap: ScriptTrap, accumulator: u32, drawn: u64) -> Action
+    ensures action { result ≡ world.action_of trap accumulator drawn }
+    ensures served { IsExit trap → IsServedAction result }
 {
     match trap {
+        ScriptTrap::Yield => Action::Yield,
+        ScriptTrap::Call(port) => Action::Call(port, accumulator),
+        ScriptTrap::Receive(port) => Action::Receive(port),
+        ScriptTrap::Reply => Action::Reply(accumulator),
+        ScriptTrap::Lock(mutex) => Action::Lock(mutex),
+        ScriptTrap::Unlock(mutex) => Action::Unlock(mutex, drawn),
         ScriptTrap::Exit => Action::Exit,
-        _ => unreachable!(),
     }
+}
+
+/// Whether the event takes a drawn number: a draw and an unlock do.
+pub(crate) fn takes_number(event: &Event) -> bool
+    ensures { result ≡ world.takes_number event.now }
+{
+    match event {
+        Event::Draw(..) => true,
+        Event::Trap(_, _, action) => is_unlock(*action),
+        _ => false,
+    }
+}
+
+fn is_unlock(action: Action) -> bool
+    ensures { (p ran : ℕ) → result ≡ world.takes_number (event.Trap p ran action) }
+{
+    matches!(action, Action::Unlock(..))
 }

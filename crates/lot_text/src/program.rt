@@ -1,10 +1,11 @@
 //! What an input says.
-ghost use Rattle.std.specs.Prelude.{◌≡◌};
+ghost use Rattle.std.specs.Prelude.{◌≡◌, IfOk};
 ghost use Rattle.lot_machine.specs.State.{sizes_of};
 ghost use Rattle.lot_text.specs.Programs.{IsProgram};
 
 use lot_machine::{Command, Limits};
 use lot_script::Script;
+use std::alloc::{AllocError, Global};
 use std::marker::Model;
 
 /// A system, its commands, how many turns each processor has in a free run, and whose turns come in a scheduled one.
@@ -78,4 +79,40 @@ impl Program {
     {
         self.schedule.as_slice()
     }
+
+    /// The same program again, in memory of its own. It fails only for want of memory.
+    pub fn copied(&self, alloc: Global) -> Result<Program, AllocError>
+        ensures { IfOk result (λ program. program ≡ self.now) }
+    {
+        Ok(Program {
+            limits: self.limits,
+            seeds: Vec::from_slice(alloc, self.seeds())?,
+            turns: self.turns,
+            scripts: copied_scripts(alloc, self.scripts())?,
+            commands: copied_commands(alloc, self.commands())?,
+            schedule: Vec::from_slice(alloc, self.schedule())?,
+        })
+    }
+}
+
+/// The same scripts again.
+fn copied_scripts(alloc: Global, scripts: &[Script]) -> Result<Vec<Script>, AllocError>
+    ensures { IfOk result (λ copies. copies.items ≡ scripts.now) }
+{
+    let mut copies = Vec::new(alloc);
+    for script in scripts {
+        copies.push(script.copied(alloc)?)?;
+    }
+    Ok(copies)
+}
+
+/// The same commands again.
+fn copied_commands(alloc: Global, commands: &[Command]) -> Result<Vec<Command>, AllocError>
+    ensures { IfOk result (λ copies. copies.items ≡ commands.now) }
+{
+    let mut copies = Vec::new(alloc);
+    for command in commands {
+        copies.push(command.copied())?;
+    }
+    Ok(copies)
 }

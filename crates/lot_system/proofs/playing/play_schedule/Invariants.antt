@@ -1,6 +1,6 @@
 use Rattle.std.proofs.Common.{◌≡◌}
 use Rattle.lot_system.proofs.playing.play_schedule.Given as goal
 
--- the processors are those of the program
+-- the program is the one that the system was opened with
 abbrev pub invariant-loop-actor : goal.invariant-loop-actor
-invariant-loop-actor g l = l.system.processors ≡ l.program.limits.processors
+invariant-loop-actor g l = l.system.setting.program ≡ l.program

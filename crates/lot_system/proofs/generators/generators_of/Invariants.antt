@@ -1,5 +1,5 @@
 use Rattle.std.proofs.Common.{◌≡◌, take}
-use Rattle.lot_system.proofs.opening.generators_of.Given as goal
+use Rattle.lot_system.proofs.generators.generators_of.Given as goal
 
 -- those passed so far
 abbrev pub invariant-loop-seed : goal.invariant-loop-seed

@@ -1,0 +1,54 @@
+-- What is counted with one turn more.
+use Rattle.std.proofs.Common.{◌≡◌, ℕ, zero, suc, ◌+◌, ◌*◌, ◌<◌, ◌≤◌, ◌==◌, ◌⊎◌, inl, inr, Bool, true, false, List, [], ◌∷◌, ◌++◌, length, get_or, filter, refl, sym, ◌∙◌, ap, subst, arith, length-append, ne_eqb, eq-eqb}
+use Rattle.std.specs.Prelude.{sum_by, slice_set, if◌then◌else◌}
+use Rattle.std.proofs.lemmas.Bool.{cases_eq}
+use Rattle.std.proofs.lemmas.List.{get_or-set_same, get_or-set_other, length-set}
+use Rattle.std.proofs.lemmas.List.Sums.{sum_by_push}
+use Rattle.lot_machine.specs.declared.event.Event.{Event}
+use Rattle.lot_machine.specs.declared.reply.Reply.{Reply}
+use Rattle.lot_machine.specs.Report.{ActorTurn, beside, turns_made, count_in, total_of, turns_of, quanta_in, idles_in, ticks_in}
+use Rattle.lot_machine.specs.World.{Program, World, Answer, opening_world, sys, sys_after, sys_answers, sysrun}
+use Rattle.lot_machine.specs.World.Answer.{Answered}
+use Rattle.lot_system.specs.declared.counts.Counts.{Counts}
+use Rattle.lot_system.specs.Counted.{counted, counted_with, IsSmall, IsCount, AreCounts}
+
+-- ---- turns made
+
+turns-one_more : (program : Program) (w : World) (actors : List ℕ) (actor : ℕ) → beside (actors ++ actor ∷ []) (sys_answers program w (actors ++ actor ∷ []))
+    ≡ beside actors (sys_answers program w actors) ++ record { actor = actor; answer = (sys program (sys_after program w actors) actor).answer } ∷ []
+turns-one_more program w [] actor = refl
+turns-one_more program w (a ∷ actors) actor = ap (λ ts. record { actor = a; answer = (sys program w a).answer } ∷ ts) (turns-one_more program (sys program w a).world actors actor)
+
+pub turns_made-one_more : (program : Program) (history : List ℕ) (actor : ℕ) → turns_made program (history ++ actor ∷ []) ≡ turns_made program history ++ record { actor = actor; answer = (sys program (sysrun program history) actor).answer } ∷ []
+turns_made-one_more program history actor = turns-one_more program (opening_world program) history actor
+
+-- ---- what is counted in them
+
+module _ (turns : List ActorTurn) (actor : ℕ) (e : Event) (r : Reply) where
+  pub counted-push : (c : Counts) → c ≡ counted turns → counted_with c r ≡ counted (turns ++ record { actor = actor; answer = Answered e r } ∷ [])
+  counted-push c is =
+      let longer = length-append turns (record { actor = actor; answer = Answered e r } ∷ []) in
+      let quanta = sum_by_push (λ t. count_in quanta_in t.answer) turns (record { actor = actor; answer = Answered e r }) in
+      let idles = sum_by_push (λ t. count_in idles_in t.answer) turns (record { actor = actor; answer = Answered e r }) in
+      let ticks = sum_by_push (λ t. count_in ticks_in t.answer) turns (record { actor = actor; answer = Answered e r }) in
+      rw is (λ i. record { turns = sym longer i; quanta = sym quanta i; idles = sym idles i; ticks = sym ticks i })
+
+-- ---- after a turn
+
+module _ (program : Program) (history : List ℕ) (actor : ℕ) (e : Event) (r : Reply) (is : (sys program (sysrun program history) actor).answer ≡ Answered e r) where
+  turns-now : turns_made program (history ++ actor ∷ []) ≡ turns_made program history ++ record { actor = actor; answer = Answered e r } ∷ []
+  turns-now =
+      turns_made-one_more program history actor ∙ ap (λ (a : Answer). turns_made program history ++ record { actor = actor; answer = a } ∷ []) is
+
+  longer : length (history ++ actor ∷ []) ≡ length history + 1
+  longer = length-append history (actor ∷ [])
+
+  pub each-after : (counts : List Counts) → AreCounts (turns_made program history ++ record { actor = actor; answer = Answered e r } ∷ []) (length history + 1) counts
+      → AreCounts (turns_made program (history ++ actor ∷ [])) (length (history ++ actor ∷ [])) counts
+  each-after counts are =
+      subst (λ ts. AreCounts ts (length (history ++ actor ∷ [])) counts) (sym turns-now) (subst (λ n. AreCounts (turns_made program history ++ record { actor = actor; answer = Answered e r } ∷ []) n counts) (sym longer) are)
+
+  pub total-after : (c now : Counts) → IsCount (turns_made program history) (length history) c → now ≡ counted_with c r → IsSmall (length history + 1) now → IsCount (turns_made program (history ++ actor ∷ [])) (length (history ++ actor ∷ [])) now
+  total-after c now before same small =
+      let exact : now ≡ counted (turns_made program history ++ record { actor = actor; answer = Answered e r } ∷ []) = same ∙ counted-push (turns_made program history) actor e r c before.exact in
+      record { exact = exact ∙ ap counted (sym turns-now); small = subst (λ n. IsSmall n now) (sym longer) small }

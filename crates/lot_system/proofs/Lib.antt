@@ -1,0 +1,7 @@
+pub mod StepFacts
+pub mod ReplyFacts
+pub mod Runs
+pub mod PlaceFacts
+pub mod TurnFacts
+pub mod ServedFacts
+pub mod CountFacts

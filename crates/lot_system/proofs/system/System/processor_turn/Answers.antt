@@ -1,0 +1,75 @@
+-- The event is the one of the slice of the work, and what is held then is what the world comes to.
+use Rattle.std.proofs.Common.{◌≡◌, ◌<◌, ◌≤◌, ◌+◌, ◌++◌, ◌==◌, [], ◌∷◌, length, sym, ap, ◌∙◌, subst, unwrap_or, arith}
+use Rattle.lot_machine.specs.Lottery.{drawn_number}
+use Rattle.lot_machine.specs.Numbered.{at_number}
+use Rattle.lot_machine.specs.World.{IsLegal, sys, sysrun}
+use Rattle.lot_machine.specs.World.Answer.{Answered}
+use Rattle.lot_system.specs.Seen.{Seen, world_of}
+use Rattle.lot_system.proofs.Runs.{sysrun-one_more}
+use Rattle.lot_system.proofs.ServedFacts.{served-lines}
+use Rattle.lot_machine.specs.Report.{turns_made}
+use Rattle.lot_system.proofs.CountFacts.{each-after, total-after}
+use Rattle.lot_system.proofs.TurnFacts.{turn-answer, turn-names, turn-held, count-processor, legal-more}
+use Rattle.lot_system.proofs.system.System.processor_turn.Goals as goal
+
+pub event-reply-requires : goal.event-reply-requires
+event-reply-requires c =
+    let requires = rw (← c.self.view_is) at c.requires in
+    let fresh = requires.fresh in
+    c.event_of-event.ensures.served (served-lines c.self.inside.program (sysrun c.self.inside.program c.self.inside.history.items) c.args.actor fresh.0 c.args.slice.now fresh.1 fresh.2 c.self.invariant.served)
+
+pub follow_turn-requires : goal.follow_turn-requires
+follow_turn-requires c =
+    let s = c.self.inside in
+    let requires = rw (← c.self.view_is) at c.requires in
+    let fresh = requires.fresh in
+    let number = c.next_number.ensures ∙ ap (λ ns. drawn_number (unwrap_or (at_number ns c.args.actor) 0)) c.deref.ensures.value in
+    turn-names s.program (sysrun s.program s.history.items) s.kernel s.contexts.items s.generators.items s.spent c.self.invariant.held c.args.actor (omega (arith, requires.actor.0)) c.next_number.result fresh.0 c.args.slice.now fresh.1 fresh.2 c.event_of-event.ensures.exact number
+    c.event_of-event.result c.event_of-event.ensures.event c.event-reply.new.self c.event-reply.result c.event-reply.ensures.state c.event-reply.ensures.reply
+
+pub count_turn-requires-clause-few : goal.count_turn-requires-clause-few
+count_turn-requires-clause-few c =
+    let s = c.self.inside in
+    let requires = rw (← c.self.view_is) at c.requires in
+    (turns_made s.program s.history.items, length s.history.items, omega (arith, requires.room), c.self.invariant.each_counted)
+
+pub invariant_of-self : goal.invariant_of-self
+invariant_of-self c =
+    let s = c.self.inside in
+    let i = c.self.invariant in
+    let requires = rw (← c.self.view_is) at c.requires in
+    let fresh = requires.fresh in
+    let some : 0 < c.args.actor = omega (arith, requires.actor.0) in
+    let number = c.next_number.ensures ∙ ap (λ ns. drawn_number (unwrap_or (at_number ns c.args.actor) 0)) c.deref.ensures.value in
+    let held =
+    turn-held s.program (sysrun s.program s.history.items) s.kernel s.contexts.items s.generators.items s.spent i.held c.args.actor some c.next_number.result fresh.0 c.args.slice.now fresh.1 fresh.2 c.event_of-event.ensures.exact number
+    c.event_of-event.result c.event_of-event.ensures.event c.event-reply.new.self c.event-reply.result c.event-reply.ensures.state c.event-reply.ensures.reply
+    c.follow_turn.new.contexts.items c.pass_number.new.generators.items c.follow_turn.ensures.places c.pass_number.ensures.values in
+    let answer =
+    turn-answer s.program (sysrun s.program s.history.items) s.kernel s.contexts.items s.generators.items s.spent i.held c.args.actor some c.next_number.result fresh.0 c.args.slice.now fresh.1 fresh.2 c.event_of-event.ensures.exact number
+    c.event_of-event.result c.event_of-event.ensures.event c.event-reply.new.self c.event-reply.result c.event-reply.ensures.state c.event-reply.ensures.reply in
+    let count = count-processor s.history.items c.args.actor some in
+    let legal : IsLegal s.program s.room (s.history.items ++ c.args.actor ∷ []) = legal-more s.program s.room s.history.items c.args.actor i.legal requires.actor.1 requires.room (omega (arith, count, i.legal.console)) in
+    rw c.push_reserved.ensures.items (record {
+      served = i.served;
+      program = i.program;
+      legal = legal;
+      held = rw (sysrun-one_more s.program s.history.items c.args.actor) held;
+      generators = c.pass_number.ensures.count ∙ i.generators;
+      spent = omega (arith, count, i.spent);
+      counts = c.count_turn.ensures.count ∙ i.counts;
+      each_counted = each-after s.program s.history.items c.args.actor c.event_of-event.result c.event-reply.result answer c.count_turn.new.counts.items (c.count_turn.ensures.exact (turns_made s.program s.history.items) (length s.history.items) c.event_of-event.result i.each_counted);
+      total_counted = total-after s.program s.history.items c.args.actor c.event_of-event.result c.event-reply.result answer s.total c.with_turn-self-inside.result i.total_counted c.with_turn-self-inside.ensures.exact (c.with_turn-self-inside.ensures.small (length s.history.items) i.total_counted.small);
+      threads = omega (arith, c.follow_turn.ensures.room, i.threads);
+      room = omega (arith, c.push_reserved.ensures.capacity, i.room);
+    })
+
+pub returns-clause-answer : goal.returns-clause-answer
+returns-clause-answer c =
+    let s = c.self.inside in
+    let requires = rw (← c.self.view_is) at c.requires in
+    let fresh = requires.fresh in
+    let number = c.next_number.ensures ∙ ap (λ ns. drawn_number (unwrap_or (at_number ns c.args.actor) 0)) c.deref.ensures.value in
+    subst (λ (x : Seen). (sys x.setting.program (world_of x) c.args.actor).answer ≡ Answered c.event_of-event.result c.event-reply.result) c.self.view_is
+    (turn-answer s.program (sysrun s.program s.history.items) s.kernel s.contexts.items s.generators.items s.spent c.self.invariant.held c.args.actor (omega (arith, requires.actor.0)) c.next_number.result fresh.0 c.args.slice.now fresh.1 fresh.2
+    c.event_of-event.ensures.exact number c.event_of-event.result c.event_of-event.ensures.event c.event-reply.new.self c.event-reply.result c.event-reply.ensures.state c.event-reply.ensures.reply)

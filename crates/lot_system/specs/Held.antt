@@ -1,0 +1,40 @@
+-- How a system's fields hold the world of its history.
+use Rattle.std.specs.Prelude.{◌≡◌, ℕ, ◌≤◌, ⊤, List, [], ◌∷◌, length, drop, unwrap_or}
+use Rattle.lot_machine.specs.declared.script.Line.{Line}
+use Rattle.lot_machine.specs.declared.record.Thread.{Thread}
+use Rattle.lot_machine.specs.Bounds.{IsBetween}
+use Rattle.lot_machine.specs.Numbered.{at_number}
+use Rattle.lot_machine.specs.Script.{Context}
+use Rattle.lot_machine.specs.State.{State}
+use Rattle.lot_machine.specs.World.{Program, World}
+use Rattle.lot_script.specs.Places.{Place, Fits, context_at}
+
+-- the lines of the program's script with this number; none where there is no such script
+abbrev pub script_lines : Program → ℕ → List Line
+script_lines program script = unwrap_or (at_number program.scripts script) []
+
+-- the thread's script is one of the program's, and the place is where the thread is in it
+pub record IsAt (program : Program) (thread : Thread) (place : Place) (context : Context) : Type 0 where
+  pub script : IsBetween 1 (length program.scripts) thread.script
+  pub fits : Fits (script_lines program thread.script) place
+  pub means : context_at (script_lines program thread.script) place ≡ context
+
+-- each thread's place is where the thread is in its script
+abbrev pub AreAt : Program → List Thread → List Place → List Context → Type 0
+AreAt program [] [] [] = ⊤
+AreAt program (thread ∷ threads) (place ∷ places) (context ∷ contexts) = IsAt program thread place context × AreAt program threads places contexts
+AreAt program threads places contexts = ⊥
+
+-- the state is one of the program's kernel, and each thread has a record
+pub record IsKept (program : Program) (s : State) : Type 0 where
+  pub limits : s.limits ≡ program.limits
+  pub records : length s.records ≡ length s.threads
+  pub count : length s.threads ≤ s.limits.threads
+
+-- the kernel's state, the threads' places, the values of the generators and the count of commands run are those of the world
+pub record IsHeld (program : Program) (w : World) (s : State) (places : List Place) (generators : List ℕ) (spent : ℕ) : Type 0 where
+  pub state : s ≡ w.state
+  pub kept : IsKept program s
+  pub places_at : AreAt program s.threads places w.contexts
+  pub seeds : generators ≡ w.generators
+  pub commands : drop spent program.commands ≡ w.commands

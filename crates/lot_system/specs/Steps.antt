@@ -1,0 +1,96 @@
+-- What an event leaves of the threads, and whom its reply names.
+use Rattle.std.specs.Prelude.{◌≡◌, ℕ, ◌+◌, ◌-◌, ◌≤◌, ⊤, Option, Some, None, List, [], ◌∷◌, ◌++◌, length, slice_get, unwrap_or}
+use Rattle.lot_machine.specs.declared.event.Event.{Event}
+use Rattle.lot_machine.specs.declared.event.Event.TheVariants as event
+use Rattle.lot_machine.specs.declared.record.Thread.{Thread}
+use Rattle.lot_machine.specs.declared.reply.Reply.{Reply}
+use Rattle.lot_machine.specs.declared.reply.Reply.TheVariants as reply
+use Rattle.lot_machine.specs.Bounds.{IsBetween}
+use Rattle.lot_machine.specs.Numbered.{at_number, set_number}
+use Rattle.lot_machine.specs.Script.{Slice}
+use Rattle.lot_machine.specs.State.{State}
+use Rattle.lot_machine.specs.World.{event_of_slice, number_received}
+use Rattle.lot_script.specs.Places.{Place, first_place, context_at}
+use Rattle.lot_script.specs.Slices.{Parts}
+
+-- ---- the threads after an event
+
+-- the same threads, as many records, and the same sizes
+pub record IsSame (s after : State) : Type 0 where
+  pub threads : after.threads ≡ s.threads
+  pub records : length after.records ≡ length s.records
+  pub limits : after.limits ≡ s.limits
+
+-- one thread more, which has this number and a script that there is
+pub record OneMore (s after : State) (n : ℕ) : Type 0 where
+  pub number : n ≡ length s.threads + 1
+  pub thread : Thread
+  pub threads : after.threads ≡ s.threads ++ thread ∷ []
+  pub records : length after.records ≡ length s.records + 1
+  pub script : IsBetween 1 s.limits.scripts thread.script
+  pub limits : after.limits ≡ s.limits
+  pub count : length s.threads + 1 ≤ s.limits.threads
+
+-- the number of the thread that was made, if one was
+abbrev pub made_thread : Reply → Option ℕ
+made_thread (reply.Thread n) = Some n
+made_thread (reply.Funded ticket n) = Some n
+made_thread other = None
+
+-- a command that made no thread leaves the threads as they are
+abbrev pub MakesIn : State → State → Option ℕ → Type 0
+MakesIn s after None = IsSame s after
+MakesIn s after (Some n) = OneMore s after n
+
+-- the reply to a command names the thread that was made, if one was
+abbrev pub Makes : State → State → Reply → Type 0
+Makes s after r = MakesIn s after (made_thread r)
+
+-- the reply to a draw names one of so many threads, if any
+abbrev pub OfDraw : ℕ → Reply → Type 0
+OfDraw count (reply.Winner t number total delivered) = IsBetween 1 count t
+OfDraw count reply.Idle = ⊤
+OfDraw count (reply.Refused why) = ⊤
+OfDraw count other = ⊥
+
+-- the reply to an expiry or a trap names this thread, if any
+abbrev pub OfRun : ℕ → Reply → Type 0
+OfRun t (reply.Expired u ticks) = u ≡ t
+OfRun t (reply.Trapped u ticks outcome ends) = u ≡ t
+OfRun t (reply.Refused why) = ⊤
+OfRun t other = ⊥
+
+-- ---- slices as turns
+
+-- what a slice did, as a slice of the machine
+abbrev pub done_of : Parts → Slice
+done_of given = record { ticks = given.ticks; trap = given.trap; end = context_at given.lines given.end }
+
+-- without a slice the processor draws
+abbrev pub event_given : ℕ → ℕ → Option Parts → Event
+event_given p drawn None = event.Draw p drawn
+event_given p drawn (Some given) = event_of_slice p drawn (done_of given)
+
+-- the reply is one to such an event: to a draw among so many threads, or to the slice of one of them
+abbrev pub OfGiven : ℕ → ℕ → Option Parts → Reply → Type 0
+OfGiven count t None r = OfDraw count r
+OfGiven count t (Some given) r = IsBetween 1 count t × OfRun t r
+
+-- ---- places
+
+-- the place, with the number that was handed over as its accumulator
+abbrev pub handed_place : Option ℕ → Place → Place
+handed_place None place = place
+handed_place (Some number) place = record place { accumulator = number }
+
+-- where the thread is
+abbrev pub place_of : List Place → ℕ → Place
+place_of places t = unwrap_or (at_number places t) first_place
+
+-- The places after a turn: a winner has what was delivered to it, and the thread that ran is at its slice's end, and has
+-- what it received.
+abbrev pub places_after : List Place → Option Parts → Reply → List Place
+places_after places None (reply.Winner t number total delivered) = set_number places t (handed_place delivered (place_of places t))
+places_after places (Some given) (reply.Trapped t ticks outcome ends) = set_number places t (handed_place (number_received outcome) given.end)
+places_after places (Some given) (reply.Expired t ticks) = set_number places t given.end
+places_after places given other = places

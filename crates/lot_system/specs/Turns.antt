@@ -1,0 +1,80 @@
+-- What an actor has to do, and what its turn answers.
+use Rattle.std.specs.Prelude.{◌≡◌, ℕ, ◌-◌, ◌<◌, ◌≤◌, ⊤, Option, Some, None, [], length, option_map}
+use Rattle.lot_machine.specs.Bounds.{IsBetween}
+use Rattle.lot_machine.specs.Numbered.{at_number}
+use Rattle.lot_machine.specs.State.{thread_on}
+use Rattle.lot_machine.specs.Step.{used_there}
+use Rattle.lot_machine.specs.World.{Program, World, context_of, sys}
+use Rattle.lot_machine.specs.World.Answer.{Answered}
+use Rattle.lot_script.specs.Places.{Fits, context_at}
+use Rattle.lot_script.specs.Slices.{Parts}
+use Rattle.lot_system.specs.declared.turn.Work.{Work}
+use Rattle.lot_system.specs.declared.turn.Answer.{Answer}
+use Rattle.lot_system.specs.declared.fault.TurnFault.{TurnFault}
+use Rattle.lot_system.specs.declared.fault.TurnFault.TheVariants.{Stale, Ended, HistoryFull}
+use Rattle.lot_system.specs.Seen.{Seen, world_of, after_turn}
+use Rattle.lot_system.specs.Held.{script_lines}
+
+-- ---- what an actor has to do
+
+-- The thread that runs on the processor in this world, its script's number, where it is there, and what is left of its
+-- quantum.
+pub record IsWork (program : Program) (w : World) (p : ℕ) (work : Work) : Type 0 where
+  pub runs : thread_on w.state.records p ≡ Some work.thread
+  pub script : option_map (λ t. t.script) (at_number w.state.threads work.thread) ≡ Some work.script
+  pub there : IsBetween 1 (length program.scripts) work.script
+  pub fits : Fits (script_lines program work.script) work.context
+  pub means : context_at (script_lines program work.script) work.context ≡ context_of w work.thread
+  pub budget : work.budget ≡ w.state.limits.quantum - used_there w.state p
+  pub some_left : IsBetween 1 1000 work.budget
+
+-- the actor's work, or that it has none: the console never has one, and a processor has one where a thread runs there
+abbrev pub IsWorkIn : Program → World → ℕ → Option Work → Type 0
+IsWorkIn program w actor None = 0 < actor → thread_on w.state.records actor ≡ None
+IsWorkIn program w actor (Some work) = (0 < actor) × IsWork program w actor work
+
+-- the same, in the world of a system
+abbrev pub IsWorkOf : Seen → ℕ → Option Work → Type 0
+IsWorkOf seen actor work = IsWorkIn seen.setting.program (world_of seen) actor work
+
+-- ---- whether a slice is that of the work
+
+-- it is one of the work's script, from the work's place, with the work's budget
+pub record IsSliceOf (program : Program) (work : Work) (given : Parts) : Type 0 where
+  pub lines : given.lines ≡ script_lines program work.script
+  pub start : given.start ≡ work.context
+  pub budget : given.budget ≡ work.budget
+
+-- there is no slice where there is no work, and else the slice of the work
+abbrev pub Matches : Program → Option Work → Option Parts → Type 0
+Matches program None None = ⊤
+Matches program (Some work) (Some given) = IsSliceOf program work given
+Matches program work given = ⊥
+
+-- what is given for the actor's turn is the slice of its work, if it has any
+abbrev pub IsFresh : Seen → ℕ → Option Parts → Type 0
+IsFresh seen actor given = (work : Option Work) × IsWorkOf seen actor work × Matches seen.setting.program work given
+
+-- the actor is the console, and no command is left
+abbrev pub IsEnded : Seen → ℕ → Type 0
+IsEnded seen actor = (actor ≡ 0) × ((world_of seen).commands ≡ [])
+
+-- ---- turns
+
+-- The turn is made: its slice is fresh, it isn't the console's after its last command, and there is room.
+pub record Goes (seen : Seen) (actor : ℕ) (given : Option Parts) : Type 0 where
+  pub fresh : IsFresh seen actor given
+  pub not_ended : ¬ IsEnded seen actor
+  pub room : length seen.history < seen.setting.room
+
+-- Why a turn isn't made, in this order: the slice isn't that of the work, which is this; no command is left; or there is
+-- no room.
+abbrev pub Faults : Seen → ℕ → Option Parts → TurnFault → Type 0
+Faults seen actor given (Stale work) = IsWorkOf seen actor work × ¬ Matches seen.setting.program work given
+Faults seen actor given Ended = IsFresh seen actor given × IsEnded seen actor
+Faults seen actor given HistoryFull = IsFresh seen actor given × (¬ IsEnded seen actor) × (seen.setting.room ≤ length seen.history)
+
+-- the event and the reply are those of the actor's next turn, and what it has to do next is its work after it
+pub record Answers (seen : Seen) (actor : ℕ) (answer : Answer) : Type 0 where
+  pub turn : (sys seen.setting.program (world_of seen) actor).answer ≡ Answered answer.event answer.reply
+  pub next : IsWorkOf (after_turn seen actor) actor answer.next
