@@ -13,7 +13,6 @@ use Rattle.lot_machine.specs.Script.{Item, pieces, items_of, is_mark, rest_after
 use Rattle.lot_machine.specs.Script.Item.{Work, Set, Add, Traps}
 use Rattle.lot_script.specs.declared.open_loops.OpenLoop.{OpenLoop}
 use Rattle.lot_script.specs.Drafts.{IsLine, CanNest, IsScript}
-use Rattle.lot_script.specs.Exits.{IsCompute}
 use Rattle.lot_script.specs.Places.{Place, CanBeDone, IsCopy, AreCopies, Fits, Stands, Passes, Makes, open_at, left_of, rest_at}
 use Rattle.lot_script.proofs.Lists.{slice_get_none, drop-element, All-element, drop-add, fold-take-add, prefix_len_then, marks_front, fold-work, take-work, drop-work}
 use Rattle.lot_script.proofs.Copies.{copies-length}
@@ -330,18 +329,3 @@ Passes-end lines p q at again behind = of_loops p.loops refl
     of_loops : (loops : List OpenLoop) → p.loops ≡ loops → Passes lines p q 1
     of_loops [] none = let some : 0 < length p.loops = stands-nests lines p line.End at in absurd (omega (arith, some, ap length none))
     of_loops (o ∷ outer) loops = of_left o outer loops (cases_lt 0 o.left)
-
--- a `compute` is no trap
-pub compute-no_trap : (l : Line) (t : ScriptTrap) → IsCompute l → items_of l ≡ Traps t ∷ [] → ⊥
-compute-no_trap (line.Compute zero) t only is = cc
-compute-no_trap (line.Compute (suc n)) t only is = cc
-compute-no_trap (line.Loop n) t only is = only
-compute-no_trap line.End t only is = only
-compute-no_trap (line.Set n) t only is = only
-compute-no_trap (line.Add n) t only is = only
-compute-no_trap line.Yield t only is = only
-compute-no_trap (line.Call n) t only is = only
-compute-no_trap (line.Receive n) t only is = only
-compute-no_trap line.Reply t only is = only
-compute-no_trap (line.Lock n) t only is = only
-compute-no_trap (line.Unlock n) t only is = only

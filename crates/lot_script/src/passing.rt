@@ -3,7 +3,6 @@ ghost use Rattle.std.specs.Prelude.{◌≡◌, ◌<◌, ◌≤◌, [], ◌∷◌
 ghost use Rattle.lot_machine.specs.Script.{items_of};
 ghost use Rattle.lot_machine.specs.Script.Item.{Traps};
 ghost use Rattle.lot_script.specs.Drafts.{IsScript};
-ghost use Rattle.lot_script.specs.Exits.{OnlyCompute, MakesExit};
 ghost use Rattle.lot_script.specs.Places.{Advances, Fits, IsMarked, Passes, Stands};
 
 use crate::{Context, Script};
@@ -38,8 +37,7 @@ impl Script {
     pub(crate) fn advance(&self, context: &mut Context, most: u32) -> Advance
         requires fits { Fits self.now context.old }
         requires some { 0 < most }
-        ensures advances { Advances self.now context.old context.new most result }
-        ensures exits { OnlyCompute self.now → MakesExit result }
+        ensures { Advances self.now context.old context.new most result }
     {
         let Some(line) = self.next_line(context) else {
             return Advance::Trap(ScriptTrap::Exit);

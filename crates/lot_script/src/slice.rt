@@ -1,7 +1,6 @@
 //! What a processor does of a script at a time.
-ghost use Rattle.std.specs.Prelude.{◌≡◌, ◌↔◌, ◌<◌, ◌≤◌, IfSome, IsTrue};
+ghost use Rattle.std.specs.Prelude.{◌≡◌, ◌↔◌, ◌<◌, ◌≤◌, IsTrue};
 ghost use Rattle.lot_machine.specs.Bounds.{IsBetween};
-ghost use Rattle.lot_script.specs.Exits.{OnlyCompute, IsExit};
 ghost use Rattle.lot_script.specs.Places.{Fits};
 ghost use Rattle.lot_script.specs.Slices.{IsSlice, IsSame};
 
@@ -22,18 +21,13 @@ pub struct Slice<'a> {
 }
 
 impl<'a> Model for Slice<'a> {
-    ghost use Rattle.std.specs.Prelude.{IfSome};
-    ghost use Rattle.lot_script.specs.Exits.{OnlyCompute, IsExit};
     ghost use Rattle.lot_script.specs.Slices.{Parts, IsSlice};
 
     ghost Value = { Parts };
 
     ghost view = { λ s. record { lines = s.script.now; start = s.start; budget = s.budget; ticks = s.ticks; trap = s.trap; end = s.end } };
 
-    ghost invariant = { λ s. record {
-      exact : IsSlice (record { lines = s.script.now; start = s.start; budget = s.budget; ticks = s.ticks; trap = s.trap; end = s.end });
-      exits : OnlyCompute s.script.now → IfSome s.trap IsExit;
-    } };
+    ghost invariant = { λ s. IsSlice (record { lines = s.script.now; start = s.start; budget = s.budget; ticks = s.ticks; trap = s.trap; end = s.end }) };
 }
 
 impl<'a> Slice<'a> {
@@ -80,7 +74,6 @@ impl<'a> Slice<'a> {
     pub fn trap(&self) -> Option<ScriptTrap>
         ensures trap { result ≡ self.now.trap }
         ensures exact { IsSlice self.now }
-        ensures exits { OnlyCompute self.now.lines → IfSome result IsExit }
     {
         self.trap
     }

@@ -3,5 +3,4 @@ pub mod ReplyFacts
 pub mod Runs
 pub mod PlaceFacts
 pub mod TurnFacts
-pub mod ServedFacts
 pub mod CountFacts

@@ -10,7 +10,6 @@ mod input;
 mod listing;
 mod playing;
 mod report;
-mod served;
 mod system;
 mod turn;
 

@@ -1,13 +1,11 @@
 //! Playing a schedule.
 ghost use Rattle.std.specs.Prelude.{◌≡◌, ◌≤◌, All};
-ghost use Rattle.lot_script.specs.Exits.{OnlyCompute};
 
 use crate::listing::write_listing;
 use crate::report::write_report;
-use crate::served::is_served;
 use crate::turn::{Answer, Work};
 use crate::{PlayFault, System, TurnFault, read_input};
-use lot_machine::{InputFault, InputRefusal, Reply};
+use lot_machine::{InputFault, Reply};
 use lot_print::{EndedLine, FaultLine, ReplyLine};
 use lot_script::Slice;
 use lot_text::{ParseFault, Program, Watched, parse};
@@ -36,18 +34,9 @@ pub fn play<R: Read, W: Write>(
         Err(ParseFault::Memory) => return Err(PlayFault::Memory),
         Err(ParseFault::Input(fault)) => return refuse(fault, writer),
     };
-    if !is_served(&program) {
-        return refuse(UNSERVED, writer);
-    }
     play_schedule(alloc, &program, writer)?;
     Ok(Played::Done)
 }
-
-/// What answers an input with a script line that the kernel doesn't serve yet.
-const UNSERVED: InputFault = InputFault {
-    line: 1,
-    refusal: InputRefusal::BadLine,
-};
 
 /// Writes the one line of a refused input.
 fn refuse<W: Write>(fault: InputFault, writer: &mut Watched<W>) -> Result<Played, PlayFault> {
@@ -61,9 +50,7 @@ fn play_schedule<W: Write>(
     alloc: Global,
     program: &Program,
     writer: &mut Watched<W>,
-) -> Result<(), PlayFault>
-    requires { All OnlyCompute program.now.scripts }
-{
+) -> Result<(), PlayFault> {
     let room = program.schedule().len() as u32;
     let mut system = System::open(alloc, program, room).map_err(|_| PlayFault::Memory)?;
     for actor in program.schedule() {

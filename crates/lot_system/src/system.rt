@@ -4,7 +4,6 @@ ghost use Rattle.lot_machine.specs.Bounds.{IsBetween};
 ghost use Rattle.lot_machine.specs.World.Answer.{Answered};
 ghost use Rattle.lot_machine.specs.World.{IsLegal, sys};
 ghost use Rattle.lot_machine.specs.Report.{turns_made, turns_of};
-ghost use Rattle.lot_script.specs.Exits.{OnlyCompute};
 ghost use Rattle.lot_system.specs.Counted.{counted};
 ghost use Rattle.lot_system.specs.Seen.{after_turn, world_of};
 ghost use Rattle.lot_system.specs.Turns.{Answers, Faults, Goes, IsEnded, IsFresh, IsWorkOf};
@@ -48,7 +47,6 @@ impl Model for System {
     ghost use Rattle.std.specs.Prelude.{◌≡◌, ◌==◌, ◌+◌, ◌≤◌, All, count_by, length, vec_len, vec_capacity};
     ghost use Rattle.lot_machine.specs.Report.{turns_made};
     ghost use Rattle.lot_machine.specs.World.{IsLegal, sysrun};
-    ghost use Rattle.lot_script.specs.Exits.{OnlyCompute};
     ghost use Rattle.lot_text.specs.Programs.{IsProgram};
     ghost use Rattle.lot_system.specs.Seen.{Seen};
     ghost use Rattle.lot_system.specs.Counted.{AreCounts, IsCount};
@@ -59,7 +57,6 @@ impl Model for System {
     ghost view = { λ s. record { setting = record { program = s.program; room = s.room }; history = s.history.items } };
 
     ghost invariant = { λ s. record {
-      served : All OnlyCompute s.program.scripts;
       program : IsProgram s.program;
       legal : IsLegal s.program s.room s.history.items;
       held : IsHeld s.program (sysrun s.program s.history.items) s.kernel s.contexts.items s.generators.items s.spent;
@@ -77,7 +74,6 @@ impl System {
     /// A system of this program with room for so many turns. It takes all the memory that the system will ever use, and
     /// fails only for want of it.
     pub fn open(alloc: Global, program: &Program, room: u32) -> Result<System, AllocError>
-        requires served { All OnlyCompute program.now.scripts }
         ensures { IfOk result (λ s. s ≡ record { setting = record { program = program.now; room = room }; history = [] }) }
     {
         let limits = program.limits();

@@ -1,10 +1,8 @@
 //! What an actor has to do, and what its turn answers.
 ghost use Rattle.std.specs.Prelude.{◌≡◌, ◌↔◌, ℕ, IfSome, IsTrue, length};
-ghost use Rattle.lot_kernel.specs.Served.{IsServed, IsServedAction};
 ghost use Rattle.lot_machine.specs.declared.event.Event.TheVariants as event;
 ghost use Rattle.lot_machine.specs.Bounds.{IsBetween};
 ghost use Rattle.lot_machine.specs.World as world;
-ghost use Rattle.lot_script.specs.Exits.{IsExit, OnlyCompute};
 ghost use Rattle.lot_script.specs.Slices.{IsSlice};
 ghost use Rattle.lot_system.specs.Steps.{done_of, event_given};
 ghost use Rattle.lot_system.specs.Turns.{IsSliceOf, Matches};
@@ -61,7 +59,6 @@ fn is_slice_of(program: &Program, work: &Work, slice: &Slice) -> bool
 pub(crate) fn event_of(actor: u32, slice: &Option<Slice>, drawn: u64) -> Event
     ensures event { result ≡ event_given actor drawn slice.now }
     ensures exact { IfSome slice.now IsSlice }
-    ensures served { IfSome slice.now (λ s. OnlyCompute s.lines) → IsServed result }
 {
     match slice {
         None => Event::Draw(actor, drawn),
@@ -73,7 +70,6 @@ pub(crate) fn event_of(actor: u32, slice: &Option<Slice>, drawn: u64) -> Event
 fn slice_event(actor: u32, slice: &Slice, drawn: u64) -> Event
     ensures event { result ≡ world.event_of_slice actor drawn (done_of slice.now) }
     ensures exact { IsSlice slice.now }
-    ensures served { OnlyCompute slice.now.lines → IsServed result }
 {
     match slice.trap() {
         None => Event::Expire(actor),
@@ -87,8 +83,7 @@ fn slice_event(actor: u32, slice: &Slice, drawn: u64) -> Event
 
 /// A trap of a script as the kernel is asked for it. Calls and replies carry the accumulator, and an unlock the drawn number.
 fn action_of(trap: ScriptTrap, accumulator: u32, drawn: u64) -> Action
-    ensures action { result ≡ world.action_of trap accumulator drawn }
-    ensures served { IsExit trap → IsServedAction result }
+    ensures { result ≡ world.action_of trap accumulator drawn }
 {
     match trap {
         ScriptTrap::Yield => Action::Yield,

@@ -7,13 +7,13 @@ use Rattle.lot_script.proofs.script.Script.slice.Goals as goal
 
 pub loop-ticks-preserved : goal.loop-ticks-preserved
 loop-ticks-preserved c = record {
-  within = let advances = c.in-Marks.ensures.advances in omega (arith, advances.1, c.loop-ticks-test.true);
-  passes = Passes-then _ _ _ _ _ _ c.loop-ticks.invariant.passes c.in-Marks.ensures.advances.2;
+  within = let advances = c.in-Marks.ensures in omega (arith, advances.1, c.loop-ticks-test.true);
+  passes = Passes-then _ _ _ _ _ _ c.loop-ticks.invariant.passes c.in-Marks.ensures.2;
 }
 
 exact : (c : goal.In-Trap) → IsSlice (record { lines = c.args.self.now; start = c.args.start; budget = c.args.budget; ticks = c.loop-ticks.ticks; trap = Some c.in-Trap.trap; end = c.advance.new.context })
 exact c =
-    let makes : Makes c.args.self.now c.loop-ticks.end c.advance.new.context c.in-Trap.trap = c.in-Trap.ensures.advances in
+    let makes : Makes c.args.self.now c.loop-ticks.end c.advance.new.context c.in-Trap.trap = c.in-Trap.ensures in
     record {
       start_fits = c.requires.fits;
       budget_fits = c.requires.budget;
@@ -22,7 +22,7 @@ exact c =
     }
 
 pub invariant_of-result : goal.invariant_of-result
-invariant_of-result c = record { exact = exact c; exits = c.in-Trap.ensures.exits }
+invariant_of-result c = exact c
 
 pub returns-in-Trap-clause-exact : goal.returns-in-Trap-clause-exact
 returns-in-Trap-clause-exact c = exact c

@@ -56,7 +56,6 @@ invariant_of-self c =
     let count = count-console s.history.items in
     let legal : IsLegal s.program s.room (s.history.items ++ 0 ∷ []) = legal-more s.program s.room s.history.items 0 i.legal (omega arith) requires.room (omega (arith, count, i.spent, below)) in
     rw c.push_reserved.ensures.items (record {
-      served = i.served;
       program = i.program;
       legal = legal;
       held = rw (sysrun-one_more s.program s.history.items 0) held;

@@ -6,17 +6,10 @@ use Rattle.lot_machine.specs.World.{IsLegal, sys, sysrun}
 use Rattle.lot_machine.specs.World.Answer.{Answered}
 use Rattle.lot_system.specs.Seen.{Seen, world_of}
 use Rattle.lot_system.proofs.Runs.{sysrun-one_more}
-use Rattle.lot_system.proofs.ServedFacts.{served-lines}
 use Rattle.lot_machine.specs.Report.{turns_made}
 use Rattle.lot_system.proofs.CountFacts.{each-after, total-after}
 use Rattle.lot_system.proofs.TurnFacts.{turn-answer, turn-names, turn-held, count-processor, legal-more}
 use Rattle.lot_system.proofs.system.System.processor_turn.Goals as goal
-
-pub event-reply-requires : goal.event-reply-requires
-event-reply-requires c =
-    let requires = rw (← c.self.view_is) at c.requires in
-    let fresh = requires.fresh in
-    c.event_of-event.ensures.served (served-lines c.self.inside.program (sysrun c.self.inside.program c.self.inside.history.items) c.args.actor fresh.0 c.args.slice.now fresh.1 fresh.2 c.self.invariant.served)
 
 pub follow_turn-requires : goal.follow_turn-requires
 follow_turn-requires c =
@@ -51,7 +44,6 @@ invariant_of-self c =
     let count = count-processor s.history.items c.args.actor some in
     let legal : IsLegal s.program s.room (s.history.items ++ c.args.actor ∷ []) = legal-more s.program s.room s.history.items c.args.actor i.legal requires.actor.1 requires.room (omega (arith, count, i.legal.console)) in
     rw c.push_reserved.ensures.items (record {
-      served = i.served;
       program = i.program;
       legal = legal;
       held = rw (sysrun-one_more s.program s.history.items c.args.actor) held;
