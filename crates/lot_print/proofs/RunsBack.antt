@@ -1,16 +1,15 @@
 -- Lines of runs, read again.
-use Rattle.std.proofs.Common.{◌≡◌, ◌<◌, ◌≤◌, ◌+◌, ◌*◌, ◌%◌, ◌^◌, ◌==◌, ℕ, suc, Bool, false, true, Some, None, Ok, List, [], ◌∷◌, ◌++◌, length, replicate, refl, ap, ◌∙◌, arith, append_assoc, length-append}
+use Rattle.std.proofs.Common.{◌≡◌, ◌<◌, ◌≤◌, ◌+◌, ◌*◌, ◌%◌, ◌^◌, ◌==◌, ℕ, suc, Bool, false, true, Some, None, Ok, List, [], ◌∷◌, ◌++◌, length, refl, ap, ◌∙◌, arith, append_assoc, length-append}
 use Rattle.std.specs.Prelude.{codes, sum_by}
 use Rattle.std.specs.Fmt.{decimal}
 use Rattle.std.specs.List.{flat_map}
 use Rattle.std.proofs.lemmas.Bool.{eqb-true, le-ltb}
 use Rattle.std.proofs.lemmas.Fmt.{length-decimal-le}
-use Rattle.std.proofs.lemmas.List.{length-replicate}
-use Rattle.std.proofs.lemmas.List.Sums.{sum_by-cons}
 use Rattle.lot_machine.specs.declared.input.BodyWord.TheVariants as body
 use Rattle.lot_machine.specs.Reading.{Reading, each_pair}
 use Rattle.lot_machine.specs.Grammar.{ActorRun, actors_of, body_after_header, read_line, run_of}
 use Rattle.lot_machine.specs.Report.{run_before, run_text, runs_in, runs_line}
+use Rattle.lot_machine.proofs.ActorRuns.{length-actors_of}
 use Rattle.lot_print.proofs.GroupLemmas.{Each, IsGroup}
 use Rattle.lot_print.proofs.PlainLemmas.{Shown, Words, spaced, Shown-append, Shown-spaced, is_printable-shown, tokens_of-words, some-decimal, Plain-decimal, number_of-decimal}
 use Rattle.lot_print.proofs.ReadBack.{AreActors, read_line-words, scheduled}
@@ -62,13 +61,6 @@ even [] = refl
 even (run ∷ runs) =
     let more : length (run_words (run ∷ runs)) ≡ length (run_words runs) + 2 = omega arith in
     omega (arith, more, even runs)
-
-length-actors_of : (runs : List ActorRun) → length (actors_of runs) ≡ sum_by (λ (run : ActorRun). run.count) runs
-length-actors_of [] = refl
-length-actors_of (run ∷ runs) =
-    let turns : sum_by (λ (r : ActorRun). r.count) (run ∷ runs) ≡ run.count + sum_by (λ (r : ActorRun). r.count) runs = sum_by-cons (λ (r : ActorRun). r.count) run runs in
-    let actors : length (actors_of (run ∷ runs)) ≡ length (replicate run.count run.actor ++ actors_of runs) = refl in
-    omega (arith, turns, actors, length-append (replicate run.count run.actor) (actors_of runs), length-replicate run.count run.actor, length-actors_of runs)
 
 -- ---- a line
 

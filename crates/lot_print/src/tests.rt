@@ -3,148 +3,217 @@ use lot_machine::{
     Action, CurrencyRow, Event, InputFault, InputRefusal, Kind, Limits, Name, Outcome, Refusal,
     Reply, Status, ThreadRow, TicketRow, TrapRefusal,
 };
-use std::alloc::{AllocError, Global};
 use std::test::Fail;
 
-/// The reply as a line.
-fn line(alloc: Global, event: &Event, reply: Reply) -> Result<String, AllocError> {
-    format!(in alloc; "{}", ReplyLine { event, reply })
+/// A reply to an event that isn't a trap.
+fn plain(reply: Reply) -> (Event, Reply) {
+    (Event::Draw(1, 0), reply)
+}
+
+/// A trap, and the reply to it.
+fn trap(action: Action, outcome: Outcome, ends: bool) -> (Event, Reply) {
+    let reply = Reply::Trapped {
+        thread: 1,
+        ticks: 2,
+        outcome,
+        ends,
+    };
+    (Event::Trap(1, 1, action), reply)
 }
 
 #[test]
 fn prints_replies(rt: HostRuntime) -> Result<(), Fail> {
-    let draw = Event::Draw(1, 0);
-    for (reply, wanted) in [
-        (Reply::Ticket(1), "ticket 1\n"),
-        (Reply::Currency(2), "currency 2\n"),
-        (Reply::Thread(1), "thread 1\n"),
+    for ((event, reply), wanted) in [
+        (plain(Reply::Ticket(1)), "ticket 1\n"),
+        (plain(Reply::Currency(2)), "currency 2\n"),
+        (plain(Reply::Thread(1)), "thread 1\n"),
         (
-            Reply::Funded {
+            plain(Reply::Funded {
                 ticket: 8,
                 thread: 3,
-            },
+            }),
             "funded 8 3\n",
         ),
-        (Reply::Done, "done\n"),
-        (Reply::Idle, "idle\n"),
+        (plain(Reply::Done), "done\n"),
         (
-            Reply::Winner {
+            plain(Reply::Winner {
                 thread: 1,
                 number: 9,
                 total: 15,
                 delivered: None,
-            },
+            }),
             "draw 9 of 15 thread 1\n",
         ),
         (
-            Reply::Winner {
+            plain(Reply::Winner {
                 thread: 1,
                 number: 5,
                 total: 100,
                 delivered: Some(41),
-            },
+            }),
             "draw 5 of 100 thread 1 got 41\n",
         ),
+        (plain(Reply::Idle), "idle\n"),
         (
-            Reply::Expired {
+            plain(Reply::Expired {
                 thread: 1,
                 ticks: 100,
-            },
+            }),
             "thread 1 ticks 100 expire\n",
         ),
-        (Reply::Refused(Refusal::Full), "refused 13 Full\n"),
+        (plain(Reply::Refused(Refusal::Full)), "refused 13 Full\n"),
+        (
+            trap(Action::Yield, Outcome::Yielded, false),
+            "thread 1 ticks 2 yield\n",
+        ),
+        (
+            trap(Action::Call(3, 41), Outcome::ServedBy(4), false),
+            "thread 1 ticks 2 call 3 served by 4\n",
+        ),
+        (
+            trap(Action::Call(3, 41), Outcome::Queued, false),
+            "thread 1 ticks 2 call 3 queued\n",
+        ),
+        (
+            trap(
+                Action::Receive(3),
+                Outcome::Received {
+                    client: 5,
+                    number: 41,
+                },
+                false,
+            ),
+            "thread 1 ticks 2 receive 3 client 5 got 41\n",
+        ),
+        (
+            trap(Action::Receive(3), Outcome::Waits, false),
+            "thread 1 ticks 2 receive 3 waits\n",
+        ),
+        (
+            trap(Action::Reply(42), Outcome::Replied(5), false),
+            "thread 1 ticks 2 reply client 5\n",
+        ),
+        (
+            trap(Action::Lock(4), Outcome::Locked, true),
+            "thread 1 ticks 2 lock 4 taken ends\n",
+        ),
+        (
+            trap(Action::Lock(4), Outcome::Waits, false),
+            "thread 1 ticks 2 lock 4 waits\n",
+        ),
+        (
+            trap(Action::Unlock(4, 99), Outcome::Freed, false),
+            "thread 1 ticks 2 unlock 4 free\n",
+        ),
+        (
+            trap(
+                Action::Unlock(4, 99),
+                Outcome::Passed {
+                    to: 6,
+                    draw: Some((99, 400)),
+                },
+                false,
+            ),
+            "thread 1 ticks 2 unlock 4 to 6 draw 99 of 400\n",
+        ),
+        (
+            trap(
+                Action::Unlock(4, 99),
+                Outcome::Passed { to: 6, draw: None },
+                false,
+            ),
+            "thread 1 ticks 2 unlock 4 to 6 oldest\n",
+        ),
+        (
+            trap(Action::Exit, Outcome::Exited, false),
+            "thread 1 ticks 2 exit\n",
+        ),
+        (
+            trap(
+                Action::Lock(4),
+                Outcome::Refused(TrapRefusal::LockCycle),
+                true,
+            ),
+            "thread 1 ticks 2 refused 36 LockCycle ends\n",
+        ),
     ] {
-        let text = line(rt.alloc(), &draw, reply)?;
+        let line = ReplyLine {
+            event: &event,
+            reply,
+        };
+        let text = format!(in rt.alloc(); "{line}")?;
         assert_eq!(rt; text.as_str(), wanted);
     }
     Ok(())
 }
 
 #[test]
-fn prints_traps(rt: HostRuntime) -> Result<(), Fail> {
-    for (action, outcome, ends, wanted) in [
-        (Action::Yield, Outcome::Yielded, false, "yield\n"),
-        (
-            Action::Call(1, 41),
-            Outcome::ServedBy(1),
-            false,
-            "call 1 served by 1\n",
-        ),
-        (
-            Action::Call(1, 41),
-            Outcome::Queued,
-            false,
-            "call 1 queued\n",
-        ),
-        (
-            Action::Receive(1),
-            Outcome::Received {
-                client: 2,
-                number: 3,
-            },
-            true,
-            "receive 1 client 2 got 3 ends\n",
-        ),
-        (
-            Action::Receive(1),
-            Outcome::Waits,
-            false,
-            "receive 1 waits\n",
-        ),
-        (
-            Action::Reply(42),
-            Outcome::Replied(2),
-            false,
-            "reply client 2\n",
-        ),
-        (
-            Action::Lock(4),
-            Outcome::Locked,
-            true,
-            "lock 4 taken ends\n",
-        ),
-        (
-            Action::Unlock(4, 9),
-            Outcome::Freed,
-            false,
-            "unlock 4 free\n",
-        ),
-        (
-            Action::Unlock(4, 9),
-            Outcome::Passed {
-                to: 2,
-                draw: Some((99, 400)),
-            },
-            false,
-            "unlock 4 to 2 draw 99 of 400\n",
-        ),
-        (
-            Action::Unlock(4, 9),
-            Outcome::Passed { to: 2, draw: None },
-            false,
-            "unlock 4 to 2 oldest\n",
-        ),
-        (Action::Exit, Outcome::Exited, false, "exit\n"),
-        (
-            Action::Lock(4),
-            Outcome::Refused(TrapRefusal::LockCycle),
-            true,
-            "refused 36 LockCycle ends\n",
-        ),
+fn prints_refusals(rt: HostRuntime) -> Result<(), Fail> {
+    for (refusal, wanted) in [
+        (Refusal::BadName, "refused 1 BadName"),
+        (Refusal::NameTaken, "refused 2 NameTaken"),
+        (Refusal::NoCurrency, "refused 3 NoCurrency"),
+        (Refusal::NoTicket, "refused 4 NoTicket"),
+        (Refusal::NoTarget, "refused 5 NoTarget"),
+        (Refusal::BadAmount, "refused 6 BadAmount"),
+        (Refusal::InUse, "refused 7 InUse"),
+        (Refusal::Funding, "refused 8 Funding"),
+        (Refusal::NotFunding, "refused 9 NotFunding"),
+        (Refusal::Cycle, "refused 10 Cycle"),
+        (Refusal::BaseFixed, "refused 11 BaseFixed"),
+        (Refusal::DeadThread, "refused 12 DeadThread"),
+        (Refusal::Full, "refused 13 Full"),
+        (Refusal::NoScript, "refused 14 NoScript"),
+        (Refusal::BadProcessor, "refused 20 BadProcessor"),
+        (Refusal::Busy, "refused 21 Busy"),
+        (Refusal::NotRunning, "refused 22 NotRunning"),
+        (Refusal::BadTicks, "refused 23 BadTicks"),
     ] {
-        let event = Event::Trap(1, 0, action);
-        let text = line(
-            rt.alloc(),
-            &event,
-            Reply::Trapped {
-                thread: 1,
-                ticks: 2,
-                outcome,
-                ends,
-            },
-        )?;
-        let front = text.as_str().strip_prefix("thread 1 ticks 2 ");
-        assert_eq!(rt; front, Some(wanted));
+        let text = format!(in rt.alloc(); "{}", RefusalText(refusal))?;
+        assert_eq!(rt; text.as_str(), wanted);
+    }
+    Ok(())
+}
+
+#[test]
+fn prints_trap_refusals(rt: HostRuntime) -> Result<(), Fail> {
+    for (refusal, wanted) in [
+        (TrapRefusal::NoPort, "refused 30 NoPort"),
+        (TrapRefusal::NothingToReply, "refused 32 NothingToReply"),
+        (TrapRefusal::NoMutex, "refused 33 NoMutex"),
+        (TrapRefusal::NotOwner, "refused 34 NotOwner"),
+        (TrapRefusal::AlreadyOwner, "refused 35 AlreadyOwner"),
+        (TrapRefusal::LockCycle, "refused 36 LockCycle"),
+    ] {
+        let text = format!(in rt.alloc(); "{}", TrapRefusalText(refusal))?;
+        assert_eq!(rt; text.as_str(), wanted);
+    }
+    Ok(())
+}
+
+#[test]
+fn prints_faults(rt: HostRuntime) -> Result<(), Fail> {
+    for (line, refusal, wanted) in [
+        (1, InputRefusal::BadHeader, "refused line 1 50 BadHeader\n"),
+        (2, InputRefusal::BadLine, "refused line 2 51 BadLine\n"),
+        (2, InputRefusal::BadNumber, "refused line 2 52 BadNumber\n"),
+        (
+            3,
+            InputRefusal::UnknownName,
+            "refused line 3 53 UnknownName\n",
+        ),
+        (
+            2,
+            InputRefusal::OpenScript,
+            "refused line 2 54 OpenScript\n",
+        ),
+        (11, InputRefusal::TooDeep, "refused line 11 55 TooDeep\n"),
+        (2, InputRefusal::TooLong, "refused line 2 56 TooLong\n"),
+        (2, InputRefusal::BadActor, "refused line 2 57 BadActor\n"),
+    ] {
+        let fault = FaultLine(InputFault { line, refusal });
+        let text = format!(in rt.alloc(); "{fault}")?;
+        assert_eq!(rt; text.as_str(), wanted);
     }
     Ok(())
 }
@@ -180,12 +249,6 @@ fn prints_totals(rt: HostRuntime) -> Result<(), Fail> {
     let wanted =
         "thread 1 a quanta 2 ticks 200\nprocessor 1 quanta 3 idle 0 ticks 300\ntotal turns 12 quanta 3 ticks 300\nrefused 41 Ended\n";
     assert_eq!(rt; text.as_str(), wanted);
-    let fault = FaultLine(InputFault {
-        line: 2,
-        refusal: InputRefusal::BadActor,
-    });
-    let text = format!(in rt.alloc(); "{fault}")?;
-    assert_eq!(rt; text.as_str(), "refused line 2 57 BadActor\n");
     Ok(())
 }
 

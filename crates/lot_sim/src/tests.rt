@@ -1,4 +1,6 @@
 use crate::status::status;
+use lot_system::{PlayFault, Played, play};
+use lot_text::Watched;
 use std::alloc::Global;
 use std::io;
 use std::io::{ErrorKind, Read, Write};
@@ -62,7 +64,6 @@ total turns 12 quanta 3 ticks 300
 #[test]
 fn finer_values(rt: HostRuntime) -> Result<(), Fail> {
     let alloc = rt.alloc();
-    let input = format!(in alloc; "lottery 2\n{SPINNERS}schedule 0 0 0 0 0 0 1 1\n")?;
     let output = format!(in alloc;
         "{SPINNERS_MADE}1 draw 2724 of 3840 thread 2
 1 thread 2 ticks 100 expire
@@ -73,7 +74,10 @@ processor 1 quanta 1 idle 0 ticks 100
 total turns 8 quanta 1 ticks 100
 "
     )?;
-    check_play(&rt, alloc, input.as_str(), 0, output.as_str());
+    for schedule in ["schedule 0 0 0 0 0 0 1 1", "runs 0 6 1 2"] {
+        let input = format!(in alloc; "lottery 2\n{SPINNERS}{schedule}\n")?;
+        check_play(&rt, alloc, input.as_str(), 0, output.as_str());
+    }
     Ok(())
 }
 
@@ -107,11 +111,35 @@ processor 1 quanta 1 idle 1 ticks 6
 total turns 6 quanta 1 ticks 6
 ";
 
-/// Refused commands are turns, and a turn of the console without a command isn't.
+/// Two processors and one thread, and one turn of the console too many, which isn't counted.
+const TWO_PROCESSORS: &str = "lottery 1
+processors 2
+script spin
+compute 150
+endscript
+fundx 10 base a spin
+schedule 0 1 2 1 2 0
+";
+
+const TWO_PROCESSORS_PLAYED: &str = "0 funded 1 1
+1 draw 4 of 10 thread 1
+2 idle
+1 thread 1 ticks 100 expire
+2 draw 3 of 10 thread 1
+0 refused 41 Ended
+report
+thread 1 a quanta 2 ticks 100
+processor 1 quanta 1 idle 0 ticks 100
+processor 2 quanta 1 idle 1 ticks 0
+total turns 5 quanta 2 ticks 100
+";
+
+/// Refused commands are turns.
 const REFUSED_COMMANDS: &str = "lottery 1
 limits 1 1 1
 mktkt 1 base
 mktkt 1 base
+mkcur Bad
 mkthr a none
 fund 9 a
 schedule 0 0 0 0 0
@@ -119,12 +147,12 @@ schedule 0 0 0 0 0
 
 const COMMANDS_REFUSED: &str = "0 ticket 1
 0 refused 13 Full
+0 refused 1 BadName
 0 refused 14 NoScript
 0 refused 4 NoTicket
-0 refused 41 Ended
 report
 processor 1 quanta 0 idle 0 ticks 0
-total turns 4 quanta 0 ticks 0
+total turns 5 quanta 0 ticks 0
 ";
 
 /// The paper's currency graph: alice and bob share base, and hand on what they have to their tasks (4.4).
@@ -208,18 +236,8 @@ fn played(rt: HostRuntime) {
         ("lottery 1", 0, EMPTY_REPORT),
         ("lottery 1\n", 0, EMPTY_REPORT),
         (ENDING, 0, ENDED),
+        (TWO_PROCESSORS, 0, TWO_PROCESSORS_PLAYED),
         (REFUSED_COMMANDS, 0, COMMANDS_REFUSED),
-        ("", 1, "refused line 1 50 BadHeader\n"),
-        (
-            "lottery 1\nscript s\ncompute 5\n",
-            1,
-            "refused line 2 54 OpenScript\n",
-        ),
-        (
-            "lottery 1\nschedule 0 2\n",
-            1,
-            "refused line 2 57 BadActor\n",
-        ),
         ("lottery 1\nlstkt\n", 0, EMPTY_REPORT),
         (CURRENCY_GRAPH, 0, CURRENCY_LISTINGS),
         (
@@ -231,6 +249,66 @@ fn played(rt: HostRuntime) {
     for (input, code, output) in rows {
         check_play(&rt, rt.alloc(), input, code, output);
     }
+}
+
+/// The front of a call and its reply, up to the first line of the server's script.
+const CALL: &str = "lottery 1\nquantum 10\nport p\nscript srv\n";
+
+/// The front of a script, up to its first line.
+const SCRIPT: &str = "lottery 1\nscript s\n";
+
+#[test]
+fn refused_inputs(rt: HostRuntime) -> Result<(), Fail> {
+    let rows = [
+        ("", "", "1 50 BadHeader"),
+        (SCRIPT, "compute 5\n", "2 54 OpenScript"),
+        (
+            SCRIPT,
+            "loop 1\nloop 1\nloop 1\nloop 1\nloop 1\nloop 1\nloop 1\nloop 1\nloop 1\n",
+            "11 55 TooDeep",
+        ),
+        ("lottery 1\n", "schedule 0 2\n", "2 57 BadActor"),
+        (CALL, "receive p\n", "4 54 OpenScript"),
+        (CALL, "recei", "5 51 BadLine"),
+        (CALL, "receive", "5 51 BadLine"),
+        ("lottery 1\n", "mktkt 007 base\n", "2 52 BadNumber"),
+        (
+            "lottery 1\n",
+            "quantum 10\nprocessors 2\n",
+            "3 50 BadHeader",
+        ),
+        ("lottery 1\n", "schedule 0\nseed 1\n", "3 50 BadHeader"),
+        ("lottery 1\n", "seed 1 2\n", "2 51 BadLine"),
+        (SCRIPT, "call q\n", "3 53 UnknownName"),
+        ("lottery 3\n", "", "1 50 BadHeader"),
+        ("lottery 2\n", "runs 0\n", "2 51 BadLine"),
+        ("lottery 2\n", "runs 0 0\n", "2 52 BadNumber"),
+        ("lottery 2\n", "runs 2 1\n", "2 57 BadActor"),
+        ("lottery 2\n", "runs 0 1000000 0 1\n", "2 56 TooLong"),
+        ("lottery 1\n", "runs 0 1\n", "2 51 BadLine"),
+    ];
+    for (front, rest, refusal) in rows {
+        let input = format!(in rt.alloc(); "{front}{rest}")?;
+        let output = format!(in rt.alloc(); "refused line {refusal}\n")?;
+        check_play(&rt, rt.alloc(), input.as_str(), 1, output.as_str());
+    }
+    Ok(())
+}
+
+#[test]
+fn long_comment(rt: HostRuntime) -> Result<(), Fail> {
+    let mut input = String::from_str(rt.alloc(), "lottery 1\n#")?;
+    for _ in 0..4096 {
+        input.push('a')?;
+    }
+    check_play(
+        &rt,
+        rt.alloc(),
+        input.as_str(),
+        1,
+        "refused line 2 56 TooLong\n",
+    );
+    Ok(())
 }
 
 /// Checks the exit status of these words, and where a text was written.
@@ -306,4 +384,92 @@ fn failures(rt: HostRuntime) {
     let ended = status(alloc, &words, "lottery 1".as_bytes(), writer, &mut errors);
     assert_eq!(rt; ended, 3);
     assert!(rt; errors.is_empty());
+}
+
+/// A writer that keeps what it takes, and whose call of this number fails: with an error of this kind, or by taking nothing.
+#[derive(Drop)]
+struct FailingCall {
+    written: Vec<u8>,
+    calls: u32,
+    fails_at: u32,
+    kind: Option<ErrorKind>,
+}
+
+impl FailingCall {
+    /// Counts one call more, and fails if it is to.
+    fn call(&mut self) -> io::Result<()> {
+        self.calls = self.calls.saturating_add(1);
+        match self.kind {
+            Some(kind) if self.calls == self.fails_at => Err(io::Error::from(kind)),
+            _ => Ok(()),
+        }
+    }
+}
+
+impl Write for FailingCall {
+    fn write(&mut self, buf: &[u8]) -> io::Result<usize> {
+        self.call()?;
+        if self.calls == self.fails_at {
+            return Ok(0);
+        }
+        self.written.write(buf)
+    }
+
+    fn flush(&mut self) -> io::Result<()> {
+        self.call()
+    }
+}
+
+/// Plays the input to a writer whose call of this number fails, and answers whether it has failed: then what it took is a
+/// beginning of the whole output.
+fn has_failed(
+    rt: &impl Abort,
+    alloc: Global,
+    input: &str,
+    fails_at: u32,
+    kind: Option<ErrorKind>,
+) -> bool {
+    let mut writer = Watched::new(FailingCall {
+        written: Vec::new(alloc),
+        calls: 0,
+        fails_at,
+        kind,
+    });
+    let mut reader = Watched::new(input.as_bytes());
+    let ended = play(alloc, &mut reader, &mut writer);
+    let has_failed = writer.failed();
+    let FailingCall { written, calls, .. } = writer.into_inner();
+    let whole = CURRENCY_LISTINGS.as_bytes();
+    if has_failed {
+        assert_eq!(rt; (ended, calls), (Err(PlayFault::Write), fails_at));
+        assert!(rt; whole.starts_with(written.as_slice()), "at call {fails_at}");
+    } else {
+        assert_eq!(rt; ended, Ok(Played::Done));
+        assert!(rt; whole == written.as_slice(), "at call {fails_at}");
+    }
+    has_failed
+}
+
+/// The number of the first call whose failure doesn't come, since there are fewer.
+fn first_unmade(rt: &impl Abort, alloc: Global, input: &str, kind: Option<ErrorKind>) -> u32 {
+    for call in 1..1000 {
+        if !has_failed(rt, alloc, input, call, kind) {
+            return call;
+        }
+    }
+    0
+}
+
+#[test]
+fn failing_writers(rt: HostRuntime) -> Result<(), Fail> {
+    let alloc = rt.alloc();
+    let graph = CURRENCY_GRAPH
+        .strip_prefix("lottery 1\n")
+        .ok_or("a first line")?;
+    let input = format!(in alloc; "lottery 1\nlimits 8 5 3\n{graph}")?;
+    for kind in [Some(ErrorKind::Other), Some(ErrorKind::Interrupted), None] {
+        let call = first_unmade(&rt, alloc, input.as_str(), kind);
+        assert!(rt; 100 < call, "{call}");
+    }
+    Ok(())
 }

@@ -1,9 +1,7 @@
 -- Runs of turns of one actor.
-use Rattle.std.proofs.Common.{◌≡◌, ◌≢◌, ◌≤◌, ◌+◌, ◌%◌, ◌==◌, ◌↔◌, Bool, true, false, ℕ, Result, Ok, List, [], ◌∷◌, ◌++◌, length, replicate, refl, sym, arith, ◌∙◌, length-append}
-use Rattle.std.specs.Prelude.{All, IsTrue, sum_by}
+use Rattle.std.proofs.Common.{◌≡◌, ◌≢◌, ◌≤◌, ◌%◌, ◌==◌, ◌↔◌, Bool, true, false, ℕ, Result, Ok, List, [], ◌∷◌, length, replicate, refl, sym, arith, ◌∙◌}
+use Rattle.std.specs.Prelude.{All, IsTrue}
 use Rattle.std.proofs.lemmas.Bool.{ne_eqb, true≢false}
-use Rattle.std.proofs.lemmas.List.{length-replicate}
-use Rattle.std.proofs.lemmas.List.Sums.{sum_by-cons}
 use Rattle.std.proofs.lemmas.List.Elements.{All-append, All-replicate, All-nil, All-head, All-tail}
 use Rattle.lot_machine.specs.declared.input.InputRefusal.{InputRefusal}
 use Rattle.lot_machine.specs.declared.input.BodyWord.TheVariants as body
@@ -16,14 +14,6 @@ pub each_pair-none : {A : Type 0} (read : List ℕ → List ℕ → Result A Inp
 each_pair-none read [] few = refl
 each_pair-none read (token ∷ []) few = refl
 each_pair-none read (first ∷ second ∷ tokens) few = absurd (omega (arith, few))
-
--- as many actors as the runs have turns
-pub length-actors_of : (runs : List ActorRun) → length (actors_of runs) ≡ sum_by (λ (run : ActorRun). run.count) runs
-length-actors_of [] = refl
-length-actors_of (run ∷ runs) =
-    let turns : sum_by (λ (r : ActorRun). r.count) (run ∷ runs) ≡ run.count + sum_by (λ (r : ActorRun). r.count) runs = sum_by-cons (λ (r : ActorRun). r.count) run runs in
-    let actors : length (actors_of (run ∷ runs)) ≡ length (replicate run.count run.actor ++ actors_of runs) = refl in
-    omega (arith, turns, actors, length-append (replicate run.count run.actor) (actors_of runs), length-replicate run.count run.actor, length-actors_of runs)
 
 -- the actors are those of the runs
 pub All-actors_of : (p : ℕ) (runs : List ActorRun) → All (λ (run : ActorRun). run.actor ≤ p) runs → All (λ (actor : ℕ). actor ≤ p) (actors_of runs)

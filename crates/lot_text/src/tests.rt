@@ -71,15 +71,6 @@ fn reads_the_first_run(rt: HostRuntime) -> Result<(), Fail> {
     Ok(())
 }
 
-// Also for runs in which one allocation is refused.
-#[test]
-fn reads_or_lacks_memory(rt: HostRuntime) {
-    let text =
-        "lottery 2\nseed 7\nport p\nmutex m\nscript s\ncompute 5\nendscript\nmktkt 1 base\nmkthr a s\nschedule 0 1\nruns 0 3";
-    let result = parse(rt.alloc(), text.as_bytes());
-    assert!(rt; matches!(&result, Ok(_) | Err(ParseFault::Memory)));
-}
-
 #[test]
 fn reads_headers(rt: HostRuntime) -> Result<(), Fail> {
     let text =
@@ -287,18 +278,26 @@ fn refuses_runs(rt: HostRuntime) {
     }
 }
 
+/// Every kind of line.
+const WHOLE_GRAMMAR: &str =
+    "lottery 2\nprocessors 2\nquantum 7\nturns 10000\nseed 5 6\nlimits 9 8 7\n# ports\nport p\nport q\n\n\
+    mutex m\nmutex n\nscript s\nset 1\nloop 2\nadd 3\n# inner\ncompute 4\ncall p\nend\nreceive q\nreply\nlock m\nunlock n\n\
+    yield\nendscript\nscript t\nendscript\nmktkt 10 base\nrmtkt 1\nmkcur a\nrmcur a\nfund 3 a\nunfund 2\nmkthr u t\n\
+    fundx 9 a v s\nlstkt\nlscur\nlsthr\nruns 0 2 2 1\nschedule 1 0";
+
 #[test]
 fn reads_the_whole_grammar(rt: HostRuntime) -> Result<(), Fail> {
-    let text =
-        "lottery 2\nprocessors 2\nquantum 7\nturns 10000\nseed 5 6\nport p\nmutex m\nscript s\nset 1\nloop 2\n\
-        add 3\ncall p\nend\nreceive p\nreply\nlock m\nunlock m\nyield\nendscript\nrmtkt 1\nmkcur a\nrmcur a\n\
-        unfund 2\nfundx 9 a t s\nlstkt\nlscur\nlsthr\nruns 0 2 2 1\nschedule 1";
-    let program = parse(rt.alloc(), text.as_bytes())?;
+    let program = parse(rt.alloc(), WHOLE_GRAMMAR.as_bytes())?;
     let limits = program.limits();
     assert_eq!(rt;
-        (limits.processors, limits.ports, limits.mutexes),
-        (2, 1, 1)
+        (limits.tickets, limits.currencies, limits.threads),
+        (9, 8, 7)
     );
+    assert_eq!(rt;
+        (limits.processors, limits.quantum, limits.unit),
+        (2, 7, 256)
+    );
+    assert_eq!(rt; (limits.ports, limits.mutexes, limits.scripts), (2, 2, 2));
     assert_eq!(rt;
         (program.turns(), program.seeds()),
         (10000, [5, 6].as_slice())
@@ -307,27 +306,41 @@ fn reads_the_whole_grammar(rt: HostRuntime) -> Result<(), Fail> {
         Line::Set(1),
         Line::Loop(2),
         Line::Add(3),
+        Line::Compute(4),
         Line::Call(1),
         Line::End,
-        Line::Receive(1),
+        Line::Receive(2),
         Line::Reply,
         Line::Lock(1),
-        Line::Unlock(1),
+        Line::Unlock(2),
         Line::Yield,
     ];
     assert_eq!(rt; program.scripts()[0].lines(), lines.as_slice());
+    assert_eq!(rt; program.scripts()[1].lines().len(), 0);
     let name = |text: &str| Name::new(text).ok_or("a name");
     let commands = [
+        Command::MakeTicket {
+            amount: 10,
+            currency: name("base")?,
+        },
         Command::RemoveTicket { ticket: 1 },
         Command::MakeCurrency { name: name("a")? },
         Command::RemoveCurrency {
             currency: name("a")?,
         },
+        Command::Fund {
+            ticket: 3,
+            target: name("a")?,
+        },
         Command::Unfund { ticket: 2 },
+        Command::MakeThread {
+            name: name("u")?,
+            script: 2,
+        },
         Command::MakeFunded {
             amount: 9,
             currency: name("a")?,
-            name: name("t")?,
+            name: name("v")?,
             script: 1,
         },
         Command::List(Kind::Tickets),
@@ -335,8 +348,15 @@ fn reads_the_whole_grammar(rt: HostRuntime) -> Result<(), Fail> {
         Command::List(Kind::Threads),
     ];
     assert_eq!(rt; program.commands(), commands.as_slice());
-    assert_eq!(rt; program.schedule(), [0, 0, 2, 1].as_slice());
+    assert_eq!(rt; program.schedule(), [0, 0, 2, 1, 0].as_slice());
     Ok(())
+}
+
+// For runs in which one allocation is refused: the test above fails in those that refuse one of these.
+#[test]
+fn reads_or_lacks_memory(rt: HostRuntime) {
+    let result = parse(rt.alloc(), WHOLE_GRAMMAR.as_bytes());
+    assert!(rt; matches!(&result, Ok(_) | Err(ParseFault::Memory)));
 }
 
 /// A first line, and then a line of so many bytes.

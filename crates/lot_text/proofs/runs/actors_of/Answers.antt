@@ -1,6 +1,7 @@
 use Rattle.std.proofs.Common.{◌≡◌, take, arith}
 use Rattle.std.proofs.lemmas.List.{take_all}
-use Rattle.lot_text.proofs.RunLemmas.{All-actors_of, length-actors_of}
+use Rattle.lot_machine.proofs.ActorRuns.{length-actors_of}
+use Rattle.lot_text.proofs.RunLemmas.{All-actors_of}
 use Rattle.lot_text.proofs.runs.actors_of.Goals as goal
 
 pub returns-clause-count : goal.returns-clause-count
