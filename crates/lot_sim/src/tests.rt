@@ -230,6 +230,44 @@ processor 1 quanta 0 idle 0 ticks 0
 total turns 21 quanta 0 ticks 0
 ";
 
+/// A client calls a server with 41, and is answered 42.
+const CALL_AND_REPLY: &str = "lottery 1
+quantum 10
+port p
+script srv
+receive p
+add 1
+reply
+endscript
+script cli
+set 41
+call p
+compute 2
+endscript
+fundx 5 base s srv
+fundx 5 base c cli
+schedule 0 0 1 1 1 1 1 1 1 1 1 1
+";
+
+const CALL_AND_REPLY_PLAYED: &str = "0 funded 1 1
+0 funded 2 2
+1 draw 4 of 10 thread 1
+1 thread 1 ticks 1 receive 1 waits
+1 draw 4 of 5 thread 2
+1 thread 2 ticks 2 call 1 served by 1
+1 draw 5 of 100 thread 1 got 41
+1 thread 1 ticks 2 reply client 2
+1 thread 1 ticks 1 exit
+1 draw 5 of 25 thread 2 got 42
+1 thread 2 ticks 3 exit
+1 idle
+report
+thread 1 s quanta 2 ticks 4
+thread 2 c quanta 2 ticks 5
+processor 1 quanta 4 idle 1 ticks 9
+total turns 12 quanta 4 ticks 9
+";
+
 #[test]
 fn played(rt: HostRuntime) {
     let rows = [
@@ -240,11 +278,7 @@ fn played(rt: HostRuntime) {
         (REFUSED_COMMANDS, 0, COMMANDS_REFUSED),
         ("lottery 1\nlstkt\n", 0, EMPTY_REPORT),
         (CURRENCY_GRAPH, 0, CURRENCY_LISTINGS),
-        (
-            "lottery 1\nscript s\nyield\nendscript\n",
-            1,
-            "refused line 1 51 BadLine\n",
-        ),
+        (CALL_AND_REPLY, 0, CALL_AND_REPLY_PLAYED),
     ];
     for (input, code, output) in rows {
         check_play(&rt, rt.alloc(), input, code, output);
