@@ -6,3 +6,4 @@ pub mod ScriptLemmas
 pub mod SeedLemmas
 pub mod TokenLemmas
 pub mod WordLemmas
+pub mod WriteLemmas

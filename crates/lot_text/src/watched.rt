@@ -2,7 +2,7 @@
 ghost use Rattle.std.specs.Prelude.{◌≡◌, ◌||◌, false, is_err, IsTrue, IsErr, OnOk};
 ghost use Rattle.std.specs.Io.{ReadsAtMost, WritesAtMost};
 ghost use Rattle.std.specs.Io.KnownBytes.{Appends, Keeps, ReadConsumes, WriteAppends};
-ghost use Rattle.lot_text.specs.Watching.{is_failed_write};
+ghost use Rattle.lot_text.specs.Watching.{AppendsBeginning, is_failed_write};
 
 use std::io;
 use std::io::{Error, ErrorKind, Read, Write};
@@ -109,6 +109,7 @@ impl<W: Write> Write for Watched<W> {
 
     fn write_all(&mut self, buf: &[u8]) -> io::Result<()>
         ensures bytes { OnOk result (Appends (W.contents self.old.0) (W.contents self.new.0) buf.now) }
+        ensures begun { AppendsBeginning (W.contents self.old.0) (W.contents self.new.0) buf.now }
         ensures failed { self.new.1 ≡ (self.old.1 || is_err result) }
         ensures nothing_after { IsTrue self.old.1 → self.new ≡ self.old }
     {

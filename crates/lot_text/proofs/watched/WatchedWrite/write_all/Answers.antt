@@ -1,0 +1,22 @@
+use Rattle.std.proofs.Common.{◌+◌, arith}
+use Rattle.std.proofs.lemmas.Grind.{common_steps}
+use Rattle.std.proofs.lemmas.List.{take_rest}
+use Rattle.lot_text.proofs.WriteLemmas.{appends-more, appends-nothing, appends-none, appends-rest}
+use Rattle.lot_text.proofs.watched.WatchedWrite.write_all.Goals as goal
+
+pub returns-in_err-taken-clause-begun : goal.returns-in_err-taken-clause-begun
+returns-in_err-taken-clause-begun g c =
+    c.loop-rest.invariant.begun _ 0 (appends-nothing _ _ c.loop-rest.rest.now c.in_err-taken.ensures.bytes)
+
+pub loop-rest-preserved : goal.loop-rest-preserved
+loop-rest-preserved g c =
+    let behind = take_rest c.loop-rest.rest.now c.in_ok-taken.taken in
+    record {
+      bytes = λ new h. c.loop-rest.invariant.bytes new (appends-rest _ _ new c.in_ok-taken.taken c.loop-rest.rest.now _ behind c.in_ok-taken.ensures.bytes h);
+      begun = λ new count h. c.loop-rest.invariant.begun new (c.in_ok-taken.taken + count) (appends-more _ _ new c.in_ok-taken.taken count c.loop-rest.rest.now _ behind c.in_ok-taken.ensures.bytes h);
+      failed = grind (arith, common_steps);
+      nothing_after = grind (arith, common_steps);
+    }
+
+pub returns-clause-begun : goal.returns-clause-begun
+returns-clause-begun g c = c.loop-rest.invariant.begun _ 0 (appends-none _ c.loop-rest.rest.now)
