@@ -1,5 +1,5 @@
 -- What holds of the tables goes on to hold through their changes.
-use Rattle.std.proofs.Common.{◌≡◌, ℕ, zero, suc, ◌-◌, ◌<◌, ◌≤◌, ◌==◌, nat_lt, ltb-true, Bool, true, false, Option, Some, None, List, [], ◌∷◌, ◌++◌, length, if◌then◌else◌, option_map, refl}
+use Rattle.std.proofs.Common.{◌≡◌, ℕ, zero, suc, ◌-◌, ◌<◌, ◌≤◌, ◌==◌, nat_lt, ltb-true, Bool, true, false, Option, Some, None, List, [], ◌∷◌, ◌++◌, if◌then◌else◌, option_map, refl}
 use Rattle.std.specs.List.{All, slice_get}
 use Rattle.std.specs.Option.{IfSome, option_flatten}
 use Rattle.std.proofs.lemmas.List.Elements.{All-set, All-head, All-tail, All-push, All-weaker}
@@ -10,7 +10,7 @@ use Rattle.lot_machine.specs.declared.record.Status.TheVariants.{Ready, Running}
 use Rattle.lot_machine.specs.declared.after.After.{After}
 use Rattle.lot_machine.specs.declared.after.After.TheVariants.{GoesOn, Leaves, Ends}
 use Rattle.lot_machine.specs.Traps.{after_trap, with_ticks}
-use Rattle.lot_machine.specs.Numbered.{at_number, set_number}
+use Rattle.lot_machine.specs.Numbered.{at_number}
 use Rattle.lot_machine.specs.Funding.{ticket_in, with_target, retargeted}
 use Rattle.lot_machine.specs.State.{change_record}
 use Rattle.lot_rounds.specs.Tables.{AreWithin, IsTargetWithin, IsTicketWithin}

@@ -1,8 +1,7 @@
 -- Elements by their numbers and by their places.
-use Rattle.std.proofs.Common.{◌≡◌, ℕ, zero, suc, ◌+◌, ◌-◌, ◌<◌, ◌≤◌, ◌==◌, Bool, true, false, None, Some, List, length, map, get_or, Option, option_map, cond, refl, sym, ◌∙◌, arith}
-use Rattle.std.specs.List.{slice_get}
+use Rattle.std.proofs.Common.{◌≡◌, ℕ, suc, ◌+◌, ◌<◌, None, Some, List, length, get_or, Option, refl, ◌∙◌, arith}
 use Rattle.std.specs.Option.{IsSome, IfSome}
-use Rattle.std.proofs.lemmas.Option.{slice_get-get_or, slice_get-map, slice_get_within}
+use Rattle.std.proofs.lemmas.Option.{slice_get-get_or}
 use Rattle.lot_machine.specs.Numbered.{at_number}
 use Rattle.lot_machine.proofs.Tickets.{at_number-suc}
 

@@ -1,7 +1,6 @@
 -- What a state that is in order gives to what is computed of it.
-use Rattle.std.proofs.Common.{◌≡◌, ℕ, zero, suc, ◌+◌, ◌-◌, ◌*◌, ◌<◌, ◌≤◌, ◌==◌, ◌^◌, Bool, true, false, Option, Some, None, is_some, List, [], ◌∷◌, length, map, filter, filter_map, get_or, sum_by, slice_index, option_and_then, cond, refl, ap, sym, ◌∙◌, arith}
-use Rattle.std.specs.List.{All, range_with_len, slice_get}
-use Rattle.std.specs.Option.{IfSome}
+use Rattle.std.proofs.Common.{◌≡◌, ℕ, zero, suc, ◌+◌, ◌-◌, ◌*◌, ◌<◌, ◌≤◌, ◌^◌, Bool, true, false, Option, Some, None, is_some, List, [], ◌∷◌, length, map, filter, filter_map, get_or, sum_by, slice_index, option_and_then, cond, refl, ap, ◌∙◌, arith}
+use Rattle.std.specs.List.{range_with_len, slice_get}
 use Rattle.std.proofs.lemmas.Bool.{eq-eqb}
 use Rattle.std.proofs.lemmas.List.{length-map}
 use Rattle.std.proofs.lemmas.List.Sums.{sum_by-cons}
@@ -12,11 +11,11 @@ use Rattle.lot_machine.specs.declared.ticket.Target.TheVariants.{Unfunded, Curre
 use Rattle.lot_machine.specs.declared.record.Record.{Record}
 use Rattle.lot_machine.specs.Numbered.{at_number, option_any}
 use Rattle.lot_machine.specs.Funding.{Funding, ticket_in, ticket_at, is_currency, is_thread, user_currency_count}
-use Rattle.lot_machine.specs.Activity.{is_active, activates_within, active_amount}
+use Rattle.lot_machine.specs.Activity.{activates_within, active_amount}
 use Rattle.lot_machine.specs.Value.{ticket_value, ticket_value_within}
 use Rattle.lot_machine.specs.Lottery.{weight}
 use Rattle.lot_machine.specs.State.{State, Mutex, lend_of, funding_of, live_of, live_in, status_of, is_ready, ready_threads, value_of, weight_of}
-use Rattle.lot_machine.specs.Facts.{HasNoCycle, FundsThere, base_value}
+use Rattle.lot_machine.specs.Facts.{HasNoCycle, FundsThere}
 use Rattle.lot_machine.specs.Order.{IsInOrder}
 use Rattle.lot_machine.proofs.Tickets.{place_of}
 use Rattle.lot_machine.proofs.OrderKept.{order-sound}

@@ -1,5 +1,5 @@
 -- What a trap does once its checks are passed, and what its thread may rest on.
-use Rattle.std.proofs.Common.{◌≡◌, ℕ, zero, suc, ◌-◌, ◌%◌, ◌^◌, ◌<◌, ◌≤◌, ◌==◌, ne_eqb, MatchOption, Bool, true, false, Option, Some, None, is_none, unwrap_or, List, [], ◌∷◌, length, map, sum, get_or, slice_index, slice_get, refl, ap, sym, ◌∙◌, arith, if◌then◌else◌}
+use Rattle.std.proofs.Common.{◌≡◌, ℕ, zero, suc, ◌-◌, ◌%◌, ◌^◌, ◌<◌, ◌≤◌, ne_eqb, MatchOption, Bool, true, false, Option, Some, None, is_none, unwrap_or, List, [], ◌∷◌, length, map, sum, get_or, slice_index, slice_get, refl, ap, sym, ◌∙◌, arith, if◌then◌else◌}
 use Rattle.std.specs.List.{All}
 use Rattle.std.specs.Option.{IfSome}
 use Rattle.std.proofs.lemmas.List.Elements.{All-head, All-tail, All-weaker}
@@ -20,8 +20,8 @@ use Rattle.lot_machine.specs.Lends.{lends_on_to}
 use Rattle.lot_machine.specs.Lottery.{winner, IsFirstAbove}
 use Rattle.lot_machine.specs.Order.{IsInOrder, IsQueue}
 use Rattle.lot_machine.specs.State.{State, Mutex, funding_of, live_of, value_of, status_of, change_record}
-use Rattle.lot_machine.specs.Ports.{call, receive, reply, first_client}
-use Rattle.lot_machine.specs.Mutexes.{mutex_at, lock, unlock}
+use Rattle.lot_machine.specs.Ports.{call, receive}
+use Rattle.lot_machine.specs.Mutexes.{mutex_at, lock}
 use Rattle.lot_machine.specs.Commands.{first_failing}
 use Rattle.lot_machine.specs.Step.{Effect, of_ports, of_mutexes, owns, trap_refusal, finish_trap, ends_quantum}
 use Rattle.lot_machine.proofs.Draws.{winner-is}

@@ -1,10 +1,8 @@
 -- What a draw works on.
-use Rattle.std.specs.Prelude.{ℕ, ◌-◌, ◌*◌, Option, Some, None, List, sum_by, slice_index, option_and_then, if◌then◌else◌}
-use Rattle.lot_machine.specs.declared.ticket.Ticket.{Ticket}
+use Rattle.std.specs.Prelude.{ℕ, ◌-◌, Option, Some, None, List, slice_index, option_and_then}
 use Rattle.lot_machine.specs.declared.drawn.Drawn.{Drawn}
 use Rattle.lot_machine.specs.declared.record.Record.{Record}
 use Rattle.lot_machine.specs.Numbered.{at_number}
-use Rattle.lot_machine.specs.Funding.{is_thread}
 use Rattle.lot_machine.specs.Lottery.{weight}
 use Rattle.lot_kernel.specs.declared.lotteries.Winner.{Winner}
 

@@ -9,13 +9,13 @@ use Rattle.std.proofs.lemmas.List.Sums.{sum_by-cons}
 use Rattle.lot_machine.specs.declared.ticket.Ticket.{Ticket}
 use Rattle.lot_machine.specs.declared.ticket.Target.{Target}
 use Rattle.lot_machine.specs.declared.ticket.Target.TheVariants.{Unfunded, Currency, Thread}
-use Rattle.lot_machine.specs.Funding.{Funding, all_tickets, issued_in, backing_currency, ticket_at, issuer_of, target_of, is_currency, reaches_within, IsChain, ChainLeads}
+use Rattle.lot_machine.specs.Funding.{Funding, all_tickets, ticket_at, issuer_of, target_of, is_currency, reaches_within, IsChain}
 use Rattle.lot_machine.specs.Activity.{active_amount}
 use Rattle.lot_machine.specs.Value.{ticket_value, currency_value}
 use Rattle.lot_machine.specs.Facts.{HasNoCycle, FundsThere}
 use Rattle.lot_machine.proofs.Sums.{sum-filter, sum-le, sum-le_from, sum-same, sum-plus, sum-swap, sum-at_most, sum-none}
 use Rattle.lot_machine.proofs.Tickets.{target-of, issuer-of, ticket_in-suc}
-use Rattle.lot_machine.proofs.TicketChains.{ShortLeads, reaches_within-found, reaches_within-chain, reaches_within-same}
+use Rattle.lot_machine.proofs.TicketChains.{ShortLeads, reaches_within-found, reaches_within-chain}
 use Rattle.lot_machine.proofs.TicketDepth.{chain-short}
 use Rattle.lot_machine.proofs.Flow.{handed_out, base_worth}
 

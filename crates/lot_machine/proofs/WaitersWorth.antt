@@ -1,21 +1,20 @@
 -- What the waiters for one mutex are worth together: at most what base's active tickets are.
-use Rattle.std.proofs.Common.{◌≡◌, ℕ, zero, suc, ◌+◌, ◌<◌, ◌≤◌, ◌*◌, Bool, true, false, Option, Some, None, List, [], ◌∷◌, length, map, sum_by, slice_get, option_and_then, refl, sym, ◌∙◌, ap, subst, arith, cond}
+use Rattle.std.proofs.Common.{◌≡◌, ℕ, suc, ◌+◌, ◌≤◌, ◌*◌, Bool, true, false, Some, List, [], ◌∷◌, length, sum_by, slice_get, option_and_then, refl, sym, ◌∙◌, ap, subst, arith, cond}
 use Rattle.std.specs.List.{range_with_len}
 use Rattle.std.proofs.lemmas.List.{length-map}
 use Rattle.std.proofs.lemmas.List.Sums.{sum_by-cons}
 use Rattle.lot_machine.specs.declared.record.Record.{Record}
 use Rattle.lot_machine.specs.declared.record.Status.TheVariants.{Waiting}
-use Rattle.lot_machine.specs.declared.funding.Lend.TheVariants.{ToMutex}
-use Rattle.lot_machine.specs.Numbered.{at_number, numbers}
+use Rattle.lot_machine.specs.Numbered.{numbers}
 use Rattle.lot_machine.specs.Funding.{Funding, owner_of}
 use Rattle.lot_machine.specs.Activity.{active_amount}
-use Rattle.lot_machine.specs.Lends.{borrower, borrower_of, IsLendChain, LendsTo, LendsLead, LendsOnTo, lends_lead}
+use Rattle.lot_machine.specs.Lends.{borrower, borrower_of, IsLendChain, LendsOnTo, lends_lead}
 use Rattle.lot_machine.specs.Value.{own_value}
-use Rattle.lot_machine.specs.State.{State, Mutex, lend_of, funding_of, live_of, status_of, value_of}
+use Rattle.lot_machine.specs.State.{State, lend_of, funding_of, live_of, value_of}
 use Rattle.lot_machine.specs.Facts.{HasNoCycle, FundsThere}
 use Rattle.lot_machine.specs.Order.{IsQueue}
 use Rattle.lot_machine.proofs.Sums.{sum-filter, sum-le, sum-same, sum-swap}
-use Rattle.lot_machine.proofs.Tickets.{at_number-suc, some-injective}
+use Rattle.lot_machine.proofs.Tickets.{some-injective}
 use Rattle.lot_machine.proofs.LendDepth.{lends_lead-exact}
 use Rattle.lot_machine.proofs.Flow.{owned-within}
 use Rattle.lot_machine.proofs.TrapCycles.{lend-at}
@@ -92,6 +91,6 @@ module _ (s : State) (no_cycle : HasNoCycle (funding_of s)) (funds_there : Funds
   unfolding own
   waiters-worth =
       let by_thread = sum-same (value_of s) (λ t. sum_by (λ u. cond (lends_lead (funding_of s) u t) (own u) 0) (numbers s.records)) waiters spread
-          ∙ sum-swap (λ t u. cond (lends_lead (funding_of s) u t) (own u) 0) waiters (numbers s.records) in
+      ∙ sum-swap (λ t u. cond (lends_lead (funding_of s) u t) (own u) 0) waiters (numbers s.records) in
       let at_most = sum-le (λ u. sum_by (λ t. cond (lends_lead (funding_of s) u t) (own u) 0) waiters) own (numbers s.records) each in
       omega (arith, by_thread, at_most, owned-within (funding_of s) no_cycle funds_there s.limits.unit (live_of s) (length s.records))

@@ -1,7 +1,7 @@
-use Rattle.std.proofs.Common.{sym, ◌≡◌, ℕ, List, map, ap, ◌∙◌, rules}
+use Rattle.std.proofs.Common.{sym, ◌≡◌, ℕ, List, map, ap, ◌∙◌}
 use Rattle.lot_machine.specs.Lottery.{winner}
 use Rattle.lot_machine.specs.State.{ready_threads, weight_of}
-use Rattle.lot_kernel.specs.Draws.{winner_among, weight_listed}
+use Rattle.lot_kernel.specs.Draws.{winner_among}
 use Rattle.lot_kernel.specs.contracts.tables.Tables.{the_view}
 use Rattle.lot_kernel.proofs.OrderLemmas.{settle-no_cycle, settle-base, settled-of, weights-listed}
 use Rattle.lot_kernel.proofs.tables.Tables.hold_lottery.Goals as goal

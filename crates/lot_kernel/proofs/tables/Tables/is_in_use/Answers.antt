@@ -1,4 +1,4 @@
-use Rattle.std.proofs.Common.{◌≡◌, ◌||◌, ℕ, nat_lt, length, filter, filter_map, ap, sym, ◌∙◌, ◌==◌, arith}
+use Rattle.std.proofs.Common.{◌≡◌, ◌||◌, nat_lt, length, filter, filter_map, ap, sym, ◌∙◌, arith}
 use Rattle.lot_machine.specs.declared.ticket.Ticket.{Ticket}
 use Rattle.lot_machine.specs.Funding.{is_currency}
 use Rattle.lot_kernel.proofs.tables.Tables.is_in_use.Goals as goal

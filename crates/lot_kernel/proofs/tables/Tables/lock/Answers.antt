@@ -3,7 +3,7 @@ use Rattle.lot_machine.specs.declared.action.Action.TheVariants as action
 use Rattle.lot_machine.specs.State.{State}
 use Rattle.lot_machine.specs.Step.{trap_refusal}
 use Rattle.lot_kernel.specs.contracts.tables.Tables.{the_view}
-use Rattle.lot_kernel.proofs.TrapLemmas.{running-nowhere, running-there, lock-there, lock-done, lock-records}
+use Rattle.lot_kernel.proofs.TrapLemmas.{running-nowhere, running-there, lock-done, lock-records}
 use Rattle.lot_kernel.proofs.tables.Tables.lock.Goals as goal
 
 pub lock-requires-clause-thread_there : goal.lock-requires-clause-thread_there

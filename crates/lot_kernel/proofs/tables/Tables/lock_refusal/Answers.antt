@@ -1,4 +1,4 @@
-use Rattle.std.proofs.Common.{◌≡◌, true, false, sym, ◌∙◌, refl, arith}
+use Rattle.std.proofs.Common.{true, false, sym, ◌∙◌, refl, arith}
 use Rattle.lot_machine.specs.State.{funding_of}
 use Rattle.lot_queues.specs.QueueLists.{IsThere}
 use Rattle.lot_kernel.specs.contracts.tables.Tables.{the_view}

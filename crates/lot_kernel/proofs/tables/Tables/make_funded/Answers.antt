@@ -1,7 +1,7 @@
-use Rattle.std.proofs.Common.{◌<◌, ◌≤◌, ◌≡◌, ◌+◌, [], ◌∷◌, length, vec_len, ap, ◌∙◌, rules, arith}
+use Rattle.std.proofs.Common.{◌<◌, [], ◌∷◌, length, vec_len, ap, ◌∙◌, rules, arith}
 use Rattle.std.proofs.lemmas.List.{length-append}
 use Rattle.lot_machine.specs.State.{State}
-use Rattle.lot_rounds.specs.Tables.{AreWithin, IsTicketWithin}
+use Rattle.lot_rounds.specs.Tables.{AreWithin}
 use Rattle.lot_kernel.proofs.HeldLemmas.{within-pushed}
 use Rattle.lot_kernel.proofs.tables.Tables.make_funded.Goals as goal
 

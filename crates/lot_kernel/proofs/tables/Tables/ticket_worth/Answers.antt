@@ -1,4 +1,4 @@
-use Rattle.std.proofs.Common.{sym, length, ◌≤◌, ◌∙◌, rules, arith}
+use Rattle.std.proofs.Common.{sym, length, ◌∙◌, rules, arith}
 use Rattle.lot_kernel.specs.contracts.tables.Tables.{the_view}
 use Rattle.lot_rounds.specs.Tables.{IsTicketWithin}
 use Rattle.lot_kernel.proofs.OrderLemmas.{settle-no_cycle, settle-base, settled-of, within-at, within-more, value-small}

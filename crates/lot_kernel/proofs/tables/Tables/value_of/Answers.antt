@@ -1,5 +1,4 @@
 use Rattle.std.proofs.Common.{sym, ◌-◌, List, ℕ, slice_index, ap, ◌∙◌}
-use Rattle.lot_machine.specs.Order.{IsInOrder}
 use Rattle.lot_kernel.specs.contracts.tables.Tables.{the_view}
 use Rattle.lot_kernel.proofs.OrderLemmas.{settle-no_cycle, settle-base, settled-of, value-listed}
 use Rattle.lot_kernel.proofs.tables.Tables.value_of.Goals as goal
