@@ -5,3 +5,4 @@ pub mod PlaceFacts
 pub mod TurnFacts
 pub mod ServedFacts
 pub mod CountFacts
+pub mod WritingFacts

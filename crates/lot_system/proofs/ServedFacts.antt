@@ -1,10 +1,9 @@
 -- The slice of a work makes no trap but an exit where the program's scripts make none.
-use Rattle.std.proofs.Common.{◌≡◌, ◌-◌, ℕ, [], Some, None, Option, List, get_or, ap, ◌∙◌, arith}
+use Rattle.std.proofs.Common.{◌≡◌, ◌-◌, ℕ, [], Some, None, Option, get_or, ◌∙◌, arith}
 use Rattle.std.specs.Prelude.{All, IfSome}
 use Rattle.std.proofs.lemmas.List.Elements.{All-get_or}
-use Rattle.lot_machine.specs.declared.script.Line.{Line}
 use Rattle.lot_machine.specs.World.{Program, World}
-use Rattle.lot_script.specs.Exits.{IsCompute, OnlyCompute}
+use Rattle.lot_script.specs.Exits.{OnlyCompute}
 use Rattle.lot_script.specs.Slices.{Parts}
 use Rattle.lot_system.specs.declared.turn.Work.{Work}
 use Rattle.lot_system.specs.Turns.{IsWorkIn, Matches}

@@ -7,12 +7,14 @@ mod counts;
 mod fault;
 mod generators;
 mod input;
+mod lines;
 mod listing;
 mod playing;
 mod report;
 mod served;
 mod system;
 mod turn;
+mod writing;
 
 pub use fault::{PlayFault, TurnFault};
 pub use input::read_input;
