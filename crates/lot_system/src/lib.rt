@@ -21,3 +21,6 @@ pub use input::read_input;
 pub use playing::{Played, play};
 pub use system::System;
 pub use turn::{Answer, Work};
+
+#[cfg(test)]
+mod tests;
