@@ -13,7 +13,10 @@ mod totals;
 
 pub use histories::{HistoryLines, ScheduleLines};
 pub use laws::histories_are_read_back;
-pub use refused::{EndedLine, FaultLine, RefusalText, TrapRefusalText};
+pub use refused::{
+    EndedLine, FaultLine, RefusalText, TrapRefusalText, input_refusal_code, input_refusal_name,
+    refusal_code, refusal_name, trap_refusal_code, trap_refusal_name,
+};
 pub use replies::{ReplyLine, TrapText};
 pub use rows::{CurrencyLine, ListingLine, ThreadLine, TicketLine};
 pub use runs::RunsLines;

@@ -61,8 +61,8 @@ impl fmt::Display for FaultLine {
     }
 }
 
-/// The code of a refused command or event.
-fn refusal_code(refusal: Refusal) -> u32
+/// The code that is printed of a refused command or event.
+pub fn refusal_code(refusal: Refusal) -> u32
     ensures { result ≡ code_of refusal }
 {
     match refusal {
@@ -87,8 +87,8 @@ fn refusal_code(refusal: Refusal) -> u32
     }
 }
 
-/// Its name.
-fn refusal_name(refusal: Refusal) -> &'static str
+/// The name that is printed of a refused command or event.
+pub fn refusal_name(refusal: Refusal) -> &'static str
     ensures { result.now ≡ name_of refusal }
 {
     match refusal {
@@ -113,8 +113,8 @@ fn refusal_name(refusal: Refusal) -> &'static str
     }
 }
 
-/// The code of a refused trap.
-fn trap_refusal_code(refusal: TrapRefusal) -> u32
+/// The code that is printed of a refused trap.
+pub fn trap_refusal_code(refusal: TrapRefusal) -> u32
     ensures { result ≡ trap_code_of refusal }
 {
     match refusal {
@@ -127,8 +127,8 @@ fn trap_refusal_code(refusal: TrapRefusal) -> u32
     }
 }
 
-/// Its name.
-fn trap_refusal_name(refusal: TrapRefusal) -> &'static str
+/// The name that is printed of a refused trap.
+pub fn trap_refusal_name(refusal: TrapRefusal) -> &'static str
     ensures { result.now ≡ trap_name_of refusal }
 {
     match refusal {
@@ -141,8 +141,8 @@ fn trap_refusal_name(refusal: TrapRefusal) -> &'static str
     }
 }
 
-/// The code of a refused input.
-fn input_refusal_code(refusal: InputRefusal) -> u32
+/// The code that is printed of a refused input.
+pub fn input_refusal_code(refusal: InputRefusal) -> u32
     ensures { result ≡ input_code_of refusal }
 {
     match refusal {
@@ -157,8 +157,8 @@ fn input_refusal_code(refusal: InputRefusal) -> u32
     }
 }
 
-/// Its name.
-fn input_refusal_name(refusal: InputRefusal) -> &'static str
+/// The name that is printed of a refused input.
+pub fn input_refusal_name(refusal: InputRefusal) -> &'static str
     ensures { result.now ≡ input_name_of refusal }
 {
     match refusal {

@@ -1,12 +1,9 @@
 -- What is counted with one turn more.
-use Rattle.std.proofs.Common.{◌≡◌, ℕ, zero, suc, ◌+◌, ◌*◌, ◌<◌, ◌≤◌, ◌==◌, ◌⊎◌, inl, inr, Bool, true, false, List, [], ◌∷◌, ◌++◌, length, get_or, filter, refl, sym, ◌∙◌, ap, subst, arith, length-append, ne_eqb, eq-eqb}
-use Rattle.std.specs.Prelude.{sum_by, slice_set, if◌then◌else◌}
-use Rattle.std.proofs.lemmas.Bool.{cases_eq}
-use Rattle.std.proofs.lemmas.List.{get_or-set_same, get_or-set_other, length-set}
+use Rattle.std.proofs.Common.{◌≡◌, ℕ, ◌+◌, List, [], ◌∷◌, ◌++◌, length, refl, sym, ◌∙◌, ap, subst, length-append}
 use Rattle.std.proofs.lemmas.List.Sums.{sum_by_push}
 use Rattle.lot_machine.specs.declared.event.Event.{Event}
 use Rattle.lot_machine.specs.declared.reply.Reply.{Reply}
-use Rattle.lot_machine.specs.Report.{ActorTurn, beside, turns_made, count_in, total_of, turns_of, quanta_in, idles_in, ticks_in}
+use Rattle.lot_machine.specs.Report.{ActorTurn, beside, turns_made, count_in, quanta_in, idles_in, ticks_in}
 use Rattle.lot_machine.specs.World.{Program, World, Answer, opening_world, sys, sys_after, sys_answers, sysrun}
 use Rattle.lot_machine.specs.World.Answer.{Answered}
 use Rattle.lot_system.specs.declared.counts.Counts.{Counts}

@@ -4,3 +4,4 @@ pub mod Runs
 pub mod PlaceFacts
 pub mod TurnFacts
 pub mod CountFacts
+pub mod WritingFacts

@@ -1,30 +1,25 @@
 -- Whom a reply names.
-use Rattle.std.proofs.Common.{◌≡◌, ℕ, zero, suc, ◌+◌, ◌-◌, ◌%◌, ◌<◌, ◌≤◌, ◌==◌, Bool, true, false, not, ◌||◌, ◌⊎◌, inl, inr, Option, Some, None, is_some, is_none, List, [], ◌∷◌, ◌++◌, length, map, sum, take, get_or, unwrap_or, option_map, slice_index, nat_lt, refl, sym, ◌∙◌, ap, arith, length-append, filter}
-use Rattle.std.specs.Bool.{⊤}
+use Rattle.std.proofs.Common.{◌≡◌, ℕ, zero, suc, ◌+◌, ◌%◌, ◌<◌, ◌≤◌, ◌==◌, Bool, true, false, not, ◌||◌, ◌⊎◌, inl, inr, Option, Some, None, is_none, List, [], ◌∷◌, length, map, sum, take, get_or, option_map, slice_index, nat_lt, refl, sym, ◌∙◌, ap, arith, length-append, filter}
 use Rattle.std.specs.Option.{MatchOption}
 use Rattle.std.specs.List.{slice_get}
 use Rattle.std.proofs.lemmas.List.{length-map}
 use Rattle.std.proofs.lemmas.Bool.{ltb-false, leb-false, or_parts, eqb-false}
 use Rattle.std.proofs.lemmas.Option.{slice_get_cases, slice_get_within, get_or_from_slice_get}
 use Rattle.lot_machine.specs.declared.record.Record.{Record}
-use Rattle.lot_machine.specs.declared.record.Thread.{Thread}
 use Rattle.lot_machine.specs.declared.record.Status.{Status}
 use Rattle.lot_machine.specs.declared.action.Action.{Action}
 use Rattle.lot_machine.specs.declared.command.Command.{Command}
 use Rattle.lot_machine.specs.declared.command.Command.TheVariants.{MakeTicket, RemoveTicket, MakeCurrency, RemoveCurrency, Fund, Unfund, MakeThread, MakeFunded, List as Listing}
-use Rattle.lot_machine.specs.declared.event.Event.{Event}
 use Rattle.lot_machine.specs.declared.event.Event.TheVariants as event
-use Rattle.lot_machine.specs.declared.reply.Reply.{Reply}
-use Rattle.lot_machine.specs.declared.reply.Reply.TheVariants as reply
 use Rattle.lot_machine.specs.declared.refusal.Refusal.{Refusal}
-use Rattle.lot_machine.specs.declared.refusal.Refusal.TheVariants.{BadName, NameTaken, NoCurrency, BadAmount, Full, NoScript, BadProcessor, Busy}
+use Rattle.lot_machine.specs.declared.refusal.Refusal.TheVariants.{BadName, NameTaken, NoCurrency, BadAmount, Full, NoScript}
 use Rattle.lot_machine.specs.declared.drawn.Drawn.{Drawn}
 use Rattle.lot_machine.specs.Bounds.{IsBetween}
-use Rattle.lot_machine.specs.Numbered.{at_number, numbers, option_any}
+use Rattle.lot_machine.specs.Numbered.{numbers, option_any}
 use Rattle.lot_machine.specs.Lottery.{winner, IsFirstAbove}
-use Rattle.lot_machine.specs.State.{State, status_of, is_ready, ready_threads, thread_on, weight_of}
-use Rattle.lot_machine.specs.Commands.{Step, is_bad_amount, is_good_name, is_taken, is_no_script, are_tickets_full, are_threads_full, currency_named, with_thread, command_refusal, command_effect, command_step, unless_refused, first_failing}
-use Rattle.lot_machine.specs.Step.{draw, expire, trap, thread_there, used_there, event_refusal, event_effect, step}
+use Rattle.lot_machine.specs.State.{State, status_of, is_ready, ready_threads, weight_of}
+use Rattle.lot_machine.specs.Commands.{Step, is_bad_amount, is_good_name, is_taken, is_no_script, are_tickets_full, are_threads_full, currency_named, with_thread, command_effect, command_step, unless_refused}
+use Rattle.lot_machine.specs.Step.{draw, thread_there, event_refusal, event_effect, step}
 use Rattle.lot_machine.proofs.CommandsKept.{all-pass}
 use Rattle.lot_machine.proofs.Draws.{winner-is}
 use Rattle.lot_machine.proofs.Tickets.{at_number-suc}
@@ -112,7 +107,7 @@ ready-there records place below = from (slice_get_cases (ready_threads records) 
         rw drawn (numbered records x some.0 some.1)
     from (inr (past, none)) = absurd (omega arith)
 
-take-all : (xs : List ℕ) (n : ℕ) → length xs ≤ n → take n xs ≡ xs
+pub take-all : (xs : List ℕ) (n : ℕ) → length xs ≤ n → take n xs ≡ xs
 take-all [] zero e = refl
 take-all [] (suc n) e = refl
 take-all (x ∷ xs) zero e = absurd (omega arith)

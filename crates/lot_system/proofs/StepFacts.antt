@@ -1,17 +1,14 @@
 -- What an event leaves as it is: who the threads are, how many, and the sizes. A command may make one thread more.
-use Rattle.std.proofs.Common.{◌≡◌, ℕ, ◌+◌, ◌≤◌, ◌==◌, Bool, true, false, ◌||◌, Option, Some, None, List, [], ◌∷◌, ◌++◌, length, map, unwrap_or, option_map, slice_index, nat_lt, refl, sym, ◌∙◌, ap, arith, length-append}
+use Rattle.std.proofs.Common.{◌≡◌, ℕ, Option, Some, None, List, [], ◌∷◌, length, map, refl, ◌∙◌}
 use Rattle.std.proofs.lemmas.List.{length-set}
-use Rattle.std.proofs.lemmas.Bool.{ltb-false, or_parts}
 use Rattle.lot_machine.specs.declared.record.Record.{Record}
-use Rattle.lot_machine.specs.declared.record.Thread.{Thread}
 use Rattle.lot_machine.specs.declared.action.Action.{Action}
 use Rattle.lot_machine.specs.declared.action.Action.TheVariants.{Yield, Call, Receive, Reply as ReplyTo, Lock, Unlock, Exit}
-use Rattle.lot_machine.specs.declared.event.Event.{Event}
 use Rattle.lot_machine.specs.declared.event.Event.TheVariants as event
 use Rattle.lot_machine.specs.declared.drawn.Drawn.{Drawn}
 use Rattle.lot_machine.specs.declared.refusal.Refusal.{Refusal}
 use Rattle.lot_machine.specs.declared.refusal.TrapRefusal.{TrapRefusal}
-use Rattle.lot_machine.specs.Numbered.{at_number, set_number}
+use Rattle.lot_machine.specs.Numbered.{at_number}
 use Rattle.lot_machine.specs.Lottery.{winner}
 use Rattle.lot_machine.specs.State.{State, QueuedCall, Port, Mutex, change_record, ready_threads, value_of, weight_of}
 use Rattle.lot_machine.specs.Commands.{Step, unless_refused}

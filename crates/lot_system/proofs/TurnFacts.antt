@@ -1,17 +1,14 @@
 -- What a system holds after a turn is what the world comes to.
-use Rattle.std.proofs.Common.{◌≡◌, ◌↔◌, ℕ, zero, suc, ◌+◌, ◌-◌, ◌<◌, ◌≤◌, ◌==◌, Bool, true, false, Option, Some, None, List, [], ◌∷◌, ◌++◌, length, map, drop, get_or, unwrap_or, option_map, refl, sym, ◌∙◌, ap, subst, arith, length-append, ne_eqb}
-use Rattle.std.specs.Prelude.{if◌then◌else◌, nat_lt, count_by, All}
+use Rattle.std.proofs.Common.{◌≡◌, ◌↔◌, ℕ, suc, ◌+◌, ◌-◌, ◌<◌, ◌≤◌, ◌==◌, Bool, true, false, Option, Some, None, List, [], ◌∷◌, ◌++◌, length, drop, get_or, unwrap_or, option_map, refl, sym, ◌∙◌, ap, subst, arith, length-append, ne_eqb}
+use Rattle.std.specs.Prelude.{if◌then◌else◌, nat_lt, count_by}
 use Rattle.std.proofs.Math.Seq.{drop-cons}
 use Rattle.std.proofs.Math.ListN.{drop_of_length-le}
 use Rattle.std.proofs.lemmas.Bool.{ltb-true, ltb-false}
 use Rattle.std.proofs.lemmas.List.Sums.{sum_by_push}
-use Rattle.std.proofs.lemmas.List.Elements.{All-push, All-get_or}
-use Rattle.std.specs.List.{slice_get}
+use Rattle.std.proofs.lemmas.List.Elements.{All-push}
 use Rattle.std.specs.Option.{IfSome}
-use Rattle.std.proofs.lemmas.Option.{slice_get-get_or, slice_get_within}
 use Rattle.lot_machine.specs.declared.record.Record.{Record}
 use Rattle.lot_machine.specs.declared.record.Thread.{Thread}
-use Rattle.lot_machine.specs.declared.record.Status.{Status}
 use Rattle.lot_machine.specs.declared.record.Status.TheVariants.{Running}
 use Rattle.lot_machine.specs.declared.script.ScriptTrap.{ScriptTrap}
 use Rattle.lot_machine.specs.declared.command.Command.{Command}
@@ -27,15 +24,14 @@ use Rattle.lot_machine.specs.Numbered.{at_number, set_number}
 use Rattle.lot_machine.specs.Script.{Context, slice}
 use Rattle.lot_machine.specs.State.{State, thread_on, used_by}
 use Rattle.lot_machine.specs.Step.{step, thread_there, used_there}
-use Rattle.lot_machine.specs.World.{Program, World, Turn, action_of, event_of_slice, generator_of, context_of, slice_on, processor_event, takes_number, generators_after, handed, number_received, contexts_after, new_contexts, console_turn, processor_turn, sys, IsLegal}
+use Rattle.lot_machine.specs.World.{Program, World, action_of, event_of_slice, generator_of, context_of, slice_on, processor_event, takes_number, handed, number_received, contexts_after, new_contexts, console_turn, processor_turn, sys, IsLegal}
 use Rattle.lot_machine.specs.World.Answer.{Answered}
 use Rattle.lot_machine.proofs.RecordsKept.{found-runs}
-use Rattle.lot_machine.proofs.Tickets.{at_number-suc}
-use Rattle.lot_script.specs.Places.{Place, Fits, context_at, first_place}
+use Rattle.lot_script.specs.Places.{Place, context_at, first_place}
 use Rattle.lot_script.specs.Slices.{Parts, IsSlice}
 use Rattle.lot_system.specs.declared.turn.Work.{Work}
 use Rattle.lot_system.specs.Held.{script_lines, IsAt, AreAt, IsKept, IsHeld}
-use Rattle.lot_system.specs.Steps.{IsSame, OneMore, MakesIn, Makes, made_thread, OfDraw, OfRun, OfGiven, done_of, event_given, handed_place, place_of, places_after}
+use Rattle.lot_system.specs.Steps.{IsSame, MakesIn, Makes, made_thread, OfDraw, OfRun, OfGiven, done_of, event_given, handed_place, place_of, places_after}
 use Rattle.lot_system.specs.Turns.{IsWork, IsWorkIn, IsSliceOf, Matches}
 use Rattle.lot_system.proofs.StepFacts.{draws-same, expires-same, traps-same}
 use Rattle.lot_system.proofs.ReplyFacts.{command-makes, numbered, draw-names, expire-names, trap-names}

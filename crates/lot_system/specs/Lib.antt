@@ -3,3 +3,4 @@ pub mod Steps
 pub mod Held
 pub mod Turns
 pub mod Counted
+pub mod Writing

@@ -1,5 +1,6 @@
 //! Reading an input.
-ghost use Rattle.std.specs.Prelude.{◌≤◌, vec_len, IfOk};
+ghost use Rattle.std.specs.Prelude.{◌≡◌, ◌≤◌, false, vec_len, IfOk, IfErr, OnOk};
+ghost use Rattle.lot_system.specs.Writing.{IsReadFault};
 
 use crate::PlayFault;
 use lot_text::Watched;
@@ -14,24 +15,29 @@ const PIECE: usize = 65536;
 
 /// Reads to the end of the input, or to its byte 16777217, and leaves the rest unread.
 pub fn read_input<R: Read>(alloc: Global, reader: &mut Watched<R>) -> Result<Vec<u8>, PlayFault>
-    ensures { IfOk result (λ bytes. vec_len bytes ≤ MOST) }
+    requires { reader.old.1 ≡ false }
+    ensures most { IfOk result (λ bytes. vec_len bytes ≤ MOST) }
+    ensures ok { OnOk result (reader.new.1 ≡ false) }
+    ensures err { IfErr result (λ fault. IsReadFault fault reader.new.1) }
 {
     let mut bytes = Vec::new(alloc);
-    let mut piece = vec![in alloc; 0u8; PIECE].map_err(|_| PlayFault::Memory)?;
+    let Ok(mut piece) = vec![in alloc; 0u8; PIECE] else {
+        return Err(PlayFault::Memory);
+    };
     for _ in 0..MOST {
         if bytes.len() == MOST {
             break;
         }
         let room = PIECE.min(MOST - bytes.len());
-        let read = reader
-            .read(&mut piece[..room])
-            .map_err(|_| PlayFault::Read)?;
+        let Ok(read) = reader.read(&mut piece[..room]) else {
+            return Err(PlayFault::Read);
+        };
         if read == 0 {
             break;
         }
-        bytes
-            .extend_from_slice(&piece[..read])
-            .map_err(|_| PlayFault::Memory)?;
+        if bytes.extend_from_slice(&piece[..read]).is_err() {
+            return Err(PlayFault::Memory);
+        }
     }
     Ok(bytes)
 }

@@ -7,14 +7,19 @@ mod counts;
 mod fault;
 mod generators;
 mod input;
+mod lines;
 mod listing;
 mod playing;
 mod report;
 mod system;
 mod turn;
+mod writing;
 
 pub use fault::{PlayFault, TurnFault};
 pub use input::read_input;
 pub use playing::{Played, play};
 pub use system::System;
 pub use turn::{Answer, Work};
+
+#[cfg(test)]
+mod tests;

@@ -1,22 +1,44 @@
 //! Listings (4.7).
-ghost use Rattle.std.specs.Prelude.{◌≡◌};
+ghost use Rattle.std.specs.Prelude.{◌≡◌, ◌++◌, [], codes, false, unwrap_or};
+ghost use Rattle.std.specs.Fmt.{decimal};
+ghost use Rattle.std.specs.Option.{option_map_or};
+ghost use Rattle.std.specs.List.{flat_map};
+ghost use Rattle.lot_machine.specs.Texts as texts;
+ghost use Rattle.lot_system.specs.Writing.{Watches, piece_text};
 
+use crate::writing::{Piece, write_around, write_pieces};
 use crate::{PlayFault, System};
-use lot_machine::Kind;
-use lot_print::{CurrencyLine, ListingLine, ThreadLine, TicketLine};
+use lot_machine::{Kind, Name, Status};
 use lot_text::Watched;
 use std::io::Write;
 
-/// Writes a listing of the kernel as it is: how many rows there are, and a line for each, by rising number.
+/// Writes an actor's turn that asked for a listing of the kernel as it is: how many rows there are, and a line for each, by
+/// rising number.
 pub(crate) fn write_listing<W: Write>(
     system: &mut System,
+    actor: u32,
     kind: Kind,
     writer: &mut Watched<W>,
 ) -> Result<(), PlayFault>
-    ensures { system.new ≡ system.old }
+    requires { writer.old.1 ≡ false }
+    ensures same { system.new ≡ system.old }
+    ensures watches { Watches writer.new.1 result }
 {
+    let name = match kind {
+        Kind::Tickets => " lstkt ",
+        Kind::Currencies => " lscur ",
+        Kind::Threads => " lsthr ",
+    };
     let rows = count_rows(system, kind);
-    write!(writer, "{}", ListingLine { kind, rows }).map_err(|_| PlayFault::Write)?;
+    write_pieces(
+        writer,
+        &[
+            Piece::Number(u64::from(actor)),
+            Piece::Text(name),
+            Piece::Number(u64::from(rows)),
+            Piece::Text("\n"),
+        ],
+    )?;
     for number in 0..past_last(system, kind) {
         write_row(system, kind, number, writer)?;
     }
@@ -64,7 +86,9 @@ fn write_row<W: Write>(
     number: u32,
     writer: &mut Watched<W>,
 ) -> Result<(), PlayFault>
-    ensures { system.new ≡ system.old }
+    requires { writer.old.1 ≡ false }
+    ensures same { system.new ≡ system.old }
+    ensures watches { Watches writer.new.1 result }
 {
     match kind {
         Kind::Tickets => write_ticket(system, number, writer),
@@ -78,21 +102,43 @@ fn write_ticket<W: Write>(
     number: u32,
     writer: &mut Watched<W>,
 ) -> Result<(), PlayFault>
-    ensures { system.new ≡ system.old }
+    requires { writer.old.1 ≡ false }
+    ensures same { system.new ≡ system.old }
+    ensures watches { Watches writer.new.1 result }
 {
-    let limits = system.limits();
+    let unit = u64::from(system.limits().unit);
     match system.ticket_row(number) {
-        Some(row) => write!(
+        Some(row) => write_pieces(
             writer,
-            "{}",
-            TicketLine {
-                limits,
-                number,
-                row: &row
-            }
-        )
-        .map_err(|_| PlayFault::Write),
-        None => Ok(()),
+            &[
+                Piece::Text("ticket "),
+                Piece::Number(u64::from(number)),
+                Piece::Text(" amount "),
+                Piece::Number(u64::from(row.amount)),
+                Piece::Text(" in "),
+                Piece::Bytes(row.issuer.as_bytes()),
+                Piece::Text(" funds "),
+                target_piece(&row.target),
+                Piece::Text(if row.is_active {
+                    " active value "
+                } else {
+                    " inactive value "
+                }),
+                Piece::Number(row.value / unit),
+                Piece::Text("\n"),
+            ],
+        ),
+        None => write_pieces(writer, &[]),
+    }
+}
+
+/// What a ticket funds; `-` where it funds nothing.
+fn target_piece(target: &Option<Name>) -> Piece<'_>
+    ensures { piece_text result ≡ unwrap_or target.now (codes "-") }
+{
+    match target {
+        Some(name) => Piece::Bytes(name.as_bytes()),
+        None => Piece::Text("-"),
     }
 }
 
@@ -101,21 +147,36 @@ fn write_currency<W: Write>(
     number: u32,
     writer: &mut Watched<W>,
 ) -> Result<(), PlayFault>
-    ensures { system.new ≡ system.old }
+    requires { writer.old.1 ≡ false }
+    ensures same { system.new ≡ system.old }
+    ensures watches { Watches writer.new.1 result }
 {
-    let limits = system.limits();
+    // Base is shown as worth its active amount.
+    let unit = if number == 0 {
+        1
+    } else {
+        u64::from(system.limits().unit)
+    };
     match system.currency_row(number) {
-        Some(row) => write!(
+        Some(row) => write_pieces(
             writer,
-            "{}",
-            CurrencyLine {
-                limits,
-                number,
-                row: &row
-            }
-        )
-        .map_err(|_| PlayFault::Write),
-        None => Ok(()),
+            &[
+                Piece::Text("currency "),
+                Piece::Number(u64::from(number)),
+                Piece::Text(" "),
+                Piece::Bytes(row.name.as_bytes()),
+                Piece::Text(" backing "),
+                Piece::Number(u64::from(row.backing)),
+                Piece::Text(" issued "),
+                Piece::Number(u64::from(row.issued)),
+                Piece::Text(" active "),
+                Piece::Number(row.active_amount),
+                Piece::Text(" value "),
+                Piece::Number(row.value / unit),
+                Piece::Text("\n"),
+            ],
+        ),
+        None => write_pieces(writer, &[]),
     }
 }
 
@@ -124,20 +185,70 @@ fn write_thread<W: Write>(
     number: u32,
     writer: &mut Watched<W>,
 ) -> Result<(), PlayFault>
-    ensures { system.new ≡ system.old }
+    requires { writer.old.1 ≡ false }
+    ensures same { system.new ≡ system.old }
+    ensures watches { Watches writer.new.1 result }
 {
-    let limits = system.limits();
+    let unit = system.limits().unit;
     match system.thread_row(number) {
-        Some(row) => write!(
+        Some(row) => write_around(
             writer,
-            "{}",
-            ThreadLine {
-                limits,
-                number,
-                row: &row
-            }
-        )
-        .map_err(|_| PlayFault::Write),
-        None => Ok(()),
+            &[
+                Piece::Text("thread "),
+                Piece::Number(u64::from(number)),
+                Piece::Text(" "),
+                Piece::Bytes(row.name.as_bytes()),
+                Piece::Text(" "),
+            ],
+            &status_pieces(row.status),
+            &[
+                Piece::Text(" value "),
+                Piece::Number(row.value / u64::from(unit)),
+                Piece::Text(" weight "),
+                Piece::Wide(row.weight / u128::from(unit)),
+                Piece::Text(" quanta "),
+                Piece::Number(row.quanta),
+                Piece::Text(" ticks "),
+                Piece::Number(row.ticks),
+                Piece::Text("\n"),
+            ],
+        ),
+        None => write_pieces(writer, &[]),
+    }
+}
+
+/// What a thread is doing.
+fn status_pieces(status: Status) -> [Piece<'static>; 4]
+    ensures { flat_map piece_text result ≡ texts.status_text status }
+{
+    match status {
+        Status::Ready => with_number("ready", None),
+        Status::Running { processor, used } => [
+            Piece::Text("running "),
+            Piece::Number(u64::from(processor)),
+            Piece::Text(" used "),
+            Piece::Number(u64::from(used)),
+        ],
+        Status::Receiving(port) => with_number("receiving ", Some(port)),
+        Status::Queued(port) => with_number("queued ", Some(port)),
+        Status::Served(server) => with_number("served ", Some(server)),
+        Status::Waiting(mutex) => with_number("waiting ", Some(mutex)),
+        Status::Dead => with_number("dead", None),
+    }
+}
+
+/// A word, and a number behind it, if there is one.
+fn with_number(word: &'static str, number: Option<u32>) -> [Piece<'static>; 4]
+    ensures { flat_map piece_text result ≡ word.now ++ option_map_or decimal number [] }
+{
+    let end = Piece::Text("");
+    match number {
+        Some(number) => [
+            Piece::Text(word),
+            Piece::Number(u64::from(number)),
+            end,
+            end,
+        ],
+        None => [Piece::Text(word), end, end, end],
     }
 }

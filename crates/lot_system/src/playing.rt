@@ -1,12 +1,13 @@
 //! Playing a schedule.
-ghost use Rattle.std.specs.Prelude.{◌≡◌, ◌≤◌, All};
+ghost use Rattle.std.specs.Prelude.{◌≡◌, ◌≤◌, false, IfErr, OnOk};
+ghost use Rattle.lot_system.specs.Writing.{IsFaultOf, Watches};
 
+use crate::lines::{write_ended, write_fault, write_turn};
 use crate::listing::write_listing;
 use crate::report::write_report;
 use crate::turn::{Answer, Work};
 use crate::{PlayFault, System, TurnFault, read_input};
 use lot_machine::{InputFault, Reply};
-use lot_print::{EndedLine, FaultLine, ReplyLine};
 use lot_script::Slice;
 use lot_text::{ParseFault, Program, Watched, parse};
 use std::alloc::Global;
@@ -27,37 +28,61 @@ pub fn play<R: Read, W: Write>(
     alloc: Global,
     reader: &mut Watched<R>,
     writer: &mut Watched<W>,
-) -> Result<Played, PlayFault> {
+) -> Result<Played, PlayFault>
+    requires { (reader.old.1 ≡ false) × (writer.old.1 ≡ false) }
+    ensures ok { OnOk result ((reader.new.1 ≡ false) × (writer.new.1 ≡ false)) }
+    ensures err { IfErr result (λ fault. IsFaultOf fault reader.new.1 writer.new.1) }
+{
     let bytes = read_input(alloc, reader)?;
     let program = match parse(alloc, &bytes) {
         Ok(program) => program,
         Err(ParseFault::Memory) => return Err(PlayFault::Memory),
         Err(ParseFault::Input(fault)) => return refuse(fault, writer),
     };
-    play_schedule(alloc, &program, writer)?;
-    Ok(Played::Done)
+    let room = program.schedule().len() as u32;
+    match System::open(alloc, &program, room) {
+        Ok(mut system) => play_schedule(&program, &mut system, writer),
+        Err(_) => Err(PlayFault::Memory),
+    }
 }
 
 /// Writes the one line of a refused input.
-fn refuse<W: Write>(fault: InputFault, writer: &mut Watched<W>) -> Result<Played, PlayFault> {
-    write!(writer, "{}", FaultLine(fault)).map_err(|_| PlayFault::Write)?;
-    writer.flush().map_err(|_| PlayFault::Write)?;
+fn refuse<W: Write>(fault: InputFault, writer: &mut Watched<W>) -> Result<Played, PlayFault>
+    requires { writer.old.1 ≡ false }
+    ensures { Watches writer.new.1 result }
+{
+    write_fault(writer, fault)?;
+    flush(writer)?;
     Ok(Played::Refused)
+}
+
+/// Flushes the writer.
+fn flush<W: Write>(writer: &mut Watched<W>) -> Result<(), PlayFault>
+    requires { writer.old.1 ≡ false }
+    ensures { Watches writer.new.1 result }
+{
+    match writer.flush() {
+        Ok(()) => Ok(()),
+        Err(_) => Err(PlayFault::Write),
+    }
 }
 
 /// Makes the turns of the program's schedule, and writes what they answer and the report.
 fn play_schedule<W: Write>(
-    alloc: Global,
     program: &Program,
+    system: &mut System,
     writer: &mut Watched<W>,
-) -> Result<(), PlayFault> {
-    let room = program.schedule().len() as u32;
-    let mut system = System::open(alloc, program, room).map_err(|_| PlayFault::Memory)?;
+) -> Result<Played, PlayFault>
+    requires program { system.old.setting.program ≡ program.now }
+    requires working { writer.old.1 ≡ false }
+    ensures { Watches writer.new.1 result }
+{
     for actor in program.schedule() {
-        play_turn(program, &mut system, u32::from(*actor), writer)?;
+        play_turn(program, system, u32::from(*actor), writer)?;
     }
-    write_report(&mut system, writer)?;
-    writer.flush().map_err(|_| PlayFault::Write)
+    write_report(system, writer)?;
+    flush(writer)?;
+    Ok(Played::Done)
 }
 
 /// Makes one turn, and writes what it answers.
@@ -67,16 +92,16 @@ fn play_turn<W: Write>(
     actor: u32,
     writer: &mut Watched<W>,
 ) -> Result<(), PlayFault>
-    requires { actor ≤ system.old.setting.program.limits.processors }
-    ensures { system.new.setting ≡ system.old.setting }
+    requires there { actor ≤ system.old.setting.program.limits.processors }
+    requires working { writer.old.1 ≡ false }
+    ensures same { system.new.setting ≡ system.old.setting }
+    ensures watches { Watches writer.new.1 result }
 {
     let work = system.work(actor);
     let slice = work.and_then(|work| slice_of(program, work));
     match system.turn(actor, slice) {
         Ok(answer) => write_answer(system, actor, &answer, writer),
-        Err(TurnFault::Ended) => {
-            write!(writer, "{actor} {EndedLine}").map_err(|_| PlayFault::Write)
-        }
+        Err(TurnFault::Ended) => write_ended(writer, actor),
         // The slice is that of the work, and there is room for the whole schedule.
         Err(TurnFault::Stale(_) | TurnFault::HistoryFull) => Ok(()),
     }
@@ -89,17 +114,14 @@ fn write_answer<W: Write>(
     answer: &Answer,
     writer: &mut Watched<W>,
 ) -> Result<(), PlayFault>
-    ensures { system.new ≡ system.old }
+    requires { writer.old.1 ≡ false }
+    ensures same { system.new ≡ system.old }
+    ensures watches { Watches writer.new.1 result }
 {
-    if let Reply::List(kind) = answer.reply {
-        write!(writer, "{actor} ").map_err(|_| PlayFault::Write)?;
-        return write_listing(system, kind, writer);
+    match answer.reply {
+        Reply::List(kind) => write_listing(system, actor, kind, writer),
+        reply => write_turn(writer, actor, &answer.event, reply),
     }
-    let line = ReplyLine {
-        event: &answer.event,
-        reply: answer.reply,
-    };
-    write!(writer, "{actor} {line}").map_err(|_| PlayFault::Write)
 }
 
 /// The slice of a thread's script that is its work, where the program's script is the one that it fits.

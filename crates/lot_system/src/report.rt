@@ -1,64 +1,130 @@
 //! The report.
+ghost use Rattle.std.specs.Prelude.{◌≡◌, ◌≤◌, [], false, length};
+ghost use Rattle.std.specs.List.{flat_map, range_with_len};
+ghost use Rattle.std.specs.Option.{option_map_or};
+ghost use Rattle.lot_machine.specs.Numbered.{numbers};
+ghost use Rattle.lot_machine.specs.Report as reports;
+ghost use Rattle.lot_machine.specs.Report.{turns_made};
+ghost use Rattle.lot_machine.specs.Rows.{thread_row};
+ghost use Rattle.lot_machine.specs.Texts.{lines_for};
+ghost use Rattle.lot_system.specs.Seen.{world_of};
+ghost use Rattle.lot_system.specs.Writing.{Writes};
 
-use crate::counts::Counts;
+use crate::writing::{Piece, write_pieces};
 use crate::{PlayFault, System};
-use lot_print::{ProcessorTotal, ThreadTotal, WholeTotal};
 use lot_text::Watched;
 use std::io::Write;
+
+/// Writes each thread's line.
+fn write_threads<W: Write>(system: &mut System, writer: &mut Watched<W>) -> Result<(), PlayFault>
+    requires { writer.old.1 ≡ false }
+    ensures same { system.new ≡ system.old }
+    ensures text { Writes (W.contents writer.old.0) (W.contents writer.new.0) writer.new.1 result (lines_for reports.thread_total (thread_row (world_of system.old).state) (numbers (world_of system.old).state.records)) }
+{
+    for place in 0..system.thread_count() {
+        write_thread(system, place + 1, writer)?;
+    }
+    Ok(())
+}
+
+/// Writes the line of the thread with this number, if there is one.
+fn write_thread<W: Write>(
+    system: &mut System,
+    number: u32,
+    writer: &mut Watched<W>,
+) -> Result<(), PlayFault>
+    requires { writer.old.1 ≡ false }
+    ensures same { system.new ≡ system.old }
+    ensures text { Writes (W.contents writer.old.0) (W.contents writer.new.0) writer.new.1 result (option_map_or (reports.thread_total number) (thread_row (world_of system.old).state number) []) }
+{
+    match system.thread_row(number) {
+        Some(row) => write_pieces(
+            writer,
+            &[
+                Piece::Text("thread "),
+                Piece::Number(u64::from(number)),
+                Piece::Text(" "),
+                Piece::Bytes(row.name.as_bytes()),
+                Piece::Text(" quanta "),
+                Piece::Number(row.quanta),
+                Piece::Text(" ticks "),
+                Piece::Number(row.ticks),
+                Piece::Text("\n"),
+            ],
+        ),
+        None => write_pieces(writer, &[]),
+    }
+}
+
+/// Writes each processor's line.
+fn write_processors<W: Write>(system: &System, writer: &mut Watched<W>) -> Result<(), PlayFault>
+    requires { writer.old.1 ≡ false }
+    ensures { Writes (W.contents writer.old.0) (W.contents writer.new.0) writer.new.1 result (flat_map (reports.processor_total (turns_made system.now.setting.program system.now.history)) (range_with_len 1 (world_of system.now).state.limits.processors)) }
+{
+    for place in 0..system.processors() {
+        write_processor(system, place + 1, writer)?;
+    }
+    Ok(())
+}
+
+/// Writes the processor's line.
+fn write_processor<W: Write>(
+    system: &System,
+    processor: u32,
+    writer: &mut Watched<W>,
+) -> Result<(), PlayFault>
+    requires working { writer.old.1 ≡ false }
+    requires there { processor ≤ system.now.setting.program.limits.processors }
+    ensures { Writes (W.contents writer.old.0) (W.contents writer.new.0) writer.new.1 result (reports.processor_total (turns_made system.now.setting.program system.now.history) processor) }
+{
+    let counts = system.counts(processor);
+    write_pieces(
+        writer,
+        &[
+            Piece::Text("processor "),
+            Piece::Number(u64::from(processor)),
+            Piece::Text(" quanta "),
+            Piece::Number(counts.quanta),
+            Piece::Text(" idle "),
+            Piece::Number(counts.idles),
+            Piece::Text(" ticks "),
+            Piece::Number(counts.ticks),
+            Piece::Text("\n"),
+        ],
+    )
+}
+
+/// Writes the totals of all actors.
+fn write_total<W: Write>(system: &System, writer: &mut Watched<W>) -> Result<(), PlayFault>
+    requires { writer.old.1 ≡ false }
+    ensures { Writes (W.contents writer.old.0) (W.contents writer.new.0) writer.new.1 result (reports.whole_total (length (world_of system.now).history) (turns_made system.now.setting.program system.now.history)) }
+{
+    let total = system.total();
+    write_pieces(
+        writer,
+        &[
+            Piece::Text("total turns "),
+            Piece::Number(system.turn_count()),
+            Piece::Text(" quanta "),
+            Piece::Number(total.quanta),
+            Piece::Text(" ticks "),
+            Piece::Number(total.ticks),
+            Piece::Text("\n"),
+        ],
+    )
+}
 
 /// Writes the report: a line for each thread, a line for each processor, and the totals.
 pub(crate) fn write_report<W: Write>(
     system: &mut System,
     writer: &mut Watched<W>,
-) -> Result<(), PlayFault> {
-    writeln!(writer, "report").map_err(|_| PlayFault::Write)?;
+) -> Result<(), PlayFault>
+    requires { writer.old.1 ≡ false }
+    ensures same { system.new ≡ system.old }
+    ensures text { Writes (W.contents writer.old.0) (W.contents writer.new.0) writer.new.1 result (reports.report system.old.setting.program system.old.history) }
+{
+    write_pieces(writer, &[Piece::Text("report\n")])?;
     write_threads(system, writer)?;
-    write_processors(system, writer)
-}
-
-/// Writes each thread's line.
-fn write_threads<W: Write>(system: &mut System, writer: &mut Watched<W>) -> Result<(), PlayFault> {
-    for number in 1..u32::MAX {
-        let Some(row) = system.thread_row(number) else {
-            break;
-        };
-        write!(writer, "{}", ThreadTotal { number, row: &row }).map_err(|_| PlayFault::Write)?;
-    }
-    Ok(())
-}
-
-/// Writes each processor's line, and the totals of all actors.
-fn write_processors<W: Write>(system: &System, writer: &mut Watched<W>) -> Result<(), PlayFault> {
-    for processor in 1..65 {
-        if processor > system.processors() {
-            break;
-        }
-        let counts = system.counts(processor);
-        write!(writer, "{}", processor_total(processor, counts)).map_err(|_| PlayFault::Write)?;
-    }
-    let Counts {
-        turns,
-        quanta,
-        ticks,
-        ..
-    } = system.total();
-    write!(
-        writer,
-        "{}",
-        WholeTotal {
-            turns,
-            quanta,
-            ticks
-        }
-    )
-    .map_err(|_| PlayFault::Write)
-}
-
-fn processor_total(processor: u32, counts: Counts) -> ProcessorTotal {
-    ProcessorTotal {
-        processor,
-        quanta: counts.quanta,
-        idles: counts.idles,
-        ticks: counts.ticks,
-    }
+    write_processors(system, writer)?;
+    write_total(system, writer)
 }

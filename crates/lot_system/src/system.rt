@@ -1,6 +1,7 @@
 //! The system.
 ghost use Rattle.std.specs.Prelude.{◌≡◌, ◌↔◌, ◌<◌, ◌≤◌, [], All, IfOk, IfErr, IsTrue, length};
 ghost use Rattle.lot_machine.specs.Bounds.{IsBetween};
+ghost use Rattle.lot_machine.specs.Rows as rows;
 ghost use Rattle.lot_machine.specs.World.Answer.{Answered};
 ghost use Rattle.lot_machine.specs.World.{IsLegal, sys};
 ghost use Rattle.lot_machine.specs.Report.{turns_made, turns_of};
@@ -61,6 +62,7 @@ impl Model for System {
       legal : IsLegal s.program s.room s.history.items;
       held : IsHeld s.program (sysrun s.program s.history.items) s.kernel s.contexts.items s.generators.items s.spent;
       generators : vec_len s.generators ≡ s.program.limits.processors;
+      past : (sysrun s.program s.history.items).history ≡ s.history.items;
       spent : s.spent ≡ count_by (λ actor. actor == 0) s.history.items;
       counts : vec_len s.counts ≡ s.program.limits.processors + 1;
       each_counted : AreCounts (turns_made s.program s.history.items) (length s.history.items) s.counts.items;
@@ -92,7 +94,8 @@ impl System {
 
     /// The number of processors.
     pub fn processors(&self) -> u32
-        ensures { result ≡ self.now.setting.program.limits.processors }
+        ensures program { result ≡ self.now.setting.program.limits.processors }
+        ensures world { result ≡ (world_of self.now).state.limits.processors }
     {
         self.program.limits().processors
     }
@@ -220,6 +223,7 @@ impl System {
 
     /// What the kernel shows of the ticket with this number, if it is there.
     pub(crate) fn ticket_row(&mut self, ticket: u32) -> Option<TicketRow>
+        ensures row { result ≡ rows.ticket_row (world_of self.old).state ticket }
         ensures state { self.new ≡ self.old }
     {
         self.kernel.ticket_row(ticket)
@@ -227,6 +231,7 @@ impl System {
 
     /// What the kernel shows of the currency with this number, if it is there.
     pub(crate) fn currency_row(&mut self, currency: u32) -> Option<CurrencyRow>
+        ensures row { result ≡ rows.currency_row (world_of self.old).state currency }
         ensures state { self.new ≡ self.old }
     {
         self.kernel.currency_row(currency)
@@ -234,9 +239,24 @@ impl System {
 
     /// What the kernel shows of the thread with this number, if there is one.
     pub(crate) fn thread_row(&mut self, thread: u32) -> Option<ThreadRow>
+        ensures row { result ≡ rows.thread_row (world_of self.old).state thread }
         ensures state { self.new ≡ self.old }
     {
         self.kernel.thread_row(thread)
+    }
+
+    /// How many threads there are.
+    pub(crate) fn thread_count(&self) -> u32
+        ensures { result ≡ length (world_of self.now).state.records }
+    {
+        self.contexts.len() as u32
+    }
+
+    /// How many turns were made.
+    pub(crate) fn turn_count(&self) -> u64
+        ensures { result ≡ length (world_of self.now).history }
+    {
+        self.history.len() as u64
     }
 
     /// What was counted of the actor's turns.

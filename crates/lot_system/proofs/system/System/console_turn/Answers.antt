@@ -1,10 +1,10 @@
 -- The command is the next one, and what is held then is what the world comes to.
-use Rattle.std.proofs.Common.{◌≡◌, ◌<◌, ◌≤◌, ◌+◌, ◌++◌, ◌==◌, [], ◌∷◌, length, sym, ap, ◌∙◌, subst, refl, arith}
+use Rattle.std.proofs.Common.{◌≡◌, ◌++◌, [], ◌∷◌, length, sym, ap, ◌∙◌, subst, refl, arith}
 use Rattle.lot_machine.specs.World.{IsLegal, sys, sysrun}
 use Rattle.lot_machine.specs.World.Answer.{Answered}
 use Rattle.lot_machine.specs.declared.event.Event.TheVariants as event
 use Rattle.lot_system.specs.Seen.{Seen, world_of}
-use Rattle.lot_system.proofs.Runs.{sysrun-one_more}
+use Rattle.lot_system.proofs.Runs.{sysrun-one_more, past-more}
 use Rattle.lot_machine.specs.Report.{turns_made}
 use Rattle.lot_system.proofs.CountFacts.{each-after, total-after}
 use Rattle.lot_system.proofs.TurnFacts.{command-left, command-next, command-made, command-answer, command-held, kept-made, count-console, legal-more}
@@ -60,6 +60,7 @@ invariant_of-self c =
       legal = legal;
       held = rw (sysrun-one_more s.program s.history.items 0) held;
       generators = i.generators;
+      past = past-more s.program s.history.items 0 (event.Command c.copied.result) c.event-reply.result i.past answer;
       spent = omega (arith, count, i.spent);
       counts = c.count_turn.ensures.count ∙ i.counts;
       each_counted = each-after s.program s.history.items 0 (event.Command c.copied.result) c.event-reply.result answer c.count_turn.new.counts.items (c.count_turn.ensures.exact (turns_made s.program s.history.items) (length s.history.items) (event.Command c.copied.result) i.each_counted);

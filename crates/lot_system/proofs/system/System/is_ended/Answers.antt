@@ -1,4 +1,3 @@
-use Rattle.std.proofs.Common.{sym, ap, ◌∙◌}
 use Rattle.std.proofs.lemmas.Bool.{leb-true, le-leb}
 use Rattle.lot_machine.specs.World.{sysrun}
 use Rattle.lot_system.proofs.TurnFacts.{commands-ended}

@@ -1,11 +1,11 @@
 -- The event is the one of the slice of the work, and what is held then is what the world comes to.
-use Rattle.std.proofs.Common.{◌≡◌, ◌<◌, ◌≤◌, ◌+◌, ◌++◌, ◌==◌, [], ◌∷◌, length, sym, ap, ◌∙◌, subst, unwrap_or, arith}
+use Rattle.std.proofs.Common.{◌≡◌, ◌<◌, ◌++◌, [], ◌∷◌, length, ap, ◌∙◌, subst, unwrap_or, arith}
 use Rattle.lot_machine.specs.Lottery.{drawn_number}
 use Rattle.lot_machine.specs.Numbered.{at_number}
 use Rattle.lot_machine.specs.World.{IsLegal, sys, sysrun}
 use Rattle.lot_machine.specs.World.Answer.{Answered}
 use Rattle.lot_system.specs.Seen.{Seen, world_of}
-use Rattle.lot_system.proofs.Runs.{sysrun-one_more}
+use Rattle.lot_system.proofs.Runs.{sysrun-one_more, past-more}
 use Rattle.lot_machine.specs.Report.{turns_made}
 use Rattle.lot_system.proofs.CountFacts.{each-after, total-after}
 use Rattle.lot_system.proofs.TurnFacts.{turn-answer, turn-names, turn-held, count-processor, legal-more}
@@ -48,6 +48,7 @@ invariant_of-self c =
       legal = legal;
       held = rw (sysrun-one_more s.program s.history.items c.args.actor) held;
       generators = c.pass_number.ensures.count ∙ i.generators;
+      past = past-more s.program s.history.items c.args.actor c.event_of-event.result c.event-reply.result i.past answer;
       spent = omega (arith, count, i.spent);
       counts = c.count_turn.ensures.count ∙ i.counts;
       each_counted = each-after s.program s.history.items c.args.actor c.event_of-event.result c.event-reply.result answer c.count_turn.new.counts.items (c.count_turn.ensures.exact (turns_made s.program s.history.items) (length s.history.items) c.event_of-event.result i.each_counted);

@@ -1,0 +1,101 @@
+-- What is written in parts.
+use Rattle.std.proofs.Common.{◌≡◌, ℕ, zero, suc, ◌+◌, ◌-◌, ◌<◌, ◌≤◌, ◌==◌, ◌||◌, ◌&&◌, ne_eqb, Bool, false, Option, Some, None, Result, Ok, Err, List, [], ◌∷◌, ◌++◌, length, length-drop, get_or, take, drop, refl, sym, subst, ◌∙◌, ap, append_assoc, append-nil, arith}
+use Rattle.std.specs.List.{flat_map, range_with_len}
+use Rattle.std.specs.Io.KnownBytes.{Appends, Keeps}
+use Rattle.std.proofs.lemmas.List.{take-append-drop}
+use Rattle.lot_system.proofs.ReplyFacts.{take-all}
+use Rattle.lot_system.specs.declared.fault.PlayFault.{PlayFault}
+use Rattle.lot_system.specs.declared.writing.Piece.{Piece}
+use Rattle.lot_system.specs.Writing.{Begins, Writes, piece_text}
+
+pub appends-nothing : (old : Option (List ℕ)) → Appends old old []
+appends-nothing None = tt
+appends-nothing (Some xs) = sym (append-nil xs)
+
+pub keeps-nothing : (old new : Option (List ℕ)) → Keeps old new → Appends old new []
+keeps-nothing None new keeps = tt
+keeps-nothing (Some xs) None keeps = keeps
+keeps-nothing (Some xs) (Some ys) keeps = keeps ∙ sym (append-nil xs)
+
+pub appends-both : (old mid new : Option (List ℕ)) (a b : List ℕ) → Appends old mid a → Appends mid new b → Appends old new (a ++ b)
+appends-both None mid new a b one two = tt
+appends-both (Some xs) None new a b one two = absurd one
+appends-both (Some xs) (Some ys) None a b one two = absurd two
+appends-both (Some xs) (Some ys) (Some zs) a b one two = two ∙ ap (λ ws. ws ++ b) one ∙ append_assoc xs a b
+
+-- a beginning of what follows is one of both
+pub begins-behind : (old mid new : Option (List ℕ)) (a b : List ℕ) → Appends old mid a → Begins mid new b → Begins old new (a ++ b)
+begins-behind old mid new a b one two = (a ++ two.0, two.1, ap (λ ws. a ++ ws) two.2 ∙ sym (append_assoc a two.0 two.1), appends-both old mid new a two.0 one two.3)
+
+-- a beginning of what comes first is one of both
+pub begins-front : (old new : Option (List ℕ)) (a b : List ℕ) → Begins old new a → Begins old new (a ++ b)
+begins-front old new a b one = (one.0, one.1 ++ b, ap (λ ws. ws ++ b) one.2 ∙ append_assoc one.0 one.1 b, one.3)
+
+-- what is written behind what was written already
+pub writes-behind : {U : Type 0} (old mid new : Option (List ℕ)) (failed : Bool) (r : Result U PlayFault) (a b : List ℕ) → Appends old mid a → Writes mid new failed r b → Writes old new failed r (a ++ b)
+writes-behind old mid new failed (Ok done) a b one two = (two.0, appends-both old mid new a b one two.1)
+writes-behind old mid new failed (Err fault) a b one two = (two.0, two.1, begins-behind old mid new a b one two.2)
+
+-- an error in what comes first is one in both
+pub writes-stops : (U V : Type 0) (old new : Option (List ℕ)) (failed : Bool) (fault : PlayFault) (a b : List ℕ) → Writes {U = U} old new failed (Err fault) a → Writes {U = V} old new failed (Err fault) (a ++ b)
+writes-stops U V old new failed fault a b one = (one.0, one.1, begins-front old new a b one.2)
+
+-- what was written and what is left of the rest are the rest
+pub rest-split : (done rest all : List ℕ) (taken : ℕ) → done ++ rest ≡ all → taken ≤ length rest → (done ++ take taken rest) ++ take (length rest - taken) (drop taken rest) ≡ all
+rest-split done rest all taken is within =
+    let whole : take (length rest - taken) (drop taken rest) ≡ drop taken rest = take-all (drop taken rest) (length rest - taken) (omega (arith, length-drop taken rest)) in
+    append_assoc done (take taken rest) _ ∙ ap (λ xs. done ++ (take taken rest ++ xs)) whole ∙ ap (λ xs. done ++ xs) (take-append-drop taken rest) ∙ is
+
+-- a write that took some bytes hasn't failed
+pub not-failed : (before now some : Bool) (taken : ℕ) → before ≡ false → 0 < taken → now ≡ (before || ((taken == 0) && some)) → now ≡ false
+not-failed before now some taken working more is = let no : (taken == 0) ≡ false = ne_eqb taken 0 (λ e. omega arith) in is ∙ ap (λ b. b || ((taken == 0) && some)) working ∙ ap (λ b. b && some) no
+
+flat_map-cons : (text : Piece → List ℕ) (p : Piece) (ps : List Piece) → flat_map text (p ∷ ps) ≡ text p ++ flat_map text ps
+flat_map-cons text p ps = refl
+
+-- the texts in front of a place, there, and behind it
+pub flat_map-split : (pieces : List Piece) (n : ℕ) (d : Piece) → n < length pieces → flat_map piece_text pieces ≡ (flat_map piece_text (take n pieces) ++ piece_text (get_or pieces n d)) ++ flat_map piece_text (drop (suc n) pieces)
+flat_map-split [] n d below = absurd (omega arith)
+flat_map-split (p ∷ ps) zero d below = refl
+flat_map-split (p ∷ ps) (suc n) d below =
+    ap (λ xs. piece_text p ++ xs) (flat_map-split ps n d (omega (arith, below)))
+    ∙ sym (append_assoc (piece_text p) (flat_map piece_text (take n ps) ++ piece_text (get_or ps n d)) (flat_map piece_text (drop (suc n) ps)))
+    ∙ ap (λ xs. xs ++ flat_map piece_text (drop (suc n) ps)) (sym (append_assoc (piece_text p) (flat_map piece_text (take n ps)) (piece_text (get_or ps n d))))
+
+-- a beginning of the piece at a place, behind those in front of it
+pub begins-piece : (old mid new : Option (List ℕ)) (pieces : List Piece) (n : ℕ) (d : Piece) → n < length pieces → Appends old mid (flat_map piece_text (take n pieces)) → Begins mid new (piece_text (get_or pieces n d)) → Begins old new (flat_map piece_text pieces)
+begins-piece old mid new pieces n d below one two =
+    subst (Begins old new) (sym (flat_map-split pieces n d below))
+    (begins-front old new (flat_map piece_text (take n pieces) ++ piece_text (get_or pieces n d)) (flat_map piece_text (drop (suc n) pieces)) (begins-behind old mid new (flat_map piece_text (take n pieces)) (piece_text (get_or pieces n d)) one two))
+
+-- ---- texts of the numbers of a range
+
+range-push : (f : ℕ → List ℕ) (a k : ℕ) → flat_map f (range_with_len a (suc k)) ≡ flat_map f (range_with_len a k) ++ f (a + k)
+range-push f a zero = let e : a + 0 ≡ a = omega arith in append-nil (f a) ∙ ap f (sym e)
+range-push f a (suc k) =
+    let e : a + 1 + k ≡ a + suc k = omega arith in
+    ap (λ xs. f a ++ xs) (range-push f (a + 1) k) ∙ sym (append_assoc (f a) (flat_map f (range_with_len (a + 1) k)) (f (a + 1 + k))) ∙ ap (λ n. (f a ++ flat_map f (range_with_len (a + 1) k)) ++ f n) e
+
+-- one text more is written
+pub range-more : (old mid new : Option (List ℕ)) (f : ℕ → List ℕ) (a k j : ℕ) → j ≡ a + k → Appends old mid (flat_map f (range_with_len a k)) → Appends mid new (f j) → Appends old new (flat_map f (range_with_len a (k + 1)))
+range-more old mid new f a k j is one given =
+    let two = subst (λ m. Appends mid new (f m)) is given in
+    let e : k + 1 ≡ suc k = omega arith in
+    subst (λ n. Appends old new (flat_map f (range_with_len a n))) (sym e) (subst (Appends old new) (sym (range-push f a k)) (appends-both old mid new (flat_map f (range_with_len a k)) (f (a + k)) one two))
+
+range-front : (f : ℕ → List ℕ) (a k n : ℕ) → (rest : List ℕ) × (flat_map f (range_with_len a (k + n)) ≡ flat_map f (range_with_len a k) ++ rest)
+range-front f a zero n = let e : 0 + n ≡ n = omega arith in (flat_map f (range_with_len a n), ap (λ m. flat_map f (range_with_len a m)) e)
+range-front f a (suc k) n =
+    let more = range-front f (a + 1) k n in
+    let e : suc k + n ≡ suc (k + n) = omega arith in
+    (more.0, ap (λ m. flat_map f (range_with_len a m)) e ∙ ap (λ xs. f a ++ xs) more.1 ∙ sym (append_assoc (f a) (flat_map f (range_with_len (a + 1) k)) more.0))
+
+-- a beginning of the next text is one of all
+pub range-stops : (old mid new : Option (List ℕ)) (f : ℕ → List ℕ) (a k n j : ℕ) → k < n → j ≡ a + k → Appends old mid (flat_map f (range_with_len a k)) → Begins mid new (f j) → Begins old new (flat_map f (range_with_len a n))
+range-stops old mid new f a k n j below is one given =
+    let two = subst (λ m. Begins mid new (f m)) is given in
+    let e : suc k + (n - suc k) ≡ n = omega arith in
+    let split = range-front f a (suc k) (n - suc k) in
+    let whole : flat_map f (range_with_len a n) ≡ (flat_map f (range_with_len a k) ++ f (a + k)) ++ split.0 =
+    ap (λ m. flat_map f (range_with_len a m)) (sym e) ∙ split.1 ∙ ap (λ xs. xs ++ split.0) (range-push f a k) in
+    subst (Begins old new) (sym whole) (begins-front old new (flat_map f (range_with_len a k) ++ f (a + k)) split.0 (begins-behind old mid new (flat_map f (range_with_len a k)) (f (a + k)) one two))

@@ -1,0 +1,41 @@
+-- What is written.
+use Rattle.std.specs.Prelude.{◌≡◌, ℕ, Bool, true, false, Option, Result, Ok, Err, List, ◌++◌}
+use Rattle.std.specs.Fmt.{decimal}
+use Rattle.std.specs.Io.KnownBytes.{Appends}
+use Rattle.lot_system.specs.declared.fault.PlayFault.{PlayFault}
+use Rattle.lot_system.specs.declared.fault.PlayFault.TheVariants.{Memory, Read, Write}
+use Rattle.lot_system.specs.declared.writing.Piece.{Piece}
+use Rattle.lot_system.specs.declared.writing.Piece.TheVariants.{Text, Number, Wide, Bytes}
+
+-- a piece of what is written
+abbrev pub piece_text : Piece → List ℕ
+piece_text (Text text) = text.now
+piece_text (Number n) = decimal n
+piece_text (Wide n) = decimal n
+piece_text (Bytes bytes) = bytes.now
+
+-- some beginning of the text was written
+abbrev pub Begins : Option (List ℕ) → Option (List ℕ) → List ℕ → Type 0
+Begins old new text = (written left : List ℕ) × (text ≡ written ++ left) × Appends old new written
+
+-- On Ok the text was written, and the writer hasn't failed. Else it has failed, and a beginning of the text was written.
+abbrev pub Writes : {U : Type 0} → Option (List ℕ) → Option (List ℕ) → Bool → Result U PlayFault → List ℕ → Type 0
+Writes old new failed (Ok done) text = (failed ≡ false) × Appends old new text
+Writes old new failed (Err fault) text = (fault ≡ Write) × (failed ≡ true) × Begins old new text
+
+-- whatever was written: on Ok the writer hasn't failed, and else it has
+abbrev pub Watches : {U : Type 0} → Bool → Result U PlayFault → Type 0
+Watches failed (Ok done) = failed ≡ false
+Watches failed (Err fault) = (fault ≡ Write) × (failed ≡ true)
+
+-- a fault of reading: Read where the reader has failed, and want of memory where it hasn't
+abbrev pub IsReadFault : PlayFault → Bool → Type 0
+IsReadFault Memory failed = failed ≡ false
+IsReadFault Read failed = failed ≡ true
+IsReadFault Write failed = ⊥
+
+-- Read where the reader has failed, Write where the writer has, and want of memory where neither has
+abbrev pub IsFaultOf : PlayFault → Bool → Bool → Type 0
+IsFaultOf Memory reader writer = (reader ≡ false) × (writer ≡ false)
+IsFaultOf Read reader writer = (reader ≡ true) × (writer ≡ false)
+IsFaultOf Write reader writer = (reader ≡ false) × (writer ≡ true)
