@@ -1,0 +1,5 @@
+pub mod TicketLemmas
+pub mod MirrorLemmas
+pub mod HeadLemmas
+pub mod WayLemmas
+pub mod FieldLemmas

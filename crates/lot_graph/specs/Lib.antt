@@ -1,0 +1,4 @@
+pub mod Tickets
+pub mod Graphs
+pub mod Mirrors
+pub mod Fields
