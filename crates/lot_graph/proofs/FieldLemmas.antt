@@ -28,9 +28,9 @@ use Rattle.lot_graph.specs.declared.layout.Layout.{Layout}
 use Rattle.lot_graph.specs.Tickets.{TicketTable, no_tickets}
 use Rattle.lot_graph.specs.Graphs.{IsSound, IsCurrency, IsThread, IsMutex, IsNode, IsFunding, IsLender, IsBorrower, Reaches, LendReaches, opening_funding}
 use Rattle.lot_graph.specs.Mirrors.{Mirrors}
-use Rattle.lot_graph.specs.Fields.{Fields, IsGraph, funding_in, node_list, edge_place, edge_at, IsEdgeWithin, head_of, list_into, list_issued, node_count, edge_count}
+use Rattle.lot_graph.specs.Fields.{Fields, IsGraph, funding_in, node_list, edge_place, edge_at, IsEdgeWithin, IsNodeWithin, HeadsWithin, head_of, list_into, list_issued, node_count, edge_count}
 use Rattle.lot_graph.proofs.MirrorLemmas.{mirror-free, mirror-listed, mirror-same, mirror-push, mirror-remove, mirror-empty}
-use Rattle.lot_graph.proofs.HeadLemmas.{OthersLeadTheSame, LeadTheSame, edge-back, place-other, issued-heads, target-others, without-others, lends-others, owners-others, thread-heads}
+use Rattle.lot_graph.proofs.HeadLemmas.{edge-cases, OthersLeadTheSame, LeadTheSame, edge-back, place-other, issued-heads, target-others, without-others, lends-others, owners-others, thread-heads}
 use Rattle.lot_graph.proofs.WayLemmas.{borrower-apart, HasNoCycle-moved}
 
 -- ---- lists by place
@@ -211,6 +211,34 @@ module _ (s : Fields) (held : IsGraph s) where
         | inr off ↦ into-others new edge others place off
       ])
 
+  -- ---- nodes that edges lead into
+
+  pub node-within : (node : Node) → IsNode (funding_in s) node → IsNodeWithin s.layout node
+  node-within (Currency c) there = let low = slice_get_within s.currencies c true there in omega (arith, low, held.currencies_fit)
+  node-within (Thread t) there = (there.0, omega (arith, there.1, held.threads_fit))
+  node-within (Mutex m) there = (there.0, omega (arith, there.1, held.mutexes_fit))
+
+  heads-same : (new : Funding) → LeadTheSame (funding_in s) new → HeadsWithin s.layout new
+  heads-same new same edge node at = held.heads edge node (sym (same edge) ∙ at)
+
+  heads-kept : (new : Funding) (edge : Edge) → OthersLeadTheSame (funding_in s) new edge → head_of new edge ≡ head_of (funding_in s) edge → HeadsWithin s.layout new
+  heads-kept new edge others same other node at = elim (edge-cases other edge) [
+    | inl is ↦ held.heads edge node (sym same ∙ ap (head_of new) (sym is) ∙ at)
+    | inr off ↦ held.heads other node (sym (others other off) ∙ at)
+  ]
+
+  heads-removed : (new : Funding) (edge : Edge) → OthersLeadTheSame (funding_in s) new edge → head_of new edge ≡ None → HeadsWithin s.layout new
+  heads-removed new edge others none other node at = elim (edge-cases other edge) [
+    | inl is ↦ let no : head_of new other ≡ None = ap (head_of new) is ∙ none in cc
+    | inr off ↦ held.heads other node (sym (others other off) ∙ at)
+  ]
+
+  heads-pushed : (new : Funding) (edge : Edge) (to : Node) → IsNode (funding_in s) to → OthersLeadTheSame (funding_in s) new edge → head_of new edge ≡ Some to → HeadsWithin s.layout new
+  heads-pushed new edge to there others some other node at = elim (edge-cases other edge) [
+    | inl is ↦ subst (IsNodeWithin s.layout) (some-injective to node (sym some ∙ ap (head_of new) (sym is) ∙ at)) (node-within to there)
+    | inr off ↦ held.heads other node (sym (others other off) ∙ at)
+  ]
+
   -- ---- each change
 
   -- other currencies
@@ -219,6 +247,7 @@ module _ (s : Fields) (held : IsGraph s) where
     sound = sound;
     issued = held.issued;
     into = into-same (record (funding_in s) { currencies = currencies }) same;
+    heads = heads-same (record (funding_in s) { currencies = currencies }) same;
     ticket_room = held.ticket_room;
     tickets_fit = held.tickets_fit;
     currencies_fit = fits;
@@ -228,6 +257,8 @@ module _ (s : Fields) (held : IsGraph s) where
     mutexes_fit = held.mutexes_fit;
     issued_nodes = held.issued_nodes;
     issued_lists = held.issued_lists;
+    found_nodes = held.found_nodes;
+    found_lists = held.found_lists;
     into_nodes = held.into_nodes;
     into_lists = held.into_lists;
   }
@@ -257,6 +288,7 @@ module _ (s : Fields) (held : IsGraph s) where
     sound = record { no_cycle = HasNoCycle-lends_more (funding_in s) held.sound.no_cycle; funds_there = held.sound.funds_there };
     issued = held.issued;
     into = into-same (record (funding_in s) { lends = s.lends ++ Nobody ∷ [] }) (thread-heads (funding_in s));
+    heads = heads-same (record (funding_in s) { lends = s.lends ++ Nobody ∷ [] }) (thread-heads (funding_in s));
     ticket_room = held.ticket_room;
     tickets_fit = held.tickets_fit;
     currencies_fit = held.currencies_fit;
@@ -266,18 +298,21 @@ module _ (s : Fields) (held : IsGraph s) where
     mutexes_fit = held.mutexes_fit;
     issued_nodes = held.issued_nodes;
     issued_lists = held.issued_lists;
+    found_nodes = held.found_nodes;
+    found_lists = held.found_lists;
     into_nodes = held.into_nodes;
     into_lists = held.into_lists;
   })
 
   -- tickets and their lists
   tickets-held : (tickets : List (Option Ticket)) (issued into : NodeLists) → IsSound (record (funding_in s) { tickets = tickets }) → Mirrors issued (list_issued (record (funding_in s) { tickets = tickets }))
-      → Mirrors into (list_into s.layout (record (funding_in s) { tickets = tickets })) → length tickets ≤ s.layout.tickets → issued.nodes ≡ s.issued.nodes → length issued.lists ≡ length s.issued.lists
+      → Mirrors into (list_into s.layout (record (funding_in s) { tickets = tickets })) → HeadsWithin s.layout (record (funding_in s) { tickets = tickets }) → length tickets ≤ s.layout.tickets → issued.nodes ≡ s.issued.nodes → length issued.lists ≡ length s.issued.lists
       → into.nodes ≡ s.into.nodes → length into.lists ≡ length s.into.lists → IsGraph (record s { tickets = record s.tickets { tickets = tickets }; issued = issued; into = into })
-  tickets-held tickets issued into sound by_issuer by_head fits issued_nodes issued_lists into_nodes into_lists = record {
+  tickets-held tickets issued into sound by_issuer by_head heads fits issued_nodes issued_lists into_nodes into_lists = record {
     sound = sound;
     issued = by_issuer;
     into = by_head;
+    heads = heads;
     ticket_room = held.ticket_room;
     tickets_fit = fits;
     currencies_fit = held.currencies_fit;
@@ -287,6 +322,8 @@ module _ (s : Fields) (held : IsGraph s) where
     mutexes_fit = held.mutexes_fit;
     issued_nodes = issued_nodes ∙ held.issued_nodes;
     issued_lists = issued_lists ∙ held.issued_lists;
+    found_nodes = held.found_nodes;
+    found_lists = held.found_lists;
     into_nodes = into_nodes ∙ held.into_nodes;
     into_lists = into_lists ∙ held.into_lists;
   }
@@ -300,7 +337,7 @@ module _ (s : Fields) (held : IsGraph s) where
       → issued.nodes ≡ s.issued.nodes → length issued.lists ≡ length s.issued.lists → IsGraph (record s { tickets = table; issued = issued })
   issue-held amount currency table issued low there table_is issued_is consistent nodes lists =
       subst (λ (t : TicketTable). IsGraph (record s { tickets = t; issued = issued })) (sym table_is)
-      (tickets-held new.tickets issued s.into sound by_issuer (into-same new (issued-heads (funding_in s) amount currency)) (omega (arith, low, length-append s.tickets.tickets (Some ticket ∷ []))) nodes lists refl refl)
+      (tickets-held new.tickets issued s.into sound by_issuer (into-same new (issued-heads (funding_in s) amount currency)) (heads-same new (issued-heads (funding_in s) amount currency)) (omega (arith, low, length-append s.tickets.tickets (Some ticket ∷ []))) nodes lists refl refl)
     where
       ticket : Ticket
       ticket = record { amount = amount; issuer = currency; target = Unfunded }
@@ -335,7 +372,7 @@ module _ (s : Fields) (held : IsGraph s) where
       → issued.nodes ≡ s.issued.nodes → length issued.lists ≡ length s.issued.lists → IsGraph (record s { tickets = table; issued = issued })
   destroy-held n table issued unfunded table_is issued_is free consistent nodes lists =
       subst (λ (t : TicketTable). IsGraph (record s { tickets = t; issued = issued })) (sym table_is)
-      (tickets-held new.tickets issued s.into sound by_issuer (into-kept new (OfTicket n) (low, omega (arith, found_low.1, held.tickets_fit)) (without-others (funding_in s) n low) heads)
+      (tickets-held new.tickets issued s.into sound by_issuer (into-kept new (OfTicket n) (low, omega (arith, found_low.1, held.tickets_fit)) (without-others (funding_in s) n low) heads) (heads-kept new (OfTicket n) (without-others (funding_in s) n low) heads)
       (omega (arith, held.tickets_fit, length-set s.tickets.tickets (n - 1) None)) nodes lists refl refl)
     where
       new : Funding
@@ -381,6 +418,7 @@ module _ (s : Fields) (held : IsGraph s) where
       (tickets-held new.tickets s.issued into sound (mirror-same held.issued (list_issued new) (λ place. target-issuers (funding_in s) n Unfunded low (place + 1)))
       (into-removed new (OfTicket n) found.1 into (target-others (funding_in s) n Unfunded low) (head-ticket (funding_in s) n found.0 found.2 ∙ found.3)
       (head-ticket new n (retargeted Unfunded found.0) (retargeted-at (funding_in s) n Unfunded found.0 found.2)) into_is free consistent)
+      (heads-removed new (OfTicket n) (target-others (funding_in s) n Unfunded low) (head-ticket new n (retargeted Unfunded found.0) (retargeted-at (funding_in s) n Unfunded found.0 found.2)))
       (omega (arith, held.tickets_fit, length-set s.tickets.tickets (n - 1) (option_map (retargeted Unfunded) (ticket_in s.tickets.tickets n)))) refl refl nodes lists)
     where
       new : Funding
@@ -416,6 +454,7 @@ module _ (s : Fields) (held : IsGraph s) where
       (tickets-held new.tickets s.issued into sound (mirror-same held.issued (list_issued new) (λ place. target-issuers (funding_in s) n to low (place + 1)))
       (into-pushed new (OfTicket n) node into (unfunded-within n unfunded) there (target-others (funding_in s) n to low) (head-ticket (funding_in s) n found.0 found.1 ∙ ap target_node found.2)
       (head-ticket new n (retargeted to found.0) (retargeted-at (funding_in s) n to found.0 found.1) ∙ node_is) into_is consistent)
+      (heads-pushed new (OfTicket n) node there (target-others (funding_in s) n to low) (head-ticket new n (retargeted to found.0) (retargeted-at (funding_in s) n to found.0 found.1) ∙ node_is))
       (omega (arith, held.tickets_fit, length-set s.tickets.tickets (n - 1) (option_map (retargeted to) (ticket_in s.tickets.tickets n)))) refl refl nodes lists)
     where
       new : Funding
@@ -429,12 +468,13 @@ module _ (s : Fields) (held : IsGraph s) where
 
   -- ---- lends and owners
 
-  lends-held : (lends : List Lend) (into : NodeLists) (room : ℕ) → HasNoCycle (record (funding_in s) { lends = lends }) → Mirrors into (list_into s.layout (record (funding_in s) { lends = lends })) → length lends ≡ length s.lends
+  lends-held : (lends : List Lend) (into : NodeLists) (room : ℕ) → HasNoCycle (record (funding_in s) { lends = lends }) → Mirrors into (list_into s.layout (record (funding_in s) { lends = lends })) → HeadsWithin s.layout (record (funding_in s) { lends = lends }) → length lends ≡ length s.lends
       → into.nodes ≡ s.into.nodes → length into.lists ≡ length s.into.lists → room ≡ s.thread_room → IsGraph (record s { lends = lends; into = into; thread_room = room })
-  lends-held lends into room no_cycle by_head same nodes lists room_is = record {
+  lends-held lends into room no_cycle by_head heads same nodes lists room_is = record {
     sound = record { no_cycle = no_cycle; funds_there = held.sound.funds_there };
     issued = held.issued;
     into = by_head;
+    heads = heads;
     ticket_room = held.ticket_room;
     tickets_fit = held.tickets_fit;
     currencies_fit = held.currencies_fit;
@@ -444,6 +484,8 @@ module _ (s : Fields) (held : IsGraph s) where
     mutexes_fit = held.mutexes_fit;
     issued_nodes = held.issued_nodes;
     issued_lists = held.issued_lists;
+    found_nodes = held.found_nodes;
+    found_lists = held.found_lists;
     into_nodes = nodes ∙ held.into_nodes;
     into_lists = lists ∙ held.into_lists;
   }
@@ -472,6 +514,7 @@ module _ (s : Fields) (held : IsGraph s) where
       lends-held (set_number s.lends t Nobody) into room (HasNoCycle-lends_nobody (funding_in s) t Nobody refl held.sound.no_cycle)
       (into-removed (record (funding_in s) { lends = set_number s.lends t Nobody }) (OfLender t) found.1 into (lends-others (funding_in s) t Nobody (number-within s.lends t found.0 found.2).0)
       (ap (option_and_then lend_node) found.2 ∙ found.3) (ap (option_and_then lend_node) (set-here s.lends t found.0 Nobody found.2)) into_is free consistent)
+      (heads-removed (record (funding_in s) { lends = set_number s.lends t Nobody }) (OfLender t) (lends-others (funding_in s) t Nobody (number-within s.lends t found.0 found.2).0) (ap (option_and_then lend_node) (set-here s.lends t found.0 Nobody found.2)))
       (length-set s.lends (t - 1) Nobody) nodes lists
     where
       found : (lend : Lend) × (node : Node) × (at_number s.lends t ≡ Some lend) × (lend_node lend ≡ Some node)
@@ -495,14 +538,16 @@ module _ (s : Fields) (held : IsGraph s) where
       lends-held (set_number s.lends t lend) into room (HasNoCycle-lends (funding_in s) t lend Nobody nobody (borrower-apart (funding_in s) lend t apart) held.sound.no_cycle)
       (into-pushed (record (funding_in s) { lends = set_number s.lends t lend }) (OfLender t) node into (nobody-within t nobody) there (lends-others (funding_in s) t lend (number-within s.lends t Nobody nobody).0)
       (ap (option_and_then lend_node) nobody) (ap (option_and_then lend_node) (set-here s.lends t Nobody lend nobody) ∙ node_is) into_is consistent)
+      (heads-pushed (record (funding_in s) { lends = set_number s.lends t lend }) (OfLender t) node there (lends-others (funding_in s) t lend (number-within s.lends t Nobody nobody).0) (ap (option_and_then lend_node) (set-here s.lends t Nobody lend nobody) ∙ node_is))
       (length-set s.lends (t - 1) lend) nodes lists
 
-  owners-held : (owners : List (Option ℕ)) (into : NodeLists) → HasNoCycle (record (funding_in s) { owners = owners }) → Mirrors into (list_into s.layout (record (funding_in s) { owners = owners })) → length owners ≡ length s.owners
+  owners-held : (owners : List (Option ℕ)) (into : NodeLists) → HasNoCycle (record (funding_in s) { owners = owners }) → Mirrors into (list_into s.layout (record (funding_in s) { owners = owners })) → HeadsWithin s.layout (record (funding_in s) { owners = owners }) → length owners ≡ length s.owners
       → into.nodes ≡ s.into.nodes → length into.lists ≡ length s.into.lists → IsGraph (record s { owners = owners; into = into })
-  owners-held owners into no_cycle by_head same nodes lists = record {
+  owners-held owners into no_cycle by_head heads same nodes lists = record {
     sound = record { no_cycle = no_cycle; funds_there = held.sound.funds_there };
     issued = held.issued;
     into = by_head;
+    heads = heads;
     ticket_room = held.ticket_room;
     tickets_fit = held.tickets_fit;
     currencies_fit = held.currencies_fit;
@@ -512,6 +557,8 @@ module _ (s : Fields) (held : IsGraph s) where
     mutexes_fit = same ∙ held.mutexes_fit;
     issued_nodes = held.issued_nodes;
     issued_lists = held.issued_lists;
+    found_nodes = held.found_nodes;
+    found_lists = held.found_lists;
     into_nodes = nodes ∙ held.into_nodes;
     into_lists = lists ∙ held.into_lists;
   }
@@ -536,6 +583,7 @@ module _ (s : Fields) (held : IsGraph s) where
       owners-held (set_number s.owners m None) into (HasNoCycle-moved (funding_in s) m None there.0 (λ w is. cc) held.sound.no_cycle)
       (into-removed (record (funding_in s) { owners = set_number s.owners m None }) (OfMutex m) (Thread owner) into (owners-others (funding_in s) m None there.0)
       (ap (option_map Thread) owns) (ap (λ o. option_map Thread (option_flatten o)) (set-here s.owners m (mutex-number m there).0 None (mutex-number m there).1)) into_is free consistent)
+      (heads-removed (record (funding_in s) { owners = set_number s.owners m None }) (OfMutex m) (owners-others (funding_in s) m None there.0) (ap (λ o. option_map Thread (option_flatten o)) (set-here s.owners m (mutex-number m there).0 None (mutex-number m there).1)))
       (length-set s.owners (m - 1) None) nodes lists
 
   -- a free mutex that gets an owner
@@ -546,7 +594,30 @@ module _ (s : Fields) (held : IsGraph s) where
       owners-held (set_number s.owners m (Some owner)) into (HasNoCycle-moved (funding_in s) m (Some owner) there.0 (λ w is. subst (λ x. ¬ Reaches (funding_in s) (Thread x) (Mutex m)) (some-injective owner w is) apart) held.sound.no_cycle)
       (into-pushed (record (funding_in s) { owners = set_number s.owners m (Some owner) }) (OfMutex m) (Thread owner) into (mutex-within m there) thread (owners-others (funding_in s) m (Some owner) there.0)
       (ap (option_map Thread) none) (ap (λ o. option_map Thread (option_flatten o)) (set-here s.owners m (mutex-number m there).0 (Some owner) (mutex-number m there).1)) into_is consistent)
+      (heads-pushed (record (funding_in s) { owners = set_number s.owners m (Some owner) }) (OfMutex m) (Thread owner) thread (owners-others (funding_in s) m (Some owner) there.0) (ap (λ o. option_map Thread (option_flatten o)) (set-here s.owners m (mutex-number m there).0 (Some owner) (mutex-number m there).1)))
       (length-set s.owners (m - 1) (Some owner)) nodes lists
+
+-- another search
+pub found-held : (s : Fields) → IsGraph s → (found : NodeLists) → found.nodes ≡ s.found.nodes → length found.lists ≡ length s.found.lists → IsGraph (record s { found = found })
+found-held s held found nodes lists = record {
+  sound = held.sound;
+  issued = held.issued;
+  into = held.into;
+  heads = held.heads;
+  ticket_room = held.ticket_room;
+  tickets_fit = held.tickets_fit;
+  currencies_fit = held.currencies_fit;
+  threads_fit = held.threads_fit;
+  currency_room = held.currency_room;
+  thread_room = held.thread_room;
+  mutexes_fit = held.mutexes_fit;
+  issued_nodes = held.issued_nodes;
+  issued_lists = held.issued_lists;
+  found_nodes = nodes ∙ held.found_nodes;
+  found_lists = lists ∙ held.found_lists;
+  into_nodes = held.into_nodes;
+  into_lists = held.into_lists;
+}
 
 -- ---- at the start
 
@@ -581,15 +652,18 @@ module _ (mutexes : ℕ) where
   opening-heads (OfLender t) = ap (option_and_then lend_node) (none-at t)
   opening-heads (OfMutex m) = ap (option_map Thread) (none-owns mutexes m)
 
-pub new-held : (l : Layout) (tickets : TicketTable) (currencies : List Bool) (lends : List Lend) (owners : List (Option ℕ)) (issued into : NodeLists) (currency_room thread_room : ℕ)
+pub new-held : (l : Layout) (tickets : TicketTable) (currencies : List Bool) (lends : List Lend) (owners : List (Option ℕ)) (issued into found : NodeLists) (currency_room thread_room : ℕ)
     → tickets ≡ no_tickets l.tickets → currencies ≡ true ∷ [] → lends ≡ [] → owners ≡ replicate l.mutexes None → issued ≡ empty_lists (l.currencies + 1) l.tickets → IsConsistent issued
-    → into ≡ empty_lists (node_count l) (edge_count l) → IsConsistent into → l.currencies < currency_room → l.threads ≤ thread_room
-    → IsGraph (record { tickets = tickets; currencies = currencies; lends = lends; owners = owners; issued = issued; into = into; layout = l; currency_room = currency_room; thread_room = thread_room })
-new-held l tickets currencies lends owners issued into currency_room thread_room tickets_are currencies_are lends_are owners_are issued_is issued_consistent into_is into_consistent for_currencies for_threads = record {
+    → into ≡ empty_lists (node_count l) (edge_count l) → IsConsistent into → found ≡ empty_lists 1 (node_count l) → l.currencies < currency_room → l.threads ≤ thread_room
+    → IsGraph (record { tickets = tickets; currencies = currencies; lends = lends; owners = owners; issued = issued; into = into; found = found; layout = l; currency_room = currency_room; thread_room = thread_room })
+new-held l tickets currencies lends owners issued into found currency_room thread_room tickets_are currencies_are lends_are owners_are issued_is issued_consistent into_is into_consistent found_is for_currencies for_threads = record {
   sound = subst IsSound (sym funding_is) (opening-sound l.mutexes);
   issued = mirror-empty (l.currencies + 1) l.tickets issued (list_issued funding) issued_is issued_consistent (λ place. ap (λ f. list_issued f place) funding_is ∙ none-issued l.mutexes (place + 1));
   into = mirror-empty (node_count l) (edge_count l) into (list_into l funding) into_is into_consistent
       (λ place. ap (λ f. list_into l f place) funding_is ∙ ap (option_map (node_list l)) (opening-heads l.mutexes (edge_at l place)));
+  heads = λ edge node at. let none = ap (λ f. head_of f edge) funding_is ∙ opening-heads l.mutexes edge in cc;
+  found_nodes = ap (λ (v : NodeLists). v.nodes) found_is;
+  found_lists = ap (λ (v : NodeLists). length v.lists) found_is;
   ticket_room = ap (λ (t : TicketTable). t.room) tickets_are;
   tickets_fit = omega (arith, ap (λ (t : TicketTable). length t.tickets) tickets_are);
   currencies_fit = omega (arith, ap (length {A = Bool}) currencies_are);

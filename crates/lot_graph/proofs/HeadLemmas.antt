@@ -1,7 +1,7 @@
 -- Where edges lead, and where they stand in the lists.
 use Rattle.std.proofs.Common.{◌≡◌, ℕ, suc, ◌+◌, ◌-◌, ◌<◌, ◌⊎◌, inl, inr, Bool, true, false, nat_lt, cond, Option, Some, None, [], ◌∷◌, ◌++◌, ap, ap₂, sym, ◌∙◌, refl, arith, option_map, option_and_then}
 use Rattle.std.specs.Option.{option_flatten}
-use Rattle.std.proofs.lemmas.Bool.{ltb-false, lt-ltb, le-ltb}
+use Rattle.std.proofs.lemmas.Bool.{cases_eq, ltb-false, lt-ltb, le-ltb}
 use Rattle.lot_machine.specs.declared.ticket.Ticket.{Ticket}
 use Rattle.lot_machine.specs.declared.ticket.Target.{Target}
 use Rattle.lot_machine.specs.declared.ticket.Target.TheVariants.{Unfunded}
@@ -17,6 +17,11 @@ use Rattle.lot_machine.proofs.Changes.{number-set, number-push}
 use Rattle.lot_machine.proofs.Tickets.{some-injective}
 use Rattle.lot_graph.specs.declared.layout.Layout.{Layout}
 use Rattle.lot_graph.specs.Fields.{edge_place, edge_at, IsEdgeWithin, head_of}
+
+abbrev number : Edge → ℕ
+number (OfTicket n) = n
+number (OfLender n) = n
+number (OfMutex n) = n
 
 -- ---- places of edges
 
@@ -49,6 +54,27 @@ edge-back l (OfMutex m) (first, last) =
 -- another place has another edge
 pub place-other : (l : Layout) (edge : Edge) (place : ℕ) → ¬ (place ≡ edge_place l edge) → ¬ (edge_at l place ≡ edge)
 place-other l edge place off same = off (sym (place-back l place) ∙ ap (edge_place l) same)
+
+-- edges are the same, or they aren't
+pub edge-cases : (a b : Edge) → (a ≡ b) ⊎ ¬ (a ≡ b)
+edge-cases (OfTicket n) (OfTicket k) = elim (cases_eq n k) [
+  | inl same ↦ inl (ap OfTicket same)
+  | inr off ↦ inr (λ e. off (ap (λ (x : Edge). number x) e))
+]
+edge-cases (OfTicket n) (OfLender k) = inr (λ e. cc)
+edge-cases (OfTicket n) (OfMutex k) = inr (λ e. cc)
+edge-cases (OfLender n) (OfTicket k) = inr (λ e. cc)
+edge-cases (OfLender n) (OfLender k) = elim (cases_eq n k) [
+  | inl same ↦ inl (ap OfLender same)
+  | inr off ↦ inr (λ e. off (ap (λ (x : Edge). number x) e))
+]
+edge-cases (OfLender n) (OfMutex k) = inr (λ e. cc)
+edge-cases (OfMutex n) (OfTicket k) = inr (λ e. cc)
+edge-cases (OfMutex n) (OfLender k) = inr (λ e. cc)
+edge-cases (OfMutex n) (OfMutex k) = elim (cases_eq n k) [
+  | inl same ↦ inl (ap OfMutex same)
+  | inr off ↦ inr (λ e. off (ap (λ (x : Edge). number x) e))
+]
 
 -- ---- the ends of an edge
 

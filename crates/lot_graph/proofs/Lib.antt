@@ -3,3 +3,4 @@ pub mod MirrorLemmas
 pub mod HeadLemmas
 pub mod WayLemmas
 pub mod FieldLemmas
+pub mod SpreadLemmas

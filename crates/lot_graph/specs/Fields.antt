@@ -1,5 +1,5 @@
 -- How the fields of `Graph` hold the funding; no public clause cites this file.
-use Rattle.std.specs.Prelude.{◌≡◌, ℕ, ◌+◌, ◌-◌, ◌<◌, ◌≤◌, nat_lt, Bool, Option, List, length, option_map, option_and_then, if◌then◌else◌}
+use Rattle.std.specs.Prelude.{◌≡◌, ℕ, ◌+◌, ◌-◌, ◌<◌, ◌≤◌, nat_lt, nat_le, Bool, Option, Some, List, length, option_map, option_and_then, if◌then◌else◌}
 use Rattle.lot_machine.specs.declared.funding.Node.{Node}
 use Rattle.lot_machine.specs.declared.funding.Node.TheVariants.{Currency, Thread, Mutex}
 use Rattle.lot_machine.specs.declared.funding.Edge.{Edge}
@@ -53,6 +53,13 @@ node_count l = l.currencies + 1 + l.threads + l.mutexes
 abbrev pub edge_count : Layout → ℕ
 edge_count l = l.tickets + l.threads + l.mutexes
 
+-- the node of a list
+abbrev pub node_of : Layout → ℕ → Node
+node_of l list =
+    if nat_le list l.currencies then Currency list
+    else if nat_le list (l.currencies + l.threads) then Thread (list - l.currencies)
+    else Mutex (list - (l.currencies + l.threads))
+
 -- ---- what the lists stand for
 
 -- the node that the edge leads into, if it is there
@@ -78,6 +85,7 @@ pub record Fields : Type 0 where
   pub owners : List (Option ℕ)
   pub issued : NodeLists
   pub into : NodeLists
+  pub found : NodeLists
   pub layout : Layout
   pub currency_room : ℕ  -- how many currencies and threads there is room for
   pub thread_room : ℕ
@@ -90,11 +98,16 @@ funding_in s = record { currencies = s.currencies; tickets = s.tickets.tickets; 
 abbrev pub seen : Fields → LimitedFunding
 seen s = record { funding = funding_in s; ticket_limit = s.layout.tickets; currency_limit = s.layout.currencies; thread_limit = s.layout.threads }
 
+-- edges lead into nodes that have a list
+abbrev pub HeadsWithin : Layout → Funding → Type 0
+HeadsWithin l f = (edge : Edge) (node : Node) → head_of f edge ≡ Some node → IsNodeWithin l node
+
 -- what holds of the fields
 pub record IsGraph (s : Fields) : Type 0 where
   pub sound : IsSound (funding_in s)
   pub issued : Mirrors s.issued (list_issued (funding_in s))
   pub into : Mirrors s.into (list_into s.layout (funding_in s))
+  pub heads : HeadsWithin s.layout (funding_in s)
   pub ticket_room : s.tickets.room ≡ s.layout.tickets
   pub tickets_fit : length s.tickets.tickets ≤ s.layout.tickets
   pub currencies_fit : length s.currencies ≤ s.layout.currencies + 1
@@ -105,4 +118,6 @@ pub record IsGraph (s : Fields) : Type 0 where
   pub issued_nodes : s.issued.nodes ≡ s.layout.tickets
   pub issued_lists : length s.issued.lists ≡ s.layout.currencies + 1
   pub into_nodes : s.into.nodes ≡ edge_count s.layout
+  pub found_nodes : s.found.nodes ≡ node_count s.layout
+  pub found_lists : length s.found.lists ≡ 1
   pub into_lists : length s.into.lists ≡ node_count s.layout

@@ -28,6 +28,8 @@ pub struct Graph {
     issued: Lists,
     // The edges into each node.
     into: Lists,
+    // The nodes that the last search found, in one list.
+    found: Lists,
     layout: Layout,
 }
 
@@ -38,9 +40,9 @@ impl Model for Graph {
 
     ghost Value = { LimitedFunding };
 
-    ghost view = { λ s. seen (record { tickets = s.tickets; currencies = s.currencies.items; lends = s.lends.items; owners = s.owners.items; issued = s.issued; into = s.into; layout = s.layout; currency_room = vec_capacity s.currencies; thread_room = vec_capacity s.lends }) };
+    ghost view = { λ s. seen (record { tickets = s.tickets; currencies = s.currencies.items; lends = s.lends.items; owners = s.owners.items; issued = s.issued; into = s.into; found = s.found; layout = s.layout; currency_room = vec_capacity s.currencies; thread_room = vec_capacity s.lends }) };
 
-    ghost invariant = { λ s. IsGraph (record { tickets = s.tickets; currencies = s.currencies.items; lends = s.lends.items; owners = s.owners.items; issued = s.issued; into = s.into; layout = s.layout; currency_room = vec_capacity s.currencies; thread_room = vec_capacity s.lends }) };
+    ghost invariant = { λ s. IsGraph (record { tickets = s.tickets; currencies = s.currencies.items; lends = s.lends.items; owners = s.owners.items; issued = s.issued; into = s.into; found = s.found; layout = s.layout; currency_room = vec_capacity s.currencies; thread_room = vec_capacity s.lends }) };
 }
 
 impl Graph {
@@ -64,6 +66,7 @@ impl Graph {
             owners: vec![in alloc; None; layout.mutexes as usize]?,
             issued: Lists::new(alloc, currency_count, layout.tickets as usize)?,
             into: Lists::new(alloc, layout.node_count(), layout.edge_count())?,
+            found: Lists::new(alloc, 1, layout.node_count())?,
             layout,
         })
     }

@@ -42,6 +42,22 @@ impl Layout {
         }
     }
 
+    /// The node of a list.
+    pub(crate) fn node_of(self, list: usize) -> Node
+        requires { list < fields.node_count self }
+        ensures { result ≡ fields.node_of self list }
+    {
+        let threads = self.currencies as usize;
+        let mutexes = threads + self.threads as usize;
+        if list <= threads {
+            return Node::Currency(list as u32);
+        }
+        if list <= mutexes {
+            return Node::Thread((list - threads) as u32);
+        }
+        Node::Mutex((list - mutexes) as u32)
+    }
+
     /// The list node of an edge.
     pub(crate) fn place_of(self, edge: Edge) -> usize
         requires { IsEdgeWithin self edge }

@@ -5,6 +5,7 @@
 
 mod graph;
 mod layout;
+mod reach;
 mod tickets;
 
 pub use graph::Graph;
