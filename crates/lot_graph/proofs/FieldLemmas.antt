@@ -100,7 +100,7 @@ there-low f n t at = by (at_number f.tickets n) refl at
     by (Some o) is e = number-within f.tickets n o is
 
 -- what it funds, and what it funds after it is given another target
-target-ticket : (f : Funding) (n : ℕ) (to : Target) → target_of f n ≡ Some to → (t : Ticket) × (ticket_at f n ≡ Some t) × (t.target ≡ to)
+pub target-ticket : (f : Funding) (n : ℕ) (to : Target) → target_of f n ≡ Some to → (t : Ticket) × (ticket_at f n ≡ Some t) × (t.target ≡ to)
 target-ticket f n to e = from (ticket_at f n) refl e
   where
     from : (o : Option Ticket) → ticket_at f n ≡ o → option_map (λ (u : Ticket). u.target) o ≡ Some to → (t : Ticket) × (ticket_at f n ≡ Some t) × (t.target ≡ to)
@@ -360,7 +360,7 @@ module _ (s : Fields) (held : IsGraph s) where
           (issued-place new count ∙ ap issuer-by (push-here s.tickets.tickets (Some ticket))) issued_is
 
   -- a ticket's place
-  issued-at : (n : ℕ) (t : Ticket) → ticket_at (funding_in s) n ≡ Some t → list_issued (funding_in s) (n - 1) ≡ Some t.issuer
+  pub issued-at : (n : ℕ) (t : Ticket) → ticket_at (funding_in s) n ≡ Some t → list_issued (funding_in s) (n - 1) ≡ Some t.issuer
   issued-at n t at = let r = there-low (funding_in s) n t at in ap (issuer_of (funding_in s)) (omega (arith, r.0)) ∙ ap (option_map (λ (u : Ticket). u.issuer)) at
 
   pub ticket-listed : (n : ℕ) (to : Target) → target_of (funding_in s) n ≡ Some to → IsListed s.issued (n - 1)

@@ -4,3 +4,4 @@ pub mod HeadLemmas
 pub mod WayLemmas
 pub mod FieldLemmas
 pub mod SpreadLemmas
+pub mod CycleLemmas

@@ -9,7 +9,7 @@ use Rattle.lot_machine.specs.declared.funding.Lend.{Lend}
 use Rattle.lot_machine.specs.declared.funding.Lend.TheVariants.{Nobody, ToThread, ToMutex}
 use Rattle.lot_machine.specs.Numbered.{at_number, option_any}
 use Rattle.lot_machine.specs.Commands.{is_funding}
-use Rattle.lot_machine.specs.Funding.{Funding, ends_of, ticket_at, lend_node, IsEdge}
+use Rattle.lot_machine.specs.Funding.{Funding, WouldCycle, issuer_of, ends_of, ticket_at, lend_node, IsEdge}
 use Rattle.lot_machine.specs.Facts.{HasNoCycle, FundsThere}
 
 -- a funding, and how many tickets, user currencies and threads may be made in all
@@ -49,6 +49,12 @@ abbrev pub IsNode : Funding → Node → Type 0
 IsNode f (Currency c) = IsCurrency f c
 IsNode f (Thread t) = IsThread f t
 IsNode f (Mutex m) = IsMutex f m
+
+-- the node is one of those that there may be
+abbrev pub IsNodeOf : LimitedFunding → Node → Type 0
+IsNodeOf v (Currency c) = c ≤ v.currency_limit
+IsNodeOf v (Thread t) = (0 < t) × (t ≤ v.thread_limit)
+IsNodeOf v (Mutex m) = (0 < m) × (m ≤ length v.funding.owners)
 
 -- the target may be funded: it is a user currency or a thread
 abbrev pub IsTarget : Funding → Target → Type 0
@@ -92,3 +98,7 @@ Reaches f from to = (way : List Node) × IsWay f from way to
 -- what is lent to reaches the thread
 abbrev pub LendReaches : Funding → Lend → ℕ → Type 0
 LendReaches f lend t = (node : Node) × (lend_node lend ≡ Some node) × Reaches f node (Thread t)
+
+-- to fund the target with the ticket would make a cycle
+abbrev pub IsCycle : Funding → ℕ → Target → Type 0
+IsCycle f n to = (c : ℕ) × (issuer : ℕ) × (to ≡ target.Currency c) × (issuer_of f n ≡ Some issuer) × WouldCycle f issuer c

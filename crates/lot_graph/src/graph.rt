@@ -1,19 +1,24 @@
 //! The graph.
-ghost use Rattle.std.specs.Prelude.{◌≡◌, ◌+◌, ◌<◌, ◌≤◌, ◌++◌, ◌∷◌, [], IfNone, IfOk, IfSome, IsSome, IsTrue, OnSome, ◌↔◌, None, Some, length, option_map, slice_set, true, false};
+ghost use Rattle.std.specs.Prelude.{◌≡◌, ◌+◌, ◌<◌, ◌≤◌, ◌++◌, ◌∷◌, [], IfNone, IfOk, IfSome, IsSome, IsTrue, OnSome, OnOk, OnErr, IsErr, ◌↔◌, None, Some, length, option_map, slice_set, true, false};
 ghost use Rattle.std.specs.Option.{SomeIff};
 ghost use Rattle.lot_machine.specs.declared.ticket.Target.TheVariants.{Unfunded};
 ghost use Rattle.lot_machine.specs.declared.funding.Lend.TheVariants.{Nobody};
 ghost use Rattle.lot_machine.specs.declared.funding.Node.TheVariants.{Thread as ThreadNode, Mutex as MutexNode};
 ghost use Rattle.lot_machine.specs.Numbered.{at_number, set_number};
 ghost use Rattle.lot_machine.specs.Funding.{target_node as funded_node, lend_node, ticket_at, owner_of, target_of, issued_in, backing_currency, with_new_ticket, without_ticket, with_target};
-ghost use Rattle.lot_graph.specs.Graphs.{IsSound, IsCurrency, IsUserCurrency, IsThread, IsMutex, IsFunding, IsLender, IsBorrower, Reaches, LendReaches, opening_funding};
+ghost use Rattle.lot_graph.specs.Graphs.{IsSound, IsCurrency, IsUserCurrency, IsThread, IsMutex, IsFunding, IsLender, IsBorrower, IsNodeOf, IsTarget, IsCycle, Reaches, LendReaches, opening_funding};
 
 use crate::layout::Layout;
+use crate::reach::{Edges, find_reached};
 use crate::tickets::Tickets;
 use lot_lists::Lists;
 use lot_machine::{Edge, Lend, Limits, Node, Target, Ticket};
 use std::alloc::{AllocError, Global};
 use std::marker::Model;
+
+/// A ticket would fund a currency from which a chain of tickets leads back to its issuer (4.4).
+#[derive(Clone, Copy, Debug, PartialEq, Eq)]
+pub struct Cycle;
 
 /// The tickets, what they fund, what threads lend, and who owns mutexes. Tickets, threads and mutexes are numbered from
 /// 1, currencies from 0, which is base.
@@ -128,6 +133,63 @@ impl Graph {
     {
         self.tickets.remove(ticket);
         self.issued.remove(ticket as usize - 1);
+    }
+
+    /// Makes a ticket that funds nothing fund a user currency or a thread. `Cycle` exactly where it would make one.
+    pub fn fund(&mut self, ticket: u32, target: Target) -> Result<(), Cycle>
+        requires unfunded { target_of self.old.funding ticket ≡ Some Unfunded }
+        requires target { IsTarget self.old.funding target }
+        ensures cycle { IsErr result ↔ IsCycle self.old.funding ticket target }
+        ensures funded { OnOk result (self.new ≡ record self.old { funding = record self.old.funding { tickets = with_target self.old.funding.tickets ticket target } }) }
+        ensures unchanged { OnErr result (self.new ≡ self.old) }
+        ensures sound { IsSound self.new.funding }
+    {
+        if self.would_cycle(ticket, target) {
+            return Err(Cycle);
+        }
+        self.tickets.set_target(ticket, target);
+        let list = self.layout.list_of(target_node(target));
+        self.into
+            .push_back(list, self.layout.place_of(Edge::OfTicket(ticket)));
+        Ok(())
+    }
+
+    /// Whether it would make a cycle if the ticket funded the target.
+    fn would_cycle(&mut self, ticket: u32, target: Target) -> bool
+        requires unfunded { target_of self.old.funding ticket ≡ Some Unfunded }
+        requires target { IsTarget self.old.funding target }
+        ensures cycle { IsTrue result ↔ IsCycle self.old.funding ticket target }
+        ensures unchanged { self.new ≡ self.old }
+        ensures sound { IsSound self.new.funding }
+    {
+        let Some(record) = self.tickets.get(ticket) else {
+            return false;
+        };
+        match target {
+            Target::Currency(currency) => {
+                self.reaches(Node::Currency(currency), Node::Currency(record.issuer))
+            }
+            _ => false,
+        }
+    }
+
+    /// Whether a way of edges, perhaps empty, leads from one node to the other. It reads each edge once at most.
+    pub fn reaches(&mut self, from: Node, to: Node) -> bool
+        requires from { IsNodeOf self.old from }
+        requires to { IsNodeOf self.old to }
+        ensures reaches { IsTrue result ↔ Reaches self.old.funding from to }
+        ensures unchanged { self.new ≡ self.old }
+        ensures sound { IsSound self.new.funding }
+    {
+        let edges = Edges {
+            tickets: &self.tickets,
+            lends: &self.lends,
+            owners: &self.owners,
+            issued: &self.issued,
+            layout: self.layout,
+        };
+        find_reached(edges, &mut self.found, from);
+        self.found.list_of(self.layout.list_of(to)).is_some()
     }
 
     /// Takes a ticket from what it funds.

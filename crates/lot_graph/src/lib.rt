@@ -8,4 +8,5 @@ mod layout;
 mod reach;
 mod tickets;
 
-pub use graph::Graph;
+pub use graph::{Cycle, Graph};
+pub use lot_machine::{Limits, Name};
