@@ -65,13 +65,13 @@ module _ (f : Funding) where
   -- ---- ways to currencies
 
   -- no way leads from a thread or a mutex to a currency
-  lent-head : (o : Option Lend) (c : ℕ) → ¬ (option_and_then lend_node o ≡ Some (Currency c))
+  pub lent-head : (o : Option Lend) (c : ℕ) → ¬ (option_and_then lend_node o ≡ Some (Currency c))
   lent-head None c e = cc
   lent-head (Some Nobody) c e = cc
   lent-head (Some (ToThread s)) c e = cc
   lent-head (Some (ToMutex m)) c e = cc
 
-  owned-head : (o : Option ℕ) (c : ℕ) → ¬ (option_map Thread o ≡ Some (Currency c))
+  pub owned-head : (o : Option ℕ) (c : ℕ) → ¬ (option_map Thread o ≡ Some (Currency c))
   owned-head None c e = cc
   owned-head (Some t) c e = cc
 
@@ -89,7 +89,7 @@ module _ (f : Funding) where
     from-mutex m (Mutex k ∷ rest) c (edge, others) = from-mutex k rest c others
 
   -- a ticket leads into a currency just where it funds it
-  head-target : (n d : ℕ) → head_of f (OfTicket n) ≡ Some (Currency d) → target_of f n ≡ Some (target.Currency d)
+  pub head-target : (n d : ℕ) → head_of f (OfTicket n) ≡ Some (Currency d) → target_of f n ≡ Some (target.Currency d)
   head-target n d at = by (ticket_at f n) at
     where
       to-target : (to : Target) → target_node to ≡ Some (Currency d) → to ≡ target.Currency d
@@ -106,7 +106,7 @@ module _ (f : Funding) where
       by None e = cc
       by (Some t) e = ap Some (to-target t.target e)
 
-  target-head : (n d : ℕ) → target_of f n ≡ Some (target.Currency d) → head_of f (OfTicket n) ≡ Some (Currency d)
+  pub target-head : (n d : ℕ) → target_of f n ≡ Some (target.Currency d) → head_of f (OfTicket n) ≡ Some (Currency d)
   target-head n d at = by (ticket_at f n) at
     where
       by : (o : Option Ticket) → option_map (λ (t : Ticket). t.target) o ≡ Some (target.Currency d) → option_and_then (λ (t : Ticket). target_node t.target) o ≡ Some (Currency d)

@@ -169,7 +169,7 @@ module _ (s : Fields) (held : IsGraph s) where
   place-low (OfLender t) within = omega (arith, within.0, within.1, held.into_nodes)
   place-low (OfMutex m) within = omega (arith, within.0, within.1, held.into_nodes)
 
-  into-here : (f : Funding) (edge : Edge) → IsEdgeWithin s.layout edge → list_into s.layout f (edge_place s.layout edge) ≡ option_map (node_list s.layout) (head_of f edge)
+  pub into-here : (f : Funding) (edge : Edge) → IsEdgeWithin s.layout edge → list_into s.layout f (edge_place s.layout edge) ≡ option_map (node_list s.layout) (head_of f edge)
   into-here f edge within = ap (λ e. option_map (node_list s.layout) (head_of f e)) (edge-back s.layout edge within)
 
   into-others : (new : Funding) (edge : Edge) → OthersLeadTheSame (funding_in s) new edge → (place : ℕ) → ¬ (place ≡ edge_place s.layout edge) → list_into s.layout new place ≡ list_into s.layout (funding_in s) place

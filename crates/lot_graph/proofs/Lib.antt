@@ -5,3 +5,5 @@ pub mod WayLemmas
 pub mod FieldLemmas
 pub mod SpreadLemmas
 pub mod CycleLemmas
+pub mod WalkLemmas
+pub mod UnusedLemmas

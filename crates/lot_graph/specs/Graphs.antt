@@ -66,8 +66,12 @@ IsTarget f (target.Thread t) = IsThread f t
 abbrev pub LeadsInto : Funding → Node → Edge → Type 0
 LeadsInto f node edge = (from : Node) × (ends_of f edge ≡ Some (from, node))
 
+-- the currency issues the ticket
+abbrev pub IsIssuedIn : Funding → ℕ → ℕ → Type 0
+IsIssuedIn f c n = issuer_of f n ≡ Some c
+
 -- the list has just what is so, each once
-pub record Lists {A : Type 0} (xs : List A) (IsSo : A → Type 0) : Type 0 where
+pub record HasEachOnce {A : Type 0} (xs : List A) (IsSo : A → Type 0) : Type 0 where
   pub each : (x : A) → Contains xs x → IsSo x
   pub all : (x : A) → IsSo x → Contains xs x
   pub once : (x : A) (place other : ℕ) → slice_get xs place ≡ Some x → slice_get xs other ≡ Some x → place ≡ other

@@ -3,14 +3,15 @@ ghost use Rattle.std.specs.Prelude.{◌≡◌, ◌+◌, ◌<◌, ◌≤◌, ◌+
 ghost use Rattle.std.specs.Option.{SomeIff};
 ghost use Rattle.lot_machine.specs.declared.ticket.Target.TheVariants.{Unfunded};
 ghost use Rattle.lot_machine.specs.declared.funding.Lend.TheVariants.{Nobody};
-ghost use Rattle.lot_machine.specs.declared.funding.Node.TheVariants.{Thread as ThreadNode, Mutex as MutexNode};
+ghost use Rattle.lot_machine.specs.declared.funding.Node.TheVariants.{Currency as CurrencyNode, Thread as ThreadNode, Mutex as MutexNode};
 ghost use Rattle.lot_machine.specs.Numbered.{at_number, set_number};
 ghost use Rattle.lot_machine.specs.Funding.{target_node as funded_node, lend_node, ticket_at, owner_of, target_of, issued_in, backing_currency, with_new_ticket, without_ticket, with_target};
-ghost use Rattle.lot_graph.specs.Graphs.{IsSound, IsCurrency, IsUserCurrency, IsThread, IsMutex, IsFunding, IsLender, IsBorrower, IsNodeOf, IsTarget, IsCycle, Reaches, LendReaches, opening_funding};
+ghost use Rattle.lot_graph.specs.Graphs.{IsSound, HasEachOnce, LeadsInto, IsIssuedIn, IsCurrency, IsUserCurrency, IsThread, IsMutex, IsFunding, IsLender, IsBorrower, IsNodeOf, IsTarget, IsCycle, Reaches, LendReaches, opening_funding};
 
 use crate::layout::Layout;
 use crate::reach::{Edges, find_reached};
 use crate::tickets::Tickets;
+use crate::walks::{EdgesInto, TicketsOf};
 use lot_lists::Lists;
 use lot_machine::{Edge, Lend, Limits, Node, Target, Ticket};
 use std::alloc::{AllocError, Global};
@@ -279,12 +280,69 @@ impl Graph {
             .push_back(list, self.layout.place_of(Edge::OfMutex(mutex)));
     }
 
+    /// The edges into a node: the tickets that fund it, the threads that lend to it, and the mutexes that it owns.
+    pub fn edges_into(&self, node: Node) -> EdgesInto<'_>
+        requires node { IsNodeOf self.now node }
+        ensures edges { HasEachOnce result (LeadsInto self.now.funding node) }
+        ensures sound { IsSound self.now.funding }
+    {
+        EdgesInto {
+            places: self.into.iter(self.layout.list_of(node)),
+            layout: self.layout,
+        }
+    }
+
+    /// The tickets that a currency issues, those that fund nothing too.
+    pub fn tickets_of(&self, currency: u32) -> TicketsOf<'_>
+        requires currency { IsNodeOf self.now (CurrencyNode currency) }
+        ensures tickets { HasEachOnce result (IsIssuedIn self.now.funding currency) }
+        ensures sound { IsSound self.now.funding }
+    {
+        TicketsOf {
+            places: self.issued.iter(currency as usize),
+        }
+    }
+
     /// The ticket with a number, if it is there.
     pub fn ticket(&self, number: u32) -> Option<Ticket>
         ensures ticket { result ≡ ticket_at self.now.funding number }
         ensures sound { IsSound self.now.funding }
     {
         self.tickets.get(number)
+    }
+
+    /// Whether a ticket is there and funds nothing: the test of what `fund` and `destroy` require.
+    pub fn is_unfunded(&self, ticket: u32) -> bool
+        ensures { IsTrue result ↔ (target_of self.now.funding ticket ≡ Some Unfunded) }
+    {
+        matches!(
+            self.tickets.get(ticket),
+            Some(Ticket {
+                target: Target::Unfunded,
+                ..
+            })
+        )
+    }
+
+    /// Whether a ticket is there and funds something: the test of what `unfund` requires.
+    pub fn is_funding(&self, ticket: u32) -> bool
+        ensures { IsTrue result ↔ IsFunding self.now.funding ticket }
+    {
+        match self.tickets.get(ticket) {
+            Some(record) => !matches!(record.target, Target::Unfunded),
+            None => false,
+        }
+    }
+
+    /// Whether a currency has neither issued nor backing tickets: the test of what `remove_currency` requires.
+    pub fn is_unused(&self, currency: u32) -> bool
+        requires currency { IsNodeOf self.now (CurrencyNode currency) }
+        ensures { IsTrue result ↔ ((issued_in self.now.funding currency ≡ []) × (backing_currency self.now.funding currency ≡ [])) }
+    {
+        self.issued.is_empty(currency as usize)
+            && self
+                .into
+                .is_empty(self.layout.list_of(Node::Currency(currency)))
     }
 
     /// Whether a currency is there.

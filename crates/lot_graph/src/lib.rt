@@ -7,6 +7,8 @@ mod graph;
 mod layout;
 mod reach;
 mod tickets;
+mod walks;
 
 pub use graph::{Cycle, Graph};
 pub use lot_machine::{Limits, Name};
+pub use walks::{EdgesInto, TicketsOf};
