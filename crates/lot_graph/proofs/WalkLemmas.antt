@@ -1,5 +1,6 @@
 -- What a walk gives: the edges into a node, and the tickets of a currency, each once.
-use Rattle.std.proofs.Common.{◌≡◌, ℕ, zero, suc, ◌+◌, ◌-◌, ◌<◌, ◌^◌, All, Option, Some, None, List, ◌∷◌, Contains, map, slice_get, ap, sym, ◌∙◌, refl, subst, arith, option_map}
+use Rattle.std.proofs.Common.{◌≡◌, ℕ, zero, suc, ◌+◌, ◌-◌, ◌<◌, ◌^◌, All, Option, Some, None, List, ◌∷◌, Contains, length, map, slice_get, ap, sym, ◌∙◌, refl, subst, arith, option_map}
+use Rattle.std.proofs.lemmas.List.{length-map}
 use Rattle.std.proofs.lemmas.Option.{slice_get-map}
 use Rattle.lot_machine.specs.declared.funding.Node.{Node}
 use Rattle.lot_machine.specs.declared.funding.Edge.{Edge}
@@ -83,3 +84,7 @@ module _ (s : Fields) (held : IsGraph s) where
 
 pub all-rest : (P : ℕ → Type 0) (xs : List ℕ) (x : ℕ) (rest : List ℕ) → xs ≡ x ∷ rest → All P xs → All P rest
 all-rest P xs x rest is all k d h = let more : All P (x ∷ rest) = subst (All P) is all in more (suc k) d (omega (arith, h))
+
+-- no walk is longer than a `u32` can count
+pub walk-short : {B : Type 0} (g : ℕ → B) (v : NodeLists) (list : ℕ) (places : List ℕ) → IsConsistent v → places ≡ nodes_of v list → length (map g places) < 2 ^ 32
+walk-short g v list places consistent is = omega (arith, length-map places g, ap (length {A = ℕ}) is, consistent.bounded list, consistent.numbered)

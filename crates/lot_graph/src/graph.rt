@@ -1,5 +1,5 @@
 //! The graph.
-ghost use Rattle.std.specs.Prelude.{◌≡◌, ◌+◌, ◌<◌, ◌≤◌, ◌++◌, ◌∷◌, [], IfNone, IfOk, IfSome, IsSome, IsTrue, OnSome, OnOk, OnErr, IsErr, ◌↔◌, None, Some, length, option_map, slice_set, true, false};
+ghost use Rattle.std.specs.Prelude.{◌≡◌, ◌+◌, ◌^◌, ◌<◌, ◌≤◌, ◌++◌, ◌∷◌, [], IfNone, IfOk, IfSome, IsSome, IsTrue, OnSome, OnOk, OnErr, IsErr, ◌↔◌, None, Some, length, option_map, slice_set, true, false};
 ghost use Rattle.std.specs.Option.{SomeIff};
 ghost use Rattle.lot_machine.specs.declared.ticket.Target.TheVariants.{Unfunded};
 ghost use Rattle.lot_machine.specs.declared.funding.Lend.TheVariants.{Nobody};
@@ -284,6 +284,7 @@ impl Graph {
     pub fn edges_into(&self, node: Node) -> EdgesInto<'_>
         requires node { IsNodeOf self.now node }
         ensures edges { HasEachOnce result (LeadsInto self.now.funding node) }
+        ensures count { length result < 2 ^ 32 }
         ensures sound { IsSound self.now.funding }
     {
         EdgesInto {
@@ -296,6 +297,7 @@ impl Graph {
     pub fn tickets_of(&self, currency: u32) -> TicketsOf<'_>
         requires currency { IsNodeOf self.now (CurrencyNode currency) }
         ensures tickets { HasEachOnce result (IsIssuedIn self.now.funding currency) }
+        ensures count { length result < 2 ^ 32 }
         ensures sound { IsSound self.now.funding }
     {
         TicketsOf {
@@ -347,16 +349,25 @@ impl Graph {
 
     /// Whether a currency is there.
     pub fn is_currency(&self, currency: u32) -> bool
-        ensures { IsTrue result ↔ IsCurrency self.now.funding currency }
+        ensures there { IsTrue result ↔ IsCurrency self.now.funding currency }
+        ensures within { IsTrue result → currency ≤ self.now.currency_limit }
     {
         self.currencies.get(currency as usize) == Some(&true)
     }
 
     /// How many threads there are.
     pub fn threads(&self) -> u32
-        ensures { result ≡ length self.now.funding.lends }
+        ensures count { result ≡ length self.now.funding.lends }
+        ensures within { result ≤ self.now.thread_limit }
     {
         self.lends.len() as u32
+    }
+
+    /// How many mutexes there are.
+    pub fn mutexes(&self) -> u32
+        ensures { result ≡ length self.now.funding.owners }
+    {
+        self.layout.mutexes
     }
 
     /// What a thread lends to, if it is there.

@@ -6,6 +6,8 @@
 mod graph;
 mod layout;
 mod reach;
+#[cfg(test)]
+mod tests;
 mod tickets;
 mod walks;
 
