@@ -7,3 +7,4 @@ pub mod SpreadLemmas
 pub mod CycleLemmas
 pub mod WalkLemmas
 pub mod UnusedLemmas
+pub mod SumLemmas
