@@ -16,6 +16,12 @@ use lot_lists::Lists;
 use lot_machine::{Edge, Lend, Limits, Node, Target, Ticket};
 use std::alloc::{AllocError, Global};
 use std::marker::Model;
+use std::mem::size_of;
+
+// So a thread takes 8 bytes for its lend, and a mutex 8 for its owner.
+const _: () = prove!(size_of::<Lend>() == 8);
+
+const _: () = prove!(size_of::<Option<u32>>() == 8);
 
 /// A ticket would fund a currency from which a chain of tickets leads back to its issuer (4.4).
 #[derive(Clone, Copy, Debug, PartialEq, Eq)]
