@@ -1,0 +1,10 @@
+pub mod TicketLemmas
+pub mod MirrorLemmas
+pub mod HeadLemmas
+pub mod WayLemmas
+pub mod FieldLemmas
+pub mod SpreadLemmas
+pub mod CycleLemmas
+pub mod WalkLemmas
+pub mod UnusedLemmas
+pub mod SumLemmas

@@ -1,0 +1,5 @@
+pub mod Tickets
+pub mod Graphs
+pub mod Mirrors
+pub mod Fields
+pub mod Spread
