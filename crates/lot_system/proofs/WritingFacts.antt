@@ -1,22 +1,14 @@
 -- What is written in parts.
 use Rattle.std.proofs.Common.{◌≡◌, ℕ, zero, suc, ◌+◌, ◌-◌, ◌<◌, ◌≤◌, ◌==◌, ◌||◌, ◌&&◌, ne_eqb, Bool, false, Option, Some, None, Result, Ok, Err, List, [], ◌∷◌, ◌++◌, length, length-drop, get_or, take, drop, refl, sym, subst, ◌∙◌, ap, append_assoc, append-nil, arith}
 use Rattle.std.specs.List.{flat_map, range_with_len}
-use Rattle.std.specs.Io.KnownBytes.{Appends, Keeps}
+use Rattle.std.specs.Io.KnownBytes.{Appends}
 use Rattle.std.proofs.lemmas.List.{take-append-drop}
 use Rattle.lot_system.proofs.ReplyFacts.{take-all}
 use Rattle.lot_system.specs.declared.fault.PlayFault.{PlayFault}
 use Rattle.lot_system.specs.declared.writing.Piece.{Piece}
 use Rattle.lot_system.specs.Writing.{Begins, Writes, piece_text}
 
-pub appends-nothing : (old : Option (List ℕ)) → Appends old old []
-appends-nothing None = tt
-appends-nothing (Some xs) = sym (append-nil xs)
-
-pub keeps-nothing : (old new : Option (List ℕ)) → Keeps old new → Appends old new []
-keeps-nothing None new keeps = tt
-keeps-nothing (Some xs) None keeps = keeps
-keeps-nothing (Some xs) (Some ys) keeps = keeps ∙ sym (append-nil xs)
-
+-- what is written after what was written
 pub appends-both : (old mid new : Option (List ℕ)) (a b : List ℕ) → Appends old mid a → Appends mid new b → Appends old new (a ++ b)
 appends-both None mid new a b one two = tt
 appends-both (Some xs) None new a b one two = absurd one
@@ -36,10 +28,6 @@ pub writes-behind : {U : Type 0} (old mid new : Option (List ℕ)) (failed : Boo
 writes-behind old mid new failed (Ok done) a b one two = (two.0, appends-both old mid new a b one two.1)
 writes-behind old mid new failed (Err fault) a b one two = (two.0, two.1, begins-behind old mid new a b one two.2)
 
--- an error in what comes first is one in both
-pub writes-stops : (U V : Type 0) (old new : Option (List ℕ)) (failed : Bool) (fault : PlayFault) (a b : List ℕ) → Writes {U = U} old new failed (Err fault) a → Writes {U = V} old new failed (Err fault) (a ++ b)
-writes-stops U V old new failed fault a b one = (one.0, one.1, begins-front old new a b one.2)
-
 -- what was written and what is left of the rest are the rest
 pub rest-split : (done rest all : List ℕ) (taken : ℕ) → done ++ rest ≡ all → taken ≤ length rest → (done ++ take taken rest) ++ take (length rest - taken) (drop taken rest) ≡ all
 rest-split done rest all taken is within =
@@ -49,9 +37,6 @@ rest-split done rest all taken is within =
 -- a write that took some bytes hasn't failed
 pub not-failed : (before now some : Bool) (taken : ℕ) → before ≡ false → 0 < taken → now ≡ (before || ((taken == 0) && some)) → now ≡ false
 not-failed before now some taken working more is = let no : (taken == 0) ≡ false = ne_eqb taken 0 (λ e. omega arith) in is ∙ ap (λ b. b || ((taken == 0) && some)) working ∙ ap (λ b. b && some) no
-
-flat_map-cons : (text : Piece → List ℕ) (p : Piece) (ps : List Piece) → flat_map text (p ∷ ps) ≡ text p ++ flat_map text ps
-flat_map-cons text p ps = refl
 
 -- the texts in front of a place, there, and behind it
 pub flat_map-split : (pieces : List Piece) (n : ℕ) (d : Piece) → n < length pieces → flat_map piece_text pieces ≡ (flat_map piece_text (take n pieces) ++ piece_text (get_or pieces n d)) ++ flat_map piece_text (drop (suc n) pieces)

@@ -4,7 +4,9 @@ ghost use Rattle.std.specs.Fmt.{decimal};
 ghost use Rattle.std.specs.Option.{option_map_or};
 ghost use Rattle.std.specs.List.{flat_map};
 ghost use Rattle.lot_machine.specs.Texts as texts;
-ghost use Rattle.lot_system.specs.Writing.{Watches, piece_text};
+ghost use Rattle.lot_machine.specs.Rows as rows;
+ghost use Rattle.lot_system.specs.Seen.{world_of};
+ghost use Rattle.lot_system.specs.Writing.{Watches, Writes, piece_text};
 
 use crate::writing::{Piece, write_around, write_pieces};
 use crate::{PlayFault, System};
@@ -104,11 +106,11 @@ fn write_ticket<W: Write>(
 ) -> Result<(), PlayFault>
     requires { writer.old.1 ≡ false }
     ensures same { system.new ≡ system.old }
-    ensures watches { Watches writer.new.1 result }
+    ensures text { Writes (W.contents writer.old.0) (W.contents writer.new.0) writer.new.1 result (option_map_or (texts.ticket_line (world_of system.old).state.limits.unit number) (rows.ticket_row (world_of system.old).state number) []) }
 {
     let unit = u64::from(system.limits().unit);
     match system.ticket_row(number) {
-        Some(row) => write_pieces(
+        Some(row) => write_around(
             writer,
             &[
                 Piece::Text("ticket "),
@@ -117,19 +119,24 @@ fn write_ticket<W: Write>(
                 Piece::Number(u64::from(row.amount)),
                 Piece::Text(" in "),
                 Piece::Bytes(row.issuer.as_bytes()),
-                Piece::Text(" funds "),
-                target_piece(&row.target),
-                Piece::Text(if row.is_active {
-                    " active value "
-                } else {
-                    " inactive value "
-                }),
+            ],
+            &[Piece::Text(" funds "), target_piece(&row.target)],
+            &[
+                activity_piece(row.is_active),
+                Piece::Text(" value "),
                 Piece::Number(row.value / unit),
                 Piece::Text("\n"),
             ],
         ),
         None => write_pieces(writer, &[]),
     }
+}
+
+/// Whether a ticket is active.
+fn activity_piece(is_active: bool) -> Piece<'static>
+    ensures { piece_text result ≡ texts.activity_text is_active }
+{
+    Piece::Text(if is_active { " active" } else { " inactive" })
 }
 
 /// What a ticket funds; `-` where it funds nothing.
@@ -149,7 +156,7 @@ fn write_currency<W: Write>(
 ) -> Result<(), PlayFault>
     requires { writer.old.1 ≡ false }
     ensures same { system.new ≡ system.old }
-    ensures watches { Watches writer.new.1 result }
+    ensures text { Writes (W.contents writer.old.0) (W.contents writer.new.0) writer.new.1 result (option_map_or (texts.currency_line (world_of system.old).state.limits.unit number) (rows.currency_row (world_of system.old).state number) []) }
 {
     // Base is shown as worth its active amount.
     let unit = if number == 0 {
@@ -187,7 +194,7 @@ fn write_thread<W: Write>(
 ) -> Result<(), PlayFault>
     requires { writer.old.1 ≡ false }
     ensures same { system.new ≡ system.old }
-    ensures watches { Watches writer.new.1 result }
+    ensures text { Writes (W.contents writer.old.0) (W.contents writer.new.0) writer.new.1 result (option_map_or (texts.thread_line (world_of system.old).state.limits.unit number) (rows.thread_row (world_of system.old).state number) []) }
 {
     let unit = system.limits().unit;
     match system.thread_row(number) {

@@ -2,6 +2,7 @@
 ghost use Rattle.std.specs.Prelude.{◌≡◌, ◌↔◌, ◌<◌, ◌≤◌, [], All, IfOk, IfErr, IsTrue, length};
 ghost use Rattle.lot_machine.specs.Bounds.{IsBetween};
 ghost use Rattle.lot_machine.specs.Rows as rows;
+ghost use Rattle.lot_machine.specs.State.{sizes_of};
 ghost use Rattle.lot_machine.specs.World.Answer.{Answered};
 ghost use Rattle.lot_machine.specs.World.{IsLegal, sys};
 ghost use Rattle.lot_machine.specs.Report.{turns_made, turns_of};
@@ -217,7 +218,9 @@ impl System {
     }
 
     /// The limits of the program.
-    pub(crate) fn limits(&self) -> Limits {
+    pub(crate) fn limits(&self) -> Limits
+        ensures { sizes_of result ≡ (world_of self.now).state.limits }
+    {
         self.kernel.limits()
     }
 
