@@ -57,7 +57,7 @@ impl Kernel {
         self.tables.limits().unit
     }
 
-    /// One event. It takes no memory, and a refused one changes nothing but for a trap's: that one costs its ticks.
+    /// One event. It takes no memory. A refused event changes nothing; a trap that is answered as refused costs its ticks.
     pub fn event(&mut self, event: &Event) -> Reply
         ensures reply { result ≡ (step self.old event.now).reply }
         ensures state { self.new ≡ (step self.old event.now).state }
