@@ -75,7 +75,7 @@ fn faults_in_order(rt: HostRuntime) -> Result<(), Fail> {
             expected,
             "{turns}"
         );
-        assert_eq!(rt; system.history().len(), turns, "{expected}");
+        assert_eq!(rt; system.history().len(), turns);
     }
     Ok(())
 }
