@@ -57,6 +57,20 @@ impl Kernel {
         self.tables.limits().unit
     }
 
+    /// How many tickets were made, those that were removed since included: they have the numbers from 1.
+    pub fn ticket_count(&self) -> u32
+        ensures { result ≡ length self.now.tickets }
+    {
+        self.tables.ticket_count()
+    }
+
+    /// How many currencies were made, base and those that were removed since included: they have the numbers from 0.
+    pub fn currency_count(&self) -> u32
+        ensures { result ≡ length self.now.currencies }
+    {
+        self.tables.currency_count()
+    }
+
     /// One event. It takes no memory. A refused event changes nothing; a trap that is answered as refused costs its ticks.
     pub fn event(&mut self, event: &Event) -> Reply
         ensures reply { result ≡ (step self.old event.now).reply }

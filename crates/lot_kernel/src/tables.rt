@@ -1,5 +1,5 @@
 //! The kernel's tables: what the machine's state is kept in.
-ghost use Rattle.std.specs.Prelude.{◌≡◌, IfOk};
+ghost use Rattle.std.specs.Prelude.{◌≡◌, IfOk, length};
 ghost use Rattle.lot_machine.specs.State.{opening, sizes_of};
 ghost use Rattle.lot_machine.specs.Step.{step};
 ghost use Rattle.lot_machine.specs.Order.{IsInOrder};
@@ -89,6 +89,18 @@ impl Tables {
         ensures { sizes_of result ≡ self.now.limits }
     {
         self.limits
+    }
+
+    pub(crate) fn ticket_count(&self) -> u32
+        ensures { result ≡ length self.now.tickets }
+    {
+        self.tickets.len() as u32
+    }
+
+    pub(crate) fn currency_count(&self) -> u32
+        ensures { result ≡ length self.now.currencies }
+    {
+        self.currencies.len() as u32
     }
 
     /// One event.

@@ -19,7 +19,7 @@ pub use refused::{
 };
 pub use replies::{ReplyLine, TrapText};
 pub use rows::{CurrencyLine, ListingLine, ThreadLine, TicketLine};
-pub use runs::RunsLines;
+pub use runs::{RunsLines, behind_line, first_run};
 pub use totals::{ProcessorTotal, ThreadTotal, WholeTotal};
 
 #[cfg(test)]

@@ -44,7 +44,7 @@ impl fmt::Display for RunTexts<'_> {
 }
 
 /// The history behind its first 32 runs.
-fn behind_line(history: &[u8]) -> &[u8]
+pub fn behind_line(history: &[u8]) -> &[u8]
     ensures runs { runs_in result.now ≡ drop 32 (runs_in history.now) }
     ensures shorter { 0 < length history.now → length result.now < length history.now }
 {
@@ -68,7 +68,7 @@ fn behind_run(history: &[u8]) -> &[u8]
 }
 
 /// The actor of the first turn, and how many turns in a row it has there; `None` where there is no turn.
-fn first_run(history: &[u8]) -> Option<(u8, usize)>
+pub fn first_run(history: &[u8]) -> Option<(u8, usize)>
     ensures run { MatchOption result (history.now ≡ []) (λ run. runs_in history.now ≡ record { actor = run.0; count = run.1 } ∷ runs_in (drop run.1 history.now)) }
     ensures within { IfSome result (λ run. (0 < run.1) × (run.1 ≤ length history.now)) }
 {

@@ -5,3 +5,6 @@ pub mod PlaceFacts
 pub mod TurnFacts
 pub mod CountFacts
 pub mod WritingFacts
+pub mod ListingFacts
+pub mod PlayingFacts
+pub mod ReadingFacts

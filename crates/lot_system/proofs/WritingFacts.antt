@@ -84,3 +84,21 @@ range-stops old mid new f a k n j below is one given =
     let whole : flat_map f (range_with_len a n) ≡ (flat_map f (range_with_len a k) ++ f (a + k)) ++ split.0 =
     ap (λ m. flat_map f (range_with_len a m)) (sym e) ∙ split.1 ∙ ap (λ xs. xs ++ split.0) (range-push f a k) in
     subst (Begins old new) (sym whole) (begins-front old new (flat_map f (range_with_len a k) ++ f (a + k)) split.0 (begins-behind old mid new (flat_map f (range_with_len a k)) (f (a + k)) one two))
+
+-- flushing writes nothing more
+pub writes-flushed : {U : Type 0} (old mid new : Option (List ℕ)) (failed : Bool) (r : Result U PlayFault) (a : List ℕ) → Appends old mid a → Writes mid new failed r [] → Writes old new failed r a
+writes-flushed old mid new failed r a one two = subst (Writes old new failed r) (append-nil a) (writes-behind old mid new failed r a [] one two)
+
+-- ---- parts one after another
+
+module _ (old mid new : Option (List ℕ)) (done part left rest whole : List ℕ) (is : done ++ rest ≡ whole) (next : rest ≡ part ++ left) (one : Appends old mid done) where
+  parts-whole : (done ++ part) ++ left ≡ whole
+  parts-whole = append_assoc done part left ∙ ap (λ xs. done ++ xs) (sym next) ∙ is
+
+  -- one part more is written
+  pub parts-more : Appends mid new part → (x : List ℕ) × (x ++ left ≡ whole) × Appends old new x
+  parts-more two = (done ++ part, parts-whole, appends-both old mid new done part one two)
+
+  -- a beginning of the next part is one of all
+  pub parts-stop : Begins mid new part → Begins old new whole
+  parts-stop two = subst (Begins old new) parts-whole (begins-front old new (done ++ part) left (begins-behind old mid new done part one two))

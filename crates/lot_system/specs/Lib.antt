@@ -4,3 +4,7 @@ pub mod Held
 pub mod Turns
 pub mod Counted
 pub mod Writing
+pub mod Listing
+pub mod Playing
+pub mod Reading
+pub mod Played

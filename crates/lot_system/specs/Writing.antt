@@ -23,11 +23,6 @@ abbrev pub Writes : {U : Type 0} → Option (List ℕ) → Option (List ℕ) →
 Writes old new failed (Ok done) text = (failed ≡ false) × Appends old new text
 Writes old new failed (Err fault) text = (fault ≡ Write) × (failed ≡ true) × Begins old new text
 
--- whatever was written: on Ok the writer hasn't failed, and else it has
-abbrev pub Watches : {U : Type 0} → Bool → Result U PlayFault → Type 0
-Watches failed (Ok done) = failed ≡ false
-Watches failed (Err fault) = (fault ≡ Write) × (failed ≡ true)
-
 -- a fault of reading: Read where the reader has failed, and want of memory where it hasn't
 abbrev pub IsReadFault : PlayFault → Bool → Type 0
 IsReadFault Memory failed = failed ≡ false

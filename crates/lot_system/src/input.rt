@@ -1,5 +1,6 @@
 //! Reading an input.
-ghost use Rattle.std.specs.Prelude.{◌≡◌, ◌≤◌, false, vec_len, IfOk, IfErr, OnOk};
+ghost use Rattle.std.specs.Prelude.{◌≡◌, ◌<◌, ◌≤◌, false, length, IfOk, IfErr, OnOk};
+ghost use Rattle.lot_system.specs.Reading.{HasRead, HasTaken};
 ghost use Rattle.lot_system.specs.Writing.{IsReadFault};
 
 use crate::PlayFault;
@@ -16,7 +17,7 @@ const PIECE: usize = 65536;
 /// Reads to the end of the input, or to its byte 16777217, and leaves the rest unread.
 pub fn read_input<R: Read>(alloc: Global, reader: &mut Watched<R>) -> Result<Vec<u8>, PlayFault>
     requires { reader.old.1 ≡ false }
-    ensures most { IfOk result (λ bytes. vec_len bytes ≤ MOST) }
+    ensures read { IfOk result (λ bytes. HasRead (R.remaining reader.old.0) (R.remaining reader.new.0) bytes.items) }
     ensures ok { OnOk result (reader.new.1 ≡ false) }
     ensures err { IfErr result (λ fault. IsReadFault fault reader.new.1) }
 {
@@ -29,15 +30,31 @@ pub fn read_input<R: Read>(alloc: Global, reader: &mut Watched<R>) -> Result<Vec
             break;
         }
         let room = PIECE.min(MOST - bytes.len());
-        let Ok(read) = reader.read(&mut piece[..room]) else {
-            return Err(PlayFault::Read);
-        };
-        if read == 0 {
+        if read_piece(reader, &mut piece[..room], &mut bytes)? == 0 {
             break;
-        }
-        if bytes.extend_from_slice(&piece[..read]).is_err() {
-            return Err(PlayFault::Memory);
         }
     }
     Ok(bytes)
+}
+
+/// Reads once, puts what it read behind the bytes, and answers how much that was: nothing only at the end.
+fn read_piece<R: Read>(
+    reader: &mut Watched<R>,
+    room: &mut [u8],
+    bytes: &mut Vec<u8>,
+) -> Result<usize, PlayFault>
+    requires working { reader.old.1 ≡ false }
+    requires some { 0 < length room.old }
+    ensures most { IfOk result (λ count. count ≤ length room.old) }
+    ensures read { IfOk result (λ count. HasTaken (R.remaining reader.old.0) (R.remaining reader.new.0) bytes.old.items bytes.new.items count) }
+    ensures ok { OnOk result (reader.new.1 ≡ false) }
+    ensures err { IfErr result (λ fault. IsReadFault fault reader.new.1) }
+{
+    let Ok(read) = reader.read(room) else {
+        return Err(PlayFault::Read);
+    };
+    if bytes.extend_from_slice(&room[..read]).is_err() {
+        return Err(PlayFault::Memory);
+    }
+    Ok(read)
 }

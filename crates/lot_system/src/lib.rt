@@ -4,6 +4,7 @@
 
 mod contexts;
 mod counts;
+mod ending;
 mod fault;
 mod generators;
 mod input;
@@ -15,6 +16,7 @@ mod system;
 mod turn;
 mod writing;
 
+pub use ending::write_end;
 pub use fault::{PlayFault, TurnFault};
 pub use input::read_input;
 pub use playing::{Played, play};

@@ -1,12 +1,14 @@
 //! Listings (4.7).
-ghost use Rattle.std.specs.Prelude.{◌≡◌, ◌++◌, [], codes, false, unwrap_or};
+ghost use Rattle.std.specs.Prelude.{◌≡◌, ◌≤◌, ◌++◌, [], codes, false, unwrap_or};
 ghost use Rattle.std.specs.Fmt.{decimal};
 ghost use Rattle.std.specs.Option.{option_map_or};
-ghost use Rattle.std.specs.List.{flat_map};
+ghost use Rattle.std.specs.List.{flat_map, range_with_len};
 ghost use Rattle.lot_machine.specs.Texts as texts;
 ghost use Rattle.lot_machine.specs.Rows as rows;
 ghost use Rattle.lot_system.specs.Seen.{world_of};
-ghost use Rattle.lot_system.specs.Writing.{Watches, Writes, piece_text};
+ghost use Rattle.lot_system.specs.Listing as listing;
+ghost use Rattle.lot_system.specs.Listing.{given_count, is_there, row_line, rows_among, word_of};
+ghost use Rattle.lot_system.specs.Writing.{Writes, piece_text};
 
 use crate::writing::{Piece, write_around, write_pieces};
 use crate::{PlayFault, System};
@@ -24,61 +26,85 @@ pub(crate) fn write_listing<W: Write>(
 ) -> Result<(), PlayFault>
     requires { writer.old.1 ≡ false }
     ensures same { system.new ≡ system.old }
-    ensures watches { Watches writer.new.1 result }
+    ensures text { Writes (W.contents writer.old.0) (W.contents writer.new.0) writer.new.1 result (decimal actor ++ (codes " " ++ texts.listing_text (world_of system.old).state kind)) }
 {
-    let name = match kind {
-        Kind::Tickets => " lstkt ",
-        Kind::Currencies => " lscur ",
-        Kind::Threads => " lsthr ",
-    };
     let rows = count_rows(system, kind);
     write_pieces(
         writer,
         &[
             Piece::Number(u64::from(actor)),
-            Piece::Text(name),
+            Piece::Text(" "),
+            Piece::Text(listing_word(kind)),
             Piece::Number(u64::from(rows)),
             Piece::Text("\n"),
         ],
     )?;
-    for number in 0..past_last(system, kind) {
-        write_row(system, kind, number, writer)?;
+    write_rows(system, kind, writer)
+}
+
+/// With what the first line of a listing begins.
+fn listing_word(kind: Kind) -> &'static str
+    ensures { result.now ≡ word_of kind }
+{
+    match kind {
+        Kind::Tickets => "lstkt ",
+        Kind::Currencies => "lscur ",
+        Kind::Threads => "lsthr ",
     }
-    Ok(())
 }
 
 /// How many rows the listing has.
 fn count_rows(system: &mut System, kind: Kind) -> u32
-    ensures { system.new ≡ system.old }
+    ensures same { system.new ≡ system.old }
+    ensures count { result ≡ rows_among (world_of system.old).state kind (given_count (world_of system.old).state kind) }
 {
+    let first = first_number(kind);
     let mut rows: u32 = 0;
-    for number in 0..past_last(system, kind) {
-        if has_row(system, kind, number) {
-            rows = rows.saturating_add(1);
+    for place in 0..system.given_count(kind) {
+        if has_row(system, kind, first + place) {
+            rows += 1;
         }
     }
     rows
 }
 
-/// The first number past those that there may be.
-fn past_last(system: &System, kind: Kind) -> u32 {
-    let limits = system.limits();
-    let last = match kind {
-        Kind::Tickets => limits.tickets,
-        Kind::Currencies => limits.currencies,
-        Kind::Threads => limits.threads,
-    };
-    last + 1
+/// The first number of the kind: base is currency 0.
+fn first_number(kind: Kind) -> u32
+    ensures exact { result ≡ listing.first_number kind }
+    ensures small { result ≤ 1 }
+{
+    match kind {
+        Kind::Currencies => 0,
+        Kind::Tickets | Kind::Threads => 1,
+    }
 }
 
 fn has_row(system: &mut System, kind: Kind, number: u32) -> bool
-    ensures { system.new ≡ system.old }
+    ensures same { system.new ≡ system.old }
+    ensures row { result ≡ is_there (world_of system.old).state kind number }
 {
     match kind {
         Kind::Tickets => system.ticket_row(number).is_some(),
         Kind::Currencies => system.currency_row(number).is_some(),
         Kind::Threads => system.thread_row(number).is_some(),
     }
+}
+
+/// Writes the lines of the rows that there are.
+fn write_rows<W: Write>(
+    system: &mut System,
+    kind: Kind,
+    writer: &mut Watched<W>,
+) -> Result<(), PlayFault>
+    requires { writer.old.1 ≡ false }
+    ensures same { system.new ≡ system.old }
+    ensures text { Writes (W.contents writer.old.0) (W.contents writer.new.0) writer.new.1 result (flat_map (row_line (world_of system.old).state kind) (range_with_len (listing.first_number kind) (given_count (world_of system.old).state kind))) }
+{
+    let first = first_number(kind);
+    for place in 0..system.given_count(kind) {
+        write_row(system, kind, first + place, writer)?;
+    }
+    Ok(())
 }
 
 /// Writes the line of the row with this number, if there is one.
@@ -90,7 +116,7 @@ fn write_row<W: Write>(
 ) -> Result<(), PlayFault>
     requires { writer.old.1 ≡ false }
     ensures same { system.new ≡ system.old }
-    ensures watches { Watches writer.new.1 result }
+    ensures text { Writes (W.contents writer.old.0) (W.contents writer.new.0) writer.new.1 result (row_line (world_of system.old).state kind number) }
 {
     match kind {
         Kind::Tickets => write_ticket(system, number, writer),

@@ -1,13 +1,28 @@
 //! Playing a schedule.
-ghost use Rattle.std.specs.Prelude.{◌≡◌, ◌≤◌, false, IfErr, OnOk};
-ghost use Rattle.lot_system.specs.Writing.{IsFaultOf, Watches};
+ghost use Rattle.std.specs.Prelude.{◌≡◌, ℕ, ◌<◌, ◌≤◌, List, ◌++◌, [], codes, false, length, IfErr, IfOk, OnOk};
+ghost use Rattle.std.specs.Fmt.{decimal};
+ghost use Rattle.std.specs.Io.KnownBytes.{Appends};
+ghost use Rattle.lot_machine.specs.Bounds.{IsBetween};
+ghost use Rattle.lot_machine.specs.Grammar.{program_in};
+ghost use Rattle.lot_machine.specs.Output.{output, scheduled_output, turn_text, turn_texts};
+ghost use Rattle.lot_machine.specs.Texts.{fault_line, reply_text};
+ghost use Rattle.lot_machine.specs.World.{opening_world};
+ghost use Rattle.lot_script.specs.Places.{Fits};
+ghost use Rattle.lot_system.specs.Held.{script_lines};
+ghost use Rattle.lot_system.specs.Playing.{HasPlayed, IsOpened, IsPlayed, turn_in};
+ghost use Rattle.lot_system.specs.Played.{Leaves, Plays, came_of};
+ghost use Rattle.lot_system.specs.declared.playing.Played.TheVariants.{Done, Refused};
+ghost use Rattle.lot_system.specs.Reading.{HasRead};
+ghost use Rattle.lot_system.specs.Seen.{world_of};
+ghost use Rattle.lot_system.specs.Turns.{IsSliceOf};
+ghost use Rattle.lot_system.specs.Writing.{IsFaultOf, Writes};
 
 use crate::lines::{write_ended, write_fault, write_turn};
 use crate::listing::write_listing;
 use crate::report::write_report;
-use crate::turn::{Answer, Work};
-use crate::{PlayFault, System, TurnFault, read_input};
-use lot_machine::{InputFault, Reply};
+use crate::turn::Work;
+use crate::{PlayFault, System, read_input};
+use lot_machine::{Event, InputFault, Reply};
 use lot_script::Slice;
 use lot_text::{ParseFault, Program, Watched, parse};
 use std::alloc::Global;
@@ -32,34 +47,60 @@ pub fn play<R: Read, W: Write>(
     requires { (reader.old.1 ≡ false) × (writer.old.1 ≡ false) }
     ensures ok { OnOk result ((reader.new.1 ≡ false) × (writer.new.1 ≡ false)) }
     ensures err { IfErr result (λ fault. IsFaultOf fault reader.new.1 writer.new.1) }
+    ensures output { IfOk result (λ played. (bytes : List ℕ) × HasRead (R.remaining reader.old.0) (R.remaining reader.new.0) bytes × (played ≡ came_of (program_in bytes)) × Appends (W.contents writer.old.0) (W.contents writer.new.0) (output bytes)) }
+    ensures fault { IfErr result (λ fault. Leaves (R.remaining reader.old.0) (R.remaining reader.new.0) (W.contents writer.old.0) (W.contents writer.new.0) fault) }
 {
     let bytes = read_input(alloc, reader)?;
-    let program = match parse(alloc, &bytes) {
-        Ok(program) => program,
-        Err(ParseFault::Memory) => return Err(PlayFault::Memory),
-        Err(ParseFault::Input(fault)) => return refuse(fault, writer),
-    };
-    let room = program.schedule().len() as u32;
-    match System::open(alloc, &program, room) {
-        Ok(mut system) => play_schedule(&program, &mut system, writer),
-        Err(_) => Err(PlayFault::Memory),
+    play_bytes(alloc, &bytes, writer)
+}
+
+/// Plays what these bytes say, or writes why they are refused.
+fn play_bytes<W: Write>(
+    alloc: Global,
+    bytes: &[u8],
+    writer: &mut Watched<W>,
+) -> Result<Played, PlayFault>
+    requires { writer.old.1 ≡ false }
+    ensures { Plays (W.contents writer.old.0) (W.contents writer.new.0) writer.new.1 result (came_of (program_in bytes.now)) (output bytes.now) }
+{
+    match parse(alloc, bytes) {
+        Ok(program) => play_program(alloc, &program, writer),
+        Err(ParseFault::Memory) => Err(PlayFault::Memory),
+        Err(ParseFault::Input(fault)) => refuse(fault, writer),
     }
 }
 
 /// Writes the one line of a refused input.
 fn refuse<W: Write>(fault: InputFault, writer: &mut Watched<W>) -> Result<Played, PlayFault>
     requires { writer.old.1 ≡ false }
-    ensures { Watches writer.new.1 result }
+    ensures { Plays (W.contents writer.old.0) (W.contents writer.new.0) writer.new.1 result Refused (fault_line fault) }
 {
     write_fault(writer, fault)?;
     flush(writer)?;
     Ok(Played::Refused)
 }
 
+/// Plays the program in a system of its own.
+fn play_program<W: Write>(
+    alloc: Global,
+    program: &Program,
+    writer: &mut Watched<W>,
+) -> Result<Played, PlayFault>
+    requires { writer.old.1 ≡ false }
+    ensures { Plays (W.contents writer.old.0) (W.contents writer.new.0) writer.new.1 result Done (scheduled_output program.now) }
+{
+    let room = program.schedule().len() as u32;
+    let Ok(mut system) = System::open(alloc, program, room) else {
+        return Err(PlayFault::Memory);
+    };
+    play_schedule(program, &mut system, writer)?;
+    Ok(Played::Done)
+}
+
 /// Flushes the writer.
 fn flush<W: Write>(writer: &mut Watched<W>) -> Result<(), PlayFault>
     requires { writer.old.1 ≡ false }
-    ensures { Watches writer.new.1 result }
+    ensures { Writes (W.contents writer.old.0) (W.contents writer.new.0) writer.new.1 result [] }
 {
     match writer.flush() {
         Ok(()) => Ok(()),
@@ -72,20 +113,34 @@ fn play_schedule<W: Write>(
     program: &Program,
     system: &mut System,
     writer: &mut Watched<W>,
-) -> Result<Played, PlayFault>
-    requires program { system.old.setting.program ≡ program.now }
+) -> Result<(), PlayFault>
+    requires opened { IsOpened program.now system.old }
     requires working { writer.old.1 ≡ false }
-    ensures { Watches writer.new.1 result }
+    ensures { Writes (W.contents writer.old.0) (W.contents writer.new.0) writer.new.1 result (scheduled_output program.now) }
+{
+    play_turns(program, system, writer)?;
+    write_report(system, writer)?;
+    flush(writer)
+}
+
+/// Makes the turns of the program's schedule, and writes what they answer.
+fn play_turns<W: Write>(
+    program: &Program,
+    system: &mut System,
+    writer: &mut Watched<W>,
+) -> Result<(), PlayFault>
+    requires opened { IsOpened program.now system.old }
+    requires working { writer.old.1 ≡ false }
+    ensures played { OnOk result (HasPlayed program.now program.now.schedule system.new) }
+    ensures text { Writes (W.contents writer.old.0) (W.contents writer.new.0) writer.new.1 result (turn_texts program.now (opening_world program.now) program.now.schedule) }
 {
     for actor in program.schedule() {
         play_turn(program, system, u32::from(*actor), writer)?;
     }
-    write_report(system, writer)?;
-    flush(writer)?;
-    Ok(Played::Done)
+    Ok(())
 }
 
-/// Makes one turn, and writes what it answers.
+/// Makes one turn, with the slice of the actor's work, and writes what it answers.
 fn play_turn<W: Write>(
     program: &Program,
     system: &mut System,
@@ -93,45 +148,48 @@ fn play_turn<W: Write>(
     writer: &mut Watched<W>,
 ) -> Result<(), PlayFault>
     requires there { actor ≤ system.old.setting.program.limits.processors }
+    requires program { system.old.setting.program ≡ program.now }
+    requires room { length system.old.history < system.old.setting.room }
     requires working { writer.old.1 ≡ false }
-    ensures same { system.new.setting ≡ system.old.setting }
-    ensures watches { Watches writer.new.1 result }
+    ensures played { IsPlayed system.old actor system.new }
+    ensures text { Writes (W.contents writer.old.0) (W.contents writer.new.0) writer.new.1 result (turn_text actor (turn_in system.old actor)) }
 {
-    let work = system.work(actor);
-    let slice = work.and_then(|work| slice_of(program, work));
-    match system.turn(actor, slice) {
-        Ok(answer) => write_answer(system, actor, &answer, writer),
-        Err(TurnFault::Ended) => write_ended(writer, actor),
-        // The slice is that of the work, and there is room for the whole schedule.
-        Err(TurnFault::Stale(_) | TurnFault::HistoryFull) => Ok(()),
+    if system.is_ended(actor) {
+        return write_ended(writer, actor);
     }
+    let slice = match system.work(actor) {
+        Some(work) => Some(slice_of(program, work)),
+        None => None,
+    };
+    let (event, reply) = system.made(actor, &slice);
+    write_answer(system, actor, &event, reply, writer)
 }
 
 /// Writes what a turn answered: a line, or the listing that was asked for.
 fn write_answer<W: Write>(
     system: &mut System,
     actor: u32,
-    answer: &Answer,
+    event: &Event,
+    reply: Reply,
     writer: &mut Watched<W>,
 ) -> Result<(), PlayFault>
     requires { writer.old.1 ≡ false }
     ensures same { system.new ≡ system.old }
-    ensures watches { Watches writer.new.1 result }
+    ensures text { Writes (W.contents writer.old.0) (W.contents writer.new.0) writer.new.1 result (decimal actor ++ (codes " " ++ reply_text (world_of system.old).state event.now reply)) }
 {
-    match answer.reply {
+    match reply {
         Reply::List(kind) => write_listing(system, actor, kind, writer),
-        reply => write_turn(writer, actor, &answer.event, reply),
+        reply => write_turn(writer, actor, event, reply),
     }
 }
 
-/// The slice of a thread's script that is its work, where the program's script is the one that it fits.
-fn slice_of(program: &Program, work: Work) -> Option<Slice<'_>> {
-    let script = program
-        .scripts()
-        .get((work.script as usize).checked_sub(1)?)?;
-    let is_budget = 0 < work.budget && work.budget <= 1000;
-    if !is_budget || !script.fits(&work.context) {
-        return None;
-    }
-    Some(script.slice(work.context, work.budget))
+/// The slice of a thread's script that is its work.
+fn slice_of(program: &Program, work: Work) -> Slice<'_>
+    requires there { IsBetween 1 (length program.now.scripts) work.script }
+    requires fits { Fits (script_lines program.now work.script) work.context }
+    requires budget { IsBetween 1 1000 work.budget }
+    ensures { IsSliceOf program.now work result }
+{
+    let script = &program.scripts()[work.script as usize - 1];
+    script.slice(work.context, work.budget)
 }

@@ -7,6 +7,7 @@ ghost use Rattle.lot_machine.specs.World.Answer.{Answered};
 ghost use Rattle.lot_machine.specs.World.{IsLegal, sys};
 ghost use Rattle.lot_machine.specs.Report.{turns_made, turns_of};
 ghost use Rattle.lot_system.specs.Counted.{counted};
+ghost use Rattle.lot_system.specs.Listing.{given_count};
 ghost use Rattle.lot_system.specs.Seen.{after_turn, world_of};
 ghost use Rattle.lot_system.specs.Turns.{Answers, Faults, Goes, IsEnded, IsFresh, IsWorkOf};
 
@@ -17,7 +18,7 @@ use crate::generators::{generators_of, next_number, pass_number};
 use crate::turn::{Answer, Work, event_of, matches_work};
 use lot_draw::ParkMiller;
 use lot_kernel::Kernel;
-use lot_machine::{CurrencyRow, Event, Limits, Reply, ThreadRow, TicketRow};
+use lot_machine::{CurrencyRow, Event, Kind, Limits, Reply, ThreadRow, TicketRow};
 use lot_script::{Context, Slice};
 use lot_text::Program;
 use std::alloc::{AllocError, Global};
@@ -155,7 +156,7 @@ impl System {
     }
 
     /// Whether the actor is the console, and no command is left.
-    fn is_ended(&self, actor: u32) -> bool
+    pub(crate) fn is_ended(&self, actor: u32) -> bool
         ensures { IsTrue result ↔ IsEnded self.now actor }
     {
         actor == 0 && self.spent >= self.program.commands().len()
@@ -169,7 +170,7 @@ impl System {
     }
 
     /// A turn that goes: what it was, and what the kernel replied.
-    fn made(&mut self, actor: u32, slice: &Option<Slice>) -> (Event, Reply)
+    pub(crate) fn made(&mut self, actor: u32, slice: &Option<Slice>) -> (Event, Reply)
         requires actor { actor ≤ self.old.setting.program.limits.processors }
         requires goes { Goes self.old actor slice.now }
         ensures seen { self.new ≡ after_turn self.old actor }
@@ -246,6 +247,24 @@ impl System {
         ensures state { self.new ≡ self.old }
     {
         self.kernel.thread_row(thread)
+    }
+
+    /// The unit of the program.
+    pub(crate) fn unit(&self) -> u32
+        ensures { result ≡ self.now.setting.program.limits.unit }
+    {
+        self.program.limits().unit
+    }
+
+    /// How many numbers of this kind were given.
+    pub(crate) fn given_count(&self, kind: Kind) -> u32
+        ensures { result ≡ given_count (world_of self.now).state kind }
+    {
+        match kind {
+            Kind::Tickets => self.kernel.ticket_count(),
+            Kind::Currencies => self.kernel.currency_count(),
+            Kind::Threads => self.thread_count(),
+        }
     }
 
     /// How many threads there are.

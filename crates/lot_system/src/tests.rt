@@ -1,6 +1,6 @@
-use crate::{System, TurnFault};
+use crate::{System, TurnFault, write_end};
 use lot_machine::Reply;
-use lot_text::parse;
+use lot_text::{Watched, parse};
 use std::alloc::Global;
 use std::test::Fail;
 
@@ -77,5 +77,37 @@ fn faults_in_order(rt: HostRuntime) -> Result<(), Fail> {
         );
         assert_eq!(rt; system.history().len(), turns);
     }
+    Ok(())
+}
+
+// The report and the history of a draw and a slice of 100 ticks.
+#[test]
+fn end_of_a_run(rt: HostRuntime) -> Result<(), Fail> {
+    let alloc = rt.alloc();
+    let Ok(program) = parse(alloc, SPINNER.as_bytes()) else {
+        return Err("program".into());
+    };
+    let mut system = System::open(alloc, &program, 3)?;
+    for (actor, with_slice, expected) in [
+        (0, false, "funded"),
+        (1, false, "draw"),
+        (1, true, "expire"),
+    ] {
+        assert_eq!(rt; made(&mut system, alloc, actor, with_slice)?, expected);
+    }
+    let mut writer = Watched::new(Vec::new(alloc));
+    assert!(rt; write_end(&mut system, &mut writer).is_ok());
+    let written = writer.into_inner();
+    assert_eq!(rt;
+        std::str::from_utf8(&written),
+        Ok(
+            "report
+thread 1 a quanta 1 ticks 100
+processor 1 quanta 1 idle 0 ticks 100
+total turns 3 quanta 1 ticks 100
+schedule 0 1 1
+"
+        )
+    );
     Ok(())
 }

@@ -1,12 +1,63 @@
-use Rattle.std.proofs.Common.{Bool, false, ◌||◌, ap, ◌∙◌}
+-- What was read so far, and what is read with the next piece.
+use Rattle.std.proofs.Common.{◌≤◌, ap, ◌∙◌, arith}
+use Rattle.lot_system.proofs.ReadingFacts.{consumes-none, consumes-more, length-more, within-room}
 use Rattle.lot_system.proofs.input.read_input.Goals as goal
-use Rattle.lot_system.proofs.input.read_input.Goals.{else-loop-test, then-loop-test+then-len-eq-MOST, then-loop-test+else-len-eq-MOST+in-Ok-read+then-read-eq0}
+use Rattle.lot_system.proofs.input.read_input.Goals.{else-loop-test, then-loop-test+then-len-eq-MOST, then-loop-test+else-len-eq-MOST+in_ok-read_piece+then-branch-eq0}
+
+pub loop-init : goal.loop-init
+loop-init g c =
+    record {
+      most = omega (arith, c.new-bytes.ensures.len);
+      room = c.in-Ok.ensures.len;
+      working = c.requires;
+      grows = omega arith;
+      consumed = rw c.new-bytes.ensures.items (consumes-none (g.R.Read.remaining c.args.reader.now.0));
+    }
+
+pub loop-preserved : goal.loop-preserved
+loop-preserved g c =
+    let i = c.loop.invariant in
+    let told = c.in_ok-read_piece.ensures in
+    let first = g.R.Read.remaining c.args.reader.now.0 in
+    let left = g.R.Read.remaining c.loop.reader.0 in
+    let rest = g.R.Read.remaining c.read_piece.new.reader.0 in
+    let count = c.in_ok-read_piece.field-0 in
+    let longer = length-more first left rest c.loop.bytes.items c.read_piece.new.bytes.items count told.read in
+    let few : count ≤ c.min-room.result = within-room _ count _ told.most in
+    let old = c.loop.bytes.ok.0 in
+    let now = c.read_piece.new.bytes.ok.0 in
+    record {
+      most = omega (arith, longer, few, old, now, i.most, c.min-room.ensures, c.len-in-loop.ensures);
+      room = i.room;
+      working = told.ok;
+      grows = omega (arith, longer, old, now, i.grows, c.if-branch-eq0.false);
+      consumed = consumes-more first left rest c.loop.bytes.items c.read_piece.new.bytes.items count told.read i.consumed;
+    }
+
+pub returns-clause-read : goal.returns-clause-read
+returns-clause-read g c =
+    let i = c.loop.invariant in
+    let old = c.loop.bytes.ok.0 in
+    elim c.loop-test.branch [
+      | else-loop-test w ↦ rw (w.reader-is, w.bytes-is) (record { consumed = i.consumed; most = omega (arith, i.most, old); whole = λ below. absurd (omega (arith, below, old, i.grows, w.loop-test.false)) })
+      | then-loop-test+then-len-eq-MOST w ↦ rw (w.reader-is, w.bytes-is) (record { consumed = i.consumed; most = omega (arith, i.most, old); whole = λ below. absurd (omega (arith, below, old, w.len.ensures, w.if-len-eq-MOST.true)) })
+      | then-loop-test+else-len-eq-MOST+in_ok-read_piece+then-branch-eq0 w ↦
+          let told = w.in_ok-read_piece.ensures in
+          let first = g.R.Read.remaining c.args.reader.now.0 in
+          let left = g.R.Read.remaining c.loop.reader.0 in
+          let rest = g.R.Read.remaining w.read_piece.new.reader.0 in
+          let longer = length-more first left rest c.loop.bytes.items w.read_piece.new.bytes.items w.in_ok-read_piece.field-0 told.read in
+          rw (w.reader-is, w.bytes-is) (record {
+            consumed = consumes-more first left rest c.loop.bytes.items w.read_piece.new.bytes.items w.in_ok-read_piece.field-0 told.read i.consumed;
+            most = omega (arith, longer, w.if-branch-eq0.true, i.most, old);
+            whole = λ below. told.read.at_end w.if-branch-eq0.true;
+          })
+    ]
 
 pub returns-clause-ok : goal.returns-clause-ok
 returns-clause-ok g c =
     elim c.loop-test.branch [
-      | else-loop-test w ↦ ap (λ r. r.1) w.reader-is ∙ c.loop.invariant.2
-      | then-loop-test+then-len-eq-MOST w ↦ ap (λ r. r.1) w.reader-is ∙ c.loop.invariant.2
-      | then-loop-test+else-len-eq-MOST+in-Ok-read+then-read-eq0 w ↦
-          ap (λ r. r.1) w.reader-is ∙ w.in-Ok-read.ensures.failed ∙ ap (λ (b : Bool). b || false) c.loop.invariant.2
+      | else-loop-test w ↦ ap (λ r. r.1) w.reader-is ∙ c.loop.invariant.working
+      | then-loop-test+then-len-eq-MOST w ↦ ap (λ r. r.1) w.reader-is ∙ c.loop.invariant.working
+      | then-loop-test+else-len-eq-MOST+in_ok-read_piece+then-branch-eq0 w ↦ ap (λ r. r.1) w.reader-is ∙ w.in_ok-read_piece.ensures.ok
     ]

@@ -1,6 +1,13 @@
 use Rattle.std.proofs.Common.{◌≤◌, ◌≡◌, false, vec_len}
+use Rattle.std.specs.Io.KnownBytes.{Consumes}
 use Rattle.lot_system.proofs.input.read_input.Given as goal
 
--- no more is kept than is asked for, and the reader hasn't failed
+-- no more is kept than is asked for, it is what was read, a byte at least in each round, and the reader hasn't failed
 abbrev pub invariant-loop : goal.invariant-loop
-invariant-loop g l = (vec_len l.bytes ≤ 16777217) × (vec_len l.piece ≡ 65536) × (l.reader.1 ≡ false)
+invariant-loop g l = record {
+  most : vec_len l.bytes ≤ 16777217;
+  room : vec_len l.piece ≡ 65536;
+  working : l.reader.1 ≡ false;
+  grows : l.counter ≤ vec_len l.bytes;
+  consumed : Consumes (g.R.Read.remaining l.initial.reader.0) (g.R.Read.remaining l.reader.0) l.bytes.items;
+}

@@ -1,6 +1,12 @@
--- Counting changes nothing.
-use Rattle.std.proofs.Common.{◌≡◌}
+use Rattle.std.proofs.Common.{◌≡◌, ◌≤◌}
+use Rattle.lot_system.specs.Listing.{rows_among}
+use Rattle.lot_system.specs.Seen.{world_of}
 use Rattle.lot_system.proofs.listing.count_rows.Given as goal
 
-abbrev pub invariant-loop-number : goal.invariant-loop-number
-invariant-loop-number l = l.system ≡ l.initial.system
+-- the rows of the numbers passed so far are counted, and counting changes nothing
+abbrev pub invariant-loop-place : goal.invariant-loop-place
+invariant-loop-place l = record {
+  system : l.system ≡ l.initial.system;
+  count : l.rows ≡ rows_among (world_of l.initial.system).state l.kind l.place;
+  few : l.rows ≤ l.place;
+}

@@ -1,0 +1,77 @@
+-- How many rows a listing has, and that it is its first line and theirs.
+use Rattle.std.proofs.Common.{◌≡◌, ◌⊎◌, inl, inr, ℕ, zero, suc, ◌+◌, ◌<◌, ◌≤◌, Bool, true, false, Some, None, List, [], ◌∷◌, ◌++◌, length, filter, get_or, refl, sym, ◌∙◌, ap, arith, append-nil, append_assoc, length-append}
+use Rattle.std.specs.Prelude.{is_some, codes}
+use Rattle.std.specs.Fmt.{decimal}
+use Rattle.std.specs.List.{flat_map, range_with_len, slice_get}
+use Rattle.std.specs.Option.{option_map}
+use Rattle.std.proofs.lemmas.List.Elements.{filter-append}
+use Rattle.std.proofs.lemmas.Option.{slice_get_cases}
+use Rattle.lot_machine.specs.declared.record.Record.{Record}
+use Rattle.lot_machine.specs.declared.command.Kind.{Kind}
+use Rattle.lot_machine.specs.declared.command.Kind.TheVariants.{Tickets, Currencies, Threads}
+use Rattle.lot_machine.specs.Numbered.{at_number}
+use Rattle.lot_machine.specs.State.{State}
+use Rattle.lot_machine.specs.Rows.{row_of_thread}
+use Rattle.lot_machine.specs.Texts.{newline, listing_text}
+use Rattle.lot_machine.proofs.Tickets.{at_number-suc}
+use Rattle.lot_system.specs.Listing.{word_of, first_number, given_count, is_there, row_line, rows_among}
+
+numbers-push : (a k : ℕ) → range_with_len a (suc k) ≡ range_with_len a k ++ (a + k) ∷ []
+numbers-push a zero = let e : a + 0 ≡ a = omega arith in ap (λ n. n ∷ []) (sym e)
+numbers-push a (suc k) = let e : a + 1 + k ≡ a + suc k = omega arith in ap (λ ns. a ∷ ns) (numbers-push (a + 1) k) ∙ ap (λ n. a ∷ (range_with_len (a + 1) k ++ n ∷ [])) e
+
+module _ (test : ℕ → Bool) (a k : ℕ) where
+  filter-push : filter test (range_with_len a (k + 1)) ≡ filter test (range_with_len a k) ++ filter test ((a + k) ∷ [])
+  filter-push = let e : k + 1 ≡ suc k = omega arith in ap (λ n. filter test (range_with_len a n)) e ∙ ap (filter test) (numbers-push a k) ∙ filter-append test (range_with_len a k) ((a + k) ∷ [])
+
+  -- one number more counts where it passes, and else not
+  pub passing-there : test (a + k) ≡ true → length (filter test (range_with_len a (k + 1))) ≡ length (filter test (range_with_len a k)) + 1
+  passing-there is =
+      let one : filter test ((a + k) ∷ []) ≡ (a + k) ∷ [] = rw is refl in
+      ap length filter-push ∙ ap (λ ns. length (filter test (range_with_len a k) ++ ns)) one ∙ length-append (filter test (range_with_len a k)) ((a + k) ∷ [])
+
+  pub passing-none : test (a + k) ≡ false → length (filter test (range_with_len a (k + 1))) ≡ length (filter test (range_with_len a k))
+  passing-none is =
+      let none : filter test ((a + k) ∷ []) ≡ [] = rw is refl in
+      ap length filter-push ∙ ap (λ ns. length (filter test (range_with_len a k) ++ ns)) none ∙ ap length (append-nil (filter test (range_with_len a k)))
+
+-- where each of the numbers passes, they all count
+passing-all : (test : ℕ → Bool) (a k : ℕ) → ((i : ℕ) → i < k → test (a + i) ≡ true) → length (filter test (range_with_len a k)) ≡ k
+passing-all test a zero all = refl
+passing-all test a (suc k) all =
+    let e : k + 1 ≡ suc k = omega arith in
+    ap (λ n. length (filter test (range_with_len a n))) (sym e) ∙ passing-there test a k (all k (omega arith)) ∙ ap (λ n. n + 1) (passing-all test a k (λ i below. all i (omega (arith, below)))) ∙ e
+
+-- each thread that was made has a row
+thread-there : (s : State) (i : ℕ) → i < length s.records → is_there s Threads (1 + i) ≡ true
+thread-there s i below = from (slice_get_cases s.records i).1
+  where
+    number : at_number s.records (1 + i) ≡ slice_get s.records i
+    number = let e : 1 + i ≡ suc i = omega arith in ap (at_number s.records) e ∙ at_number-suc s.records i
+
+    from : ((r : Record) × (i < length s.records) × (slice_get s.records i ≡ Some r) × (get_or s.records i r ≡ r)) ⊎ ((length s.records ≤ i) × (slice_get s.records i ≡ None)) → is_there s Threads (1 + i) ≡ true
+    from (inl (r, within, is, there)) = ap (λ o. is_some (option_map (row_of_thread s (1 + i)) o)) (number ∙ is)
+    from (inr (past, none)) = absurd (omega (arith, past, below))
+
+-- a listing is its first line and those of its rows
+pub listing-is : (s : State) (kind : Kind)
+    → listing_text s kind ≡ word_of kind ++ (decimal (rows_among s kind (given_count s kind)) ++ (newline ++ flat_map (row_line s kind) (range_with_len (first_number kind) (given_count s kind))))
+listing-is s Tickets = refl
+listing-is s Currencies = refl
+listing-is s Threads = rw (passing-all (is_there s Threads) 1 (length s.records) (thread-there s)) refl
+
+-- its first line behind the actor
+abbrev pub first_line : ℕ → List ℕ → ℕ → List ℕ
+first_line actor word rows = decimal actor ++ (codes " " ++ (word ++ (decimal rows ++ newline)))
+
+pub listed-behind : (s : State) (kind : Kind) (actor from rows counted : ℕ) (word : List ℕ) → from ≡ actor → word ≡ word_of kind → counted ≡ rows → rows ≡ rows_among s kind (given_count s kind)
+    → first_line from word counted ++ flat_map (row_line s kind) (range_with_len (first_number kind) (given_count s kind)) ≡ decimal actor ++ (codes " " ++ listing_text s kind)
+listed-behind s kind actor from rows counted word who named same count =
+    let lines = flat_map (row_line s kind) (range_with_len (first_number kind) (given_count s kind)) in
+    let exact : counted ≡ rows_among s kind (given_count s kind) = same ∙ count in
+    append_assoc (decimal from) (codes " " ++ (word ++ (decimal counted ++ newline))) lines ∙ ap (λ xs. decimal from ++ (codes " " ++ xs)) (append_assoc word (decimal counted ++ newline) lines)
+    ∙ ap (λ xs. decimal from ++ (codes " " ++ (word ++ xs))) (append_assoc (decimal counted) newline lines)
+    ∙ ap (λ n. decimal n ++ (codes " " ++ (word ++ (decimal counted ++ (newline ++ lines))))) who
+    ∙ ap (λ xs. decimal actor ++ (codes " " ++ (xs ++ (decimal counted ++ (newline ++ lines))))) named
+    ∙ ap (λ n. decimal actor ++ (codes " " ++ (word_of kind ++ (decimal n ++ (newline ++ lines))))) exact
+    ∙ ap (λ xs. decimal actor ++ (codes " " ++ xs)) (sym (listing-is s kind))

@@ -1,0 +1,54 @@
+use Rattle.std.proofs.Common.{◌≡◌, ◌+◌, ◌-◌, ◌<◌, ℕ, List, [], ◌∷◌, ◌++◌, codes, length, take, drop, Err, rules, sym, ◌∙◌, ap, append-nil}
+use Rattle.std.specs.Fmt.{decimal}
+use Rattle.std.specs.List.{flat_map}
+use Rattle.std.proofs.lemmas.List.{take_rest}
+use Rattle.lot_machine.specs.Grammar.{ActorRun}
+use Rattle.lot_machine.specs.Report.{run_text, runs_in}
+use Rattle.lot_print.proofs.RunLemmas.{run_texts-first}
+use Rattle.lot_system.proofs.WritingFacts.{parts-more, parts-stop}
+use Rattle.lot_system.proofs.ending.write_run_texts.Goals as goal
+
+-- a run as it is written
+abbrev written : ℕ → ℕ → List ℕ
+written from count = codes " " ++ (decimal from ++ (codes " " ++ (decimal count ++ [])))
+
+-- the texts of the runs that the line has room for begin with that of the first
+next : (n from : ℕ) (run : ActorRun) (xs others : List ℕ) → n < 32 → from ≡ run.actor → runs_in xs ≡ run ∷ runs_in others
+    → flat_map run_text (take (32 - n) (runs_in xs)) ≡ written from run.count ++ flat_map run_text (take (32 - (n + 1)) (runs_in others))
+next n from run xs others short same first =
+    let part : written from run.count ≡ run_text run =
+    ap (λ ys. codes " " ++ (decimal from ++ (codes " " ++ ys))) (append-nil (decimal run.count)) ∙ ap (λ a. codes " " ++ (decimal a ++ (codes " " ++ decimal run.count))) same in
+    run_texts-first n run (runs_in xs) (runs_in others) short first ∙ ap (λ ys. ys ++ flat_map run_text (take (32 - (n + 1)) (runs_in others))) (sym part)
+
+pub returns-in_err-write_pieces : goal.returns-in_err-write_pieces
+returns-in_err-write_pieces g c =
+    let is : c.from_residual.result ≡ Err c.in_err-write_pieces.field-0.0 = search rules in
+    let i = c.loop-pair.invariant in
+    let told = c.in_err-write_pieces.ensures in
+    let xs = c.loop-pair.rest.now in
+    let n = c.loop-pair._pair in
+    let run : ActorRun = record { actor = c.in-Some.actor; count = c.in-Some.count } in
+    let others = drop run.count xs in
+    rw is (
+      told.0,
+      told.1,
+      parts-stop (g.W.Write.contents c.args.writer.now.0) (g.W.Write.contents c.loop-pair.writer.0) (g.W.Write.contents c.write_pieces.new.writer.0) i.bytes.0 (written c.from.result run.count)
+          (flat_map run_text (take (32 - (n + 1)) (runs_in others))) (flat_map run_text (take (32 - n) (runs_in xs))) (flat_map run_text (take 32 (runs_in c.args.history.now))) i.bytes.1
+          (next n c.from.result run xs others c.loop-pair-test.true c.from.ensures c.in-Some.ensures.run) i.bytes.2 told.2,
+    )
+
+pub loop-pair-preserved : goal.loop-pair-preserved
+loop-pair-preserved g c =
+    let i = c.loop-pair.invariant in
+    let told = c.in_ok-write_pieces.ensures in
+    let xs = c.loop-pair.rest.now in
+    let n = c.loop-pair._pair in
+    let run : ActorRun = record { actor = c.in-Some.actor; count = c.in-Some.count } in
+    let others = take (length xs - run.count) (drop run.count xs) in
+    let first : runs_in xs ≡ run ∷ runs_in others = c.in-Some.ensures.run ∙ ap (λ (more : List ℕ). run ∷ runs_in more) (sym (take_rest xs run.count)) in
+    record {
+      working = told.0;
+      bytes = parts-more (g.W.Write.contents c.args.writer.now.0) (g.W.Write.contents c.loop-pair.writer.0) (g.W.Write.contents c.write_pieces.new.writer.0) i.bytes.0 (written c.from.result run.count)
+          (flat_map run_text (take (32 - (n + 1)) (runs_in others))) (flat_map run_text (take (32 - n) (runs_in xs))) (flat_map run_text (take 32 (runs_in c.args.history.now))) i.bytes.1
+          (next n c.from.result run xs others c.loop-pair-test.true c.from.ensures first) i.bytes.2 told.1;
+    }

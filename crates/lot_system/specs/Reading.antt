@@ -1,0 +1,17 @@
+-- What is read.
+use Rattle.std.specs.Prelude.{◌≡◌, ℕ, ◌≤◌, ◌<◌, Option, List, ◌++◌, length}
+use Rattle.std.specs.Io.KnownBytes.{Consumes, IsAtEnd}
+
+-- The bytes that were read of those that were left: all of them, or one more than an input may have.
+pub record HasRead (left rest : Option (List ℕ)) (bytes : List ℕ) : Type 0 where
+  pub consumed : Consumes left rest bytes
+  pub most : length bytes ≤ 16777217
+  pub whole : length bytes < 16777217 → IsAtEnd rest
+
+-- so many bytes were read, none only at the end, and are behind those that were there
+pub record HasTaken (left rest : Option (List ℕ)) (old now : List ℕ) (count : ℕ) : Type 0 where
+  pub taken : List ℕ
+  pub count_is : length taken ≡ count
+  pub kept : now ≡ old ++ taken
+  pub consumed : Consumes left rest taken
+  pub at_end : count ≡ 0 → IsAtEnd rest
