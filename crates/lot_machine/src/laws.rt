@@ -1,5 +1,5 @@
 //! What the definitions come to: laws of the machine, with nothing to run.
-ghost use Rattle.std.specs.Prelude.{◌≡◌, ◌==◌, ◌*◌, ◌/◌, if◌then◌else◌, sum_by, count_by, slice_get, ◌≤◌, ◌↔◌, ◌⊎◌, ◌<◌, ◌^◌, Some, ◌%◌, IsTrue, MatchOption, sum, List, Bool, ℕ, length};
+ghost use Rattle.std.specs.Prelude.{◌≡◌, ◌+◌, ◌==◌, ◌*◌, ◌/◌, if◌then◌else◌, sum_by, count_by, slice_get, ◌≤◌, ◌↔◌, ◌⊎◌, ◌<◌, ◌^◌, Some, ◌%◌, IsTrue, MatchOption, sum, List, Bool, ℕ, length};
 ghost use Rattle.lot_machine.specs.Bounds.{IsWithinBounds};
 ghost use Rattle.lot_machine.specs.Funding.{Funding, WouldCycle, would_cycle, ticket_at, target_of, issuer_of, IsChain, reaches_within, backing_currency, user_currency_count};
 ghost use Rattle.lot_machine.specs.Activity.{IsActive, is_active, activates_within, active_amount};
@@ -14,6 +14,9 @@ ghost use Rattle.lot_machine.specs.declared.record.Status.TheVariants.{Ready};
 ghost use Rattle.lot_machine.specs.Numbered.{option_any};
 ghost use Rattle.lot_machine.specs.State.{State, funding_of, status_of, weight_of};
 ghost use Rattle.lot_machine.specs.Step.{draw};
+ghost use Rattle.lot_machine.specs.declared.reply.Reply.{Reply};
+ghost use Rattle.lot_machine.specs.Report.{total_of, turns_made, turns_of};
+ghost use Rattle.lot_machine.specs.World.{IsLegal, Program};
 ghost use Rattle.lot_machine.specs.Lends.{LendsLead, IsBacked, lends_lead, IsLendChain, IsLive, lends_lead_within, is_backed_within, is_backed};
 
 /// The test that follows lends is true just where a chain of lends, no longer than it may follow, leads there.
@@ -101,4 +104,13 @@ pub fn tickets_are_exact()
     ensures active { (f : Funding) → HasNoCycle f → FundsThere f → (live : List Bool) (n : ℕ) (t : Ticket) → ticket_at f n ≡ Some t
         → IsTrue (is_active f live t) ↔ IsActive f live n }
     ensures cycle { (f : Funding) → HasNoCycle f → FundsThere f → (issuer c : ℕ) → c < length f.currencies → IsTrue (would_cycle f issuer c) ↔ WouldCycle f issuer c }
+{}
+
+/// What is counted of each actor's turns adds up to what is counted of all turns of a legal history, and so does how many
+/// turns they are.
+pub fn actors_add_up()
+    ensures turns { (program : Program) (room : ℕ) (history : List ℕ) → IsLegal program room history
+        → sum_by (λ actor. length (turns_of actor (turns_made program history))) (range_with_len 0 (program.limits.processors + 1)) ≡ length history }
+    ensures counts { (count : Reply → ℕ) (program : Program) (room : ℕ) (history : List ℕ) → IsLegal program room history
+        → sum_by (λ actor. total_of count (turns_of actor (turns_made program history))) (range_with_len 0 (program.limits.processors + 1)) ≡ total_of count (turns_made program history) }
 {}

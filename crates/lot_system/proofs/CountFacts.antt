@@ -1,9 +1,9 @@
 -- What is counted with one turn more.
-use Rattle.std.proofs.Common.{◌≡◌, ℕ, ◌+◌, List, [], ◌∷◌, ◌++◌, length, refl, sym, ◌∙◌, ap, subst, length-append}
+use Rattle.std.proofs.Common.{◌≡◌, ◌≢◌, ℕ, ◌+◌, ◌==◌, Bool, true, false, cond, List, [], ◌∷◌, ◌++◌, length, refl, sym, ◌∙◌, ap, subst, length-append, eq-eqb, ne_eqb}
 use Rattle.std.proofs.lemmas.List.Sums.{sum_by_push}
 use Rattle.lot_machine.specs.declared.event.Event.{Event}
 use Rattle.lot_machine.specs.declared.reply.Reply.{Reply}
-use Rattle.lot_machine.specs.Report.{ActorTurn, beside, turns_made, count_in, quanta_in, idles_in, ticks_in}
+use Rattle.lot_machine.specs.Report.{ActorTurn, beside, turns_made, turns_of, count_in, quanta_in, idles_in, ticks_in}
 use Rattle.lot_machine.specs.World.{Program, World, Answer, opening_world, sys, sys_after, sys_answers, sysrun}
 use Rattle.lot_machine.specs.World.Answer.{Answered}
 use Rattle.lot_system.specs.declared.counts.Counts.{Counts}
@@ -19,6 +19,24 @@ turns-one_more program w (a ∷ actors) actor = ap (λ ts. record { actor = a; a
 pub turns_made-one_more : (program : Program) (history : List ℕ) (actor : ℕ) → turns_made program (history ++ actor ∷ []) ≡ turns_made program history ++ record { actor = actor; answer = (sys program (sysrun program history) actor).answer } ∷ []
 turns_made-one_more program history actor = turns-one_more program (opening_world program) history actor
 
+-- ---- the turns of one actor
+
+pub turns_of-own : (actor : ℕ) (turns : List ActorTurn) (turn : ActorTurn) → turn.actor ≡ actor → turns_of actor (turns ++ turn ∷ []) ≡ turns_of actor turns ++ turn ∷ []
+turns_of-own actor [] turn same = rw (eq-eqb turn.actor actor same) refl
+turns_of-own actor (t ∷ ts) turn same = at (t.actor == actor) (turns_of-own actor ts turn same)
+  where
+    at : (b : Bool) → turns_of actor (ts ++ turn ∷ []) ≡ turns_of actor ts ++ turn ∷ [] → cond b (t ∷ turns_of actor (ts ++ turn ∷ [])) (turns_of actor (ts ++ turn ∷ [])) ≡ cond b (t ∷ turns_of actor ts) (turns_of actor ts) ++ turn ∷ []
+    at true more = ap (λ us. t ∷ us) more
+    at false more = more
+
+pub turns_of-other : (actor : ℕ) (turns : List ActorTurn) (turn : ActorTurn) → turn.actor ≢ actor → turns_of actor (turns ++ turn ∷ []) ≡ turns_of actor turns
+turns_of-other actor [] turn differs = rw (ne_eqb turn.actor actor differs) refl
+turns_of-other actor (t ∷ ts) turn differs = at (t.actor == actor) (turns_of-other actor ts turn differs)
+  where
+    at : (b : Bool) → turns_of actor (ts ++ turn ∷ []) ≡ turns_of actor ts → cond b (t ∷ turns_of actor (ts ++ turn ∷ [])) (turns_of actor (ts ++ turn ∷ [])) ≡ cond b (t ∷ turns_of actor ts) (turns_of actor ts)
+    at true more = ap (λ us. t ∷ us) more
+    at false more = more
+
 -- ---- what is counted in them
 
 module _ (turns : List ActorTurn) (actor : ℕ) (e : Event) (r : Reply) where
@@ -30,12 +48,33 @@ module _ (turns : List ActorTurn) (actor : ℕ) (e : Event) (r : Reply) where
       let ticks = sum_by_push (λ t. count_in ticks_in t.answer) turns (record { actor = actor; answer = Answered e r }) in
       rw is (λ i. record { turns = sym longer i; quanta = sym quanta i; idles = sym idles i; ticks = sym ticks i })
 
+-- ---- one turn more, as callers of `turn` know it: the sums of all turns, and those of each actor
+
+module _ (program : Program) (history : List ℕ) (actor : ℕ) (e : Event) (r : Reply) (is : (sys program (sysrun program history) actor).answer ≡ Answered e r) where
+  pub turns_made-answered : turns_made program (history ++ actor ∷ []) ≡ turns_made program history ++ record { actor = actor; answer = Answered e r } ∷ []
+  turns_made-answered =
+      turns_made-one_more program history actor ∙ ap (λ (a : Answer). turns_made program history ++ record { actor = actor; answer = a } ∷ []) is
+
+  -- all turns
+  pub counted-one_more : counted (turns_made program (history ++ actor ∷ [])) ≡ counted_with (counted (turns_made program history)) r
+  counted-one_more = ap counted turns_made-answered ∙ sym (counted-push (turns_made program history) actor e r (counted (turns_made program history)) refl)
+
+  -- those of the actor that had the turn
+  pub counted-own_more : counted (turns_of actor (turns_made program (history ++ actor ∷ []))) ≡ counted_with (counted (turns_of actor (turns_made program history))) r
+  counted-own_more =
+      ap (λ ts. counted (turns_of actor ts)) turns_made-answered ∙ ap counted (turns_of-own actor (turns_made program history) (record { actor = actor; answer = Answered e r }) refl)
+      ∙ sym (counted-push (turns_of actor (turns_made program history)) actor e r (counted (turns_of actor (turns_made program history))) refl)
+
+  -- those of another actor stay
+  pub counted-other : (other : ℕ) → actor ≢ other → counted (turns_of other (turns_made program (history ++ actor ∷ []))) ≡ counted (turns_of other (turns_made program history))
+  counted-other other differs =
+      ap (λ ts. counted (turns_of other ts)) turns_made-answered ∙ ap counted (turns_of-other other (turns_made program history) (record { actor = actor; answer = Answered e r }) differs)
+
 -- ---- after a turn
 
 module _ (program : Program) (history : List ℕ) (actor : ℕ) (e : Event) (r : Reply) (is : (sys program (sysrun program history) actor).answer ≡ Answered e r) where
   turns-now : turns_made program (history ++ actor ∷ []) ≡ turns_made program history ++ record { actor = actor; answer = Answered e r } ∷ []
-  turns-now =
-      turns_made-one_more program history actor ∙ ap (λ (a : Answer). turns_made program history ++ record { actor = actor; answer = a } ∷ []) is
+  turns-now = turns_made-answered program history actor e r is
 
   longer : length (history ++ actor ∷ []) ≡ length history + 1
   longer = length-append history (actor ∷ [])

@@ -8,16 +8,17 @@ ghost use Rattle.lot_system.specs.Counted.{AreCounts, IsCount, IsSmall, counted_
 use lot_machine::Reply;
 use std::alloc::{AllocError, Global};
 
-/// What is counted of turns.
+/// What is counted of some turns.
 #[derive(Clone, Copy, Debug, PartialEq, Eq)]
-pub(crate) struct Counts {
-    pub(crate) turns: u64,
-    /// The draws that somebody won.
-    pub(crate) quanta: u64,
-    /// The draws that nobody won.
-    pub(crate) idles: u64,
-    /// The ticks of expiries and traps.
-    pub(crate) ticks: u64,
+pub struct Counts {
+    /// How many they are, refused commands and traps included.
+    pub turns: u64,
+    /// The draws among them that somebody won.
+    pub quanta: u64,
+    /// The draws among them that nobody won.
+    pub idles: u64,
+    /// The ticks of their expiries and traps.
+    pub ticks: u64,
 }
 
 impl Counts {

@@ -16,6 +16,7 @@ mod system;
 mod turn;
 mod writing;
 
+pub use counts::Counts;
 pub use ending::write_end;
 pub use fault::{PlayFault, TurnFault};
 pub use input::read_input;

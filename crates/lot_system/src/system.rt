@@ -281,16 +281,16 @@ impl System {
         self.history.len() as u64
     }
 
-    /// What was counted of the actor's turns.
-    pub(crate) fn counts(&self, actor: u32) -> Counts
+    /// What is counted of the actor's turns so far.
+    pub fn counts(&self, actor: u32) -> Counts
         requires { actor ≤ self.now.setting.program.limits.processors }
         ensures { result ≡ counted (turns_of actor (turns_made self.now.setting.program self.now.history)) }
     {
         self.counts[actor as usize]
     }
 
-    /// What was counted of all turns.
-    pub(crate) fn total(&self) -> Counts
+    /// What is counted of all turns so far.
+    pub fn total(&self) -> Counts
         ensures { result ≡ counted (turns_made self.now.setting.program self.now.history) }
     {
         self.total
