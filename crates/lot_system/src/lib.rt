@@ -12,6 +12,7 @@ mod lines;
 mod listing;
 mod playing;
 mod report;
+mod slices;
 mod system;
 mod turn;
 mod writing;
@@ -20,7 +21,8 @@ pub use counts::Counts;
 pub use ending::write_end;
 pub use fault::{PlayFault, TurnFault};
 pub use input::read_input;
-pub use playing::{Played, play};
+pub use playing::{Played, play, refuse};
+pub use slices::slice_for;
 pub use system::System;
 pub use turn::{Answer, Work};
 
