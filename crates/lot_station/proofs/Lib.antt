@@ -1,0 +1,4 @@
+pub mod Totals
+pub mod Counting
+pub mod Dealing
+pub mod Merging

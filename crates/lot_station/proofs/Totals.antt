@@ -1,0 +1,46 @@
+-- What a system's history has after one turn more.
+use Rattle.std.proofs.Common.{◌≡◌, ℕ, ◌+◌, ◌≤◌, ◌==◌, List, [], ◌∷◌, ◌++◌, cond, Option, Some, refl, sym, ◌∙◌, ap, subst, arith, length-append}
+use Rattle.std.proofs.lemmas.List.Elements.{All-pop}
+use Rattle.std.proofs.lemmas.List.Sums.{sum_by_push}
+use Rattle.lot_machine.specs.Report.{quanta_in, ticks_in, total_of}
+use Rattle.lot_machine.specs.World.{Program, IsLegal}
+use Rattle.lot_system.specs.declared.counts.Counts.{Counts}
+use Rattle.lot_system.specs.declared.turn.Answer.{Answer}
+use Rattle.lot_system.specs.Counted.{counted, counted_with}
+use Rattle.lot_script.specs.Slices.{Parts}
+use Rattle.lot_system.specs.Seen.{Setting, Seen, after_turn}
+use Rattle.lot_system.specs.Turns.{Answers, Goes}
+use Rattle.lot_system.proofs.CountFacts.{counted-one_more}
+use Rattle.lot_station.specs.Settings.{AtSome, turns_in}
+
+-- ---- the totals
+
+module _ (old new : Seen) (actor : ℕ) (answer : Answer) (total : Counts) (made : new ≡ after_turn old actor) (answers : Answers old actor answer) (is : total ≡ counted (turns_in new)) where
+  grown : total ≡ counted_with (counted (turns_in old)) answer.reply
+  grown =
+      is ∙ ap (λ (x : Seen). counted (turns_in x)) made ∙ counted-one_more old.setting.program old.history actor answer.event answer.reply answers.turn
+
+  pub more_quanta : (q n : ℕ) → q ≡ total_of quanta_in (turns_in old) → n ≡ quanta_in answer.reply → q + n ≡ total.quanta
+  more_quanta q n all more = (λ i. all i + more i) ∙ sym (ap (λ (c : Counts). c.quanta) grown)
+
+  pub more_ticks : (k n : ℕ) → k ≡ total_of ticks_in (turns_in old) → n ≡ ticks_in answer.reply → k + n ≡ total.ticks
+  more_ticks k n all more = (λ i. all i + more i) ∙ sym (ap (λ (c : Counts). c.ticks) grown)
+
+-- ---- legal histories
+
+-- a history that is legal with one turn more was so before
+legal_before : (program : Program) (room : ℕ) (history : List ℕ) (actor : ℕ) → IsLegal program room (history ++ actor ∷ []) → IsLegal program room history
+legal_before program room history actor legal =
+    record {
+      actors = (All-pop (λ (a : ℕ). a ≤ program.limits.processors) (history ++ actor ∷ []) history (Some actor) refl legal.actors).0;
+      within_room = omega (arith, legal.within_room, length-append history (actor ∷ []));
+      console = omega (arith, legal.console, sum_by_push (λ a. cond (a == 0) 1 0) history actor);
+    }
+
+-- what a turn answers is so at the system's own history
+pub answered_at : (setting : Setting) (old new : Seen) (actor named : ℕ) (given : Option Parts) (answer : Answer) → old.setting ≡ setting → actor ≡ named → Goes old actor given → new ≡ after_turn old actor → Answers old actor answer
+    → IsLegal new.setting.program new.setting.room new.history → AtSome setting (λ x. Goes x named given × Answers x named answer)
+answered_at setting old new actor named given answer is same goes made answers legal =
+    let before = legal_before old.setting.program old.setting.room old.history actor (subst (λ (x : Seen). IsLegal x.setting.program x.setting.room x.history) made legal) in
+    let here : AtSome old.setting (λ x. Goes x actor given × Answers x actor answer) = record { history = old.history; legal = before; is_so = (goes, answers) } in
+    subst (λ a. AtSome setting (λ x. Goes x a given × Answers x a answer)) same (subst (λ s. AtSome s (λ x. Goes x actor given × Answers x actor answer)) is here)

@@ -1,0 +1,8 @@
+use Rattle.std.proofs.Common.{◌≡◌, ℕ, ◌<◌, slice_get, Some}
+use Rattle.lot_station.specs.Holders.{Holder}
+use Rattle.lot_station.specs.Settings.{times_in}
+use Rattle.lot_station.proofs.closing.counts_agree.Given as goal
+
+abbrev pub invariant-loop-seat : goal.invariant-loop-seat
+invariant-loop-seat g l =
+    (j : ℕ) (s : Holder) → j < l.seat-index → slice_get l.seats j ≡ Some s → s.turns ≡ times_in l.system s.actor

@@ -1,0 +1,18 @@
+use Rattle.std.proofs.Common.{rules}
+use Rattle.lot_station.proofs.Totals.{more_quanta, more_ticks, answered_at}
+use Rattle.lot_station.proofs.desk.Desk.turn.Goals as goal
+
+pub add-requires-2 : goal.add-requires-2
+add-requires-2 g c =
+    let ok = c.in_ok-answer.ensures.ok in
+    more_quanta c.args.self.now.system c.turn.new.self c.actor.result c.in_ok-answer.answer c.total-total.result ok.1 ok.2 c.total-total.ensures c.args.self.now.quanta.total c.quanta_in.result c.args.self.now.all_quanta c.quanta_in.ensures
+
+pub add-requires-3 : goal.add-requires-3
+add-requires-3 g c =
+    let ok = c.in_ok-answer.ensures.ok in
+    more_ticks c.args.self.now.system c.turn.new.self c.actor.result c.in_ok-answer.answer c.total-total.result ok.1 ok.2 c.total-total.ensures c.args.self.now.ticks.total c.ticks_in.result c.args.self.now.all_ticks c.ticks_in.ensures
+
+pub returns-clause-answer : goal.returns-clause-answer
+returns-clause-answer g c =
+    let ok = c.in_ok-answer.ensures.ok in
+    answered_at _ c.args.self.now.system c.turn.new.self c.actor.result c.args.seat.now.actor c.args.slice c.in_ok-answer.answer c.args.self.now.setting (search rules) ok.0 ok.1 ok.2 c.in_ok-answer.ensures.legal

@@ -1,0 +1,33 @@
+-- Systems of a program and a room.
+use Rattle.std.specs.Prelude.{ℕ, ◌==◌, List, [], count_by}
+use Rattle.lot_machine.specs.Report.{ActorTurn, turns_made}
+use Rattle.lot_machine.specs.World.{IsLegal}
+use Rattle.lot_system.specs.Seen.{Setting, Seen}
+
+-- the turns of the system's history
+abbrev pub turns_in : Seen → List ActorTurn
+turns_in x = turns_made x.setting.program x.history
+
+-- how often the actor stands in the system's history
+abbrev pub times_in : Seen → ℕ → ℕ
+times_in x actor = count_by (λ a. a == actor) x.history
+
+-- it is so of a system of this program and room, after some legal history
+pub record AtSome (setting : Setting) (IsSo : Seen → Type 0) : Type 0 where
+  pub history : List ℕ
+  pub legal : IsLegal setting.program setting.room history
+  pub is_so : IsSo (record { setting = setting; history = history })
+
+-- a program and a room, of which nothing is asked
+abbrev pub no_setting : Setting
+no_setting = record {
+  program = record {
+    limits = record { tickets = 0; currencies = 0; threads = 0; ports = 0; mutexes = 0; processors = 0; scripts = 0; quantum = 0; unit = 0 };
+    seeds = [];
+    turns = 0;
+    scripts = [];
+    commands = [];
+    schedule = [];
+  };
+  room = 0;
+}

@@ -1,0 +1,40 @@
+//! What a seat may ask of the system.
+ghost use Rattle.std.specs.Prelude.{◌≡◌, IfOk, IfErr, OnErr};
+ghost use Rattle.lot_system.specs.Turns.{Answers, Faults, Goes, IsWorkOf};
+ghost use Rattle.lot_station.specs.Holders.{with_turn};
+ghost use Rattle.lot_station.specs.Settings.{AtSome};
+
+use crate::{Seat, Station, TurnLedger};
+use lot_script::Slice;
+use lot_system::{Answer, TurnFault, Work};
+use std::sync::Wait;
+use std::sync::ledger::Ledger;
+
+impl<T: TurnLedger, Q: Ledger, K: Ledger> Station<T, Q, K> {
+    /// Makes the turn of the seat's actor, as `System::turn` does. The seat's shares grow by one turn, by one quantum where
+    /// somebody won a draw, and by the turn's ticks; a fault leaves the seat as it was. It may wait.
+    ///
+    /// The answer and the fault are such as the system's program has after some legal history.
+    pub fn turn(
+        &self,
+        rt: &impl Wait,
+        seat: &mut Seat<T, Q, K>,
+        slice: Option<Slice>,
+    ) -> Result<Answer, TurnFault>
+        ensures ok { IfOk result (λ answer. seat.new ≡ with_turn seat.old answer.reply) }
+        ensures err { OnErr result (seat.new ≡ seat.old) }
+        ensures answer { IfOk result (λ answer. AtSome self.now (λ x. Goes x seat.old.actor slice.entry × Answers x seat.old.actor answer)) }
+        ensures fault { IfErr result (λ fault. AtSome self.now (λ x. Faults x seat.old.actor slice.entry fault)) }
+    {
+        self.desk.lock(rt).turn(seat, slice)
+    }
+
+    /// What the seat's actor has to do next, as `System::work` says. It may wait.
+    ///
+    /// It is such as the system's program has after some legal history.
+    pub fn work(&self, rt: &impl Wait, seat: &Seat<T, Q, K>) -> Option<Work>
+        ensures { AtSome self.now (λ x. IsWorkOf x seat.now.actor result) }
+    {
+        self.desk.lock(rt).system.work(seat.actor)
+    }
+}

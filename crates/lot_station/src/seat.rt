@@ -1,0 +1,75 @@
+//! The seats of a station.
+ghost use Rattle.std.specs.Prelude.{◌≡◌, Some, None};
+
+use crate::TurnLedger;
+use crate::holding::Holding;
+use lot_system::TurnFault;
+use std::marker::Model;
+use std::sync::ledger::Ledger;
+
+/// The right of one actor to make turns, with its shares of the totals of all turns, and a place for the fault that
+/// stopped who used it.
+#[derive(Drop)]
+pub struct Seat<T: TurnLedger, Q: Ledger, K: Ledger> {
+    pub(crate) actor: u32,
+    pub(crate) turns: Holding<T>,
+    pub(crate) quanta: Holding<Q>,
+    pub(crate) ticks: Holding<K>,
+    pub(crate) stop: Option<TurnFault>,
+}
+
+impl<T: TurnLedger, Q: Ledger, K: Ledger> Model for Seat<T, Q, K> {
+    ghost use Rattle.std.specs.Prelude.{◌≤◌};
+    ghost use Rattle.lot_station.specs.Holders.{Holder};
+
+    ghost Value = { Holder };
+
+    ghost view = { λ s. record { actor = s.actor; turns = s.turns; quanta = s.quanta; ticks = s.ticks; stop = s.stop } };
+
+    ghost invariant = { λ s. s.actor ≤ T.setting.program.limits.processors };
+}
+
+impl<T: TurnLedger, Q: Ledger, K: Ledger> Seat<T, Q, K> {
+    /// Its actor: 0 for the console, and else the processor.
+    pub fn actor(&self) -> u32
+        ensures { result ≡ self.now.actor }
+    {
+        self.actor
+    }
+
+    /// Its share of the turns: how many it made.
+    pub fn turns(&self) -> u64
+        ensures { result ≡ self.now.turns }
+    {
+        self.turns.amount()
+    }
+
+    /// Its share of the quanta: the draws among its turns that somebody won.
+    pub fn quanta(&self) -> u64
+        ensures { result ≡ self.now.quanta }
+    {
+        self.quanta.amount()
+    }
+
+    /// Its share of the ticks: those of the expiries and traps among its turns.
+    pub fn ticks(&self) -> u64
+        ensures { result ≡ self.now.ticks }
+    {
+        self.ticks.amount()
+    }
+
+    /// Keeps the fault that stopped who used the seat, in place of any that it had.
+    pub fn stop(&mut self, fault: TurnFault)
+        ensures { self.new ≡ record self.old { stop = Some fault } }
+    {
+        self.stop = Some(fault);
+    }
+
+    /// Takes out the fault that stopped who used the seat, if one did.
+    pub fn stopped(&mut self) -> Option<TurnFault>
+        ensures fault { result ≡ self.old.stop }
+        ensures taken { self.new ≡ record self.old { stop = None } }
+    {
+        self.stop.take()
+    }
+}
