@@ -8,6 +8,7 @@ mod ending;
 mod fault;
 mod generators;
 mod input;
+pub mod laws;
 mod lines;
 mod listing;
 mod playing;
