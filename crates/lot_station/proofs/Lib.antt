@@ -1,0 +1,3 @@
+pub mod BatonShares
+pub mod BatonSteps
+pub mod BatonTelling

@@ -1,0 +1,4 @@
+pub mod BatonViews
+pub mod BatonRule
+pub mod BatonSeats
+pub mod BatonSums
