@@ -1,5 +1,5 @@
 -- What a seat may say after it had the system in its hands.
-use Rattle.std.proofs.Common.{◌≡◌, ℕ, ◌+◌, Option, [], ◌∷◌, ◌++◌, Result, Ok, Err, IfOk, IfErr, refl, sym, ap, ◌∙◌, subst, inl, inr, arith}
+use Rattle.std.proofs.Common.{◌≡◌, ℕ, ◌+◌, Option, [], ◌∷◌, Result, Ok, Err, IfOk, IfErr, refl, sym, ap, ◌∙◌, subst, inl, inr, arith}
 use Rattle.lot_script.specs.Slices.{Parts}
 use Rattle.lot_system.specs.declared.fault.TurnFault.{TurnFault}
 use Rattle.lot_system.specs.declared.turn.Answer.{Answer}
@@ -7,7 +7,7 @@ use Rattle.lot_system.specs.Seen.{Seen, after_turn}
 use Rattle.lot_system.specs.Turns.{Answers, Faults, Goes}
 use Rattle.lot_station.specs.declared.baton.view.Claim.{Claim}
 use Rattle.lot_station.specs.declared.baton.view.View.{View}
-use Rattle.lot_station.specs.BatonViews.{claim, resting, holding, took, gave, Begins, Sees, Next, turns_by}
+use Rattle.lot_station.specs.BatonViews.{claim, resting, holding, took, gave, note_of, together, Begins, Sees, Next, turns_by}
 use Rattle.lot_station.specs.BatonSeats.{Seat, IsLegalIn, Looks, Turns}
 use Rattle.lot_station.proofs.BatonShares.{turns_by-append, turns_by-own}
 
@@ -62,3 +62,11 @@ refused old new given was x (Ok r) is sees legal err = tt
 refused old new given was x (Err f) is sees legal err =
     let same = is ∙ err.1 in
     (looks old new was same sees (subst (λ (y : Seen). IsLegalIn y) err.1 legal), subst (λ (y : Seen). Faults y old.actor given f) (sym same) err.0)
+
+-- a seat's pass with the note of another
+pub with_note : (p q n m : View) (a b : ℕ) (s t : Seen) → p ≡ resting (claim a (a + 1) s ∷ []) → q ≡ resting (claim b (b + 1) t ∷ []) → n ≡ note_of q → m ≡ together p n → m ≡ resting (claim a (a + 1) s ∷ claim 0 0 t ∷ [])
+with_note p q n m a b s t own other noted joined = joined ∙ (λ i. together (own i) ((noted ∙ ap note_of other) i))
+
+-- what it holds then is of the seat alone
+pub back_after : (m q r : View) (a : ℕ) (s t x : Seen) → m ≡ resting (claim a (a + 1) s ∷ claim 0 0 t ∷ []) → q ≡ took m x → r ≡ gave q x → r ≡ resting (claim a (a + 1) x ∷ [])
+back_after m q r a s t x joined held now = now ∙ ap (λ (y : View). gave y x) (held ∙ ap (λ (y : View). took y x) joined)

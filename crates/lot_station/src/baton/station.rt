@@ -48,6 +48,32 @@ pub struct SeatMissing {
 }
 
 impl BatonStation {
+    /// Puts the system into a queue, and gives a seat for each actor, in order. It fails only for want of memory, and the
+    /// system is dropped then.
+    pub fn open(alloc: Global, system: System) -> Result<(BatonStation, Vec<BatonSeat>), AllocError>
+        ensures processors { IfOk result (λ r. r.0.processors ≡ system.setting.program.limits.processors) }
+        ensures seats { IfOk result (λ r. length r.1.items ≡ system.setting.program.limits.processors + 1) }
+        ensures dealt { IfOk result (λ r. Dealt r.0.id system r.1.items) }
+    {
+        let processors = system.processors();
+        let count = processors as usize + 1;
+        let mut seats = Vec::with_capacity(alloc, count)?;
+        let (queue, mut pass) = Queue::ruled(alloc, 1)?;
+        if queue.try_push_as::<Opens>(&mut pass, system).is_err() {
+            return Err(AllocError);
+        }
+        for k in 0..count {
+            let pass = queue.another::<Deals>(&mut pass);
+            let seat = BatonSeat {
+                pass,
+                actor: k as u32,
+                fault: None,
+            };
+            seats.push_reserved(seat);
+        }
+        Ok((BatonStation { queue, processors }, seats))
+    }
+
     /// Makes a turn of the seat's actor, as `System::turn` does. It may wait for other seats.
     ///
     /// The seat has then seen a legal history that begins with what it had seen. On `Ok` that history ends with this turn;
@@ -82,6 +108,87 @@ impl BatonStation {
         give(rt, &self.queue, &mut seat.pass, system);
         work
     }
+
+    /// What `a` has seen then begins what `b` has seen, and both begin with all that either had seen before. It may wait for
+    /// other seats.
+    pub fn meet<R: Wait>(&self, rt: &R, a: &mut BatonSeat, b: &mut BatonSeat)
+        requires { (a.old.station ≡ self.now.id) × (b.old.station ≡ self.now.id) }
+        ensures same { IsSameSeat a.old a.new × IsSameSeat b.old b.new }
+        ensures a { Looks a.old a.new × Begins a.new.seen b.old.seen }
+        ensures b { Looks b.old b.new × Begins b.new.seen a.old.seen }
+        ensures order { Begins b.new.seen a.new.seen }
+    {
+        self.tell(rt, b, a);
+        self.tell(rt, a, b);
+    }
+
+    // Now `to` has seen all that `from` has seen.
+    fn tell<R: Wait>(&self, rt: &R, from: &mut BatonSeat, to: &mut BatonSeat)
+        requires { (from.old.station ≡ self.now.id) × (to.old.station ≡ self.now.id) }
+        ensures from { from.new ≡ from.old }
+        ensures same { IsSameSeat to.old to.new }
+        ensures to { Looks to.old to.new × Begins to.new.seen from.old.seen }
+    {
+        let note = self.queue.another::<Notes>(&mut from.pass);
+        self.queue.absorb::<Both>(&mut to.pass, note);
+        let system = take(rt, &self.queue, &mut to.pass);
+        let _ = system.history();
+        give(rt, &self.queue, &mut to.pass, system);
+    }
+
+    /// Takes the seats in, and gives the system back. It may wait for other seats.
+    ///
+    /// The seats have to be those that `open` gave with the station: where each of them is there once, in order, the system
+    /// has all that each has seen, and each actor's turns are those that its seat has made.
+    pub fn close<R: Wait>(self, rt: &R, seats: Vec<BatonSeat>) -> Result<System, SeatMissing>
+        requires { AllOf self seats.items }
+        ensures order { IfOk result (λ x. InOrder self.processors seats.items) }
+        ensures legal { IfOk result (λ x. IsLegalIn x) }
+        ensures shows { IfOk result (λ x. ShowsEach x seats.items) }
+        ensures sums { IfOk result (λ x. AddUp x seats.items) }
+        ensures counts { IfOk result (λ x. CountsAddUp x seats.items) }
+        ensures err { IfErr result (λ e. (¬ InOrder self.processors seats.items) × (e.station ≡ self) × (e.seats ≡ seats)) }
+    {
+        if !in_order(self.processors, seats.as_slice()) {
+            return Err(SeatMissing {
+                station: self,
+                seats,
+            });
+        }
+        let mut pass = joined(&self.queue, seats);
+        let system = take(rt, &self.queue, &mut pass);
+        let _ = system.history();
+        Ok(system)
+    }
+}
+
+fn in_order(processors: u32, seats: &[BatonSeat]) -> bool
+    ensures { IsTrue result ↔ InOrder processors seats.now }
+{
+    if seats.len() != processors as usize + 1 {
+        return false;
+    }
+    for (k, seat) in seats.iter().enumerate() {
+        if seat.actor() as usize != k {
+            return false;
+        }
+    }
+    true
+}
+
+// One pass for all seats.
+fn joined(queue: &Queue, mut seats: Vec<BatonSeat>) -> Token
+    requires seats { AllHere queue.now.table.shared.table_id seats.items }
+    requires some { 0 < length seats.items }
+    ensures pass { IsPassOf queue.now result }
+    ensures view { view result ≡ resting (map claim_of seats.items) }
+{
+    let BatonSeat { mut pass, .. } = seats.remove(0);
+    for seat in seats {
+        let BatonSeat { pass: other, .. } = seat;
+        queue.absorb::<Both>(&mut pass, other);
+    }
+    pass
 }
 
 // Pops until the system comes.
