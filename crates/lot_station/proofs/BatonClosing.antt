@@ -1,12 +1,22 @@
 -- Seats in a list, taken in one after another.
 use Rattle.std.proofs.Common.{◌≡◌, ℕ, zero, suc, ◌+◌, ◌<◌, List, [], ◌∷◌, ◌++◌, length, map, drop, get_or, Option, Some, None, refl, sym, ap, ◌∙◌, subst, append_assoc, append-nil, arith, ◌⊎◌, inl, inr, ⊎_elim}
-use Rattle.std.specs.Prelude.{slice_get}
+use Rattle.std.specs.Prelude.{All, slice_get}
+use Rattle.std.proofs.lemmas.Option.{get_or_from_slice_get, slice_get-get_or, slice_get_within}
 use Rattle.atomic_table.specs.Seated.{TableId}
 use Rattle.lot_system.specs.declared.fault.TurnFault.{TurnFault}
 use Rattle.lot_system.specs.Seen.{Seen}
 use Rattle.lot_station.specs.declared.baton.view.View.{View}
 use Rattle.lot_station.specs.BatonViews.{claim, resting, together, SeesAll}
-use Rattle.lot_station.specs.BatonSeats.{Seat, Baton, InOrder, seat, claim_of, Dealt, AllOf, Shows, ShowsEach}
+use Rattle.lot_station.specs.BatonSeats.{Seat, Baton, IsSeatOf, InOrder, seat, claim_of, Dealt, Shows}
+
+pub all_at : (P : Seat → Type 0) (l : List Seat) → All P l → (k : ℕ) (s : Seat) → slice_get l k ≡ Some s → P s
+all_at P l all k s e = subst P (get_or_from_slice_get l k s s e) (all k s (slice_get_within l k s e))
+
+pub each_all : (P : Seat → Type 0) (l : List Seat) → ((k : ℕ) (s : Seat) → slice_get l k ≡ Some s → P s) → All P l
+each_all P l each k d low = each k (get_or l k d) (slice_get-get_or l k d low)
+
+pub here_at : (t : TableId) (l : List Seat) → All (λ s. s.station ≡ t) l → (k : ℕ) (s : Seat) → slice_get l k ≡ Some s → s.station ≡ t
+here_at t l all k s e = all_at (λ y. y.station ≡ t) l all k s e
 
 pub own_claim : (p : View) (t : TableId) (a : ℕ) (x : Seen) (o : Option TurnFault) (s : Seat) → p ≡ resting (claim a (a + 1) x ∷ []) → seat t a x o ≡ s → p ≡ resting (claim_of s ∷ [])
 own_claim p t a x o s is view = is ∙ ap (λ (y : Seat). resting (claim_of y ∷ [])) view
@@ -33,7 +43,7 @@ pub all_taken : (all xs rest : List Seat) → all ≡ xs ++ rest → length rest
 all_taken all xs [] is none = is ∙ append-nil xs
 all_taken all xs (y ∷ ys) is none = absurd (omega (arith, none))
 
-pub shown : (x : Seen) (seats : List Seat) → SeesAll x (map claim_of seats) → ShowsEach x seats
+pub shown : (x : Seen) (seats : List Seat) → SeesAll x (map claim_of seats) → (k : ℕ) (s : Seat) → slice_get seats k ≡ Some s → Shows x s
 shown x [] sees k s e = absurd cc
 shown x (y ∷ ys) sees zero s e =
     let P : Seat → Type 0 = Shows x in
@@ -56,7 +66,7 @@ deals_one t x old new n y dealt len is now k s e =
     (at_last_or_before old y s k (ap (λ l. slice_get l k) (sym now) ∙ e))
 
 -- the last actor is that of the program
-pub last_actor : (b : Baton) (x : Seen) (l : List Seat) → AllOf b l → InOrder b.processors l → ShowsEach x l → b.processors ≡ x.setting.program.limits.processors
+pub last_actor : (b : Baton) (x : Seen) (l : List Seat) → All (IsSeatOf b) l → InOrder b.processors l → All (Shows x) l → b.processors ≡ x.setting.program.limits.processors
 last_actor b x [] all order shows = absurd (omega (arith, order.0))
 last_actor b x (y ∷ ys) all order shows =
-    sym (all 0 y refl).1 ∙ sym (ap (λ z. z.program.limits.processors) (shows 0 y refl).begins.0)
+    sym (all 0 y (omega arith)).1 ∙ sym (ap (λ z. z.program.limits.processors) (shows 0 y (omega arith)).begins.0)

@@ -1,13 +1,14 @@
 -- What is counted of turns is what is added up over them.
 use Rattle.std.proofs.Common.{◌≡◌, ℕ, suc, ◌+◌, List, [], ◌∷◌, length, sum_by, Some, Bool, true, false, ◌==◌, refl, sym, ap, ◌∙◌, arith}
-use Rattle.std.specs.Prelude.{slice_get, if◌then◌else◌}
+use Rattle.std.specs.Prelude.{All, slice_get, if◌then◌else◌}
 use Rattle.std.proofs.Math.Bool.{cond}
 use Rattle.std.proofs.lemmas.List.Sums.{sum_by-cons}
 use Rattle.lot_machine.specs.declared.reply.Reply.{Reply}
 use Rattle.lot_machine.specs.Report.{ActorTurn, beside, turns_made, turns_of, total_of, count_in, quanta_in, idles_in, ticks_in}
 use Rattle.lot_machine.specs.World.{Program, World, opening_world, sys, sys_answers}
 use Rattle.lot_system.specs.Seen.{Seen}
-use Rattle.lot_station.specs.BatonSeats.{Seat, ShowsEach}
+use Rattle.lot_station.specs.BatonSeats.{Seat, Shows}
+use Rattle.lot_station.proofs.BatonClosing.{all_at}
 use Rattle.lot_station.specs.BatonSums.{summed, summed_by, share, AddUp, CountsAddUp}
 
 -- the turns that these actors make from this world
@@ -63,7 +64,7 @@ made_by : (s : Seat) → share (λ w a. 1) s ≡ length (turns_of s.actor (turns
 unfolding turns_from
 made_by s = own_made s.seen.setting.program s.actor (opening_world s.seen.setting.program) s.seen.history
 
-module _ (x : Seen) (seats : List Seat) (adds : AddUp x seats) (shows : ShowsEach x seats) where
+module _ (x : Seen) (seats : List Seat) (adds : AddUp x seats) (shows : All (Shows x) seats) where
   program : Program
   program = x.setting.program
 
@@ -71,7 +72,7 @@ module _ (x : Seen) (seats : List Seat) (adds : AddUp x seats) (shows : ShowsEac
   unfolding turns_from program
   counted_by count k s e =
       let own = s.seen.setting.program in
-      let same : own ≡ x.setting.program = sym (ap (λ y. y.program) (shows k s e).begins.0) in
+      let same : own ≡ x.setting.program = sym (ap (λ y. y.program) (all_at (Shows x) seats shows k s e).begins.0) in
       ap (λ p. summed_by (counted_at count p) own s.actor (opening_world own) s.seen.history) (sym same)
       ∙ own_counted count own s.actor (opening_world own) s.seen.history
 

@@ -7,8 +7,9 @@ use native.Mathlib.Decide.{ℕ_discrete}
 use Rattle.lot_machine.specs.World.{Program, World, opening_world, sys, sys_after}
 use Rattle.lot_system.specs.Seen.{Seen}
 use Rattle.lot_station.specs.BatonViews.{turns_by}
-use Rattle.lot_station.specs.BatonSeats.{Seat, InOrder, Shows, ShowsEach}
+use Rattle.lot_station.specs.BatonSeats.{Seat, InOrder, Shows}
 use Rattle.lot_station.specs.BatonSums.{summed, summed_by, share, AddUp}
+use Rattle.lot_station.proofs.BatonClosing.{all_at}
 use Rattle.lot_station.proofs.BatonShares.{turns_by-append, turns_by-cons}
 
 -- g j + g (j + 1) + .., n numbers
@@ -89,9 +90,9 @@ in_a_row f g j (s ∷ seats) same =
     let rest = in_a_row f g (j + 1) seats (λ k y e. same (suc k) y e ∙ ap g (omega arith)) in
     omega (arith, sum_by-cons f s seats, first, rest)
 
-pub adds_up : (x : Seen) (p : ℕ) (seats : List Seat) → p ≡ x.setting.program.limits.processors → InOrder p seats → All (λ a. a ≤ x.setting.program.limits.processors) x.history → ShowsEach x seats → AddUp x seats
+pub adds_up : (x : Seen) (p : ℕ) (seats : List Seat) → p ≡ x.setting.program.limits.processors → InOrder p seats → All (λ a. a ≤ x.setting.program.limits.processors) x.history → All (Shows x) seats → AddUp x seats
 adds_up x p seats is order all shows f =
     let program = x.setting.program in
     let g : ℕ → ℕ = λ b. summed_by f program b (opening_world program) x.history in
-    let row = in_a_row (share f) g 0 seats (λ k s e. still f x s (shows k s e) ∙ ap g (order.1 k s e ∙ omega arith)) in
+    let row = in_a_row (share f) g 0 seats (λ k s e. still f x s (all_at (Shows x) seats shows k s e) ∙ ap g (order.1 k s e ∙ omega arith)) in
     sym (row ∙ ap (from_on g 0) (order.0 ∙ ap (λ n. n + 1) is) ∙ by_actors f program program.limits.processors (opening_world program) x.history all)

@@ -107,15 +107,3 @@ Dealt station seen seats = (k : ℕ) (s : Seat) → slice_get seats k ≡ Some s
 abbrev pub InOrder : ℕ → List Seat → Type 0
 InOrder processors seats =
     (length seats ≡ processors + 1) × ((k : ℕ) (s : Seat) → slice_get seats k ≡ Some s → s.actor ≡ k)
-
--- all are of the station
-abbrev pub AllOf : Baton → List Seat → Type 0
-AllOf station seats = (k : ℕ) (s : Seat) → slice_get seats k ≡ Some s → IsSeatOf station s
-
--- all are of this queue
-abbrev pub AllHere : TableId → List Seat → Type 0
-AllHere id seats = (k : ℕ) (s : Seat) → slice_get seats k ≡ Some s → s.station ≡ id
-
--- the system shows what each of them has seen
-abbrev pub ShowsEach : Seen → List Seat → Type 0
-ShowsEach x seats = (k : ℕ) (s : Seat) → slice_get seats k ≡ Some s → Shows x s

@@ -1,11 +1,11 @@
 //! The station, and what a seat may ask of the system.
-ghost use Rattle.std.specs.Prelude.{◌≡◌, ℕ, ◌+◌, ◌<◌, ◌↔◌, false, [], ◌∷◌, length, map, IfOk, IfErr, IsTrue};
+ghost use Rattle.std.specs.Prelude.{◌≡◌, ℕ, ◌+◌, ◌<◌, ◌↔◌, false, [], ◌∷◌, All, length, map, IfOk, IfErr, IsTrue};
 ghost use Rattle.crossbeam_queue.specs.Passes.{view, IsPassOf, ruled_capacity};
 ghost use Rattle.lot_system.specs.Seen.{Seen};
 ghost use Rattle.lot_system.specs.Turns.{Faults, IsWorkOf};
 ghost use Rattle.lot_station.specs.declared.baton.view.Claim.{Claim};
 ghost use Rattle.lot_station.specs.BatonViews.{Begins, Next, SeesAll, gave, holding, resting, took};
-ghost use Rattle.lot_station.specs.BatonSeats.{AllHere, AllOf, Dealt, InOrder, IsLegalIn, IsSameSeat, Looks, ShowsEach, Turns, claim_of};
+ghost use Rattle.lot_station.specs.BatonSeats.{Dealt, InOrder, IsLegalIn, IsSameSeat, IsSeatOf, Looks, Shows, Turns, claim_of};
 ghost use Rattle.lot_station.specs.BatonSums.{AddUp, CountsAddUp};
 
 use crate::baton::rule::{Both, Deals, Gives, Notes, OneBaton, Opens, Takes};
@@ -141,10 +141,10 @@ impl BatonStation {
     /// The seats have to be those that `open` gave with the station: where each of them is there once, in order, the system
     /// has all that each has seen, and each actor's turns are those that its seat has made.
     pub fn close<R: Wait>(self, rt: &R, seats: Vec<BatonSeat>) -> Result<System, SeatMissing>
-        requires { AllOf self seats.items }
+        requires { All (IsSeatOf self) seats.items }
         ensures order { IfOk result (λ x. InOrder self.processors seats.items) }
         ensures legal { IfOk result (λ x. IsLegalIn x) }
-        ensures shows { IfOk result (λ x. ShowsEach x seats.items) }
+        ensures shows { IfOk result (λ x. All (Shows x) seats.items) }
         ensures sums { IfOk result (λ x. AddUp x seats.items) }
         ensures counts { IfOk result (λ x. CountsAddUp x seats.items) }
         ensures err { IfErr result (λ e. (¬ InOrder self.processors seats.items) × (e.station ≡ self) × (e.seats ≡ seats)) }
@@ -178,7 +178,7 @@ fn in_order(processors: u32, seats: &[BatonSeat]) -> bool
 
 // One pass for all seats.
 fn joined(queue: &Queue, mut seats: Vec<BatonSeat>) -> Token
-    requires seats { AllHere queue.now.table.shared.table_id seats.items }
+    requires seats { All (λ s. s.station ≡ queue.now.table.shared.table_id) seats.items }
     requires some { 0 < length seats.items }
     ensures pass { IsPassOf queue.now result }
     ensures view { view result ≡ resting (map claim_of seats.items) }

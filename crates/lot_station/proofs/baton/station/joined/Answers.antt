@@ -4,7 +4,7 @@ use Rattle.lot_station.specs.declared.baton.view.View.{View}
 use Rattle.lot_station.specs.BatonViews.{resting}
 use Rattle.lot_station.specs.BatonSeats.{Seat, claim_of}
 use Rattle.lot_station.proofs.BatonSteps.{joins}
-use Rattle.lot_station.proofs.BatonClosing.{own_claim, head_first, at_middle, one_more, moves_on, all_taken}
+use Rattle.lot_station.proofs.BatonClosing.{here_at, own_claim, head_first, at_middle, one_more, moves_on, all_taken}
 use Rattle.lot_station.proofs.baton.station.joined.Goals as goal
 
 pub loop-seat-init : goal.loop-seat-init
@@ -12,7 +12,7 @@ loop-seat-init c =
     let gives = c.into_iter-seat-iterator.ensures.into_iter_gives in
     let first = c.remove.result in
     let all = head_first c.args.seats.items first c.requires.some c.remove.ensures.value ∙ ap (λ l. first ∷ l) (sym (gives.0 ∙ c.remove.ensures.items)) in
-    let here = ap (λ (s : Seat). s.station) c.pass.view_is ∙ c.requires.seats 0 first (ap (λ l. slice_get l 0) all) in (
+    let here = ap (λ (s : Seat). s.station) c.pass.view_is ∙ here_at _ _ c.requires.seats 0 first (ap (λ l. slice_get l 0) all) in (
       tt,
       tt,
       (here, c.pass.invariant.0),
@@ -26,7 +26,7 @@ absorb-requires-clause-queue c =
     let old = i.4.0 ∷ c.loop-seat.yielded in
     let next = c.in-Some.seat in
     let all = i.4.1 ∙ ap (λ l. old ++ l) c.in-Some.ensures.steps.0 in
-    let here = ap (λ (s : Seat). s.station) c.seat.view_is ∙ c.requires.seats (length old) next (ap (λ l. slice_get l (length old)) all ∙ at_middle old next c.next.new.self.rest.items) in
+    let here = ap (λ (s : Seat). s.station) c.seat.view_is ∙ here_at _ _ c.requires.seats (length old) next (ap (λ l. slice_get l (length old)) all ∙ at_middle old next c.next.new.self.rest.items) in
     (i.2, (here, c.seat.invariant.0))
 
 pub absorb-requires-clause-rule : goal.absorb-requires-clause-rule

@@ -2,7 +2,7 @@ use Rattle.std.proofs.Common.{ℕ, List, refl, ap, subst}
 use Rattle.lot_station.specs.declared.baton.view.View.{View}
 use Rattle.lot_station.specs.BatonViews.{SeesAll}
 use Rattle.lot_station.specs.BatonSeats.{Seat, Baton, InOrder}
-use Rattle.lot_station.proofs.BatonClosing.{shown, last_actor}
+use Rattle.lot_station.proofs.BatonClosing.{each_all, shown, last_actor}
 use Rattle.lot_station.proofs.BatonCounting.{counts_add_up}
 use Rattle.lot_station.proofs.BatonSharing.{adds_up}
 use Rattle.lot_station.proofs.baton.station.BatonStation.close.Goals as goal
@@ -13,7 +13,7 @@ returns-clause-order g c =
 
 pub returns-clause-shows : goal.returns-clause-shows
 returns-clause-shows g c =
-    shown c.take-system.result c.args.seats.items (subst (λ (y : View). SeesAll c.take-system.result y.claims) c.joined-pass.ensures.view c.take-system.ensures.seen)
+    each_all _ c.args.seats.items (shown c.take-system.result c.args.seats.items (subst (λ (y : View). SeesAll c.take-system.result y.claims) c.joined-pass.ensures.view c.take-system.ensures.seen))
 
 pub returns-clause-sums : goal.returns-clause-sums
 returns-clause-sums g c =
