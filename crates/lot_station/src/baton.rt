@@ -6,3 +6,6 @@ mod view;
 
 pub use seat::BatonSeat;
 pub use station::{BatonStation, SeatMissing};
+
+#[cfg(test)]
+mod tests;

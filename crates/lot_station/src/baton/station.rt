@@ -54,6 +54,7 @@ impl BatonStation {
         ensures processors { IfOk result (λ r. r.0.processors ≡ system.setting.program.limits.processors) }
         ensures seats { IfOk result (λ r. length r.1.items ≡ system.setting.program.limits.processors + 1) }
         ensures dealt { IfOk result (λ r. Dealt r.0.id system r.1.items) }
+        ensures own { IfOk result (λ r. All (IsSeatOf r.0) r.1.items) }
     {
         let processors = system.processors();
         let count = processors as usize + 1;

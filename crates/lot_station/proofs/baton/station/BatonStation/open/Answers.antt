@@ -1,8 +1,8 @@
 use Rattle.std.proofs.Common.{rules, None, ap, ◌∙◌}
 use Rattle.lot_station.specs.BatonViews.{all_but_first, first_actor}
-use Rattle.lot_station.specs.BatonSeats.{seat, seen_in}
+use Rattle.lot_station.specs.BatonSeats.{baton, seat, seen_in}
 use Rattle.lot_station.proofs.BatonSteps.{opens, deals}
-use Rattle.lot_station.proofs.BatonClosing.{deals_one}
+use Rattle.lot_station.proofs.BatonClosing.{deals_one, dealt_of}
 use Rattle.lot_station.proofs.baton.station.BatonStation.open.Goals as goal
 
 pub try_push_as-requires-clause-rule : goal.try_push_as-requires-clause-rule
@@ -22,3 +22,7 @@ loop-k-preserved c =
       search rules,
       search rules,
     )
+
+pub returns-clause-own : goal.returns-clause-own
+returns-clause-own c =
+    dealt_of (baton c.in_ok-queue.queue.table.shared.table_id c.processors-processors.result) c.args.system c.loop-k.seats.items c.processors-processors.ensures.program c.loop-k.invariant.2
