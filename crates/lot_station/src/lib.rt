@@ -12,3 +12,6 @@ mod station;
 pub use desk::TurnLedger;
 pub use seat::Seat;
 pub use station::{CloseFault, Station};
+
+#[cfg(test)]
+mod tests;
