@@ -1,7 +1,9 @@
-//! `lot_sim play` reads an input from standard input and writes what playing it gives.
+//! `lot_sim play` reads an input from standard input and writes what playing its schedule gives; `lot_sim run` has workers
+//! make its turns, and writes the report and a schedule that gives it back.
 #![tactic(auto)]
 
 mod command_line;
+mod run;
 mod status;
 #[cfg(test)]
 mod tests;
@@ -16,6 +18,7 @@ fn main(rt: HostRuntime) -> ExitCode {
     let status = match env::args(&rt) {
         Ok(args) => match args.collect::<Vec<String>>(rt.alloc()) {
             Ok(words) => status::status(
+                &rt,
                 rt.alloc(),
                 words.as_slice(),
                 rt.reader(),

@@ -1,13 +1,16 @@
 //! What the program does, as a function of its words, its input and its outputs.
 
 use crate::command_line::{Request, request_of};
+use crate::run::run;
 use clap::Error;
 use clap::error::ErrorKind;
-use lot_system::{PlayFault, Played, play};
+use lot_system::{Played, play};
 use lot_text::Watched;
 use std::alloc::Global;
 use std::convert::AsStr;
 use std::io::{BufWriter, Read, Write};
+use std::sync::Wait;
+use std::thread::Threads;
 
 /// Done, or help was asked for.
 const DONE: u8 = 0;
@@ -15,34 +18,44 @@ const DONE: u8 = 0;
 const REFUSED: u8 = 1;
 /// The command line was refused.
 const COMMAND_LINE: u8 = 2;
-/// Memory was refused, or a read or a write failed.
+/// Memory was refused, a read or a write failed, or workers stopped early.
 const FAILED: u8 = 3;
 
 /// Runs the program with these words, of which the first is its own name, and answers its exit status.
-pub(crate) fn status<S: AsStr, R: Read + Drop, W: Write + Drop, E: Write + Drop>(
-    alloc: Global,
-    words: &[S],
-    reader: R,
-    output: W,
-    mut errors: E,
-) -> u8 {
+pub(crate) fn status<
+    H: Threads + Wait + Sync,
+    S: AsStr,
+    R: Read + Drop,
+    W: Write + Drop,
+    E: Write + Drop,
+>(rt: &H, alloc: Global, words: &[S], reader: R, output: W, mut errors: E) -> u8 {
     match request_of(alloc, words) {
-        Ok(Request::Play) => play_status(alloc, reader, output),
+        Ok(request) => request_status(rt, alloc, request, reader, output),
         Err(error) => told(&error, output, &mut errors),
     }
 }
 
-/// The exit status of `play`.
-fn play_status<R: Read + Drop, W: Write + Drop>(alloc: Global, reader: R, output: W) -> u8 {
+/// The exit status of what was asked for.
+fn request_status<H: Threads + Wait + Sync, R: Read + Drop, W: Write + Drop>(
+    rt: &H,
+    alloc: Global,
+    request: Request,
+    reader: R,
+    output: W,
+) -> u8 {
     let Ok(buffered) = BufWriter::new(alloc, output) else {
         return FAILED;
     };
     let mut reader = Watched::new(reader);
     let mut writer = Watched::new(buffered);
-    match play(alloc, &mut reader, &mut writer) {
-        Ok(Played::Done) => DONE,
-        Ok(Played::Refused) => REFUSED,
-        Err(PlayFault::Memory | PlayFault::Read | PlayFault::Write) => FAILED,
+    let played = match request {
+        Request::Play => play(alloc, &mut reader, &mut writer).ok(),
+        Request::Run => run(rt, alloc, &mut reader, &mut writer).ok(),
+    };
+    match played {
+        Some(Played::Done) => DONE,
+        Some(Played::Refused) => REFUSED,
+        None => FAILED,
     }
 }
 

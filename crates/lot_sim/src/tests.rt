@@ -268,6 +268,52 @@ processor 1 quanta 4 idle 1 ticks 9
 total turns 12 quanta 4 ticks 9
 ";
 
+/// A loop of 9 ticks and the exit behind it, in quanta of 9 ticks.
+const LOOP_IN_TWO: &str = "lottery 1
+quantum 9
+script s
+loop 2
+compute 3
+end
+endscript
+fundx 1 base a s
+schedule 0 1 1 1 1
+";
+
+const LOOP_IN_TWO_PLAYED: &str = "0 funded 1 1
+1 draw 0 of 1 thread 1
+1 thread 1 ticks 9 expire
+1 draw 0 of 1 thread 1
+1 thread 1 ticks 1 exit
+report
+thread 1 a quanta 2 ticks 10
+processor 1 quanta 2 idle 0 ticks 10
+total turns 5 quanta 2 ticks 10
+";
+
+/// The same in one quantum.
+const LOOP_IN_ONE: &str = "lottery 1
+quantum 10
+script s
+loop 2
+compute 3
+end
+endscript
+fundx 1 base a s
+schedule 0 1 1 1 1
+";
+
+const LOOP_IN_ONE_PLAYED: &str = "0 funded 1 1
+1 draw 0 of 1 thread 1
+1 thread 1 ticks 10 exit
+1 idle
+1 idle
+report
+thread 1 a quanta 1 ticks 10
+processor 1 quanta 1 idle 2 ticks 10
+total turns 5 quanta 1 ticks 10
+";
+
 #[test]
 fn played(rt: HostRuntime) {
     let rows = [
@@ -279,6 +325,8 @@ fn played(rt: HostRuntime) {
         ("lottery 1\nlstkt\n", 0, EMPTY_REPORT),
         (CURRENCY_GRAPH, 0, CURRENCY_LISTINGS),
         (CALL_AND_REPLY, 0, CALL_AND_REPLY_PLAYED),
+        (LOOP_IN_TWO, 0, LOOP_IN_TWO_PLAYED),
+        (LOOP_IN_ONE, 0, LOOP_IN_ONE_PLAYED),
     ];
     for (input, code, output) in rows {
         check_play(&rt, rt.alloc(), input, code, output);
@@ -456,10 +504,10 @@ impl Write for FailingCall {
 
 /// Plays the input to a writer whose call of this number fails, and answers whether it has failed: then what it took is a
 /// beginning of the whole output.
-fn has_failed(
+fn writing_fails(
     rt: &impl Abort,
     alloc: Global,
-    input: &str,
+    (input, output): (&str, &str),
     fails_at: u32,
     kind: Option<ErrorKind>,
 ) -> bool {
@@ -473,7 +521,7 @@ fn has_failed(
     let ended = play(alloc, &mut reader, &mut writer);
     let has_failed = writer.failed();
     let FailingCall { written, calls, .. } = writer.into_inner();
-    let whole = CURRENCY_LISTINGS.as_bytes();
+    let whole = output.as_bytes();
     if has_failed {
         assert_eq!(rt; (ended, calls), (Err(PlayFault::Write), fails_at));
         assert!(rt; whole.starts_with(written.as_slice()), "at call {fails_at}");
@@ -484,10 +532,99 @@ fn has_failed(
     has_failed
 }
 
-/// The number of the first call whose failure doesn't come, since there are fewer.
-fn first_unmade(rt: &impl Abort, alloc: Global, input: &str, kind: Option<ErrorKind>) -> u32 {
+/// The number of the first write or flush whose failure doesn't come, since there are fewer.
+fn first_unmade_write(
+    rt: &impl Abort,
+    alloc: Global,
+    row: (&str, &str),
+    kind: Option<ErrorKind>,
+) -> u32 {
     for call in 1..1000 {
-        if !has_failed(rt, alloc, input, call, kind) {
+        if !writing_fails(rt, alloc, row, call, kind) {
+            return call;
+        }
+    }
+    0
+}
+
+/// The input with tables of these limits, which stand behind its first so many bytes.
+fn with_limits(alloc: Global, input: &str, front: &str, limits: &str) -> Result<String, Fail> {
+    let rest = input.strip_prefix(front).ok_or("a first line")?;
+    Ok(format!(in alloc; "{front}limits {limits}\n{rest}")?)
+}
+
+#[test]
+fn failing_writers(rt: HostRuntime) -> Result<(), Fail> {
+    let alloc = rt.alloc();
+    let graph = with_limits(alloc, CURRENCY_GRAPH, "lottery 1\n", "8 5 3")?;
+    let call = with_limits(alloc, CALL_AND_REPLY, "lottery 1\nquantum 10\n", "2 1 2")?;
+    for kind in [Some(ErrorKind::Other), Some(ErrorKind::Interrupted), None] {
+        for row in [
+            (graph.as_str(), CURRENCY_LISTINGS),
+            (call.as_str(), CALL_AND_REPLY_PLAYED),
+        ] {
+            let unmade = first_unmade_write(&rt, alloc, row, kind);
+            assert!(rt; 50 < unmade, "{unmade}");
+        }
+    }
+    Ok(())
+}
+
+/// A reader of a few bytes at a time, whose call of this number fails.
+#[derive(Drop)]
+struct FailingRead<'a> {
+    rest: &'a [u8],
+    calls: u32,
+    fails_at: u32,
+    kind: ErrorKind,
+}
+
+impl Read for FailingRead<'_> {
+    fn read(&mut self, buf: &mut [u8]) -> io::Result<usize> {
+        self.calls = self.calls.saturating_add(1);
+        if self.calls == self.fails_at {
+            return Err(io::Error::from(self.kind));
+        }
+        let few = buf.len().min(5);
+        self.rest.read(&mut buf[..few])
+    }
+}
+
+/// Plays the input from a reader whose call of this number fails, and answers whether it has failed: then nothing was
+/// written.
+fn reading_fails(
+    rt: &impl Abort,
+    alloc: Global,
+    (input, output): (&str, &str),
+    fails_at: u32,
+    kind: ErrorKind,
+) -> bool {
+    let mut reader = Watched::new(FailingRead {
+        rest: input.as_bytes(),
+        calls: 0,
+        fails_at,
+        kind,
+    });
+    let mut writer = Watched::new(Vec::new(alloc));
+    let ended = play(alloc, &mut reader, &mut writer);
+    let written = writer.into_inner();
+    if reader.failed() {
+        assert_eq!(rt; ended, Err(PlayFault::Read));
+        assert!(rt; written.is_empty(), "at call {fails_at}");
+    } else {
+        assert_eq!(rt; ended, Ok(Played::Done));
+        assert!(rt;
+            output.as_bytes() == written.as_slice(),
+            "at call {fails_at}"
+        );
+    }
+    reader.failed()
+}
+
+/// The number of the first read whose failure doesn't come, since there are fewer.
+fn first_unmade_read(rt: &impl Abort, alloc: Global, row: (&str, &str), kind: ErrorKind) -> u32 {
+    for call in 1..1000 {
+        if !reading_fails(rt, alloc, row, call, kind) {
             return call;
         }
     }
@@ -495,15 +632,12 @@ fn first_unmade(rt: &impl Abort, alloc: Global, input: &str, kind: Option<ErrorK
 }
 
 #[test]
-fn failing_writers(rt: HostRuntime) -> Result<(), Fail> {
+fn failing_readers(rt: HostRuntime) -> Result<(), Fail> {
     let alloc = rt.alloc();
-    let graph = CURRENCY_GRAPH
-        .strip_prefix("lottery 1\n")
-        .ok_or("a first line")?;
-    let input = format!(in alloc; "lottery 1\nlimits 8 5 3\n{graph}")?;
-    for kind in [Some(ErrorKind::Other), Some(ErrorKind::Interrupted), None] {
-        let call = first_unmade(&rt, alloc, input.as_str(), kind);
-        assert!(rt; 100 < call, "{call}");
+    let call = with_limits(alloc, CALL_AND_REPLY, "lottery 1\nquantum 10\n", "2 1 2")?;
+    for kind in [ErrorKind::Other, ErrorKind::Interrupted] {
+        let unmade = first_unmade_read(&rt, alloc, (call.as_str(), CALL_AND_REPLY_PLAYED), kind);
+        assert!(rt; 30 < unmade, "{unmade}");
     }
     Ok(())
 }

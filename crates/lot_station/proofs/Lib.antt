@@ -2,3 +2,9 @@ pub mod Totals
 pub mod Counting
 pub mod Dealing
 pub mod Merging
+pub mod BatonClosing
+pub mod BatonCounting
+pub mod BatonShares
+pub mod BatonSharing
+pub mod BatonSteps
+pub mod BatonTelling

@@ -8,9 +8,13 @@ use Rattle.lot_system.specs.Seen.{Setting, Seen}
 abbrev pub turns_in : Seen → List ActorTurn
 turns_in x = turns_made x.setting.program x.history
 
+-- how many turns of the actor a history has
+abbrev pub turns_by : ℕ → List ℕ → ℕ
+turns_by actor history = count_by (λ a. a == actor) history
+
 -- how often the actor stands in the system's history
 abbrev pub times_in : Seen → ℕ → ℕ
-times_in x actor = count_by (λ a. a == actor) x.history
+times_in x actor = turns_by actor x.history
 
 -- it is so of a system of this program and room, after some legal history
 pub record AtSome (setting : Setting) (IsSo : Seen → Type 0) : Type 0 where
@@ -31,3 +35,7 @@ no_setting = record {
   };
   room = 0;
 }
+
+-- a system of it that has had no turn
+abbrev pub nothing_seen : Seen
+nothing_seen = record { setting = no_setting; history = [] }

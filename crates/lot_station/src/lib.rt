@@ -1,6 +1,7 @@
-//! One system that many threads share.
+//! One system that many threads share: under a lock, or as a baton that goes round.
 #![tactic(auto)]
 
+mod baton;
 mod calls;
 mod closing;
 mod desk;
@@ -9,6 +10,7 @@ mod opening;
 mod seat;
 mod station;
 
+pub use baton::{BatonSeat, BatonStation, SeatMissing};
 pub use desk::TurnLedger;
 pub use seat::Seat;
 pub use station::{CloseFault, Station};

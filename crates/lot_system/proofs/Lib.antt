@@ -4,6 +4,8 @@ pub mod Runs
 pub mod PlaceFacts
 pub mod TurnFacts
 pub mod CountFacts
+pub mod RecordCounts
+pub mod ProcessorCounts
 pub mod WritingFacts
 pub mod ListingFacts
 pub mod PlayingFacts

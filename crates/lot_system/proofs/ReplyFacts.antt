@@ -121,7 +121,7 @@ winner-within ws number place first below = from (length ws) refl
     from zero is = absurd (omega (arith, below, ap sum (sym (take-all ws 0 (omega (arith, is))))))
     from (suc n) is = grind (arith, first.first n, ap sum (take-all ws (suc n) (omega (arith, is))), below, is)
 
-drawn-names : (s : State) (p d : ℕ) → OfDraw (length s.records) (draw s p d).reply
+pub drawn-names : (s : State) (p d : ℕ) → OfDraw (length s.records) (draw s p d).reply
 drawn-names s p d = at (winner weights d) refl (winner-is weights d)
   where
     weights : List ℕ

@@ -61,7 +61,7 @@ module _ (records : List Record) where
       at [] is = rw is refl
       at (w ∷ ws) is = rw is (length-change_record _ records _)
 
-effect-same : (s : State) (t : ℕ) (action : Action) → IsSame s (trap_effect s t action).state
+pub effect-same : (s : State) (t : ℕ) (action : Action) → IsSame s (trap_effect s t action).state
 effect-same s t Yield = same s
 effect-same s t (Call port number) = record { threads = refl; records = call-records s.records s.clients s.ports t port number; limits = refl }
 effect-same s t (Receive port) = record { threads = refl; records = receive-records s.records s.clients s.ports t port; limits = refl }
@@ -70,7 +70,7 @@ effect-same s t (Lock m) = record { threads = refl; records = lock-records s.rec
 effect-same s t (Unlock m d) = record { threads = refl; records = unlock-records s.records s.mutexes (value_of s) m d; limits = refl }
 effect-same s t Exit = same s
 
-checked-same : (s : State) (o : Option TrapRefusal) (effect : Effect) → IsSame s effect.state → IsSame s (checked_effect s o effect).state
+pub checked-same : (s : State) (o : Option TrapRefusal) (effect : Effect) → IsSame s effect.state → IsSame s (checked_effect s o effect).state
 checked-same s None effect is = is
 checked-same s (Some refusal) effect is = same s
 

@@ -8,3 +8,4 @@ pub mod Listing
 pub mod Playing
 pub mod Reading
 pub mod Played
+pub mod Fitting

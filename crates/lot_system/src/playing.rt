@@ -20,10 +20,9 @@ ghost use Rattle.lot_system.specs.Writing.{IsFaultOf, Writes};
 use crate::lines::{write_ended, write_fault, write_turn};
 use crate::listing::write_listing;
 use crate::report::write_report;
-use crate::turn::Work;
+use crate::slices::slice_of;
 use crate::{PlayFault, System, read_input};
 use lot_machine::{Event, InputFault, Reply};
-use lot_script::Slice;
 use lot_text::{ParseFault, Program, Watched, parse};
 use std::alloc::Global;
 use std::io::{Read, Write};
@@ -70,8 +69,8 @@ fn play_bytes<W: Write>(
     }
 }
 
-/// Writes the one line of a refused input.
-fn refuse<W: Write>(fault: InputFault, writer: &mut Watched<W>) -> Result<Played, PlayFault>
+/// Writes the one line of a refused input, as `play` does.
+pub fn refuse<W: Write>(fault: InputFault, writer: &mut Watched<W>) -> Result<Played, PlayFault>
     requires { writer.old.1 ≡ false }
     ensures { Plays (W.contents writer.old.0) (W.contents writer.new.0) writer.new.1 result Refused (fault_line fault) }
 {
@@ -181,15 +180,4 @@ fn write_answer<W: Write>(
         Reply::List(kind) => write_listing(system, actor, kind, writer),
         reply => write_turn(writer, actor, event, reply),
     }
-}
-
-/// The slice of a thread's script that is its work.
-fn slice_of(program: &Program, work: Work) -> Slice<'_>
-    requires there { IsBetween 1 (length program.now.scripts) work.script }
-    requires fits { Fits (script_lines program.now work.script) work.context }
-    requires budget { IsBetween 1 1000 work.budget }
-    ensures { IsSliceOf program.now work result }
-{
-    let script = &program.scripts()[work.script as usize - 1];
-    script.slice(work.context, work.budget)
 }

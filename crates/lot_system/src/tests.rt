@@ -1,6 +1,11 @@
-use crate::{System, TurnFault, write_end};
-use lot_machine::Reply;
-use lot_text::{Watched, parse};
+//! Systems: turns and what each answers, reports, histories, and runs in which memory is refused.
+
+mod memory;
+mod reports;
+mod turns;
+
+use crate::System;
+use lot_text::{Program, parse};
 use std::alloc::Global;
 use std::test::Fail;
 
@@ -12,102 +17,58 @@ endscript
 fundx 1 base a s
 ";
 
-/// What a turn comes to, with the slice of the work where one is asked for: the reply's kind, or the fault.
-fn made(
-    system: &mut System,
-    alloc: Global,
-    actor: u32,
-    with_slice: bool,
-) -> Result<&'static str, Fail> {
-    let Ok(program) = parse(alloc, SPINNER.as_bytes()) else {
-        return Err("program".into());
-    };
-    let work = match system.work(actor) {
-        Some(work) if with_slice => Some(work),
-        _ => None,
-    };
-    let slice = match (work, program.scripts().first()) {
-        (Some(work), Some(script))
-            if script.fits(&work.context) && 0 < work.budget && work.budget <= 1000 => {
+/// A client calls a server with 41, and is answered 42.
+const CALL_AND_REPLY: &str = "lottery 1
+quantum 10
+port p
+script srv
+receive p
+add 1
+reply
+endscript
+script cli
+set 41
+call p
+compute 2
+endscript
+fundx 5 base s srv
+fundx 5 base c cli
+schedule 0 0 1 1 1 1 1 1 1 1 1 1
+";
+
+/// The program that the input says.
+fn program_of(alloc: Global, input: &str) -> Result<Program, Fail> {
+    match parse(alloc, input.as_bytes()) {
+        Ok(program) => Ok(program),
+        Err(_) => Err("a program".into()),
+    }
+}
+
+/// The actor's turn, with the slice of its work if it has any; whether it was made.
+fn make_turn(system: &mut System, program: &Program, actor: u32) -> Result<bool, Fail> {
+    if actor > system.processors() {
+        return Err("an actor".into());
+    }
+    let slice = match system.work(actor) {
+        Some(work) => {
+            let place = work.script.saturating_sub(1) as usize;
+            let script = program.scripts().get(place).ok_or("a script")?;
+            if !script.fits(&work.context) || work.budget == 0 || work.budget > 1000 {
+                return Err("a slice".into());
+            }
             Some(script.slice(work.context, work.budget))
         }
-        _ => None,
+        None => None,
     };
-    if actor > system.processors() {
-        return Err("actor".into());
-    }
-    Ok(match system.turn(actor, slice) {
-        Ok(answer) => match answer.reply {
-            Reply::Funded { .. } => "funded",
-            Reply::Winner { .. } => "draw",
-            Reply::Expired { .. } => "expire",
-            Reply::Trapped { .. } => "trap",
-            _ => "other",
-        },
-        Err(TurnFault::Stale(Some(_))) => "stale",
-        Err(TurnFault::Stale(None)) => "no work",
-        Err(TurnFault::Ended) => "ended",
-        Err(TurnFault::HistoryFull) => "full",
-    })
+    Ok(system.turn(actor, slice).is_ok())
 }
 
-// Stale comes before Ended and HistoryFull, and a fault leaves the history as it is.
-#[test]
-fn faults_in_order(rt: HostRuntime) -> Result<(), Fail> {
-    let alloc = rt.alloc();
-    let Ok(program) = parse(alloc, SPINNER.as_bytes()) else {
-        return Err("program".into());
-    };
-    let mut system = System::open(alloc, &program, 4)?;
-    for (actor, with_slice, expected, turns) in [
-        (0, false, "funded", 1),
-        (0, false, "ended", 1),
-        (1, false, "draw", 2),
-        (1, false, "stale", 2),
-        (1, true, "expire", 3),
-        (1, false, "draw", 4),
-        (1, false, "stale", 4),
-        (1, true, "full", 4),
-        (0, false, "ended", 4),
-    ] {
-        assert_eq!(rt;
-            made(&mut system, alloc, actor, with_slice)?,
-            expected,
-            "{turns}"
-        );
-        assert_eq!(rt; system.history().len(), turns);
+/// A turn of each of these actors, in order.
+fn make_turns(system: &mut System, program: &Program, actors: &[u8]) -> Result<(), Fail> {
+    for actor in actors {
+        if !make_turn(system, program, u32::from(*actor))? {
+            return Err("a turn".into());
+        }
     }
-    Ok(())
-}
-
-// The report and the history of a draw and a slice of 100 ticks.
-#[test]
-fn end_of_a_run(rt: HostRuntime) -> Result<(), Fail> {
-    let alloc = rt.alloc();
-    let Ok(program) = parse(alloc, SPINNER.as_bytes()) else {
-        return Err("program".into());
-    };
-    let mut system = System::open(alloc, &program, 3)?;
-    for (actor, with_slice, expected) in [
-        (0, false, "funded"),
-        (1, false, "draw"),
-        (1, true, "expire"),
-    ] {
-        assert_eq!(rt; made(&mut system, alloc, actor, with_slice)?, expected);
-    }
-    let mut writer = Watched::new(Vec::new(alloc));
-    assert!(rt; write_end(&mut system, &mut writer).is_ok());
-    let written = writer.into_inner();
-    assert_eq!(rt;
-        std::str::from_utf8(&written),
-        Ok(
-            "report
-thread 1 a quanta 1 ticks 100
-processor 1 quanta 1 idle 0 ticks 100
-total turns 3 quanta 1 ticks 100
-schedule 0 1 1
-"
-        )
-    );
     Ok(())
 }

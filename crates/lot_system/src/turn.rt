@@ -7,6 +7,7 @@ ghost use Rattle.lot_script.specs.Slices.{IsSlice};
 ghost use Rattle.lot_system.specs.Steps.{done_of, event_given};
 ghost use Rattle.lot_system.specs.Turns.{IsSliceOf, Matches};
 
+use crate::slices::script_numbered;
 use lot_machine::{Action, Event, Reply, ScriptTrap};
 use lot_script::{Context, Slice};
 use lot_text::Program;
@@ -49,8 +50,7 @@ fn is_slice_of(program: &Program, work: &Work, slice: &Slice) -> bool
     requires { IsBetween 1 (length program.now.scripts) work.now.script }
     ensures { IsTrue result ↔ IsSliceOf program.now work.now slice.now }
 {
-    let script = &program.scripts()[work.script as usize - 1];
-    script.is_same(slice.script())
+    script_numbered(program, work.script).is_same(slice.script())
         && slice.start().is_same(&work.context)
         && slice.budget() == work.budget
 }

@@ -1,0 +1,17 @@
+//! What a processor's worker passes before its turns.
+
+/// Something that the worker of each processor passes before each of its turns, while it holds nothing that the others
+/// need. The console's worker passes none.
+pub trait Gate {
+    /// Called by the worker of the processor `processor` with its slice at hand, before it makes its turn number `turn`,
+    /// which counts from 1.
+    fn pass(&self, processor: u32, turn: u32);
+}
+
+/// A gate that is always open.
+#[derive(Clone, Copy, Debug)]
+pub struct OpenGate;
+
+impl Gate for OpenGate {
+    fn pass(&self, _processor: u32, _turn: u32) {}
+}

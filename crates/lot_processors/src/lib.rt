@@ -1,0 +1,12 @@
+//! Worker threads: one for each processor of a shared system, and one for its console.
+#![tactic(auto)]
+
+mod fault;
+mod gate;
+mod running;
+mod workers;
+
+pub use fault::RunFault;
+pub use gate::{Gate, OpenGate};
+pub use running::{FreeRunFault, free_run};
+pub use workers::run_all;

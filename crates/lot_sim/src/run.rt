@@ -1,0 +1,95 @@
+//! A free run: the turns of an input's program, made by workers.
+ghost use Rattle.std.specs.Prelude.{◌≡◌, ℕ, List, false, IfOk};
+ghost use Rattle.std.specs.Io.KnownBytes.{Appends};
+ghost use Rattle.lot_machine.specs.Grammar.{program_in};
+ghost use Rattle.lot_machine.specs.Output.{end_text};
+ghost use Rattle.lot_system.specs.declared.playing.Played.TheVariants.{Done};
+ghost use Rattle.lot_system.specs.Reading.{HasRead};
+ghost use Rattle.lot_sim.specs.Running.{HasRun};
+
+use lot_processors::{FreeRunFault, OpenGate, free_run};
+use lot_system::{PlayFault, Played, System, read_input, refuse, write_end};
+use lot_text::{ParseFault, Program, Watched, parse};
+use std::alloc::Global;
+use std::io::{Read, Write};
+use std::sync::Wait;
+use std::thread::Threads;
+use thiserror::Error;
+
+/// Why a free run of an input stops early. Nothing was written unless the writer has failed.
+#[derive(Debug, Drop, Error)]
+pub(crate) enum RunStop {
+    /// Memory was refused, or the reader or the writer has failed.
+    #[error("{0}")]
+    Play(PlayFault),
+    /// The workers stopped early, or there was no memory for them.
+    #[error("{0}")]
+    Workers(FreeRunFault),
+}
+
+impl From<PlayFault> for RunStop {
+    fn from(fault: PlayFault) -> Self {
+        RunStop::Play(fault)
+    }
+}
+
+/// Reads an input, has its commands run and its processors' turns made by workers, and writes the report and the history;
+/// or one line, where the input is refused. Its schedule is ignored. It may wait.
+pub(crate) fn run<R: Read, W: Write, H: Threads + Wait + Sync>(
+    rt: &H,
+    alloc: Global,
+    reader: &mut Watched<R>,
+    writer: &mut Watched<W>,
+) -> Result<Played, RunStop>
+    requires { (reader.old.1 ≡ false) × (writer.old.1 ≡ false) }
+    ensures { IfOk result (λ played. (bytes : List ℕ) × HasRead (R.remaining reader.old.0) (R.remaining reader.new.0) bytes × HasRun (program_in bytes) (W.contents writer.old.0) (W.contents writer.new.0) played) }
+{
+    let bytes = read_input(alloc, reader)?;
+    run_bytes(rt, alloc, &bytes, writer)
+}
+
+/// Runs what these bytes say, or writes why they are refused.
+fn run_bytes<W: Write, H: Threads + Wait + Sync>(
+    rt: &H,
+    alloc: Global,
+    bytes: &[u8],
+    writer: &mut Watched<W>,
+) -> Result<Played, RunStop>
+    requires { writer.old.1 ≡ false }
+    ensures { IfOk result (λ played. HasRun (program_in bytes.now) (W.contents writer.old.0) (W.contents writer.new.0) played) }
+{
+    match parse(alloc, bytes) {
+        Ok(program) => run_program(rt, alloc, &program, writer),
+        Err(ParseFault::Memory) => Err(RunStop::Play(PlayFault::Memory)),
+        Err(ParseFault::Input(fault)) => Ok(refuse(fault, writer)?),
+    }
+}
+
+/// Runs the program in a system of its own, and writes its report and its history.
+fn run_program<W: Write, H: Threads + Wait + Sync>(
+    rt: &H,
+    alloc: Global,
+    program: &Program,
+    writer: &mut Watched<W>,
+) -> Result<Played, RunStop>
+    requires { writer.old.1 ≡ false }
+    ensures { IfOk result (λ played. HasRun (Ok program.now) (W.contents writer.old.0) (W.contents writer.new.0) played) }
+{
+    let mut system = match free_run(rt, alloc, program, &OpenGate) {
+        Ok(system) => system,
+        Err(fault) => return Err(RunStop::Workers(fault)),
+    };
+    Ok(write_run(&mut system, writer)?)
+}
+
+/// Writes the system's report and its history, and flushes.
+fn write_run<W: Write>(system: &mut System, writer: &mut Watched<W>) -> Result<Played, PlayFault>
+    requires { writer.old.1 ≡ false }
+    ensures { IfOk result (λ played. (played ≡ Done) × Appends (W.contents writer.old.0) (W.contents writer.new.0) (end_text system.old.setting.program system.old.history)) }
+{
+    write_end(system, writer)?;
+    match writer.flush() {
+        Ok(()) => Ok(Played::Done),
+        Err(_) => Err(PlayFault::Write),
+    }
+}

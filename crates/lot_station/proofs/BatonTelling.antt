@@ -1,0 +1,73 @@
+-- What a seat may say after it had the system in its hands.
+use Rattle.std.proofs.Common.{◌≡◌, ℕ, ◌+◌, Option, [], ◌∷◌, Result, Ok, Err, IfOk, IfErr, refl, sym, ap, ◌∙◌, subst, inl, inr, arith}
+use Rattle.lot_script.specs.Slices.{Parts}
+use Rattle.lot_system.specs.declared.fault.TurnFault.{TurnFault}
+use Rattle.lot_system.specs.declared.turn.Answer.{Answer}
+use Rattle.lot_system.specs.Seen.{Seen, after_turn}
+use Rattle.lot_system.specs.Turns.{Answers, Faults, Goes}
+use Rattle.lot_station.specs.declared.baton.view.Claim.{Claim}
+use Rattle.lot_station.specs.declared.baton.view.View.{View}
+use Rattle.lot_station.specs.BatonViews.{claim, resting, holding, took, gave, note_of, together, Begins, Sees, Next}
+use Rattle.lot_station.specs.Settings.{turns_by}
+use Rattle.lot_station.specs.BatonSeats.{Seat, IsLegalIn, Looks, Turns}
+use Rattle.lot_station.proofs.BatonShares.{turns_by-append, turns_by-own}
+
+-- the clauses of the system's `turn`, where its answer is Ok, and where it is Err
+abbrev pub TurnOk : ℕ → Option Parts → Seen → Seen → Answer → Type 0
+TurnOk a given was x answer = Goes was a given × (x ≡ after_turn was a) × Answers was a answer
+
+abbrev pub TurnErr : ℕ → Option Parts → Seen → Seen → TurnFault → Type 0
+TurnErr a given was x fault = Faults was a given fault × (x ≡ was)
+
+pub held_after : (p q : View) (a : ℕ) (s was : Seen) → p ≡ resting (claim a (a + 1) s ∷ []) → q ≡ took p was → q ≡ holding was (claim a (a + 1) s)
+held_after p q a s was is now = now ∙ ap (λ (y : View). took y was) is
+
+pub given_after : (q r : View) (a : ℕ) (s was x : Seen) → q ≡ holding was (claim a (a + 1) s) → r ≡ gave q x → r ≡ resting (claim a (a + 1) x ∷ [])
+given_after q r a s was x is now = now ∙ ap (λ (y : View). gave y x) is
+
+-- the system that is given back is the one that was taken, with one turn more at most
+pub next_turn : (a : ℕ) (given : Option Parts) (s was x : Seen) (result : Result Answer TurnFault) → IfOk result (TurnOk a given was x) → IfErr result (TurnErr a given was x) → Next (claim a (a + 1) s) was x
+next_turn a given s was x (Ok r) ok err = (ap (λ (y : Seen). y.setting) ok.1, inr (ap (λ (y : Seen). y.history) ok.1, omega arith))
+next_turn a given s was x (Err f) ok err = (ap (λ (y : Seen). y.setting) err.1, inl (ap (λ (y : Seen). y.history) err.1))
+
+pub next_same : (c : Claim) (was : Seen) → Next c was was
+next_same c was = (refl, inl refl)
+
+pub looks : (old new : Seat) (was : Seen) → new.seen ≡ was → Sees was (claim old.actor (old.actor + 1) old.seen) → IsLegalIn was → Looks old new
+looks old new was is sees legal =
+    record {
+      legal = subst (λ (y : Seen). IsLegalIn y) (sym is) legal;
+      begins = subst (λ (y : Seen). Begins y old.seen) (sym is) sees.0;
+      turns = ap (λ (y : Seen). turns_by old.actor y.history) is ∙ sees.1 old.actor (omega arith) (omega arith);
+    }
+
+pub turned : (old new : Seat) (given : Option Parts) (was x : Seen) (result : Result Answer TurnFault) → new.seen ≡ x → Sees was (claim old.actor (old.actor + 1) old.seen)
+    → IsLegalIn x → IfOk result (TurnOk old.actor given was x) → IfOk result (λ answer. Turns old given answer new)
+turned old new given was x (Err f) is sees legal ok = tt
+turned old new given was x (Ok r) is sees legal ok =
+    record {
+      legal = subst (λ (y : Seen). IsLegalIn y) (sym is) legal;
+      before = was;
+      begins = sees.0;
+      goes = ok.0;
+      ends = is ∙ ok.1;
+      answered = ok.2;
+      turns = ap (λ (y : Seen). turns_by old.actor y.history) (is ∙ ok.1) ∙ turns_by-append old.actor was.history (old.actor ∷ [])
+          ∙ (λ i. sees.1 old.actor (omega arith) (omega arith) i + turns_by-own old.actor i);
+    }
+
+pub refused : (old new : Seat) (given : Option Parts) (was x : Seen) (result : Result Answer TurnFault) → new.seen ≡ x → Sees was (claim old.actor (old.actor + 1) old.seen)
+    → IsLegalIn x → IfErr result (TurnErr old.actor given was x)
+    → IfErr result (λ fault. Looks old new × Faults new.seen old.actor given fault)
+refused old new given was x (Ok r) is sees legal err = tt
+refused old new given was x (Err f) is sees legal err =
+    let same = is ∙ err.1 in
+    (looks old new was same sees (subst (λ (y : Seen). IsLegalIn y) err.1 legal), subst (λ (y : Seen). Faults y old.actor given f) (sym same) err.0)
+
+-- a seat's pass with the note of another
+pub with_note : (p q n m : View) (a b : ℕ) (s t : Seen) → p ≡ resting (claim a (a + 1) s ∷ []) → q ≡ resting (claim b (b + 1) t ∷ []) → n ≡ note_of q → m ≡ together p n → m ≡ resting (claim a (a + 1) s ∷ claim 0 0 t ∷ [])
+with_note p q n m a b s t own other noted joined = joined ∙ (λ i. together (own i) ((noted ∙ ap note_of other) i))
+
+-- what it holds then is of the seat alone
+pub back_after : (m q r : View) (a : ℕ) (s t x : Seen) → m ≡ resting (claim a (a + 1) s ∷ claim 0 0 t ∷ []) → q ≡ took m x → r ≡ gave q x → r ≡ resting (claim a (a + 1) x ∷ [])
+back_after m q r a s t x joined held now = now ∙ ap (λ (y : View). gave y x) (held ∙ ap (λ (y : View). took y x) joined)

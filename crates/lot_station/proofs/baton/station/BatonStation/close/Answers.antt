@@ -1,0 +1,26 @@
+use Rattle.std.proofs.Common.{ℕ, List, refl, ap, subst}
+use Rattle.lot_station.specs.declared.baton.view.View.{View}
+use Rattle.lot_station.specs.BatonViews.{SeesAll}
+use Rattle.lot_station.specs.BatonSeats.{Seat, Baton, InOrder}
+use Rattle.lot_station.proofs.BatonClosing.{each_all, shown, last_actor}
+use Rattle.lot_station.proofs.BatonCounting.{counts_add_up}
+use Rattle.lot_station.proofs.BatonSharing.{adds_up}
+use Rattle.lot_station.proofs.baton.station.BatonStation.close.Goals as goal
+
+pub returns-clause-order : goal.returns-clause-order
+returns-clause-order g c =
+    subst (λ (y : ℕ × List Seat). InOrder y.0 y.1) (λ i. (ap (λ (b : Baton). b.processors) c.self.view_is i, c.as_slice.ensures.value i)) (c.if-not-in_order.ensures.0 refl)
+
+pub returns-clause-shows : goal.returns-clause-shows
+returns-clause-shows g c =
+    each_all _ c.args.seats.items (shown c.take-system.result c.args.seats.items (subst (λ (y : View). SeesAll c.take-system.result y.claims) c.joined-pass.ensures.view c.take-system.ensures.seen))
+
+pub returns-clause-sums : goal.returns-clause-sums
+returns-clause-sums g c =
+    let order = returns-clause-order g c in
+    let shows = returns-clause-shows g c in
+    let last = last_actor c.args.self c.take-system.result c.args.seats.items c.requires order shows in
+    adds_up c.take-system.result c.args.self.processors c.args.seats.items last order c.history.ensures.legal.actors shows
+
+pub returns-clause-counts : goal.returns-clause-counts
+returns-clause-counts g c = counts_add_up c.take-system.result c.args.seats.items (returns-clause-sums g c) (returns-clause-shows g c)

@@ -1,0 +1,25 @@
+use Rattle.std.proofs.Common.{sym, ap, subst}
+use Rattle.crossbeam_queue.specs.Passes.{view}
+use Rattle.lot_station.specs.declared.baton.view.View.{View}
+use Rattle.lot_station.specs.BatonViews.{Begins, SeesAll}
+use Rattle.lot_station.specs.BatonSeats.{Seat, seat, seen_in, Looks}
+use Rattle.lot_station.proofs.BatonSteps.{notes, joins}
+use Rattle.lot_station.proofs.BatonTelling.{with_note, back_after, looks}
+use Rattle.lot_station.proofs.baton.station.BatonStation.tell.Goals as goal
+
+pub another-note-requires-clause-rule : goal.another-note-requires-clause-rule
+another-note-requires-clause-rule g c = notes _ _ (ap (λ (v : View). v.fresh) c.from.invariant.1)
+
+pub absorb-requires-clause-rule : goal.absorb-requires-clause-rule
+absorb-requires-clause-rule g c = joins _ _ _ _ (ap (λ (v : View). v.fresh) c.to.invariant.1) (ap (λ (v : View). v.held) c.another-note.ensures.rule.1)
+
+pub returns-clause-to : goal.returns-clause-to
+returns-clause-to g c =
+    let joined = with_note _ _ _ _ _ _ _ _ c.to.invariant.1 c.from.invariant.1 c.another-note.ensures.rule.1 c.absorb.ensures.rule in
+    let sees = subst (λ (y : View). SeesAll c.take-system.result y.claims) joined c.take-system.ensures.seen in
+    let back = ap (λ (y : View). seen_in y.claims) (back_after _ _ _ _ _ _ _ joined c.take-system.ensures.holds c.give.ensures.gave) in
+    let old = seat c.to.inside.pass.table_id c.to.inside.actor (seen_in (view c.to.inside.pass).claims) c.to.inside.fault in
+    let told = seat c.from.inside.pass.table_id c.from.inside.actor (seen_in (view c.from.inside.pass).claims) c.from.inside.fault in
+    let new = seat c.give.new.pass.table_id c.to.inside.actor (seen_in (view c.give.new.pass).claims) c.to.inside.fault in
+    subst (λ (y : Seat × Seat). Looks y.0 new × Begins new.seen y.1.seen) (λ i. (c.to.view_is i, c.from.view_is i))
+    (looks old new c.take-system.result back sees.0 c.history.ensures.legal, subst (λ x. Begins x told.seen) (sym back) sees.1.0.0)

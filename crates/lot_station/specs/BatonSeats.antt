@@ -1,0 +1,93 @@
+-- What contracts say of seats.
+use Rattle.std.specs.Prelude.{◌≡◌, ℕ, ◌+◌, Option, Some, None, List, [], ◌∷◌, length, slice_get}
+use Rattle.atomic_table.specs.Seated.{TableId}
+use Rattle.lot_machine.specs.World.{IsLegal}
+use Rattle.lot_script.specs.Slices.{Parts}
+use Rattle.lot_system.specs.declared.fault.TurnFault.{TurnFault}
+use Rattle.lot_system.specs.declared.turn.Answer.{Answer}
+use Rattle.lot_system.specs.Seen.{Seen, after_turn}
+use Rattle.lot_system.specs.Turns.{Answers, Goes}
+use Rattle.lot_station.specs.declared.baton.view.Claim.{Claim}
+use Rattle.lot_station.specs.Settings.{nothing_seen, turns_by}
+use Rattle.lot_station.specs.BatonViews.{claim, Begins}
+
+-- ---- seats and stations
+
+-- a seat of a station: whose it is, the system as it last saw it, and the fault that stopped its worker
+pub record Seat : Type 0 where
+  pub station : TableId
+  pub actor : ℕ
+  pub seen : Seen
+  pub stopped : Option TurnFault
+
+abbrev pub seat : TableId → ℕ → Seen → Option TurnFault → Seat
+seat station actor seen stopped = record { station = station; actor = actor; seen = seen; stopped = stopped }
+
+-- a station: which queue it is, and the last actor
+pub record Baton : Type 0 where
+  pub id : TableId
+  pub processors : ℕ
+
+abbrev pub baton : TableId → ℕ → Baton
+baton id processors = record { id = id; processors = processors }
+
+-- what the first claim has seen
+abbrev pub seen_in : List Claim → Seen
+seen_in [] = nothing_seen
+seen_in (c ∷ cs) = c.seen
+
+-- what a seat claims
+abbrev pub claim_of : Seat → Claim
+claim_of s = claim s.actor (s.actor + 1) s.seen
+
+-- one of the seats that `open` gave with the station
+abbrev pub IsSeatOf : Baton → Seat → Type 0
+IsSeatOf station s = (s.station ≡ station.id) × (s.seen.setting.program.limits.processors ≡ station.processors)
+
+-- ---- calls
+
+-- It is a seat of the same station, for the same actor, over the same program and room, and the fault that it keeps is the
+-- same.
+pub record IsSameSeat (old new : Seat) : Type 0 where
+  pub station : new.station ≡ old.station
+  pub actor : new.actor ≡ old.actor
+  pub setting : new.seen.setting ≡ old.seen.setting
+  pub stopped : new.stopped ≡ old.stopped
+
+-- a legal history of the program and the room
+abbrev pub IsLegalIn : Seen → Type 0
+IsLegalIn x = IsLegal x.setting.program x.setting.room x.history
+
+-- It has seen a legal history of the same program and room that begins with what it had seen, and has no further turn of
+-- its own.
+pub record Looks (old new : Seat) : Type 0 where
+  pub legal : IsLegalIn new.seen
+  pub begins : Begins new.seen old.seen
+  pub turns : turns_by old.actor new.seen.history ≡ turns_by old.actor old.seen.history
+
+-- It has seen a legal history of the same program and room that begins with what it had seen and ends with this turn, the
+-- one turn more of its own. The answer is the one there.
+pub record Turns (old : Seat) (given : Option Parts) (answer : Answer) (new : Seat) : Type 0 where
+  pub legal : IsLegalIn new.seen
+  pub before : Seen
+  pub begins : Begins before old.seen
+  pub goes : Goes before old.actor given
+  pub ends : new.seen ≡ after_turn before old.actor
+  pub answered : Answers before old.actor answer
+  pub turns : turns_by old.actor new.seen.history ≡ turns_by old.actor old.seen.history + 1
+
+-- the system begins with what the seat has seen, and has its actor as often
+pub record Shows (x : Seen) (s : Seat) : Type 0 where
+  pub begins : Begins x s.seen
+  pub turns : turns_by s.actor x.history ≡ turns_by s.actor s.seen.history
+
+-- ---- lists of seats
+
+-- a seat for each actor from 0 on, in order, who all have seen this
+abbrev pub Dealt : TableId → Seen → List Seat → Type 0
+Dealt station seen seats = (k : ℕ) (s : Seat) → slice_get seats k ≡ Some s → s ≡ seat station k seen None
+
+-- each seat once, in order
+abbrev pub InOrder : ℕ → List Seat → Type 0
+InOrder processors seats =
+    (length seats ≡ processors + 1) × ((k : ℕ) (s : Seat) → slice_get seats k ≡ Some s → s.actor ≡ k)

@@ -1,0 +1,41 @@
+-- Sums over the turns of a history, and over those of one actor.
+use Rattle.std.specs.Prelude.{◌≡◌, ℕ, ◌+◌, List, [], ◌∷◌, sum_by, if◌then◌else◌, ◌==◌}
+use Rattle.lot_machine.specs.World.{Program, World, opening_world, sys}
+use Rattle.lot_machine.specs.Report.{turns_made, turns_of}
+use Rattle.lot_system.specs.declared.counts.Counts.{Counts}
+use Rattle.lot_system.specs.Counted.{counted}
+use Rattle.lot_system.specs.Seen.{Seen}
+use Rattle.lot_station.specs.BatonSeats.{Seat}
+
+-- a number for each turn, added up
+abbrev pub summed : (World → ℕ → ℕ) → Program → World → List ℕ → ℕ
+summed f program w [] = 0
+summed f program w (a ∷ rest) = f w a + summed f program (sys program w a).world rest
+
+-- a number for each turn of one actor, added up
+abbrev pub summed_by : (World → ℕ → ℕ) → Program → ℕ → World → List ℕ → ℕ
+summed_by f program b w [] = 0
+summed_by f program b w (a ∷ rest) = (if a == b then f w a else 0) + summed_by f program b (sys program w a).world rest
+
+-- what a seat has of such a number: that of its actor's turns in the history that it has seen
+abbrev pub share : (World → ℕ → ℕ) → Seat → ℕ
+share f s = summed_by f s.seen.setting.program s.actor (opening_world s.seen.setting.program) s.seen.history
+
+-- whatever is added up over all turns is the sum of the seats' shares
+abbrev pub AddUp : Seen → List Seat → Type 0
+AddUp x seats = (f : World → ℕ → ℕ) → summed f x.setting.program (opening_world x.setting.program) x.history ≡ sum_by (share f) seats
+
+-- what is counted of all turns
+abbrev pub counts_of : Seen → Counts
+counts_of x = counted (turns_made x.setting.program x.history)
+
+-- what is counted of the turns of the seat's actor in the history that it has seen
+abbrev pub seat_counts : Seat → Counts
+seat_counts s = counted (turns_of s.actor (turns_made s.seen.setting.program s.seen.history))
+
+-- the turns, the quanta, the idle draws and the ticks are the sums of the seats'
+pub record CountsAddUp (x : Seen) (seats : List Seat) : Type 0 where
+  pub turns : (counts_of x).turns ≡ sum_by (λ s. (seat_counts s).turns) seats
+  pub quanta : (counts_of x).quanta ≡ sum_by (λ s. (seat_counts s).quanta) seats
+  pub idles : (counts_of x).idles ≡ sum_by (λ s. (seat_counts s).idles) seats
+  pub ticks : (counts_of x).ticks ≡ sum_by (λ s. (seat_counts s).ticks) seats

@@ -1,0 +1,26 @@
+//! What the reports come to: laws of the definitions, with nothing to run.
+ghost use Rattle.std.specs.Prelude.{◌≡◌, ◌<◌, ◌^◌, ℕ, List, sum_by};
+ghost use Rattle.std.specs.List.{range_with_len};
+ghost use Rattle.lot_machine.specs.Bounds.{IsWithinBounds};
+ghost use Rattle.lot_machine.specs.Report.{idles_in, quanta_in, ticks_in, total_of, turns_made, turns_of};
+ghost use Rattle.lot_machine.specs.World.{IsLegal, Program, sysrun};
+
+/// The quanta and the ticks of the threads, as the world that a legal history leads to has them, add up to those that are
+/// counted in its turns. A thread's stop at the greatest u64; no history of less than 2 ^ 32 turns comes there.
+pub fn threads_add_up()
+    ensures quanta { (program : Program) (room : ℕ) (history : List ℕ) → IsWithinBounds program.limits → IsLegal program room history → room < 2 ^ 32
+        → sum_by (λ r. r.quanta) (sysrun program history).state.records ≡ total_of quanta_in (turns_made program history) }
+    ensures ticks { (program : Program) (room : ℕ) (history : List ℕ) → IsWithinBounds program.limits → IsLegal program room history → room < 2 ^ 32
+        → sum_by (λ r. r.ticks) (sysrun program history).state.records ≡ total_of ticks_in (turns_made program history) }
+{}
+
+/// What the report has of the processors adds up to what is counted in all turns of a legal history: the console wins no
+/// draws and uses no ticks.
+pub fn processors_add_up()
+    ensures quanta { (program : Program) (room : ℕ) (history : List ℕ) → IsLegal program room history
+        → sum_by (λ p. total_of quanta_in (turns_of p (turns_made program history))) (range_with_len 1 program.limits.processors) ≡ total_of quanta_in (turns_made program history) }
+    ensures idles { (program : Program) (room : ℕ) (history : List ℕ) → IsLegal program room history
+        → sum_by (λ p. total_of idles_in (turns_of p (turns_made program history))) (range_with_len 1 program.limits.processors) ≡ total_of idles_in (turns_made program history) }
+    ensures ticks { (program : Program) (room : ℕ) (history : List ℕ) → IsLegal program room history
+        → sum_by (λ p. total_of ticks_in (turns_of p (turns_made program history))) (range_with_len 1 program.limits.processors) ≡ total_of ticks_in (turns_made program history) }
+{}

@@ -1,0 +1,58 @@
+//! The slice of a work.
+ghost use Rattle.std.specs.Prelude.{◌≡◌, ◌↔◌, length, IfErr, IfOk, IsTrue};
+ghost use Rattle.lot_machine.specs.Bounds.{IsBetween};
+ghost use Rattle.lot_script.specs.Places.{Fits};
+ghost use Rattle.lot_system.specs.Held.{script_lines};
+ghost use Rattle.lot_system.specs.Turns.{IsSliceOf, Matches};
+ghost use Rattle.lot_system.specs.Fitting.{FitsIn, IsStale};
+
+use crate::{TurnFault, Work};
+use lot_script::{Script, Slice};
+use lot_text::Program;
+
+/// The slice of the work, which `System::turn` asks for, in a program that is at hand; none where there is no work. Answers
+/// Stale with the work where it doesn't fit the program.
+pub fn slice_for(program: &Program, work: Option<Work>) -> Result<Option<Slice<'_>>, TurnFault>
+    ensures ok { IfOk result (λ slice. Matches program.now work slice) }
+    ensures err { IfErr result (λ fault. IsStale program.now work fault) }
+{
+    let Some(work) = work else {
+        return Ok(None);
+    };
+    if !fits(program, &work) {
+        return Err(TurnFault::Stale(Some(work)));
+    }
+    Ok(Some(slice_of(program, work)))
+}
+
+/// The slice of a work that fits the program.
+pub(crate) fn slice_of(program: &Program, work: Work) -> Slice<'_>
+    requires { FitsIn program.now work }
+    ensures { IsSliceOf program.now work result }
+{
+    script_numbered(program, work.script).slice(work.context, work.budget)
+}
+
+/// Whether the program has the work's script, its place is one of that script, and its budget is 1 to 1000 ticks.
+fn fits(program: &Program, work: &Work) -> bool
+    ensures { IsTrue result ↔ FitsIn program.now work.now }
+{
+    has_script(program, work.script)
+        && script_numbered(program, work.script).fits(&work.context)
+        && (1..=1000).contains(&work.budget)
+}
+
+/// Whether the program has a script with this number.
+fn has_script(program: &Program, number: u32) -> bool
+    ensures { IsTrue result ↔ IsBetween 1 (length program.now.scripts) number }
+{
+    0 < number && number as usize <= program.scripts().len()
+}
+
+/// The script with this number.
+pub(crate) fn script_numbered(program: &Program, number: u32) -> &Script
+    requires { IsBetween 1 (length program.now.scripts) number }
+    ensures { result.now ≡ script_lines program.now number }
+{
+    &program.scripts()[number as usize - 1]
+}

@@ -1,0 +1,57 @@
+//! For runs in which one allocation is refused, each in turn.
+
+use super::{CALL_AND_REPLY, make_turns, program_of};
+use crate::{PlayFault, Played, System, play};
+use lot_text::Watched;
+use std::io;
+use std::io::Write;
+use std::test::Fail;
+
+/// A writer that counts what it takes, and takes no memory.
+#[derive(Drop)]
+struct Counting {
+    taken: usize,
+}
+
+impl Write for Counting {
+    fn write(&mut self, buf: &[u8]) -> io::Result<usize> {
+        self.taken = self.taken.saturating_add(buf.len());
+        Ok(buf.len())
+    }
+
+    fn flush(&mut self) -> io::Result<()> {
+        Ok(())
+    }
+}
+
+// Where memory is refused nothing was written.
+#[test]
+fn plays_or_lacks_memory(rt: HostRuntime) {
+    let mut reader = Watched::new(CALL_AND_REPLY.as_bytes());
+    let mut writer = Watched::new(Counting { taken: 0 });
+    let ended = play(rt.alloc(), &mut reader, &mut writer);
+    let Counting { taken } = writer.into_inner();
+    match ended {
+        Ok(Played::Done) => assert_eq!(rt; taken, 429),
+        Err(PlayFault::Memory) => assert_eq!(rt; taken, 0),
+        other => assert!(rt; false, "{other:?}"),
+    }
+}
+
+// This fails in the runs that refuse an allocation of it, and the next fails in no others: no turn takes memory.
+#[test]
+fn opens(rt: HostRuntime) -> Result<(), Fail> {
+    let program = program_of(rt.alloc(), CALL_AND_REPLY)?;
+    let system = System::open(rt.alloc(), &program, 12)?;
+    assert!(rt; system.history().is_empty());
+    Ok(())
+}
+
+#[test]
+fn opens_and_has_turns(rt: HostRuntime) -> Result<(), Fail> {
+    let program = program_of(rt.alloc(), CALL_AND_REPLY)?;
+    let mut system = System::open(rt.alloc(), &program, 12)?;
+    make_turns(&mut system, &program, program.schedule())?;
+    assert_eq!(rt; system.history(), program.schedule());
+    Ok(())
+}

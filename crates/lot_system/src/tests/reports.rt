@@ -1,0 +1,177 @@
+//! Reports with their histories, and what those are made of.
+
+use super::{SPINNER, make_turns, program_of};
+use crate::{PlayFault, System, write_end};
+use lot_kernel::Kernel;
+use lot_machine::{Command, Event, Limits, Name, Reply};
+use lot_print::{behind_line, first_run};
+use lot_text::Watched;
+use std::alloc::Global;
+use std::io;
+use std::io::{ErrorKind, Write};
+use std::process::Abort;
+use std::test::Fail;
+
+/// A writer that keeps what it takes, and whose call of this number fails.
+#[derive(Drop)]
+struct Failing {
+    written: Vec<u8>,
+    calls: u32,
+    fails_at: u32,
+}
+
+impl Failing {
+    /// Counts one call more, and fails if it is to.
+    fn call(&mut self) -> io::Result<()> {
+        self.calls = self.calls.saturating_add(1);
+        if self.calls == self.fails_at {
+            return Err(io::Error::from(ErrorKind::Other));
+        }
+        Ok(())
+    }
+}
+
+impl Write for Failing {
+    fn write(&mut self, buf: &[u8]) -> io::Result<usize> {
+        self.call()?;
+        self.written.write(buf)
+    }
+
+    fn flush(&mut self) -> io::Result<()> {
+        self.call()
+    }
+}
+
+/// Ends a system to a writer whose call of this number fails, and answers whether it has failed: then what it took is a
+/// beginning of the text.
+fn ending_fails(
+    rt: &impl Abort,
+    alloc: Global,
+    system: &mut System,
+    text: &str,
+    fails_at: u32,
+) -> bool {
+    let mut writer = Watched::new(Failing {
+        written: Vec::new(alloc),
+        calls: 0,
+        fails_at,
+    });
+    let ended = write_end(system, &mut writer);
+    let has_failed = writer.failed();
+    let Failing { written, .. } = writer.into_inner();
+    if has_failed {
+        assert_eq!(rt; ended, Err(PlayFault::Write));
+        assert!(rt;
+            text.as_bytes().starts_with(written.as_slice()),
+            "at call {fails_at}"
+        );
+    } else {
+        assert_eq!(rt; ended, Ok(()));
+        assert!(rt; text.as_bytes() == written.as_slice(), "at call {fails_at}");
+    }
+    has_failed
+}
+
+/// Ends a system of the input after these actors' turns, to a writer that fails at each of its calls, and at none.
+fn check_end(
+    rt: &impl Abort,
+    alloc: Global,
+    (input, actors): (&str, &[u8]),
+    text: &str,
+) -> Result<(), Fail> {
+    let program = program_of(alloc, input)?;
+    let mut system = System::open(alloc, &program, 3)?;
+    make_turns(&mut system, &program, actors)?;
+    for call in 1..1000 {
+        if !ending_fails(rt, alloc, &mut system, text, call) {
+            return Ok(());
+        }
+    }
+    Err("a call that is the last".into())
+}
+
+#[test]
+fn ends(rt: HostRuntime) -> Result<(), Fail> {
+    check_end(
+        &rt,
+        rt.alloc(),
+        (SPINNER, &[0, 1, 1]),
+        "report
+thread 1 a quanta 1 ticks 100
+processor 1 quanta 1 idle 0 ticks 100
+total turns 3 quanta 1 ticks 100
+schedule 0 1 1
+",
+    )?;
+    check_end(
+        &rt,
+        rt.alloc(),
+        ("lottery 1\n", &[1, 1, 1]),
+        "report
+processor 1 quanta 0 idle 3 ticks 0
+total turns 3 quanta 0 ticks 0
+schedule 1 1 1
+",
+    )
+}
+
+#[test]
+fn ends_with_runs(rt: HostRuntime) -> Result<(), Fail> {
+    check_end(
+        &rt,
+        rt.alloc(),
+        ("lottery 2\n", &[1, 1, 1]),
+        "report
+processor 1 quanta 0 idle 3 ticks 0
+total turns 3 quanta 0 ticks 0
+runs 1 3
+",
+    )?;
+    check_end(
+        &rt,
+        rt.alloc(),
+        ("lottery 2\n", &[]),
+        "report
+processor 1 quanta 0 idle 0 ticks 0
+total turns 0 quanta 0 ticks 0
+",
+    )
+}
+
+#[test]
+fn runs_of_histories(rt: HostRuntime) -> Result<(), Fail> {
+    let none: &[u8] = &[];
+    assert_eq!(rt; first_run(none), None);
+    assert_eq!(rt; first_run(&[2, 2, 2, 0, 2]), Some((2, 3)));
+    assert_eq!(rt; behind_line(&[1, 1, 0]), none);
+    let mut history = Vec::new(rt.alloc());
+    for run in 0..33u8 {
+        history.push(run)?;
+        history.push(run)?;
+    }
+    assert_eq!(rt; behind_line(&history), [32, 32].as_slice());
+    Ok(())
+}
+
+// Numbers are given for good: what was removed keeps its own.
+#[test]
+fn numbers_given(rt: HostRuntime) -> Result<(), Fail> {
+    let limits = Limits::new(9, 9, 9, 0, 0, 1, 0, 100).ok_or("limits")?;
+    let mut kernel = Kernel::new(rt.alloc(), limits)?;
+    assert_eq!(rt; (kernel.ticket_count(), kernel.currency_count()), (0, 1));
+    let base = Name::new("base").ok_or("a name")?;
+    let name = Name::new("a").ok_or("a name")?;
+    let made = kernel.event(&Event::Command(Command::MakeTicket {
+        amount: 5,
+        currency: base,
+    }));
+    assert_eq!(rt; made, Reply::Ticket(1));
+    assert_eq!(rt;
+        kernel.event(&Event::Command(Command::MakeCurrency { name })),
+        Reply::Currency(1)
+    );
+    let removed = kernel.event(&Event::Command(Command::RemoveTicket { ticket: 1 }));
+    assert_eq!(rt; removed, Reply::Done);
+    assert_eq!(rt; (kernel.ticket_count(), kernel.currency_count()), (1, 2));
+    Ok(())
+}
