@@ -14,3 +14,6 @@ pub use baton::{BatonSeat, BatonStation, SeatMissing};
 pub use desk::TurnLedger;
 pub use seat::Seat;
 pub use station::{CloseFault, Station};
+
+#[cfg(test)]
+mod tests;

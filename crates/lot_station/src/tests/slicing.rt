@@ -1,0 +1,156 @@
+//! A slice twice.
+ghost use Rattle.std.specs.Prelude.{◌≡◌, ◌+◌};
+
+use crate::tests::slice_of;
+use crate::{Seat, Station, TurnLedger};
+use lot_machine::{Outcome, Reply};
+use lot_script::Context;
+use lot_system::{System, TurnFault, Work};
+use lot_text::{Program, parse};
+use std::alloc::{AllocError, Global};
+use std::marker::Brand;
+use std::sync::Wait;
+use std::sync::ledger::{Blank, Ledger};
+use std::test::*;
+
+/// A thread that locks and then computes.
+const LOCKER: &str = "lottery 1
+mutex m
+script s
+lock m
+compute 5
+endscript
+fundx 1 base a s
+";
+
+/// A seat's turns, quanta and ticks.
+type Shares = (u64, u64, u64);
+
+/// What was seen: what the slice came to, where it ended, the work that its second use was refused with, the seat's shares
+/// before and after that, and whether the right slice then found the history full.
+#[derive(Drop)]
+struct Twice {
+    locked: Reply,
+    end: Context,
+    stale: Work,
+    before: Shares,
+    after: Shares,
+    full: bool,
+}
+
+/// What the seat has.
+fn shares_of<T: TurnLedger, Q: Ledger, K: Ledger>(seat: &Seat<T, Q, K>) -> Shares {
+    (seat.turns(), seat.quanta(), seat.ticks())
+}
+
+/// The same work again.
+fn copied(work: &Work) -> Work {
+    Work {
+        thread: work.thread,
+        script: work.script,
+        context: work.context.copied(),
+        budget: work.budget,
+    }
+}
+
+/// A command, a draw, and then the slice of the thread that won, twice.
+fn make_twice<T: TurnLedger, Q: Ledger, K: Ledger>(
+    rt: &impl Wait,
+    program: &Program,
+    station: &Station<T, Q, K>,
+    seats: &mut [Seat<T, Q, K>],
+) -> Option<Twice> {
+    station.turn(rt, seats.get_mut(0)?, None).ok()?;
+    let seat = seats.get_mut(1)?;
+    station.turn(rt, seat, None).ok()?;
+    let work = station.work(rt, seat)?;
+    let slice = slice_of(program, Some(copied(&work)))?;
+    let end = slice.end().copied();
+    let locked = station.turn(rt, seat, Some(slice)).ok()?.reply;
+    let before = shares_of(seat);
+    let again = slice_of(program, Some(work))?;
+    let Err(TurnFault::Stale(Some(stale))) = station.turn(rt, seat, Some(again)) else {
+        return None;
+    };
+    let after = shares_of(seat);
+    let right = slice_of(program, Some(copied(&stale)))?;
+    let full = matches!(
+        station.turn(rt, seat, Some(right)),
+        Err(TurnFault::HistoryFull)
+    );
+    Some(Twice {
+        locked,
+        end,
+        stale,
+        before,
+        after,
+        full,
+    })
+}
+
+/// The same in a station of the system, and the system that `close` gave.
+fn play<T: TurnLedger, Q: Ledger, K: Ledger>(
+    rt: &impl Wait,
+    alloc: Global,
+    program: &Program,
+    system: System,
+    turns: Blank,
+    quanta: Blank,
+    ticks: Blank,
+) -> Result<Option<(Twice, System)>, AllocError>
+    requires setting { system.setting ≡ T.setting }
+    requires turns { (turns.name ≡ T.name) × (turns.parts ≡ T.parts) × (T.parts ≡ system.setting.program.limits.processors + 1) }
+    requires quanta { (quanta.name ≡ Q.name) × (quanta.parts ≡ Q.parts) × (Q.parts ≡ system.setting.program.limits.processors + 1) }
+    requires ticks { (ticks.name ≡ K.name) × (ticks.parts ≡ K.parts) × (K.parts ≡ system.setting.program.limits.processors + 1) }
+{
+    let (station, mut seats) = Station::<T, Q, K>::open(alloc, system, turns, quanta, ticks)?;
+    let twice = make_twice(rt, program, &station, &mut seats);
+    match (twice, station.close(seats)) {
+        (Some(twice), Ok(system)) => Ok(Some((twice, system))),
+        _ => Ok(None),
+    }
+}
+
+/// The same in a station that has ledgers of its own.
+fn played(
+    rt: &impl Wait,
+    alloc: Global,
+    program: &Program,
+    system: System,
+) -> Result<Option<(Twice, System)>, AllocError> {
+    let parts = u64::from(system.processors()) + 1;
+    play::<Brand, Brand, Brand>(
+        rt,
+        alloc,
+        program,
+        system,
+        Blank::new(parts),
+        Blank::new(parts),
+        Blank::new(parts),
+    )
+}
+
+// A slice that was used is stale: the work is then behind its trap, and neither history nor shares change.
+#[test]
+fn a_slice_twice(rt: HostRuntime) -> Result<(), Fail> {
+    let alloc = rt.alloc();
+    let program = parse(alloc, LOCKER.as_bytes())?;
+    let system = System::open(alloc, &program, 3)?;
+    let (twice, system) = played(&rt, alloc, &program, system)?.ok_or("not played")?;
+    assert_eq!(rt;
+        twice.locked,
+        Reply::Trapped {
+            thread: 1,
+            ticks: 1,
+            outcome: Outcome::Locked,
+            ends: false
+        }
+    );
+    assert_eq!(rt; (twice.stale.thread, twice.stale.budget), (1, 99));
+    assert!(rt; twice.stale.context == twice.end);
+    assert_eq!(rt; twice.before, (2, 1, 1));
+    assert_eq!(rt; twice.after, (2, 1, 1));
+    assert!(rt; twice.full);
+    assert_eq!(rt; system.history(), [0, 1, 1].as_slice());
+    Ok(())
+}
