@@ -1,5 +1,6 @@
 //! One worker for each seat of a system that goes round as a baton.
 ghost use Rattle.std.specs.Prelude.{◌≡◌, All, IfSome, OnErr, OnOk, None};
+ghost use Rattle.lot_station.specs.BatonSeats.{IsSeatOf};
 ghost use Rattle.lot_processors.specs.BatonWorkers.{AllMade, FirstStops, HasMade, HasStopped, HasWorked, IsFirstFault};
 ghost use Rattle.lot_processors.specs.Workers.{turns_for};
 
@@ -21,7 +22,8 @@ pub fn run_all_baton<G: Gate + Sync, R: Threads + Wait + Sync>(
     gate: &G,
     seats: &mut [BatonSeat],
 ) -> Result<(), RunFault>
-    requires { All (λ seat. seat.station ≡ station.now.id) seats.old }
+    requires { All (IsSeatOf station.now) seats.old }
+    ensures own { All (IsSeatOf station.now) seats.new }
     ensures ok { OnOk result (AllMade program.now seats.old seats.new) }
     ensures err { OnErr result (FirstStops program.now seats.old seats.new) }
 {

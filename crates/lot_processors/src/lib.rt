@@ -12,3 +12,6 @@ pub use fault::RunFault;
 pub use gate::{Gate, OpenGate};
 pub use running::{FreeRunFault, free_run};
 pub use workers::run_all;
+
+#[cfg(test)]
+mod tests;

@@ -1,0 +1,61 @@
+mod full;
+mod gates;
+mod runs;
+
+use crate::Gate;
+use std::sync::atomic::{AtomicBool, AtomicU64, Ordering};
+use std::thread;
+
+/// Two processors with two turns each, and one thread.
+const TWO_PROCESSORS: &str = "lottery 1
+processors 2
+turns 2
+script spin
+compute 150
+endscript
+fundx 10 base a spin
+";
+
+/// How often a worker that is held back looks whether it may go on.
+const TRIES: u32 = 10_000_000;
+
+/// Holds a processor's worker back until the other processors' have come by twice, or it has looked often enough.
+#[derive(Drop)]
+struct Turnstile {
+    held: u32,
+    /// How often others came by.
+    others: AtomicU64,
+    gave_up: AtomicBool,
+}
+
+impl Turnstile {
+    /// One that holds this processor's worker.
+    fn new(held: u32) -> Turnstile {
+        Turnstile {
+            held,
+            others: AtomicU64::new(0),
+            gave_up: AtomicBool::new(false),
+        }
+    }
+
+    /// Whether the worker went on though the others hadn't come by.
+    fn gave_up(&self) -> bool {
+        self.gave_up.load(Ordering::SeqCst)
+    }
+}
+
+impl Gate for Turnstile {
+    fn pass(&self, processor: u32, _turn: u32) {
+        if processor != self.held {
+            self.others.fetch_add(1, Ordering::SeqCst);
+            return;
+        }
+        for _try in 0..TRIES {
+            if self.others.load(Ordering::SeqCst) >= 2 {
+                return;
+            }
+            thread::yield_now();
+        }
+        self.gave_up.store(true, Ordering::SeqCst);
+    }
+}
