@@ -1,3 +1,5 @@
+mod running;
+
 use crate::status::status;
 use lot_system::{PlayFault, Played, play};
 use lot_text::Watched;
@@ -5,7 +7,9 @@ use std::alloc::Global;
 use std::io;
 use std::io::{ErrorKind, Read, Write};
 use std::process::Abort;
+use std::sync::Wait;
 use std::test::Fail;
+use std::thread::Threads;
 
 /// Two threads that compute, with base tickets of 10 and 5.
 const SPINNERS: &str = "script spin
@@ -29,11 +33,36 @@ const SPINNERS_MADE: &str = "0 ticket 1
 ";
 
 /// Plays the input, and compares the exit status and what was written.
-fn check_play(rt: &impl Abort, alloc: Global, input: &str, code: u8, expected: &str) {
+fn check_play<H: Abort + Threads + Wait + Sync>(
+    rt: &H,
+    alloc: Global,
+    input: &str,
+    code: u8,
+    expected: &str,
+) {
+    check_words_on(rt, alloc, "play", input, code, expected);
+}
+
+/// Has the input played or run, and compares the exit status and what was written.
+fn check_words_on<H: Abort + Threads + Wait + Sync>(
+    rt: &H,
+    alloc: Global,
+    word: &str,
+    input: &str,
+    code: u8,
+    expected: &str,
+) {
     let mut output = Vec::new(alloc);
     let mut errors = Vec::new(alloc);
-    let words = ["lot_sim", "play"];
-    let ended = status(alloc, &words, input.as_bytes(), &mut output, &mut errors);
+    let words = ["lot_sim", word];
+    let ended = status(
+        rt,
+        alloc,
+        &words,
+        input.as_bytes(),
+        &mut output,
+        &mut errors,
+    );
     assert_eq!(rt; ended, code, "{input}");
     assert!(rt; output.as_slice() == expected.as_bytes(), "{input}");
     assert!(rt; errors.is_empty(), "{input}");
@@ -394,10 +423,16 @@ fn long_comment(rt: HostRuntime) -> Result<(), Fail> {
 }
 
 /// Checks the exit status of these words, and where a text was written.
-fn check_words(rt: &impl Abort, alloc: Global, words: &[&str], code: u8, on_output: bool) {
+fn check_words<H: Abort + Threads + Wait + Sync>(
+    rt: &H,
+    alloc: Global,
+    words: &[&str],
+    code: u8,
+    on_output: bool,
+) {
     let mut output = Vec::new(alloc);
     let mut errors = Vec::new(alloc);
-    let ended = status(alloc, words, "".as_bytes(), &mut output, &mut errors);
+    let ended = status(rt, alloc, words, "".as_bytes(), &mut output, &mut errors);
     assert_eq!(rt; ended, code, "{words:?}");
     assert_eq!(rt; output.is_empty(), !on_output, "{words:?}");
     assert_eq!(rt; errors.is_empty(), on_output, "{words:?}");
@@ -409,6 +444,7 @@ fn command_lines(rt: HostRuntime) {
     check_words(&rt, rt.alloc(), &["lot_sim", "replay"], 2, false);
     check_words(&rt, rt.alloc(), &["lot_sim", "play", "x"], 2, false);
     check_words(&rt, rt.alloc(), &["lot_sim", "play", "--seed"], 2, false);
+    check_words(&rt, rt.alloc(), &["lot_sim", "run", "x"], 2, false);
     check_words(&rt, rt.alloc(), &["lot_sim", "--help"], 0, true);
 }
 
@@ -448,6 +484,7 @@ fn failures(rt: HostRuntime) {
         let mut errors = Vec::new(alloc);
         let reader = Failing { given: false, kind };
         let ended = status(
+            &rt,
             alloc,
             &["lot_sim", "play"],
             reader,
@@ -463,7 +500,14 @@ fn failures(rt: HostRuntime) {
         kind: ErrorKind::Other,
     };
     let words = ["lot_sim", "play"];
-    let ended = status(alloc, &words, "lottery 1".as_bytes(), writer, &mut errors);
+    let ended = status(
+        &rt,
+        alloc,
+        &words,
+        "lottery 1".as_bytes(),
+        writer,
+        &mut errors,
+    );
     assert_eq!(rt; ended, 3);
     assert!(rt; errors.is_empty());
 }
