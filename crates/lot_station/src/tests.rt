@@ -3,9 +3,9 @@ mod refusing;
 mod session;
 mod slicing;
 
-use lot_script::Slice;
-use lot_system::Work;
-use lot_text::Program;
+use lot_system::{System, write_end};
+use lot_text::{Program, Watched, parse};
+use std::alloc::Global;
 
 /// Two processors and one thread.
 const TWO_PROCESSORS: &str = "lottery 1
@@ -16,14 +16,16 @@ endscript
 fundx 10 base a spin
 ";
 
-/// The slice of the work, if there is some and it is one of the program.
-fn slice_of(program: &Program, work: Option<Work>) -> Option<Slice<'_>> {
-    let work = work?;
-    let number = (work.script as usize).checked_sub(1)?;
-    let script = program.scripts().get(number)?;
-    if script.fits(&work.context) && 0 < work.budget && work.budget <= 1000 {
-        Some(script.slice(work.context, work.budget))
-    } else {
-        None
-    }
+/// The program of an input, and a system of it with room for so many turns.
+fn opened(alloc: Global, input: &str, room: u32) -> Option<(Program, System)> {
+    let program = parse(alloc, input.as_bytes()).ok()?;
+    let system = System::open(alloc, &program, room).ok()?;
+    Some((program, system))
+}
+
+/// The report and the history.
+fn end_of(alloc: Global, mut system: System) -> Option<Vec<u8>> {
+    let mut writer = Watched::new(Vec::new(alloc));
+    write_end(&mut system, &mut writer).ok()?;
+    Some(writer.into_inner())
 }

@@ -1,10 +1,10 @@
 //! Seats in threads of their own.
 ghost use Rattle.std.specs.Prelude.{◌≡◌, ◌+◌};
 
-use crate::tests::{TWO_PROCESSORS, slice_of};
+use crate::tests::{TWO_PROCESSORS, end_of};
 use crate::{Seat, Station, TurnLedger};
-use lot_system::{Answer, System, write_end};
-use lot_text::{Program, Watched, parse};
+use lot_system::{Answer, System, TurnFault, slice_for};
+use lot_text::{Program, parse};
 use std::alloc::{AllocError, Global};
 use std::marker::Brand;
 use std::sync::Wait;
@@ -24,22 +24,21 @@ struct Player<T: TurnLedger, Q: Ledger, K: Ledger> {
     answers: Vec<Answer>,
 }
 
-/// Makes the player's turns, each with the slice of its work, until one has a fault or memory is refused.
+/// Makes the player's turns, each with the slice of its work, until one isn't made or memory is refused.
 fn play_turns<T: TurnLedger, Q: Ledger, K: Ledger>(
     rt: &impl Wait,
     station: &Station<T, Q, K>,
     program: &Program,
     player: &mut Player<T, Q, K>,
-) {
+) -> Result<(), TurnFault> {
     for _turn in 0..player.turns {
-        let slice = slice_of(program, station.work(rt, &player.seat));
-        let Ok(answer) = station.turn(rt, &mut player.seat, slice) else {
-            return;
-        };
+        let slice = slice_for(program, station.work(rt, &player.seat))?;
+        let answer = station.turn(rt, &mut player.seat, slice)?;
         if player.answers.push(answer).is_err() {
-            return;
+            return Ok(());
         }
     }
+    Ok(())
 }
 
 /// The closed system, and each actor's answers.
@@ -80,7 +79,9 @@ fn race<
         rt,
         &mut players,
         3,
-        &|_, player| { play_turns(rt, &station, program, player) },
+        &|_, player| {
+            let _ = play_turns(rt, &station, program, player);
+        },
     );
     let mut seats = Vec::new(alloc);
     let mut answers = Vec::new(alloc);
@@ -122,7 +123,9 @@ fn replayed(alloc: Global, program: &Program, history: &[u8]) -> Result<Option<R
         if number > system.processors() {
             return Ok(None);
         }
-        let slice = slice_of(program, system.work(number));
+        let Ok(slice) = slice_for(program, system.work(number)) else {
+            return Ok(None);
+        };
         let Ok(answer) = system.turn(number, slice) else {
             return Ok(None);
         };
@@ -133,27 +136,31 @@ fn replayed(alloc: Global, program: &Program, history: &[u8]) -> Result<Option<R
     Ok(Some((system, answers)))
 }
 
-/// The report and the history.
-fn end_of(alloc: Global, system: &mut System) -> Option<Vec<u8>> {
-    let mut writer = Watched::new(Vec::new(alloc));
-    write_end(system, &mut writer).ok()?;
-    Some(writer.into_inner())
+/// Whether each answer of a race is the one of the closed history, and both systems end alike.
+fn is_replayed<R: Threads + Wait + Sync>(
+    rt: &R,
+    alloc: Global,
+    program: &Program,
+) -> Option<(bool, bool)> {
+    let (system, answers) = raced(rt, alloc, program).ok()??;
+    let (other, expected) = replayed(alloc, program, system.history()).ok()??;
+    let same = system.history().len() == 5 && answers == expected;
+    Some((same, end_of(alloc, system)? == end_of(alloc, other)?))
+}
+
+/// Whether it is so of so many races; `None` where one came to no end.
+fn are_replayed<R: Threads + Wait + Sync>(rt: &R, alloc: Global, rounds: u32) -> Option<bool> {
+    let program = parse(alloc, TWO_PROCESSORS.as_bytes()).ok()?;
+    for _round in 0..rounds {
+        if is_replayed(rt, alloc, &program)? != (true, true) {
+            return Some(false);
+        }
+    }
+    Some(true)
 }
 
 // Whatever the order in which three threads got the lock, each answer is the one of the closed history.
 #[test]
-fn answers_replay(rt: HostRuntime) -> Result<(), Fail> {
-    let alloc = rt.alloc();
-    let program = parse(alloc, TWO_PROCESSORS.as_bytes())?;
-    for _round in 0..100 {
-        let (mut system, answers) = raced(&rt, alloc, &program)?.ok_or("not closed")?;
-        assert_eq!(rt; system.history().len(), 5);
-        let (mut other, expected) = replayed(alloc, &program, system.history())?.ok_or(
-            "not replayed",
-        )?;
-        assert!(rt; answers == expected);
-        let end = end_of(alloc, &mut system).ok_or("not written")?;
-        assert!(rt; Some(end) == end_of(alloc, &mut other));
-    }
-    Ok(())
+fn answers_replay(rt: HostRuntime) {
+    assert_eq!(rt; are_replayed(&rt, rt.alloc(), 100), Some(true));
 }

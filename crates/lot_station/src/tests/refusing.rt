@@ -1,10 +1,9 @@
 //! Seats that aren't one for each actor, in order.
 ghost use Rattle.std.specs.Prelude.{◌≡◌, ◌+◌};
 
-use crate::tests::TWO_PROCESSORS;
+use crate::tests::{TWO_PROCESSORS, opened};
 use crate::{CloseFault, Station, TurnLedger};
 use lot_system::System;
-use lot_text::parse;
 use std::alloc::{AllocError, Global};
 use std::marker::Brand;
 use std::sync::Wait;
@@ -70,14 +69,15 @@ fn misplaced(
     )
 }
 
+/// How many seats were handed back each time, and whether the history has both turns.
+fn hands_back(rt: &impl Wait, alloc: Global) -> Option<(usize, usize, bool)> {
+    let (_, system) = opened(alloc, TWO_PROCESSORS, 6)?;
+    let (few, all, closed) = misplaced(rt, alloc, system).ok()??;
+    Some((few, all, closed.history() == [0, 1].as_slice()))
+}
+
 // A station that isn't closed is handed back with its seats, and can be used and closed.
 #[test]
-fn seats_are_handed_back(rt: HostRuntime) -> Result<(), Fail> {
-    let alloc = rt.alloc();
-    let program = parse(alloc, TWO_PROCESSORS.as_bytes())?;
-    let system = System::open(alloc, &program, 6)?;
-    let (few, all, system) = misplaced(&rt, alloc, system)?.ok_or("not closed")?;
-    assert_eq!(rt; (few, all), (2, 3));
-    assert_eq!(rt; system.history(), [0, 1].as_slice());
-    Ok(())
+fn seats_are_handed_back(rt: HostRuntime) {
+    assert_eq!(rt; hands_back(&rt, rt.alloc()), Some((2, 3, true)));
 }

@@ -1,11 +1,11 @@
 //! Turns by seats, one after another.
 ghost use Rattle.std.specs.Prelude.{◌≡◌, ◌+◌};
 
-use crate::tests::{TWO_PROCESSORS, slice_of};
+use crate::tests::{TWO_PROCESSORS, end_of, opened};
 use crate::{Seat, Station, TurnLedger};
 use lot_machine::Reply;
-use lot_system::{System, write_end};
-use lot_text::{Program, Watched, parse};
+use lot_system::{System, slice_for};
+use lot_text::Program;
 use std::alloc::{AllocError, Global};
 use std::marker::Brand;
 use std::sync::Wait;
@@ -15,14 +15,13 @@ use std::test::*;
 /// A seat's turns, quanta and ticks.
 type Shares = (u64, u64, u64);
 
-/// What was seen of a session: each seat's shares at its beginning and at its end, each turn's reply, or `None` where it
-/// answered a fault, and the system that `close` gave.
-#[derive(Drop)]
+/// What was seen of a session: each seat's shares at its beginning and at its end, and each turn's reply, or `None` where it
+/// had a fault.
+#[derive(Debug, PartialEq, Eq, Drop)]
 struct Session {
     begun: Vec<Shares>,
     replies: Vec<Option<Reply>>,
     ended: Vec<Shares>,
-    system: Option<System>,
 }
 
 /// What each seat has.
@@ -46,7 +45,7 @@ fn reply_to<T: TurnLedger, Q: Ledger, K: Ledger>(
     number: usize,
 ) -> Option<Reply> {
     let seat = seats.get_mut(number)?;
-    let slice = slice_of(program, station.work(rt, seat));
+    let slice = slice_for(program, station.work(rt, seat)).ok()?;
     match station.turn(rt, seat, slice) {
         Ok(answer) => Some(answer.reply),
         Err(_) => None,
@@ -63,7 +62,7 @@ fn play<T: TurnLedger, Q: Ledger, K: Ledger>(
     quanta: Blank,
     ticks: Blank,
     actors: &[usize],
-) -> Result<Session, AllocError>
+) -> Result<(Session, Option<System>), AllocError>
     requires setting { system.setting ≡ T.setting }
     requires turns { (turns.name ≡ T.name) × (turns.parts ≡ T.parts) × (T.parts ≡ system.setting.program.limits.processors + 1) }
     requires quanta { (quanta.name ≡ Q.name) × (quanta.parts ≡ Q.parts) × (Q.parts ≡ system.setting.program.limits.processors + 1) }
@@ -76,13 +75,12 @@ fn play<T: TurnLedger, Q: Ledger, K: Ledger>(
         replies.push(reply_to(rt, program, &station, &mut seats, *actor))?;
     }
     let ended = shares_of(alloc, &seats)?;
-    let system = station.close(seats).ok();
-    Ok(Session {
+    let session = Session {
         begun,
         replies,
         ended,
-        system,
-    })
+    };
+    Ok((session, station.close(seats).ok()))
 }
 
 /// Turns of these actors in a station of the system, which has ledgers of its own.
@@ -92,7 +90,7 @@ fn session_of(
     program: &Program,
     system: System,
     actors: &[usize],
-) -> Result<Session, AllocError> {
+) -> Result<(Session, Option<System>), AllocError> {
     let parts = u64::from(system.processors()) + 1;
     play::<Brand, Brand, Brand>(
         rt,
@@ -106,124 +104,110 @@ fn session_of(
     )
 }
 
-/// The report and the history.
-fn end_of(alloc: Global, mut system: System) -> Option<Vec<u8>> {
-    let mut writer = Watched::new(Vec::new(alloc));
-    write_end(&mut system, &mut writer).ok()?;
-    Some(writer.into_inner())
+/// Whether the session was this: each seat's shares, the replies, and each seat's shares again.
+fn was(session: &Session, begun: &[Shares], replies: &[Option<Reply>], ended: &[Shares]) -> bool {
+    session.begun.as_slice() == begun
+        && session.replies.as_slice() == replies
+        && session.ended.as_slice() == ended
 }
 
-// A draw that a seat makes is of what another seat's command made.
-#[test]
-fn write_then_read(rt: HostRuntime) -> Result<(), Fail> {
-    let alloc = rt.alloc();
-    let program = parse(alloc, TWO_PROCESSORS.as_bytes())?;
-    let system = System::open(alloc, &program, 6)?;
-    let played = session_of(&rt, alloc, &program, system, &[0, 1, 2, 1, 2, 0])?;
-    assert_eq!(rt; played.begun.as_slice(), [(0, 0, 0); 3].as_slice());
-    assert_eq!(rt;
-        played.replies.as_slice(),
-        [
-            Some(Reply::Funded {
-                ticket: 1,
-                thread: 1
-            }),
-            Some(Reply::Winner {
-                thread: 1,
-                number: 4,
-                total: 10,
-                delivered: None
-            }),
-            Some(Reply::Idle),
-            Some(Reply::Expired {
-                thread: 1,
-                ticks: 100
-            }),
-            Some(Reply::Winner {
-                thread: 1,
-                number: 3,
-                total: 10,
-                delivered: None
-            }),
-            None,
-        ]
-        .as_slice()
-    );
-    assert_eq!(rt;
-        played.ended.as_slice(),
-        [(1, 0, 0), (2, 1, 100), (2, 1, 0)].as_slice()
-    );
-    let system = played.system.ok_or("not closed")?;
-    let end = end_of(alloc, system).ok_or("not written")?;
-    assert_eq!(rt;
-        std::str::from_utf8(&end),
-        Ok(
-            "report
+const FUNDED: Option<Reply> = Some(Reply::Funded {
+    ticket: 1,
+    thread: 1,
+});
+
+const FIRST_DRAW: Option<Reply> = Some(Reply::Winner {
+    thread: 1,
+    number: 4,
+    total: 10,
+    delivered: None,
+});
+
+const IDLE: Option<Reply> = Some(Reply::Idle);
+
+const EXPIRED: Option<Reply> = Some(Reply::Expired {
+    thread: 1,
+    ticks: 100,
+});
+
+const SECOND_DRAW: Option<Reply> = Some(Reply::Winner {
+    thread: 1,
+    number: 3,
+    total: 10,
+    delivered: None,
+});
+
+/// The replies to turns of the actors 0, 1, 2, 1, 2 and 0.
+const REPLIES: [Option<Reply>; 6] = [FUNDED, FIRST_DRAW, IDLE, EXPIRED, SECOND_DRAW, None];
+
+/// What the seats have then.
+const ENDED: [Shares; 3] = [(1, 0, 0), (2, 1, 100), (2, 1, 0)];
+
+const END: &str = "report
 thread 1 a quanta 2 ticks 100
 processor 1 quanta 1 idle 0 ticks 100
 processor 2 quanta 1 idle 1 ticks 0
 total turns 5 quanta 2 ticks 100
 schedule 0 1 2 1 2
-"
-        )
-    );
-    Ok(())
+";
+
+/// Whether the seats play the row, and its end; `None` where memory was refused or the station wasn't closed.
+fn plays_the_row(rt: &impl Wait, alloc: Global) -> Option<(bool, bool)> {
+    let (program, system) = opened(alloc, TWO_PROCESSORS, 6)?;
+    let (session, closed) = session_of(rt, alloc, &program, system, &[0, 1, 2, 1, 2, 0]).ok()?;
+    let end = end_of(alloc, closed?)?;
+    Some((
+        was(&session, &[(0, 0, 0); 3], &REPLIES, &ENDED),
+        end.as_slice() == END.as_bytes(),
+    ))
+}
+
+// A draw that a seat makes is of what another seat's command made.
+#[test]
+fn write_then_read(rt: HostRuntime) {
+    assert_eq!(rt; plays_the_row(&rt, rt.alloc()), Some((true, true)));
+}
+
+/// The same in two stations, one after the other; what was seen of the second.
+fn plays_in_two(rt: &impl Wait, alloc: Global) -> Option<Session> {
+    let (program, system) = opened(alloc, TWO_PROCESSORS, 6)?;
+    let (_, closed) = session_of(rt, alloc, &program, system, &[0, 1, 2, 1]).ok()?;
+    let (session, again) = session_of(rt, alloc, &program, closed?, &[2, 0]).ok()?;
+    again.map(|_system| session)
+}
+
+/// Whether the second session went on.
+fn goes_on(session: Option<Session>) -> bool {
+    match session {
+        Some(session) => was(
+            &session,
+            &[(1, 0, 0), (2, 1, 100), (1, 0, 0)],
+            &[SECOND_DRAW, None],
+            &ENDED,
+        ),
+        None => false,
+    }
 }
 
 // A closed system that is opened again goes on, and its seats begin with what its history has.
 #[test]
-fn opens_again(rt: HostRuntime) -> Result<(), Fail> {
-    let alloc = rt.alloc();
-    let program = parse(alloc, TWO_PROCESSORS.as_bytes())?;
-    let system = System::open(alloc, &program, 6)?;
-    let first = session_of(&rt, alloc, &program, system, &[0, 1, 2, 1])?;
-    let system = first.system.ok_or("not closed")?;
-    let second = session_of(&rt, alloc, &program, system, &[2, 0])?;
-    assert_eq!(rt;
-        second.begun.as_slice(),
-        [(1, 0, 0), (2, 1, 100), (1, 0, 0)].as_slice()
-    );
-    assert_eq!(rt;
-        second.replies.as_slice(),
-        [
-            Some(Reply::Winner {
-                thread: 1,
-                number: 3,
-                total: 10,
-                delivered: None
-            }),
-            None
-        ]
-        .as_slice()
-    );
-    assert_eq!(rt;
-        second.ended.as_slice(),
-        [(1, 0, 0), (2, 1, 100), (2, 1, 0)].as_slice()
-    );
-    let system = second.system.ok_or("not closed again")?;
-    assert_eq!(rt; system.history(), [0, 1, 2, 1, 2].as_slice());
-    Ok(())
+fn opens_again(rt: HostRuntime) {
+    assert!(rt; goes_on(plays_in_two(&rt, rt.alloc())));
 }
 
-// For runs in which one allocation is refused: it answers that memory was refused, and nothing else.
+/// Whether a station is opened and closed, or memory for it is refused.
+fn opens(rt: &impl Wait, alloc: Global) -> bool {
+    let Some((program, system)) = opened(alloc, TWO_PROCESSORS, 6) else {
+        return true;
+    };
+    match session_of(rt, alloc, &program, system, &[]) {
+        Ok((_, closed)) => closed.is_some(),
+        Err(AllocError) => true,
+    }
+}
+
+// For runs in which one allocation is refused.
 #[test]
 fn opens_or_lacks_memory(rt: HostRuntime) {
-    let alloc = rt.alloc();
-    let Ok(program) = parse(alloc, TWO_PROCESSORS.as_bytes()) else {
-        return;
-    };
-    let Ok(system) = System::open(alloc, &program, 6) else {
-        return;
-    };
-    let result = session_of(&rt, alloc, &program, system, &[]);
-    assert!(rt;
-        matches!(
-            &result,
-            Err(AllocError)
-                | Ok(Session {
-                    system: Some(_),
-                    ..
-                })
-        )
-    );
+    assert!(rt; opens(&rt, rt.alloc()));
 }

@@ -1,12 +1,12 @@
 //! A slice twice.
 ghost use Rattle.std.specs.Prelude.{◌≡◌, ◌+◌};
 
-use crate::tests::slice_of;
+use crate::tests::opened;
 use crate::{Seat, Station, TurnLedger};
 use lot_machine::{Outcome, Reply};
 use lot_script::Context;
-use lot_system::{System, TurnFault, Work};
-use lot_text::{Program, parse};
+use lot_system::{System, TurnFault, Work, slice_for};
+use lot_text::Program;
 use std::alloc::{AllocError, Global};
 use std::marker::Brand;
 use std::sync::Wait;
@@ -64,20 +64,17 @@ fn make_twice<T: TurnLedger, Q: Ledger, K: Ledger>(
     let seat = seats.get_mut(1)?;
     station.turn(rt, seat, None).ok()?;
     let work = station.work(rt, seat)?;
-    let slice = slice_of(program, Some(copied(&work)))?;
+    let slice = slice_for(program, Some(copied(&work))).ok()??;
     let end = slice.end().copied();
     let locked = station.turn(rt, seat, Some(slice)).ok()?.reply;
     let before = shares_of(seat);
-    let again = slice_of(program, Some(work))?;
-    let Err(TurnFault::Stale(Some(stale))) = station.turn(rt, seat, Some(again)) else {
+    let again = slice_for(program, Some(work)).ok()?;
+    let Err(TurnFault::Stale(Some(stale))) = station.turn(rt, seat, again) else {
         return None;
     };
     let after = shares_of(seat);
-    let right = slice_of(program, Some(copied(&stale)))?;
-    let full = matches!(
-        station.turn(rt, seat, Some(right)),
-        Err(TurnFault::HistoryFull)
-    );
+    let right = slice_for(program, Some(copied(&stale))).ok()?;
+    let full = matches!(station.turn(rt, seat, right), Err(TurnFault::HistoryFull));
     Some(Twice {
         locked,
         end,
@@ -130,27 +127,33 @@ fn played(
     )
 }
 
+const LOCKED: Reply = Reply::Trapped {
+    thread: 1,
+    ticks: 1,
+    outcome: Outcome::Locked,
+    ends: false,
+};
+
+/// Whether the slice locked, and whether its second use was refused with the work behind it and changed no shares.
+fn is_refused(twice: &Twice) -> (bool, bool) {
+    let locked = twice.locked == LOCKED && twice.full;
+    let stale = twice.stale.thread == 1
+        && twice.stale.budget == 99
+        && twice.stale.context == twice.end
+        && twice.before == (2, 1, 1)
+        && twice.after == (2, 1, 1);
+    (locked, stale)
+}
+
+/// The same of a new system with room for three turns, and whether its history is the three turns that were made.
+fn refuses_twice(rt: &impl Wait, alloc: Global) -> Option<((bool, bool), bool)> {
+    let (program, system) = opened(alloc, LOCKER, 3)?;
+    let (twice, closed) = played(rt, alloc, &program, system).ok()??;
+    Some((is_refused(&twice), closed.history() == [0, 1, 1].as_slice()))
+}
+
 // A slice that was used is stale: the work is then behind its trap, and neither history nor shares change.
 #[test]
-fn a_slice_twice(rt: HostRuntime) -> Result<(), Fail> {
-    let alloc = rt.alloc();
-    let program = parse(alloc, LOCKER.as_bytes())?;
-    let system = System::open(alloc, &program, 3)?;
-    let (twice, system) = played(&rt, alloc, &program, system)?.ok_or("not played")?;
-    assert_eq!(rt;
-        twice.locked,
-        Reply::Trapped {
-            thread: 1,
-            ticks: 1,
-            outcome: Outcome::Locked,
-            ends: false
-        }
-    );
-    assert_eq!(rt; (twice.stale.thread, twice.stale.budget), (1, 99));
-    assert!(rt; twice.stale.context == twice.end);
-    assert_eq!(rt; twice.before, (2, 1, 1));
-    assert_eq!(rt; twice.after, (2, 1, 1));
-    assert!(rt; twice.full);
-    assert_eq!(rt; system.history(), [0, 1, 1].as_slice());
-    Ok(())
+fn a_slice_twice(rt: HostRuntime) {
+    assert_eq!(rt; refuses_twice(&rt, rt.alloc()), Some(((true, true), true)));
 }
