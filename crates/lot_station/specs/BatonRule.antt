@@ -12,6 +12,7 @@ use Rattle.lot_station.specs.BatonViews.{newcomer, Sees}
 abbrev pub Fits : (ℕ → ℕ) → Seen → ℕ → Claim → Type 0
 Fits owner now port c = Sees now c × ((a : ℕ) → c.from ≤ a → a < c.to → owner a ≡ port)
 
+-- the same of each claim
 abbrev pub AllFit : (ℕ → ℕ) → Seen → ℕ → List Claim → Type 0
 AllFit owner now port [] = ⊤
 AllFit owner now port (c ∷ cs) = Fits owner now port c × AllFit owner now port cs

@@ -20,6 +20,7 @@ pub record Seat : Type 0 where
   pub seen : Seen
   pub stopped : Option TurnFault
 
+-- a seat of these four
 abbrev pub seat : TableId → ℕ → Seen → Option TurnFault → Seat
 seat station actor seen stopped = record { station = station; actor = actor; seen = seen; stopped = stopped }
 
@@ -28,6 +29,7 @@ pub record Baton : Type 0 where
   pub id : TableId
   pub processors : ℕ
 
+-- a station of these two
 abbrev pub baton : TableId → ℕ → Baton
 baton id processors = record { id = id; processors = processors }
 

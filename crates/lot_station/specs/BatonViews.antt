@@ -15,6 +15,7 @@ claim from to seen = record { from = from; to = to; seen = seen }
 abbrev pub all_actors : Seen → Claim
 all_actors seen = claim 0 4294967296 seen
 
+-- a view of these three
 abbrev pub known : Bool → Option Seen → List Claim → View
 known fresh held claims = record { fresh = fresh; held = held; claims = claims }
 
@@ -44,12 +45,14 @@ Begins x seen = (x.setting ≡ seen.setting) × StartsWith x.history seen.histor
 abbrev pub Sees : Seen → Claim → Type 0
 Sees x c = Begins x c.seen × ((a : ℕ) → c.from ≤ a → a < c.to → turns_by a x.history ≡ turns_by a c.seen.history)
 
+-- the same of each claim
 abbrev pub SeesAll : Seen → List Claim → Type 0
 SeesAll x [] = ⊤
 SeesAll x (c ∷ cs) = Sees x c × SeesAll x cs
 
 -- ---- what each step leaves
 
+-- the first claim alone
 abbrev pub first_only : List Claim → List Claim
 first_only [] = []
 first_only (c ∷ cs) = c ∷ []
@@ -67,10 +70,11 @@ abbrev pub Next : Claim → Seen → Seen → Type 0
 Next c was x =
     (x.setting ≡ was.setting) × ((x.history ≡ was.history) ⊎ ((x.history ≡ was.history ++ c.from ∷ []) × (c.from < c.to)))
 
--- the first actor goes to a new pass, which saw as much
+-- where the first actor goes to a new pass: what is left
 abbrev pub all_but_first : View → View
 all_but_first v = known v.fresh v.held (map (λ c. claim (c.from + 1) c.to c.seen) v.claims)
 
+-- and the new pass, which saw as much
 abbrev pub first_actor : View → View
 first_actor v = resting (map (λ c. claim c.from (c.from + 1) c.seen) v.claims)
 
