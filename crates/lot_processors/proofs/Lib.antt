@@ -1,1 +1,3 @@
 mod FreeRuns
+mod BatonWork
+mod BatonSeats

@@ -1,1 +1,2 @@
 pub mod Workers
+pub mod BatonWorkers

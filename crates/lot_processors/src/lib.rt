@@ -1,11 +1,13 @@
 //! Worker threads: one for each processor of a shared system, and one for its console.
 #![tactic(auto)]
 
+mod baton_workers;
 mod fault;
 mod gate;
 mod running;
 mod workers;
 
+pub use baton_workers::run_all_baton;
 pub use fault::RunFault;
 pub use gate::{Gate, OpenGate};
 pub use running::{FreeRunFault, free_run};

@@ -1,5 +1,5 @@
 //! The system.
-ghost use Rattle.std.specs.Prelude.{◌≡◌, ◌↔◌, ◌<◌, ◌≤◌, [], All, IfOk, IfErr, IsTrue, length};
+ghost use Rattle.std.specs.Prelude.{◌≡◌, ◌↔◌, ◌<◌, ◌≤◌, ◌^◌, [], All, IfOk, IfErr, IsTrue, length};
 ghost use Rattle.lot_machine.specs.Bounds.{IsBetween};
 ghost use Rattle.lot_machine.specs.Rows as rows;
 ghost use Rattle.lot_machine.specs.State.{sizes_of};
@@ -106,7 +106,9 @@ impl System {
     pub fn history(&self) -> &[u8]
         ensures items { result.now ≡ self.now.history }
         ensures legal { IsLegal self.now.setting.program self.now.setting.room self.now.history }
+        ensures room { self.now.setting.room < 2 ^ 32 }
     {
+        let _room = self.room;
         &self.history
     }
 

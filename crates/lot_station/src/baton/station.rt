@@ -48,8 +48,7 @@ pub struct SeatMissing {
 }
 
 impl BatonStation {
-    /// Puts the system into a queue, and gives a seat for each actor, in order. It fails only for want of memory, and the
-    /// system is dropped then.
+    /// Puts the system into a queue, and gives a seat for each actor, in order. Where memory is refused it drops the system.
     pub fn open(alloc: Global, system: System) -> Result<(BatonStation, Vec<BatonSeat>), AllocError>
         ensures processors { IfOk result (λ r. r.0.processors ≡ system.setting.program.limits.processors) }
         ensures seats { IfOk result (λ r. length r.1.items ≡ system.setting.program.limits.processors + 1) }
@@ -123,7 +122,7 @@ impl BatonStation {
         self.tell(rt, a, b);
     }
 
-    // Now `to` has seen all that `from` has seen.
+    /// Now `to` has seen all that `from` has seen.
     fn tell<R: Wait>(&self, rt: &R, from: &mut BatonSeat, to: &mut BatonSeat)
         requires { (from.old.station ≡ self.now.id) × (to.old.station ≡ self.now.id) }
         ensures from { from.new ≡ from.old }
@@ -163,6 +162,7 @@ impl BatonStation {
     }
 }
 
+/// Whether each actor from 0 to the last has its seat once, in order.
 fn in_order(processors: u32, seats: &[BatonSeat]) -> bool
     ensures { IsTrue result ↔ InOrder processors seats.now }
 {
@@ -177,7 +177,7 @@ fn in_order(processors: u32, seats: &[BatonSeat]) -> bool
     true
 }
 
-// One pass for all seats.
+/// One pass for all seats.
 fn joined(queue: &Queue, mut seats: Vec<BatonSeat>) -> Token
     requires seats { All (λ s. s.station ≡ queue.now.table.shared.table_id) seats.items }
     requires some { 0 < length seats.items }
@@ -192,7 +192,7 @@ fn joined(queue: &Queue, mut seats: Vec<BatonSeat>) -> Token
     pass
 }
 
-// Pops until the system comes.
+/// Pops until the system comes.
 fn take<R: Wait>(rt: &R, queue: &Queue, pass: &mut Token) -> System
     requires pass { IsPassOf queue.now pass.old }
     requires opened { (view pass.old).fresh ≡ false }
@@ -209,7 +209,7 @@ fn take<R: Wait>(rt: &R, queue: &Queue, pass: &mut Token) -> System
     unreachable!()
 }
 
-// Pushes the system that was in hands, with one turn more at most.
+/// Pushes the system that was in hands, with one turn more at most.
 fn give<R: Wait>(rt: &R, queue: &Queue, pass: &mut Token, system: System)
     requires pass { IsPassOf queue.now pass.old × (ruled_capacity queue.now ≡ 1) }
     requires held { (c : Claim) × (was : Seen) × (view pass.old ≡ holding was c) × Next c was system }

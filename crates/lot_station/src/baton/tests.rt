@@ -5,13 +5,13 @@ ghost use Rattle.lot_station.specs.BatonSeats.{IsSameSeat, IsSeatOf};
 use crate::{BatonSeat, BatonStation};
 use lot_machine::Reply;
 use lot_script::Slice;
-use lot_system::{Answer, System, TurnFault, Work, write_end};
-use lot_text::{Program, Watched, parse};
+use lot_system::{Answer, System, TurnFault, Work};
+use lot_text::{Program, parse};
 use std::alloc::Global;
-use std::sync::{Mutex, Wait};
+use std::sync::Wait;
 use std::test::*;
-use std::thread;
-use std::thread::Threads;
+
+mod threads;
 
 /// Two processors and one thread.
 const TWO_PROCESSORS: &str = "lottery 1
@@ -100,38 +100,100 @@ fn won(number: u128) -> Reply {
     }
 }
 
-// Each seat's turn comes behind the one of the seat that it has met, and a station is closed by all its seats in order.
+/// Turns of the seats 0, 2 and 1, each of which has met the one before.
+fn met<R: Wait>(
+    rt: &R,
+    station: &BatonStation,
+    program: &Program,
+    zero: &mut BatonSeat,
+    one: &mut BatonSeat,
+    two: &mut BatonSeat,
+) -> [Option<Reply>; 3]
+    requires { IsSeatOf station.now zero.old × IsSeatOf station.now one.old × IsSeatOf station.now two.old }
+    ensures { IsSameSeat zero.old zero.new × IsSameSeat one.old one.new × IsSameSeat two.old two.new }
+{
+    let first = reply_of(rt, station, program, zero);
+    station.meet(rt, zero, two);
+    let second = reply_of(rt, station, program, two);
+    station.meet(rt, two, one);
+    [first, second, reply_of(rt, station, program, one)]
+}
+
+/// The station closed, once a seat was missing and once two were in another order.
+fn closed<R: Wait>(
+    rt: &R,
+    alloc: Global,
+    station: BatonStation,
+    zero: BatonSeat,
+    one: BatonSeat,
+    two: BatonSeat,
+) -> Result<System, Fail>
+    requires { IsSeatOf station zero × IsSeatOf station one × IsSeatOf station two }
+{
+    let Err(mut back) = station.close(rt, vec![in alloc; zero, two]?) else {
+        return Err("closed without a seat".into());
+    };
+    back.seats.push(one)?;
+    let Err(mut back) = back.station.close(rt, back.seats) else {
+        return Err("closed out of order".into());
+    };
+    back.seats.swap(1, 2);
+    match back.station.close(rt, back.seats) {
+        Ok(system) => Ok(system),
+        Err(_) => Err("not closed".into()),
+    }
+}
+
 #[test]
 fn turns_behind_meetings(rt: HostRuntime) -> Result<(), Fail> {
     let program = program_of(rt.alloc(), TWO_PROCESSORS)?;
     let (station, mut zero, mut one, mut two) = opened(rt.alloc(), &program)?;
-    assert_eq!(rt; reply_of(&rt, &station, &program, &mut zero), Some(FUNDED));
-    station.meet(&rt, &mut zero, &mut two);
-    assert_eq!(rt; reply_of(&rt, &station, &program, &mut two), Some(won(5)));
-    station.meet(&rt, &mut two, &mut one);
     assert_eq!(rt;
-        reply_of(&rt, &station, &program, &mut one),
-        Some(Reply::Idle)
+        met(&rt, &station, &program, &mut zero, &mut one, &mut two),
+        [Some(FUNDED), Some(won(5)), Some(Reply::Idle)]
     );
-    let seats = vec![in rt.alloc(); zero, two]?;
-    let Err(back) = station.close(&rt, seats) else {
-        return Err("closed without a seat".into());
-    };
-    let mut seats = back.seats;
-    seats.push(one)?;
-    let Err(back) = back.station.close(&rt, seats) else {
-        return Err("closed out of order".into());
-    };
-    let mut seats = back.seats;
-    seats.swap(1, 2);
-    let Ok(system) = back.station.close(&rt, seats) else {
-        return Err("not closed".into());
-    };
+    let system = closed(&rt, rt.alloc(), station, zero, one, two)?;
     assert_eq!(rt; system.history(), [0, 2, 1].as_slice());
     Ok(())
 }
 
-// The turns of a schedule by seats, and one of the console too many.
+/// The turns of the actors 0, 1, 2, 1 and 2.
+fn scheduled<R: Wait>(
+    rt: &R,
+    station: &BatonStation,
+    program: &Program,
+    zero: &mut BatonSeat,
+    one: &mut BatonSeat,
+    two: &mut BatonSeat,
+) -> [Option<Reply>; 5]
+    requires { IsSeatOf station.now zero.old × IsSeatOf station.now one.old × IsSeatOf station.now two.old }
+    ensures { IsSameSeat zero.old zero.new }
+{
+    [
+        reply_of(rt, station, program, zero),
+        reply_of(rt, station, program, one),
+        reply_of(rt, station, program, two),
+        reply_of(rt, station, program, one),
+        reply_of(rt, station, program, two),
+    ]
+}
+
+/// Whether the seat's turn is one of the console without a command left, and the seat keeps that fault until it is taken.
+fn is_ended<R: Wait>(
+    rt: &R,
+    station: &BatonStation,
+    program: &Program,
+    seat: &mut BatonSeat,
+) -> bool
+    requires { IsSeatOf station.now seat.old }
+{
+    match turn_of(rt, station, program, seat) {
+        Err(fault) => seat.stop(fault),
+        Ok(_) => return false,
+    }
+    matches!(seat.stopped(), Some(TurnFault::Ended)) && seat.stopped().is_none()
+}
+
 #[test]
 fn write_then_read(rt: HostRuntime) -> Result<(), Fail> {
     let program = program_of(rt.alloc(), TWO_PROCESSORS)?;
@@ -140,19 +202,16 @@ fn write_then_read(rt: HostRuntime) -> Result<(), Fail> {
         thread: 1,
         ticks: 100,
     };
-    assert_eq!(rt; reply_of(&rt, &station, &program, &mut zero), Some(FUNDED));
-    assert_eq!(rt; reply_of(&rt, &station, &program, &mut one), Some(won(4)));
     assert_eq!(rt;
-        reply_of(&rt, &station, &program, &mut two),
-        Some(Reply::Idle)
+        scheduled(&rt, &station, &program, &mut zero, &mut one, &mut two),
+        [
+            Some(FUNDED),
+            Some(won(4)),
+            Some(Reply::Idle),
+            Some(expired),
+            Some(won(3))
+        ]
     );
-    assert_eq!(rt; reply_of(&rt, &station, &program, &mut one), Some(expired));
-    assert_eq!(rt; reply_of(&rt, &station, &program, &mut two), Some(won(3)));
-    match turn_of(&rt, &station, &program, &mut zero) {
-        Err(fault) => zero.stop(fault),
-        Ok(_) => return Err("one turn too many".into()),
-    }
-    assert_eq!(rt; matches!(zero.stopped(), Some(TurnFault::Ended)), true);
-    assert_eq!(rt; zero.stopped().is_none(), true);
+    assert!(rt; is_ended(&rt, &station, &program, &mut zero));
     Ok(())
 }

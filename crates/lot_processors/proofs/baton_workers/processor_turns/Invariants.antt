@@ -1,0 +1,6 @@
+use Rattle.std.proofs.Common.{◌≡◌}
+use Rattle.lot_processors.specs.BatonWorkers.{HasMade}
+use Rattle.lot_processors.proofs.baton_workers.processor_turns.Given as goal
+
+abbrev pub invariant-loop-made : goal.invariant-loop-made
+invariant-loop-made g l = (l.seat.stopped ≡ l.initial.seat.stopped) × HasMade l.made l.initial.seat l.seat

@@ -1,0 +1,129 @@
+//! One worker for each seat of a system that goes round as a baton.
+ghost use Rattle.std.specs.Prelude.{◌≡◌, All, IfSome, OnErr, OnOk, None};
+ghost use Rattle.lot_processors.specs.BatonWorkers.{AllMade, FirstStops, HasMade, HasStopped, HasWorked, IsFirstFault};
+ghost use Rattle.lot_processors.specs.Workers.{turns_for};
+
+use crate::{Gate, RunFault};
+use lot_station::{BatonSeat, BatonStation};
+use lot_system::{TurnFault, slice_for};
+use lot_text::Program;
+use std::sync::Wait;
+use std::thread;
+use std::thread::Threads;
+
+/// Makes the program's turns by the seats, which are all of the station's, in order, as `run_all` does: the console's one for
+/// each command, and each processor's as many as the program has turns. Each seat has a worker, on a thread of its own where
+/// one can be started, which stops at its first fault. All have stopped when this returns. It may wait.
+pub fn run_all_baton<G: Gate + Sync, R: Threads + Wait + Sync>(
+    rt: &R,
+    station: &BatonStation,
+    program: &Program,
+    gate: &G,
+    seats: &mut [BatonSeat],
+) -> Result<(), RunFault>
+    requires { All (λ seat. seat.station ≡ station.now.id) seats.old }
+    ensures ok { OnOk result (AllMade program.now seats.old seats.new) }
+    ensures err { OnErr result (FirstStops program.now seats.old seats.new) }
+{
+    let work = |_place: usize, seat: &mut BatonSeat|
+        requires { seat.now.station ≡ station.now.id }
+        ensures { HasWorked (turns_for program.entry.now seat.entry.now.actor) seat.entry.now seat.exit.now }
+    { work_for(rt, station, program, gate, seat) };
+    thread::for_each_mut(rt, seats, seats.len() + 1, &work);
+    match first_fault(seats) {
+        None => Ok(()),
+        Some(fault) => Err(RunFault::Turn(fault)),
+    }
+}
+
+/// The fault of the first seat that has one, which is taken out of it.
+fn first_fault(seats: &mut [BatonSeat]) -> Option<TurnFault>
+    ensures none { result ≡ None → (seats.new ≡ seats.old) × All (λ seat. seat.stopped ≡ None) seats.old }
+    ensures some { IfSome result (λ fault. IsFirstFault fault seats.old seats.new) }
+{
+    for place in 0..seats.len() {
+        let fault = seats[place].stopped();
+        if fault.is_some() {
+            return fault;
+        }
+    }
+    None
+}
+
+/// The turns of the seat's actor, until one isn't made; then the seat keeps the fault.
+fn work_for(
+    rt: &impl Wait,
+    station: &BatonStation,
+    program: &Program,
+    gate: &impl Gate,
+    seat: &mut BatonSeat,
+)
+    requires { seat.old.station ≡ station.now.id }
+    ensures { HasWorked (turns_for program.now seat.old.actor) seat.old seat.new }
+{
+    let _ = seat.stopped();
+    match actor_turns(rt, station, program, gate, seat) {
+        Ok(()) => {}
+        Err(fault) => seat.stop(fault),
+    }
+}
+
+/// The turns of the seat's actor, until one isn't made.
+fn actor_turns(
+    rt: &impl Wait,
+    station: &BatonStation,
+    program: &Program,
+    gate: &impl Gate,
+    seat: &mut BatonSeat,
+) -> Result<(), TurnFault>
+    requires { seat.old.station ≡ station.now.id }
+    ensures stop { seat.new.stopped ≡ seat.old.stopped }
+    ensures ok { OnOk result (HasMade (turns_for program.now seat.old.actor) seat.old seat.new) }
+    ensures err { OnErr result (HasStopped (turns_for program.now seat.old.actor) seat.old seat.new) }
+{
+    if seat.actor() == 0 {
+        command_turns(rt, station, program.commands().len(), seat)
+    } else {
+        processor_turns(rt, station, program, gate, seat)
+    }
+}
+
+/// So many turns of the console.
+fn command_turns(
+    rt: &impl Wait,
+    station: &BatonStation,
+    commands: usize,
+    seat: &mut BatonSeat,
+) -> Result<(), TurnFault>
+    requires { seat.old.station ≡ station.now.id }
+    ensures stop { seat.new.stopped ≡ seat.old.stopped }
+    ensures ok { OnOk result (HasMade commands seat.old seat.new) }
+    ensures err { OnErr result (HasStopped commands seat.old seat.new) }
+{
+    for _turn in 0..commands {
+        station.turn(rt, seat, None)?;
+    }
+    Ok(())
+}
+
+/// The turns of a processor, each behind the gate and with the slice of its work.
+fn processor_turns(
+    rt: &impl Wait,
+    station: &BatonStation,
+    program: &Program,
+    gate: &impl Gate,
+    seat: &mut BatonSeat,
+) -> Result<(), TurnFault>
+    requires { seat.old.station ≡ station.now.id }
+    ensures stop { seat.new.stopped ≡ seat.old.stopped }
+    ensures ok { OnOk result (HasMade program.now.turns seat.old seat.new) }
+    ensures err { OnErr result (HasStopped program.now.turns seat.old seat.new) }
+{
+    let mut work = station.work(rt, seat);
+    for made in 0..program.turns() {
+        let slice = slice_for(program, work)?;
+        gate.pass(seat.actor(), made + 1);
+        work = station.turn(rt, seat, slice)?.next;
+    }
+    Ok(())
+}
