@@ -1,11 +1,10 @@
 //! A free run: the turns of an input's program, made by workers.
-ghost use Rattle.std.specs.Prelude.{◌≡◌, ℕ, List, false, IfOk};
-ghost use Rattle.std.specs.Io.KnownBytes.{Appends};
+ghost use Rattle.std.specs.Prelude.{◌≡◌, ℕ, List, false, IfErr, IfOk};
 ghost use Rattle.lot_machine.specs.Grammar.{program_in};
 ghost use Rattle.lot_machine.specs.Output.{end_text};
-ghost use Rattle.lot_system.specs.declared.playing.Played.TheVariants.{Done};
 ghost use Rattle.lot_system.specs.Reading.{HasRead};
-ghost use Rattle.lot_sim.specs.Running.{HasRun};
+ghost use Rattle.lot_system.specs.Writing.{Writes};
+ghost use Rattle.lot_sim.specs.Running.{HasRun, Leaves, Runs};
 
 use lot_processors::{FreeRunFault, OpenGate, free_run};
 use lot_system::{PlayFault, Played, System, read_input, refuse, write_end};
@@ -27,12 +26,6 @@ pub(crate) enum RunStop {
     Workers(FreeRunFault),
 }
 
-impl From<PlayFault> for RunStop {
-    fn from(fault: PlayFault) -> Self {
-        RunStop::Play(fault)
-    }
-}
-
 /// Reads an input, has its commands run and its processors' turns made by workers, and writes the report and the history;
 /// or one line, where the input is refused. Its schedule is ignored. It may wait.
 pub(crate) fn run<R: Read, W: Write, H: Threads + Wait + Sync>(
@@ -42,10 +35,13 @@ pub(crate) fn run<R: Read, W: Write, H: Threads + Wait + Sync>(
     writer: &mut Watched<W>,
 ) -> Result<Played, RunStop>
     requires { (reader.old.1 ≡ false) × (writer.old.1 ≡ false) }
-    ensures { IfOk result (λ played. (bytes : List ℕ) × HasRead (R.remaining reader.old.0) (R.remaining reader.new.0) bytes × HasRun (program_in bytes) (W.contents writer.old.0) (W.contents writer.new.0) played) }
+    ensures output { IfOk result (λ played. (bytes : List ℕ) × HasRead (R.remaining reader.old.0) (R.remaining reader.new.0) bytes × HasRun (program_in bytes) (W.contents writer.old.0) (W.contents writer.new.0) played) }
+    ensures fault { IfErr result (λ stop. Leaves (R.remaining reader.old.0) (R.remaining reader.new.0) (W.contents writer.old.0) (W.contents writer.new.0) stop) }
 {
-    let bytes = read_input(alloc, reader)?;
-    run_bytes(rt, alloc, &bytes, writer)
+    match read_input(alloc, reader) {
+        Ok(bytes) => run_bytes(rt, alloc, &bytes, writer),
+        Err(fault) => Err(RunStop::Play(fault)),
+    }
 }
 
 /// Runs what these bytes say, or writes why they are refused.
@@ -56,12 +52,15 @@ fn run_bytes<W: Write, H: Threads + Wait + Sync>(
     writer: &mut Watched<W>,
 ) -> Result<Played, RunStop>
     requires { writer.old.1 ≡ false }
-    ensures { IfOk result (λ played. HasRun (program_in bytes.now) (W.contents writer.old.0) (W.contents writer.new.0) played) }
+    ensures { Runs (program_in bytes.now) (W.contents writer.old.0) (W.contents writer.new.0) writer.new.1 result }
 {
     match parse(alloc, bytes) {
         Ok(program) => run_program(rt, alloc, &program, writer),
         Err(ParseFault::Memory) => Err(RunStop::Play(PlayFault::Memory)),
-        Err(ParseFault::Input(fault)) => Ok(refuse(fault, writer)?),
+        Err(ParseFault::Input(fault)) => match refuse(fault, writer) {
+            Ok(played) => Ok(played),
+            Err(fault) => Err(RunStop::Play(fault)),
+        },
     }
 }
 
@@ -73,23 +72,26 @@ fn run_program<W: Write, H: Threads + Wait + Sync>(
     writer: &mut Watched<W>,
 ) -> Result<Played, RunStop>
     requires { writer.old.1 ≡ false }
-    ensures { IfOk result (λ played. HasRun (Ok program.now) (W.contents writer.old.0) (W.contents writer.new.0) played) }
+    ensures { Runs (Ok program.now) (W.contents writer.old.0) (W.contents writer.new.0) writer.new.1 result }
 {
     let mut system = match free_run(rt, alloc, program, &OpenGate) {
         Ok(system) => system,
         Err(fault) => return Err(RunStop::Workers(fault)),
     };
-    Ok(write_run(&mut system, writer)?)
+    match write_run(&mut system, writer) {
+        Ok(()) => Ok(Played::Done),
+        Err(fault) => Err(RunStop::Play(fault)),
+    }
 }
 
 /// Writes the system's report and its history, and flushes.
-fn write_run<W: Write>(system: &mut System, writer: &mut Watched<W>) -> Result<Played, PlayFault>
+fn write_run<W: Write>(system: &mut System, writer: &mut Watched<W>) -> Result<(), PlayFault>
     requires { writer.old.1 ≡ false }
-    ensures { IfOk result (λ played. (played ≡ Done) × Appends (W.contents writer.old.0) (W.contents writer.new.0) (end_text system.old.setting.program system.old.history)) }
+    ensures { Writes (W.contents writer.old.0) (W.contents writer.new.0) writer.new.1 result (end_text system.old.setting.program system.old.history) }
 {
     write_end(system, writer)?;
     match writer.flush() {
-        Ok(()) => Ok(Played::Done),
+        Ok(()) => Ok(()),
         Err(_) => Err(PlayFault::Write),
     }
 }
