@@ -1,0 +1,68 @@
+-- A graph and what is kept for it, after a call of the graph.
+use Rattle.std.proofs.Common.{◌≡◌, ℕ, zero, suc, Bool, false, Option, Some, None, List, [], ◌∷◌, ◌++◌, length, ◌+◌, ap, sym, ◌∙◌, refl, subst, length-append}
+use Rattle.std.specs.Option.{OnSome, IfNone}
+use Rattle.lot_machine.specs.declared.ticket.Target.{Target}
+use Rattle.lot_machine.specs.declared.ticket.Target.TheVariants as target
+use Rattle.lot_machine.specs.declared.funding.Node.{Node}
+use Rattle.lot_machine.specs.declared.funding.Node.TheVariants.{Currency, Thread}
+use Rattle.lot_machine.specs.declared.funding.Edge.TheVariants.{OfTicket}
+use Rattle.lot_machine.specs.declared.funding.Lend.TheVariants.{Nobody}
+use Rattle.lot_machine.specs.Funding.{Funding, target_of, target_node, with_new_ticket, with_target}
+use Rattle.lot_machine.specs.Lends.{IsLive}
+use Rattle.lot_machine.proofs.Tickets.{at_number-suc}
+use Rattle.lot_graph.specs.Graphs.{LimitedFunding, IsSound, IsTarget, IsFunding}
+use Rattle.lot_graph.specs.Places.{FitsLimits, layout_of}
+use Rattle.lot_graph.proofs.FieldLemmas.{target-ticket, funding-ticket}
+use Rattle.lot_graph.proofs.HeadLemmas.{edge-back}
+use Rattle.lot_active.specs.declared.edge_places.EdgePlaces.{EdgePlaces}
+use Rattle.lot_active.specs.Activity.{Activity}
+use Rattle.lot_active.specs.Fundings.{AddsEdge, places_of_edge, places_between}
+use Rattle.lot_active.specs.Both.{Both, Agree}
+use Rattle.lot_active.proofs.Calls.{same-places}
+use Rattle.lot_active.proofs.CallEdits.{fund-edge, unfund-edge, issue-kept, thread-kept, currencies-kept}
+
+abbrev pub both : LimitedFunding → Activity → Both
+both w v = record { graph = w; activity = v }
+
+pub none-live : (t : ℕ) → ¬ IsLive [] t
+none-live zero alive = cc
+none-live (suc i) alive = let none = sym (at_number-suc (let bits : List Bool = [] in bits) i) ∙ alive in cc
+
+module _ (w now : LimitedFunding) (v : Activity) (agree : Agree (both w v)) (sound : IsSound now.funding) (fits : FitsLimits now) where
+  pub currency-both : (o : Option ℕ) (currencies : List Bool) → OnSome o (now ≡ record w { funding = record w.funding { currencies = currencies } }) → IfNone o (now ≡ w) → Agree (both now v)
+  currency-both None currencies made same = subst (λ (x : LimitedFunding). Agree (both x v)) (sym same) agree
+  currency-both (Some n) currencies made same =
+      let (live, (size, kept)) = agree in (live, (size ∙ sym (ap (λ (x : LimitedFunding). length x.funding.lends) made), currencies-kept v w now live kept sound fits currencies made))
+
+  pub issue-both : (o : Option ℕ) (amount issuer : ℕ) → OnSome o (now ≡ record w { funding = record w.funding { tickets = with_new_ticket w.funding.tickets amount issuer target.Unfunded } }) → IfNone o (now ≡ w) → Agree (both now v)
+  issue-both None amount issuer made same = subst (λ (x : LimitedFunding). Agree (both x v)) (sym same) agree
+  issue-both (Some n) amount issuer made same =
+      let (live, (size, kept)) = agree in (live, (size ∙ sym (ap (λ (x : LimitedFunding). length x.funding.lends) made), issue-kept v w now live kept sound fits amount issuer made))
+
+  pub thread-both : now ≡ record w { funding = record w.funding { lends = w.funding.lends ++ Nobody ∷ [] } } → Agree (both now v)
+  thread-both made =
+      let (live, (size, kept)) = agree in
+      let after : length (w.funding.lends ++ Nobody ∷ []) ≡ length w.funding.lends + 1 = length-append w.funding.lends (Nobody ∷ []) in
+      let before : length (live ++ false ∷ []) ≡ length live + 1 = length-append live (false ∷ []) in
+      (live ++ false ∷ [], (before ∙ ap (λ k. k + 1) size ∙ sym after ∙ sym (ap (λ (x : LimitedFunding). length x.funding.lends) made), thread-kept v w now live kept sound fits made))
+
+-- a target is a node
+target-some : (f : Funding) (to : Target) → IsTarget f to → (node : Node) × (target_node to ≡ Some node)
+target-some f target.Unfunded there = absurd there
+target-some f (target.Currency c) there = (Currency c, refl)
+target-some f (target.Thread t) there = (Thread t, refl)
+
+module _ (w now : LimitedFunding) (n : ℕ) (fits : FitsLimits w) where
+  pub fund-places : (to : Target) → target_of w.funding n ≡ Some target.Unfunded → IsTarget w.funding to → now ≡ record w { funding = record w.funding { tickets = with_target w.funding.tickets n to } } → (places : EdgePlaces) × AddsEdge w now (OfTicket n) places
+  fund-places to unfunded there made =
+      let t = target-ticket w.funding n target.Unfunded unfunded in
+      let node = target-some w.funding to there in
+      (places_between (layout_of w) t.0.amount (Currency t.0.issuer) node.0, fund-edge w now n t.0 to node.0 fits t.1 t.2 node.1 made)
+
+  pub unfund-places : (places : EdgePlaces) → IsFunding w.funding n → places_of_edge (layout_of w) w.funding (OfTicket n) ≡ Some places → now ≡ record w { funding = record w.funding { tickets = with_target w.funding.tickets n target.Unfunded } } → AddsEdge now w (OfTicket n) places
+  unfund-places places funds at made =
+      let t = funding-ticket w.funding n funds in
+      let other = places_between (layout_of w) t.0.amount (Currency t.0.issuer) t.1 in
+      let adds : AddsEdge now w (OfTicket n) other = unfund-edge w now n t.0 t.1 fits t.2 t.3 made in
+      let here : places_of_edge (layout_of w) w.funding (OfTicket n) ≡ Some other = ap (places_of_edge (layout_of w) w.funding) (sym (edge-back (layout_of w) (OfTicket n) adds.within)) ∙ adds.adds.here in
+      subst (λ (a : EdgePlaces). AddsEdge now w (OfTicket n) a) (same-places (places_of_edge (layout_of w) w.funding (OfTicket n)) other places here at) adds

@@ -1,0 +1,52 @@
+-- A funding as a net: its nodes and edges by place, and what is kept for it.
+use Rattle.std.specs.Prelude.{◌≡◌, ℕ, Bool, Option, List, option_map, unwrap_or}
+use Rattle.lot_machine.specs.declared.funding.Node.{Node}
+use Rattle.lot_machine.specs.declared.funding.Node.TheVariants.{Thread}
+use Rattle.lot_machine.specs.declared.funding.Edge.{Edge}
+use Rattle.lot_machine.specs.declared.funding.Edge.TheVariants.{OfTicket}
+use Rattle.lot_machine.specs.Funding.{Funding, ends_of, ticket_at}
+use Rattle.lot_machine.specs.Lends.{IsLive}
+use Rattle.lot_graph.specs.declared.layout.Layout.{Layout}
+use Rattle.lot_graph.specs.Graphs.{LimitedFunding, IsSound}
+use Rattle.lot_graph.specs.Places.{node_place, IsNodeWithin, node_count, edge_place, edge_at, IsEdgeWithin, edge_count, layout_of, FitsLimits}
+use Rattle.lot_active.specs.declared.edge_places.EdgePlaces.{EdgePlaces}
+use Rattle.lot_active.specs.Nets.{Net}
+use Rattle.lot_active.specs.Activity.{IsAwake, Activity, IsKept, Adds}
+
+-- a ticket's edge has its amount, another edge 1
+abbrev pub counted_amount : Funding → Edge → ℕ
+counted_amount f (OfTicket n) = unwrap_or (option_map (λ t. t.amount) (ticket_at f n)) 0
+counted_amount f other = 1
+
+abbrev pub places_of_edge : Layout → Funding → Edge → Option EdgePlaces
+places_of_edge l f edge = option_map (λ ends. record { from = node_place l ends.0; to = node_place l ends.1; amount = counted_amount f edge }) (ends_of f edge)
+
+abbrev pub net_of : Layout → Funding → Net
+net_of l f = record { nodes = node_count l; edges = edge_count l; places = λ place. places_of_edge l f (edge_at l place) }
+
+-- just the live threads are awake
+pub record AwakeAre (l : Layout) (live : List Bool) (awake : List Bool) : Type 0 where
+  pub lives : (x : ℕ) → IsAwake awake x → (t : ℕ) × (x ≡ node_place l (Thread t)) × IsNodeWithin l (Thread t) × IsLive live t
+  pub wakes : (t : ℕ) → IsNodeWithin l (Thread t) → IsLive live t → IsAwake awake (node_place l (Thread t))
+
+-- an edge of the net between two nodes
+abbrev pub places_between : Layout → ℕ → Node → Node → EdgePlaces
+places_between l amount from to = record { from = node_place l from; to = node_place l to; amount = amount }
+
+-- the net of a graph
+abbrev pub graph_net : LimitedFunding → Net
+graph_net w = net_of (layout_of w) w.funding
+
+-- What is kept is right for a graph and the live threads: just they are awake, and each amount and each mark is the
+-- definitions'.
+pub record IsKeptFor (v : Activity) (w : LimitedFunding) (live : List Bool) : Type 0 where
+  pub sound : IsSound w.funding
+  pub fits : FitsLimits w
+  pub awake : AwakeAre (layout_of w) live v.awake
+  pub kept : IsKept (graph_net w) v
+
+-- the second graph has this edge, and the first hasn't; all others lead where they led
+pub record AddsEdge (less more : LimitedFunding) (edge : Edge) (places : EdgePlaces) : Type 0 where
+  pub layout : layout_of more ≡ layout_of less
+  pub within : IsEdgeWithin (layout_of more) edge
+  pub adds : Adds (graph_net less) (graph_net more) (edge_place (layout_of more) edge) places

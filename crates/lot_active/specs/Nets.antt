@@ -1,0 +1,39 @@
+-- Nodes and edges with amounts, and the ways along them.
+use Rattle.std.specs.Prelude.{◌≡◌, ℕ, ◌^◌, ◌<◌, Option, Some, List, [], ◌∷◌}
+use Rattle.lot_active.specs.declared.edge_places.EdgePlaces.{EdgePlaces}
+
+-- how many nodes there are, how many edges there may be, and where each edge leads, if it is there
+pub record Net : Type 0 where
+  pub nodes : ℕ
+  pub edges : ℕ
+  pub places : ℕ → Option EdgePlaces
+
+-- edges lead between nodes that there are, and their amounts are from 1 to 4294967295
+pub record IsNet (g : Net) : Type 0 where
+  pub from : (e : ℕ) (a : EdgePlaces) → g.places e ≡ Some a → a.from < g.nodes
+  pub to : (e : ℕ) (a : EdgePlaces) → g.places e ≡ Some a → a.to < g.nodes
+  pub some : (e : ℕ) (a : EdgePlaces) → g.places e ≡ Some a → 0 < a.amount
+  pub fits : (e : ℕ) (a : EdgePlaces) → g.places e ≡ Some a → a.amount < 2 ^ 32
+  pub within : (e : ℕ) (a : EdgePlaces) → g.places e ≡ Some a → e < g.edges
+  pub numbered : g.edges < 2 ^ 32
+
+-- an edge leads from one node to the other
+abbrev pub HasEdge : Net → ℕ → ℕ → Type 0
+HasEdge g from to = (e : ℕ) × (a : EdgePlaces) × (g.places e ≡ Some a) × (a.from ≡ from) × (a.to ≡ to)
+
+-- edges lead from the first node, over these in order, to the last
+abbrev pub IsWay : Net → ℕ → List ℕ → ℕ → Type 0
+IsWay g from [] to = from ≡ to
+IsWay g from (next ∷ rest) to = HasEdge g from next × IsWay g next rest to
+
+-- a way, perhaps empty, leads from one node to the other
+abbrev pub Reaches : Net → ℕ → ℕ → Type 0
+Reaches g from to = (way : List ℕ) × IsWay g from way to
+
+-- no edge leads to where a way leads back to its start
+abbrev pub HasNoCycle : Net → Type 0
+HasNoCycle g = (from to : ℕ) → HasEdge g from to → ¬ Reaches g to from
+
+-- the edge with this number is there, and leads to the node
+abbrev pub EntersAt : Net → ℕ → ℕ → Type 0
+EntersAt g node e = (a : EdgePlaces) × (g.places e ≡ Some a) × (a.to ≡ node)

@@ -1,0 +1,50 @@
+-- What is true while a change spreads; no public clause cites this file.
+use Rattle.std.specs.Prelude.{◌≡◌, ℕ, ◌==◌, ◌<◌, Bool, true, false, not, Some, List, Contains, if◌then◌else◌}
+use Rattle.lot_lists.specs.NodeLists.{IsFree}
+use Rattle.lot_active.specs.declared.edge_places.EdgePlaces.{EdgePlaces}
+use Rattle.lot_active.specs.Nets.{Net, Reaches}
+use Rattle.lot_active.specs.Activity.{amount_from}
+use Rattle.lot_active.specs.Held.{Held, In, on_at, held_at}
+
+-- x is y after a move
+abbrev pub HasMoved : Bool → ℕ → ℕ → Type 0
+HasMoved true x y = x < y
+HasMoved false x y = y < x
+
+-- the test with another answer at one number
+abbrev pub set_at : (ℕ → Bool) → ℕ → Bool → ℕ → Bool
+set_at f k b n = if n == k then b else f n
+
+-- Where each node stands, between what was held when the call began and now. Published is what edges into the node were
+-- counted by.
+pub record Noted (g : Net) (seed : ℕ) (on : Bool) (was now : Held) (published : ℕ → Bool) : Type 0 where
+  pub pending : (n : ℕ) → In now.lists 0 n → (published n ≡ not on) × (on_at now n ≡ on) × (on_at was n ≡ not on)
+  pub agrees : (n : ℕ) → ¬ In now.lists 0 n → published n ≡ on_at now n
+  pub switched : (n : ℕ) → In now.lists 1 n → (on_at now n ≡ on) × (on_at was n ≡ not on)
+  pub adjusted : (n : ℕ) → In now.lists 2 n → HasMoved on (held_at was n) (held_at now n) × (on_at now n ≡ on_at was n)
+  pub free : (n : ℕ) → IsFree now.lists n → (held_at now n ≡ held_at was n) × (on_at now n ≡ on_at was n)
+  pub upstream : (list n : ℕ) → In now.lists list n → Reaches g n seed
+
+-- each amount is the sum of the counted edges
+abbrev pub AddsUp : Net → Held → (ℕ → Bool) → Type 0
+AddsUp g h counted = (n : ℕ) → held_at h n ≡ amount_from g counted n
+
+-- between two nodes: each edge is counted by what is published of the node that it leads to
+pub record Spreading (g : Net) (seed : ℕ) (on : Bool) (was now : Held) : Type 0 where
+  pub published : ℕ → Bool
+  pub counted : ℕ → Bool
+  pub noted : Noted g seed on was now published
+  pub adds_up : AddsUp g now counted
+  pub follows : (e : ℕ) (a : EdgePlaces) → g.places e ≡ Some a → counted e ≡ published a.to
+
+-- on the way over the edges into node x, of which some are done
+pub record Crossing (g : Net) (seed : ℕ) (on : Bool) (was now : Held) (x : ℕ) (done : List ℕ) : Type 0 where
+  pub published : ℕ → Bool
+  pub counted : ℕ → Bool
+  pub noted : Noted g seed on was now published
+  pub adds_up : AddsUp g now counted
+  pub here : published x ≡ on
+  pub reaches : Reaches g x seed
+  pub counted_done : (e : ℕ) (a : EdgePlaces) → g.places e ≡ Some a → Contains done e → counted e ≡ on
+  pub counted_left : (e : ℕ) (a : EdgePlaces) → g.places e ≡ Some a → a.to ≡ x → ¬ Contains done e → counted e ≡ not on
+  pub counted_else : (e : ℕ) (a : EdgePlaces) → g.places e ≡ Some a → ¬ (a.to ≡ x) → counted e ≡ published a.to

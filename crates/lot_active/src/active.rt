@@ -1,0 +1,222 @@
+//! What is active, by the live threads.
+ghost use Rattle.std.specs.Prelude.{◌≡◌, ℕ, ◌<◌, ◌≤◌, ◌↔◌, Bool, List, IfOk, IsTrue, Some, length, replicate, slice_set, false, true};
+ghost use Rattle.lot_machine.specs.declared.funding.Edge.{Edge};
+ghost use Rattle.lot_machine.specs.declared.funding.Node.TheVariants.{Thread as ThreadNode};
+ghost use Rattle.lot_machine.specs.Numbered.{set_number};
+ghost use Rattle.lot_machine.specs.Lends.{IsLive, IsBacked};
+ghost use Rattle.lot_machine.specs.Activity as machine;
+ghost use Rattle.lot_graph.specs.Graphs.{LimitedFunding, IsSound, IsThread};
+ghost use Rattle.lot_graph.specs.Places.{FitsLimits, layout_of, node_place, node_count};
+ghost use Rattle.lot_active.specs.declared.edge_places.EdgePlaces.{EdgePlaces};
+ghost use Rattle.lot_active.specs.Nets.{Net, IsNet, HasNoCycle};
+ghost use Rattle.lot_active.specs.Activity.{IsKept, Changes, Adds, amount_of, mark_of};
+ghost use Rattle.lot_active.specs.Fundings.{IsKeptFor, AddsEdge, graph_net};
+ghost use Rattle.lot_active.specs.Fundings as fundings;
+
+use crate::edge_places::{EdgePlaces, funded_node, places_of_edge};
+use crate::marks::Marks;
+use lot_graph::Graph;
+use lot_lists::Nodes;
+use lot_machine::{Edge, Node};
+use std::alloc::{AllocError, Global};
+use std::marker::Model;
+
+/// Which threads are live, and what follows from it: which tickets and threads are active, and the sums of the amounts
+/// of the active tickets that each currency issues.
+#[derive(Drop)]
+pub struct Active {
+    marks: Marks,
+}
+
+impl Model for Active {
+    ghost use Rattle.std.specs.Prelude.{◌≡◌, []};
+    ghost use Rattle.lot_lists.specs.NodeLists.{nodes_of};
+    ghost use Rattle.lot_active.specs.Activity.{Activity};
+    ghost use Rattle.lot_active.specs.Held.{IsSized, IsQuiet};
+
+    ghost Value = { Activity };
+
+    ghost view = { λ s. record { awake = s.marks.awake; amounts = s.marks.amounts; switched = nodes_of s.marks.lists 1; adjusted = nodes_of s.marks.lists 2 } };
+
+    ghost invariant = { λ s. IsQuiet s.marks };
+}
+
+impl Active {
+    /// What is kept for a graph where no thread is live.
+    pub fn new(alloc: Global, graph: &Graph) -> Result<Self, AllocError>
+        ensures kept { IfOk result (λ made. (live : List Bool) → ((t : ℕ) → ¬ IsLive live t) → IsKeptFor made graph.now live) }
+    {
+        let nodes = graph.layout().node_count();
+        Ok(Active {
+            marks: Marks::new(alloc, nodes)?,
+        })
+    }
+
+    /// Whether a ticket is active.
+    pub fn is_active(&self, graph: &Graph, ticket: u32) -> bool
+        requires kept { (live : List Bool) × IsKeptFor self.now graph.now live }
+        ensures active { (live : List Bool) → IsKeptFor self.now graph.now live → IsTrue result ↔ machine.IsActive graph.now.funding live ticket }
+    {
+        let Some(record) = graph.ticket(ticket) else {
+            return false;
+        };
+        match funded_node(record.target) {
+            Some(node) => self.is_on(place_in(graph, node)),
+            None => false,
+        }
+    }
+
+    /// Whether a chain of lends, perhaps empty, leads from a thread to a live one.
+    pub fn is_backed(&self, graph: &Graph, thread: u32) -> bool
+        requires thread { IsThread graph.now.funding thread }
+        requires kept { (live : List Bool) × IsKeptFor self.now graph.now live }
+        ensures backed { (live : List Bool) → IsKeptFor self.now graph.now live → IsTrue result ↔ IsBacked graph.now.funding live thread }
+    {
+        self.is_on(place_in(graph, Node::Thread(thread)))
+    }
+
+    /// The sum of the amounts of the active tickets that a currency issues, in each graph that this is kept for.
+    pub fn active_amount(&self, currency: u32) -> u64
+        requires currency { (w : LimitedFunding) × (live : List Bool) × IsKeptFor self.now w live × (currency ≤ w.currency_limit) }
+        ensures amount { (w : LimitedFunding) (live : List Bool) → IsKeptFor self.now w live → currency ≤ w.currency_limit → result ≡ machine.active_amount w.funding live currency }
+    {
+        self.amount(currency as usize)
+    }
+
+    /// A thread gets live.
+    pub fn wake(&mut self, graph: &Graph, thread: u32)
+        requires thread { IsThread graph.now.funding thread }
+        requires kept { (live : List Bool) × IsKeptFor self.old graph.now live }
+        ensures kept { (live : List Bool) → IsKeptFor self.old graph.now live → thread ≤ length live → IsKeptFor self.new graph.now (set_number live thread true) }
+        ensures changes { Changes (graph_net graph.now) (node_place (layout_of graph.now) (ThreadNode thread)) self.old self.new }
+    {
+        let node = place_in(graph, Node::Thread(thread));
+        self.wake_node(graph, node);
+    }
+
+    /// A thread is live no more.
+    pub fn sleep(&mut self, graph: &Graph, thread: u32)
+        requires thread { IsThread graph.now.funding thread }
+        requires kept { (live : List Bool) × IsKeptFor self.old graph.now live }
+        ensures kept { (live : List Bool) → IsKeptFor self.old graph.now live → thread ≤ length live → IsKeptFor self.new graph.now (set_number live thread false) }
+        ensures changes { Changes (graph_net graph.now) (node_place (layout_of graph.now) (ThreadNode thread)) self.old self.new }
+    {
+        let node = place_in(graph, Node::Thread(thread));
+        self.sleep_node(graph, node);
+    }
+
+    /// Takes up an edge that was put into the graph.
+    pub fn attach(&mut self, graph: &Graph, edge: Edge)
+        requires kept { (before : LimitedFunding) × (places : EdgePlaces) × (live : List Bool) × AddsEdge before graph.now edge places × IsKeptFor self.old before live }
+        ensures kept { (before : LimitedFunding) (places : EdgePlaces) (live : List Bool) → AddsEdge before graph.now edge places → IsKeptFor self.old before live → IsKeptFor self.new graph.now live }
+        ensures changes { (places : EdgePlaces) → fundings.places_of_edge (layout_of graph.now) graph.now.funding edge ≡ Some places → Changes (graph_net graph.now) places.from self.old self.new }
+    {
+        let Some(places) = places_of_edge(graph, edge) else {
+            unreachable!()
+        };
+        self.attach_places(graph, places);
+    }
+
+    /// Gives up an edge that was taken out of the graph, by where it led.
+    pub fn detach(&mut self, graph: &Graph, places: EdgePlaces)
+        requires sound { IsSound graph.now.funding }
+        requires fits { FitsLimits graph.now }
+        requires kept { (before : LimitedFunding) × (edge : Edge) × (live : List Bool) × AddsEdge graph.now before edge places × IsKeptFor self.old before live }
+        ensures kept { (before : LimitedFunding) (edge : Edge) (live : List Bool) → AddsEdge graph.now before edge places → IsKeptFor self.old before live → IsKeptFor self.new graph.now live }
+        ensures changes { Changes (graph_net graph.now) places.from self.old self.new }
+    {
+        self.detach_places(graph, places);
+    }
+
+    /// The places of the nodes that the last call switched on or off.
+    pub fn switched(&self) -> Nodes<'_>
+        ensures nodes { result ≡ self.now.switched }
+    {
+        self.marks.switched()
+    }
+
+    /// The places of the nodes of which the last call changed the amount alone.
+    pub fn adjusted(&self) -> Nodes<'_>
+        ensures nodes { result ≡ self.now.adjusted }
+    {
+        self.marks.adjusted()
+    }
+
+    fn is_on(&self, node: usize) -> bool
+        requires node { node < length self.now.amounts }
+        ensures mark { result ≡ mark_of self.now node }
+    {
+        self.marks.is_on(node)
+    }
+
+    fn amount(&self, node: usize) -> u64
+        requires node { node < length self.now.amounts }
+        ensures amount { result ≡ amount_of self.now node }
+    {
+        self.marks.amount(node)
+    }
+
+    fn wake_node(&mut self, graph: &Graph, node: usize)
+        requires node { node < node_count (layout_of graph.now) }
+        requires graph { IsNet (graph_net graph.now) }
+        requires no_cycle { HasNoCycle (graph_net graph.now) }
+        requires kept { IsKept (graph_net graph.now) self.old }
+        ensures awake { self.new.awake ≡ slice_set self.old.awake node true }
+        ensures kept { IsKept (graph_net graph.now) self.new }
+        ensures changes { Changes (graph_net graph.now) node self.old self.new }
+    {
+        self.marks.clear();
+        self.marks.set_awake(node, true);
+        self.marks.propagate(graph, true);
+    }
+
+    fn sleep_node(&mut self, graph: &Graph, node: usize)
+        requires node { node < node_count (layout_of graph.now) }
+        requires graph { IsNet (graph_net graph.now) }
+        requires no_cycle { HasNoCycle (graph_net graph.now) }
+        requires kept { IsKept (graph_net graph.now) self.old }
+        ensures awake { self.new.awake ≡ slice_set self.old.awake node false }
+        ensures kept { IsKept (graph_net graph.now) self.new }
+        ensures changes { Changes (graph_net graph.now) node self.old self.new }
+    {
+        self.marks.clear();
+        self.marks.set_awake(node, false);
+        self.marks.propagate(graph, false);
+    }
+
+    fn attach_places(&mut self, graph: &Graph, places: EdgePlaces)
+        requires graph { IsNet (graph_net graph.now) }
+        requires no_cycle { HasNoCycle (graph_net graph.now) }
+        requires kept { (before : Net) × (edge : ℕ) × Adds before (graph_net graph.now) edge places × IsKept before self.old }
+        ensures awake { self.new.awake ≡ self.old.awake }
+        ensures kept { IsKept (graph_net graph.now) self.new }
+        ensures changes { Changes (graph_net graph.now) places.from self.old self.new }
+    {
+        self.marks.clear();
+        if self.marks.is_on(places.to) {
+            self.marks.adjust(places.from, places.amount, true);
+            self.marks.propagate(graph, true);
+        }
+    }
+
+    fn detach_places(&mut self, graph: &Graph, places: EdgePlaces)
+        requires no_cycle { HasNoCycle (graph_net graph.now) }
+        requires kept { (before : Net) × (edge : ℕ) × Adds (graph_net graph.now) before edge places × IsNet before × IsKept before self.old }
+        ensures awake { self.new.awake ≡ self.old.awake }
+        ensures kept { IsKept (graph_net graph.now) self.new }
+        ensures changes { Changes (graph_net graph.now) places.from self.old self.new }
+    {
+        self.marks.clear();
+        if self.marks.is_on(places.to) {
+            self.marks.adjust(places.from, places.amount, false);
+            self.marks.propagate(graph, false);
+        }
+    }
+}
+
+/// The place of a node.
+fn place_in(graph: &Graph, node: Node) -> usize
+    ensures place { result ≡ node_place (layout_of graph.now) node }
+{
+    graph.layout().list_of(node)
+}

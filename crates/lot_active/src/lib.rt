@@ -1,0 +1,16 @@
+//! Which tickets and threads are active, and each currency's active amount, kept up to date (4.4).
+//!
+//! A node of the graph is active where a way of edges, perhaps empty, leads from it to a live thread, and an edge where
+//! the node is that it leads to. A change is passed on along the edges into a node, node by node, from a worklist of
+//! linked lists. So no call but `new` takes memory, and each reads the edges into a node once at most.
+#![tactic(auto)]
+
+mod active;
+mod edge_places;
+pub mod laws;
+mod marks;
+#[cfg(test)]
+mod tests;
+
+pub use active::Active;
+pub use edge_places::{EdgePlaces, places_of_edge};

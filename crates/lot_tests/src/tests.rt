@@ -1,0 +1,4 @@
+mod histories;
+mod inputs;
+mod kernels;
+mod sizes;

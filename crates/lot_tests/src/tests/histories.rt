@@ -1,0 +1,32 @@
+//! Histories that are full.
+
+use lot_machine::Reply;
+use lot_system::{System, TurnFault};
+use lot_text::parse;
+use std::process::Abort;
+use std::test::Fail;
+
+/// What a draw on processor 1, on which no thread runs, is answered: a reply, or nothing if the history is full.
+fn draw(rt: &impl Abort, system: &mut System) -> Option<Reply> {
+    assert!(rt; 1 <= system.processors());
+    match system.turn(1, None) {
+        Ok(answer) => Some(answer.reply),
+        Err(fault) => {
+            assert!(rt; matches!(fault, TurnFault::HistoryFull));
+            None
+        }
+    }
+}
+
+// A draw that nobody wins is a turn of the history, as any other.
+#[test]
+fn idle_draws_fill_a_history(rt: HostRuntime) -> Result<(), Fail> {
+    let alloc = rt.alloc();
+    let program = parse(alloc, "lottery 1".as_bytes())?;
+    let mut system = System::open(alloc, &program, 2)?;
+    for reply in [Some(Reply::Idle), Some(Reply::Idle), None, None] {
+        assert_eq!(rt; draw(&rt, &mut system), reply);
+    }
+    assert_eq!(rt; system.history(), [1, 1].as_slice());
+    Ok(())
+}
