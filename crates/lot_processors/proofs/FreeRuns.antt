@@ -1,18 +1,18 @@
 -- What the seats of a free run say of its history.
-use Rattle.std.proofs.Common.{◌≡◌, ℕ, ◌+◌, ◌<◌, ◌≤◌, ◌==◌, List, [], Some, length, count_by, slice_index_or, sym, ◌∙◌, ap, arith}
+use Rattle.std.proofs.Common.{◌≡◌, ℕ, ◌+◌, ◌<◌, ◌≤◌, ◌==◌, List, [], Some, length, count_by, slice_index_or, sym, ◌∙◌, ap, subst, arith}
 use Rattle.std.specs.List.{slice_get}
-use Rattle.std.proofs.lemmas.Option.{slice_get-get_or}
+use Rattle.std.proofs.lemmas.Option.{get_or_from_slice_get, slice_get-get_or, slice_get_within}
 use Rattle.lot_machine.specs.World.{Program}
-use Rattle.lot_system.specs.Seen.{Seen}
+use Rattle.lot_system.specs.Seen.{Setting, Seen}
 use Rattle.lot_station.specs.Holders.{Holder, AreDealt, CountsAgree, InOrder, dealt}
-use Rattle.lot_station.specs.Settings.{times_in}
-use Rattle.lot_processors.specs.Workers.{AllMade, turns_for}
+use Rattle.lot_station.specs.Settings.{IsLegalIn, times_in}
+use Rattle.lot_processors.specs.Workers.{AllMade, HasOthers, free_setting, turns_for}
 
 -- what is added to nothing
 from_nothing : (m n k : ℕ) → m ≡ n + k → n ≡ 0 → m ≡ k
 from_nothing m n k sum none = omega (arith, sum, none)
 
-module _ (program : Program) (opened closed : Seen) (before after : List Holder) (p : ℕ) (empty : opened.history ≡ []) (seats : opened.setting.program.limits.processors ≡ p) (deals : AreDealt opened before) (made : AllMade program before after) (order : InOrder p after) (agree : CountsAgree closed after) where
+module _ (program : Program) (opened closed : Seen) (before after : List Holder) (p : ℕ) (empty : opened.history ≡ []) (seats : opened.setting.program.limits.processors ≡ p) (deals : AreDealt opened before) (made : AllMade opened.setting program before after) (order : InOrder p after) (agree : CountsAgree closed after) where
   -- each actor has had its turns
   pub free_turns : (actor : ℕ) → actor ≤ p → times_in closed actor ≡ turns_for program actor
   free_turns actor there =
@@ -27,4 +27,40 @@ module _ (program : Program) (opened closed : Seen) (before after : List Holder)
       let does = made actor d in_before in
       let first : old.turns ≡ 0 = ap (λ (h : Holder). h.turns) was ∙ ap (λ h. count_by (λ a. a == actor) h) empty in
       let of_old : old.actor ≡ actor = ap (λ (h : Holder). h.actor) was in
-      ap (λ a. times_in closed a) (sym its) ∙ sym (agree actor new at_new) ∙ from_nothing new.turns old.turns (turns_for program old.actor) does.turns first ∙ ap (λ a. turns_for program a) of_old
+      ap (λ a. times_in closed a) (sym its) ∙ sym (agree actor new at_new) ∙ from_nothing new.turns old.turns (turns_for program old.actor) does.made.turns first ∙ ap (λ a. turns_for program a) of_old
+
+-- ---- runs that give no system back
+
+module _ (program : Program) (opened : Seen) (setting : opened.setting ≡ free_setting program) (empty : opened.history ≡ []) (before after : List Holder) (deals : AreDealt opened before) where
+  new_seats : AreDealt (record { setting = free_setting program; history = [] }) before
+  new_seats =
+      let same : opened ≡ record { setting = free_setting program; history = [] } = λ i. record { setting = setting i; history = empty i } in
+      subst (λ (x : Seen). AreDealt x before) same deals
+
+  module _ (station : Setting) (is : station ≡ opened.setting) (made : AllMade station program before after) (as_many : length after ≡ length before) where
+    -- the seats are still in order
+    pub still_in_order : InOrder station.program.limits.processors after
+    still_in_order =
+        record {
+          count = as_many ∙ deals.count ∙ ap (λ (s : Setting). s.program.limits.processors + 1) (sym is);
+          actors = λ k s at.
+              let low : k < length before = omega (arith, slice_get_within after k s at, as_many) in
+              let old = slice_index_or before k s in
+              let was : old ≡ dealt opened k = deals.each k old (slice_get-get_or before k s low) in
+              let now : slice_index_or after k s ≡ s = get_or_from_slice_get after k s s at in
+              ap (λ (h : Holder). h.actor) (sym now) ∙ (made k s low).made.actor ∙ ap (λ (h : Holder). h.actor) was;
+        }
+
+    -- the history has other turns
+    pub has_others : (closed : Seen) → closed.setting ≡ station → IsLegalIn closed → ¬ CountsAgree closed after → HasOthers program
+    has_others closed same legal differ =
+        record {
+          before = before;
+          after = after;
+          closed = closed;
+          dealt = new_seats;
+          made = subst (λ (s : Setting). AllMade s program before after) (is ∙ setting) made;
+          setting = same ∙ is ∙ setting;
+          legal = legal;
+          differ = differ;
+        }

@@ -1,3 +1,4 @@
 mod FreeRuns
+mod SeatsWork
+mod SeatWork
 mod BatonWork
-mod BatonSeats

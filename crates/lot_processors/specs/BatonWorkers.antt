@@ -1,11 +1,16 @@
 -- What workers do by the seats of a system that goes round as a baton.
-use Rattle.std.specs.Prelude.{◌≡◌, ◌⊎◌, ℕ, ◌+◌, ◌<◌, ◌≤◌, List, Some, None, length, slice_index_or}
+use Rattle.std.specs.Prelude.{◌≡◌, ◌⊎◌, ℕ, ◌+◌, ◌<◌, List, Option, Some, None, length}
 use Rattle.lot_machine.specs.World.{Program}
 use Rattle.lot_system.specs.declared.fault.TurnFault.{TurnFault}
+use Rattle.lot_system.specs.declared.turn.Work.{Work}
+use Rattle.lot_system.specs.Seen.{Seen}
+use Rattle.lot_system.specs.Turns.{IsWorkOf}
 use Rattle.lot_station.specs.BatonSeats.{Seat}
 use Rattle.lot_station.specs.BatonViews.{Begins}
-use Rattle.lot_station.specs.Settings.{turns_by}
-use Rattle.lot_processors.specs.Workers.{turns_for}
+use Rattle.lot_station.specs.Settings.{IsLegalIn, turns_by}
+use Rattle.lot_processors.specs.Workers.{EachSeat, Stops, turns_for}
+
+-- ---- turns
 
 -- how many turns a seat has made, in the history that it has seen
 abbrev pub made_by : Seat → ℕ
@@ -22,38 +27,56 @@ pub record HasMade (n : ℕ) (before after : Seat) : Type 0 where
   pub continues : Continues before after
   pub turns : made_by after ≡ made_by before + n
 
--- the seat has made turns, but fewer than so many
-pub record HasStopped (n : ℕ) (before after : Seat) : Type 0 where
-  pub continues : Continues before after
-  pub no_fewer : made_by before ≤ made_by after
-  pub fewer : made_by after < made_by before + n
+-- ---- faults
 
--- The seat has no fault, and has made so many turns more; or a fault stopped its worker, and it has made fewer.
-abbrev pub HasWorked : ℕ → Seat → Seat → Type 0
-HasWorked turns before after =
-    ((after.stopped ≡ None) × HasMade turns before after) ⊎ ((fault : TurnFault) × (after.stopped ≡ Some fault) × HasStopped turns before after)
+-- The fault stops a turn of the seat's actor at the end of what the seat has seen, which is a legal history. The work in hand
+-- was the actor's at the end of a beginning of it, and the actor has had no turn since then.
+pub record StopsTurn (program : Program) (s : Seat) (fault : TurnFault) : Type 0 where
+  pub work : Option Work
+  pub earlier : Seen
+  pub had : IsWorkOf earlier s.actor work
+  pub legal : IsLegalIn s.seen
+  pub begins : Begins s.seen earlier
+  pub since : turns_by s.actor s.seen.history ≡ turns_by s.actor earlier.history
+  pub stops : Stops program s.actor work s.seen fault
 
--- it is so of the seats at each place before and after
-abbrev pub EachSeat : List Seat → List Seat → (ℕ → Seat → Seat → Type 0) → Type 0
-EachSeat before after IsSo = (k : ℕ) (d : Seat) → k < length before → IsSo k (slice_index_or before k d) (slice_index_or after k d)
+-- the seat has made turns, but fewer than so many, and then the fault stopped its next turn
+pub record HasStopped (program : Program) (n : ℕ) (fault : TurnFault) (before after : Seat) : Type 0 where
+  pub made : ℕ
+  pub fewer : made < n
+  pub turns : HasMade made before after
+  pub stops : StopsTurn program after fault
 
--- each seat has made the turns that the program has for its actor
+-- ---- the seats of a run
+
+-- the seat has made the turns that the program has for its actor, and keeps no fault
+pub record HasMadeAll (program : Program) (before after : Seat) : Type 0 where
+  pub made : HasMade (turns_for program before.actor) before after
+  pub no_fault : after.stopped ≡ None
+
+-- the seat has made all its turns; or a fault stopped it before, and it keeps that fault
+abbrev pub HasWorked : Program → Seat → Seat → Type 0
+HasWorked program before after =
+    HasMadeAll program before after
+    ⊎ ((fault : TurnFault) × (after.stopped ≡ Some fault) × HasStopped program (turns_for program before.actor) fault before after)
+
+-- each seat has made all its turns
 abbrev pub AllMade : Program → List Seat → List Seat → Type 0
-AllMade program before after = EachSeat before after (λ k s t. HasMade (turns_for program s.actor) s t)
+AllMade program before after = EachSeat before after (λ k s t. HasMadeAll program s t)
 
--- The seat at some place has made fewer turns than the program has for its actor, each one in front of it has made all, and
--- none has made more.
-pub record FirstStops (program : Program) (before after : List Seat) : Type 0 where
+-- The fault is the one that stopped the seat at some place, which keeps none. Each seat before it has made all its turns, and
+-- each one after it has worked.
+pub record FirstStops (program : Program) (fault : TurnFault) (before after : List Seat) : Type 0 where
   pub place : ℕ
   pub there : place < length before
-  pub each : EachSeat before after (λ k s t. HasMade (turns_for program s.actor) s t ⊎ HasStopped (turns_for program s.actor) s t)
-  pub in_front : EachSeat before after (λ k s t. k < place → HasMade (turns_for program s.actor) s t)
-  pub stopped : EachSeat before after (λ k s t. k ≡ place → HasStopped (turns_for program s.actor) s t)
+  pub earlier : EachSeat before after (λ k s t. k < place → HasMadeAll program s t)
+  pub stopped : EachSeat before after (λ k s t. k ≡ place → HasStopped program (turns_for program s.actor) fault s t × (t.stopped ≡ None))
+  pub later : EachSeat before after (λ k s t. place < k → HasWorked program s t)
 
--- The fault is that of the seat at some place, from which it was taken; none in front of it had one.
+-- The fault is that of the seat at some place, from which it was taken; none before it had one.
 pub record IsFirstFault (found : TurnFault) (before after : List Seat) : Type 0 where
   pub place : ℕ
   pub there : place < length before
   pub fault : EachSeat before after (λ k s t. k ≡ place → (s.stopped ≡ Some found) × (t ≡ record s { stopped = None }))
-  pub in_front : EachSeat before after (λ k s t. k < place → s.stopped ≡ None)
+  pub earlier : EachSeat before after (λ k s t. k < place → s.stopped ≡ None)
   pub others : EachSeat before after (λ k s t. ¬ (k ≡ place) → t ≡ s)

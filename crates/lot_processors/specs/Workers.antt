@@ -1,59 +1,147 @@
 -- What workers do.
-use Rattle.std.specs.Prelude.{◌≡◌, ◌⊎◌, ℕ, ◌+◌, ◌*◌, ◌<◌, ◌≤◌, ◌==◌, List, Some, None, length, count_by, slice_index_or, if◌then◌else◌}
+use Rattle.std.specs.Prelude.{◌≡◌, ◌⊎◌, ℕ, ◌+◌, ◌*◌, ◌<◌, ◌≤◌, ◌==◌, All, List, [], Option, Some, None, length, count_by, sum_by, slice_index_or, if◌then◌else◌}
+use Rattle.lot_machine.specs.declared.reply.Reply.{Reply}
+use Rattle.lot_machine.specs.Report.{quanta_in, ticks_in}
 use Rattle.lot_machine.specs.World.{Program, IsLegal}
+use Rattle.lot_script.specs.Slices.{Parts}
 use Rattle.lot_system.specs.declared.fault.TurnFault.{TurnFault}
-use Rattle.lot_station.specs.Holders.{Holder}
+use Rattle.lot_system.specs.declared.turn.Answer.{Answer}
+use Rattle.lot_system.specs.declared.turn.Work.{Work}
+use Rattle.lot_system.specs.Fitting.{IsStale}
+use Rattle.lot_system.specs.Seen.{Setting, Seen}
+use Rattle.lot_system.specs.Turns.{Answers, Faults, Goes, IsWorkOf, Matches}
+use Rattle.lot_station.specs.Holders.{Holder, AreDealt, CountsAgree}
+use Rattle.lot_station.specs.Settings.{AtSome, IsLegalIn}
+use Rattle.lot_processors.specs.declared.fault.RunFault.{RunFault}
+use Rattle.lot_processors.specs.declared.fault.RunFault.TheVariants.{Turn}
+use Rattle.lot_processors.specs.declared.running.FreeRunFault.{FreeRunFault}
+use Rattle.lot_processors.specs.declared.running.FreeRunFault.TheVariants.{Memory, Run, CountsDiffer}
 
 -- how many turns a free run of the program has for this actor: the console's one for each command, a processor's as many as
 -- the program says
 abbrev pub turns_for : Program → ℕ → ℕ
 turns_for program actor = if actor == 0 then length program.commands else program.turns
 
--- the seat has made so many turns more
-pub record HasMade (n : ℕ) (before after : Holder) : Type 0 where
+-- ---- turns
+
+-- the reply is that to a turn of the actor, in a system of this program and room after some legal history
+pub record IsReply (setting : Setting) (actor : ℕ) (reply : Reply) : Type 0 where
+  pub given : Option Parts
+  pub answer : Answer
+  pub is : answer.reply ≡ reply
+  pub turn : AtSome setting (λ x. Goes x actor given × Answers x actor answer)
+
+-- The seat has made so many turns more. Each had one of these replies, in order, and the seat's quanta and ticks grew by
+-- those of the replies.
+pub record HasMade (setting : Setting) (n : ℕ) (before after : Holder) : Type 0 where
   pub actor : after.actor ≡ before.actor
+  pub replies : List Reply
+  pub each : length replies ≡ n
+  pub answered : All (IsReply setting before.actor) replies
   pub turns : after.turns ≡ before.turns + n
+  pub quanta : after.quanta ≡ before.quanta + sum_by quanta_in replies
+  pub ticks : after.ticks ≡ before.ticks + sum_by ticks_in replies
 
--- the seat has made turns, but fewer than so many
-pub record HasStopped (n : ℕ) (before after : Holder) : Type 0 where
-  pub actor : after.actor ≡ before.actor
-  pub no_fewer : before.turns ≤ after.turns
-  pub fewer : after.turns < before.turns + n
+-- ---- faults
 
--- The seat has no fault, and has made so many turns more; or a fault stopped its worker, and it has made fewer.
-abbrev pub HasWorked : ℕ → Holder → Holder → Type 0
-HasWorked turns before after = ((after.stop ≡ None) × HasMade turns before after) ⊎ ((fault : TurnFault) × (after.stop ≡ Some fault) × HasStopped turns before after)
+-- An actor that has this work in hand and makes its turn in this system is stopped by the fault: the work doesn't fit the
+-- program at hand, or the turn with the slice of the work has the fault.
+abbrev pub Stops : Program → ℕ → Option Work → Seen → TurnFault → Type 0
+Stops program actor work now fault =
+    IsStale program work fault ⊎ ((given : Option Parts) × Matches program work given × Faults now actor given fault)
+
+-- The fault stops a turn of the actor in a station of this program and room: after some legal history the work in hand is the
+-- actor's, and after some legal history the turn is stopped.
+pub record StopsTurn (setting : Setting) (program : Program) (actor : ℕ) (fault : TurnFault) : Type 0 where
+  pub work : Option Work
+  pub had : AtSome setting (λ x. IsWorkOf x actor work)
+  pub stops : AtSome setting (λ x. Stops program actor work x fault)
+
+-- the seat has made turns, but fewer than so many, and then the fault stopped its next turn
+pub record HasStopped (setting : Setting) (program : Program) (n : ℕ) (fault : TurnFault) (before after : Holder) : Type 0 where
+  pub made : ℕ
+  pub fewer : made < n
+  pub turns : HasMade setting made before after
+  pub stops : StopsTurn setting program before.actor fault
+
+-- ---- the seats of a run
 
 -- it is so of the seats at each place before and after
-abbrev pub EachSeat : List Holder → List Holder → (ℕ → Holder → Holder → Type 0) → Type 0
-EachSeat before after IsSo = (k : ℕ) (d : Holder) → k < length before → IsSo k (slice_index_or before k d) (slice_index_or after k d)
+abbrev pub EachSeat : {S : Type 0} → List S → List S → (ℕ → S → S → Type 0) → Type 0
+EachSeat {S} before after IsSo = (k : ℕ) (d : S) → k < length before → IsSo k (slice_index_or before k d) (slice_index_or after k d)
 
--- each seat has made the turns that the program has for its actor
-abbrev pub AllMade : Program → List Holder → List Holder → Type 0
-AllMade program before after = EachSeat before after (λ k s t. HasMade (turns_for program s.actor) s t)
+-- the seat has made the turns that the program has for its actor, and keeps no fault
+pub record HasMadeAll (setting : Setting) (program : Program) (before after : Holder) : Type 0 where
+  pub made : HasMade setting (turns_for program before.actor) before after
+  pub no_fault : after.stopped ≡ None
 
--- The seat at some place has made fewer turns than the program has for its actor, each one in front of it has made all, and
--- none has made more.
-pub record FirstStops (program : Program) (before after : List Holder) : Type 0 where
+-- the seat has made all its turns; or a fault stopped it before, and it keeps that fault
+abbrev pub HasWorked : Setting → Program → Holder → Holder → Type 0
+HasWorked setting program before after =
+    HasMadeAll setting program before after
+    ⊎ ((fault : TurnFault) × (after.stopped ≡ Some fault) × HasStopped setting program (turns_for program before.actor) fault before after)
+
+-- each seat has made all its turns
+abbrev pub AllMade : Setting → Program → List Holder → List Holder → Type 0
+AllMade setting program before after = EachSeat before after (λ k s t. HasMadeAll setting program s t)
+
+-- The fault is the one that stopped the seat at some place, which keeps none. Each seat before it has made all its turns, and
+-- each one after it has worked.
+pub record FirstStops (setting : Setting) (program : Program) (fault : TurnFault) (before after : List Holder) : Type 0 where
   pub place : ℕ
   pub there : place < length before
-  pub each : EachSeat before after (λ k s t. HasMade (turns_for program s.actor) s t ⊎ HasStopped (turns_for program s.actor) s t)
-  pub in_front : EachSeat before after (λ k s t. k < place → HasMade (turns_for program s.actor) s t)
-  pub stopped : EachSeat before after (λ k s t. k ≡ place → HasStopped (turns_for program s.actor) s t)
+  pub earlier : EachSeat before after (λ k s t. k < place → HasMadeAll setting program s t)
+  pub stopped : EachSeat before after (λ k s t. k ≡ place → HasStopped setting program (turns_for program s.actor) fault s t × (t.stopped ≡ None))
+  pub later : EachSeat before after (λ k s t. place < k → HasWorked setting program s t)
 
--- The fault is that of the seat at some place, from which it was taken; none in front of it had one.
+-- the fault of the turn that stopped a run
+abbrev pub fault_in : RunFault → TurnFault
+fault_in (Turn fault) = fault
+
+-- The fault is that of the seat at some place, from which it was taken; none before it had one.
 pub record IsFirstFault (found : TurnFault) (before after : List Holder) : Type 0 where
   pub place : ℕ
   pub there : place < length before
-  pub fault : EachSeat before after (λ k s t. k ≡ place → (s.stop ≡ Some found) × (t ≡ record s { stop = None }))
-  pub in_front : EachSeat before after (λ k s t. k < place → s.stop ≡ None)
+  pub fault : EachSeat before after (λ k s t. k ≡ place → (s.stopped ≡ Some found) × (t ≡ record s { stopped = None }))
+  pub earlier : EachSeat before after (λ k s t. k < place → s.stopped ≡ None)
   pub others : EachSeat before after (λ k s t. ¬ (k ≡ place) → t ≡ s)
+
+-- ---- free runs
 
 -- how many turns a free run of the program has in all
 abbrev pub turns_in_all : Program → ℕ
 turns_in_all program = length program.commands + program.limits.processors * program.turns
 
+-- the program, with room for the turns of a free run
+abbrev pub free_setting : Program → Setting
+free_setting program = record { program = program; room = turns_in_all program }
+
 -- The history is a legal one of the program, and has each actor as often as a free run has turns for it.
 pub record IsFreeRun (program : Program) (history : List ℕ) : Type 0 where
   pub legal : IsLegal program (turns_in_all program) history
   pub turns : (actor : ℕ) → actor ≤ program.limits.processors → count_by (λ a. a == actor) history ≡ turns_for program actor
+
+-- of the seats of a new system of the program the first that was stopped was stopped by this fault
+pub record IsStopped (program : Program) (fault : TurnFault) : Type 0 where
+  pub before : List Holder
+  pub after : List Holder
+  pub dealt : AreDealt (record { setting = free_setting program; history = [] }) before
+  pub first : FirstStops (free_setting program) program fault before after
+
+-- the seats of a new system of the program made all their turns, and its history has others
+pub record HasOthers (program : Program) : Type 0 where
+  pub before : List Holder
+  pub after : List Holder
+  pub closed : Seen
+  pub dealt : AreDealt (record { setting = free_setting program; history = [] }) before
+  pub made : AllMade (free_setting program) program before after
+  pub setting : closed.setting ≡ free_setting program
+  pub legal : IsLegalIn closed
+  pub differ : ¬ CountsAgree closed after
+
+-- Why a free run has no system to give back: memory was refused, a worker was stopped, or the system's history hasn't the
+-- turns that the seats have made.
+abbrev pub IsFaultOf : Program → FreeRunFault → Type 0
+IsFaultOf program Memory = Unit {0}
+IsFaultOf program (Run run) = IsStopped program (fault_in run)
+IsFaultOf program CountsDiffer = HasOthers program

@@ -1,8 +1,8 @@
 //! One worker for each seat of a system that goes round as a baton.
-ghost use Rattle.std.specs.Prelude.{◌≡◌, All, IfSome, OnErr, OnOk, None};
+ghost use Rattle.std.specs.Prelude.{◌≡◌, All, IfErr, IfSome, OnOk, None, length};
 ghost use Rattle.lot_station.specs.BatonSeats.{IsSeatOf};
 ghost use Rattle.lot_processors.specs.BatonWorkers.{AllMade, FirstStops, HasMade, HasStopped, HasWorked, IsFirstFault};
-ghost use Rattle.lot_processors.specs.Workers.{turns_for};
+ghost use Rattle.lot_processors.specs.Workers.{fault_in, turns_for};
 
 use crate::{Gate, RunFault};
 use lot_station::{BatonSeat, BatonStation};
@@ -15,6 +15,9 @@ use std::thread::Threads;
 /// Makes the program's turns by the seats, which are all of the station's, in order, as `run_all` does: the console's one for
 /// each command, and each processor's as many as the program has turns. Each seat has a worker, on a thread of its own where
 /// one can be started, which stops at its first fault. All have stopped when this returns. It may wait.
+///
+/// Answers the fault that stopped the first of the seats that were stopped, and takes it out of that seat. A later seat that
+/// was stopped keeps its own fault, until `BatonSeat::stopped` takes it out or the next run begins.
 pub fn run_all_baton<G: Gate + Sync, R: Threads + Wait + Sync>(
     rt: &R,
     station: &BatonStation,
@@ -25,11 +28,11 @@ pub fn run_all_baton<G: Gate + Sync, R: Threads + Wait + Sync>(
     requires { All (IsSeatOf station.now) seats.old }
     ensures own { All (IsSeatOf station.now) seats.new }
     ensures ok { OnOk result (AllMade program.now seats.old seats.new) }
-    ensures err { OnErr result (FirstStops program.now seats.old seats.new) }
+    ensures err { IfErr result (λ e. FirstStops program.now (fault_in e) seats.old seats.new) }
 {
     let work = |_place: usize, seat: &mut BatonSeat|
         requires { seat.now.station ≡ station.now.id }
-        ensures { HasWorked (turns_for program.entry.now seat.entry.now.actor) seat.entry.now seat.exit.now }
+        ensures { HasWorked program.entry.now seat.entry.now seat.exit.now }
     { work_for(rt, station, program, gate, seat) };
     thread::for_each_mut(rt, seats, seats.len() + 1, &work);
     match first_fault(seats) {
@@ -61,7 +64,7 @@ fn work_for(
     seat: &mut BatonSeat,
 )
     requires { seat.old.station ≡ station.now.id }
-    ensures { HasWorked (turns_for program.now seat.old.actor) seat.old seat.new }
+    ensures { HasWorked program.now seat.old seat.new }
 {
     let _ = seat.stopped();
     match actor_turns(rt, station, program, gate, seat) {
@@ -79,36 +82,38 @@ fn actor_turns(
     seat: &mut BatonSeat,
 ) -> Result<(), TurnFault>
     requires { seat.old.station ≡ station.now.id }
-    ensures stop { seat.new.stopped ≡ seat.old.stopped }
+    ensures kept { seat.new.stopped ≡ seat.old.stopped }
     ensures ok { OnOk result (HasMade (turns_for program.now seat.old.actor) seat.old seat.new) }
-    ensures err { OnErr result (HasStopped (turns_for program.now seat.old.actor) seat.old seat.new) }
+    ensures err { IfErr result (λ fault. HasStopped program.now (turns_for program.now seat.old.actor) fault seat.old seat.new) }
 {
     if seat.actor() == 0 {
-        command_turns(rt, station, program.commands().len(), seat)
+        command_turns(rt, station, program, seat)
     } else {
         processor_turns(rt, station, program, gate, seat)
     }
 }
 
-/// So many turns of the console.
+/// A turn of the console for each command.
 fn command_turns(
     rt: &impl Wait,
     station: &BatonStation,
-    commands: usize,
+    program: &Program,
     seat: &mut BatonSeat,
 ) -> Result<(), TurnFault>
-    requires { seat.old.station ≡ station.now.id }
-    ensures stop { seat.new.stopped ≡ seat.old.stopped }
-    ensures ok { OnOk result (HasMade commands seat.old seat.new) }
-    ensures err { OnErr result (HasStopped commands seat.old seat.new) }
+    requires station { seat.old.station ≡ station.now.id }
+    requires console { seat.old.actor ≡ 0 }
+    ensures kept { seat.new.stopped ≡ seat.old.stopped }
+    ensures ok { OnOk result (HasMade (length program.now.commands) seat.old seat.new) }
+    ensures err { IfErr result (λ fault. HasStopped program.now (length program.now.commands) fault seat.old seat.new) }
 {
+    let commands = program.commands().len();
     for _turn in 0..commands {
         station.turn(rt, seat, None)?;
     }
     Ok(())
 }
 
-/// The turns of a processor, each behind the gate and with the slice of its work.
+/// The turns of a processor, each after the gate and with the slice of its work.
 fn processor_turns(
     rt: &impl Wait,
     station: &BatonStation,
@@ -117,9 +122,9 @@ fn processor_turns(
     seat: &mut BatonSeat,
 ) -> Result<(), TurnFault>
     requires { seat.old.station ≡ station.now.id }
-    ensures stop { seat.new.stopped ≡ seat.old.stopped }
+    ensures kept { seat.new.stopped ≡ seat.old.stopped }
     ensures ok { OnOk result (HasMade program.now.turns seat.old seat.new) }
-    ensures err { OnErr result (HasStopped program.now.turns seat.old seat.new) }
+    ensures err { IfErr result (λ fault. HasStopped program.now program.now.turns fault seat.old seat.new) }
 {
     let mut work = station.work(rt, seat);
     for made in 0..program.turns() {

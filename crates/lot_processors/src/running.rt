@@ -1,7 +1,7 @@
 //! A free run of a program: a system of its own, whose turns workers make.
-ghost use Rattle.std.specs.Prelude.{◌≡◌, ◌+◌, [], IfOk, OnOk};
+ghost use Rattle.std.specs.Prelude.{◌≡◌, ◌+◌, [], IfErr, IfOk, OnOk, length};
 ghost use Rattle.lot_processors.specs.Workers as workers;
-ghost use Rattle.lot_processors.specs.Workers.{AllMade, IsFreeRun};
+ghost use Rattle.lot_processors.specs.Workers.{AllMade, FirstStops, IsFaultOf, IsFreeRun, fault_in, free_setting};
 
 use crate::{Gate, RunFault, run_all};
 use lot_station::{Seat, Station, TurnLedger};
@@ -20,10 +20,10 @@ pub enum FreeRunFault {
     /// Memory was refused, before any turn.
     #[error("out of memory")]
     Memory,
-    /// A worker has stopped early.
+    /// A worker has stopped early: the fault that stopped the first seat that was stopped.
     #[error("{0}")]
     Run(RunFault),
-    /// What the seats count isn't what the history has.
+    /// All workers have made all their turns, and the history hasn't just these.
     #[error("what the seats count isn't what the history has")]
     CountsDiffer,
 }
@@ -36,8 +36,9 @@ pub fn free_run<G: Gate + Sync, R: Threads + Wait + Sync>(
     program: &Program,
     gate: &G,
 ) -> Result<System, FreeRunFault>
-    ensures setting { IfOk result (λ system. system.setting ≡ record { program = program.now; room = workers.turns_in_all program.now }) }
+    ensures setting { IfOk result (λ system. system.setting ≡ free_setting program.now) }
     ensures history { IfOk result (λ system. IsFreeRun program.now system.history) }
+    ensures fault { IfErr result (IsFaultOf program.now) }
 {
     let Ok(system) = System::open(alloc, program, turns_in_all(program)) else {
         return Err(FreeRunFault::Memory);
@@ -80,13 +81,14 @@ fn run_system<
     ticks: Blank,
 ) -> Result<System, FreeRunFault>
     requires empty { system.history ≡ [] }
-    requires setting { system.setting ≡ record { program = program.now; room = workers.turns_in_all program.now } }
+    requires setting { system.setting ≡ free_setting program.now }
     requires turns { (turns.name ≡ T.name) × (turns.parts ≡ T.parts) × (T.parts ≡ program.now.limits.processors + 1) }
     requires quanta { (quanta.name ≡ Q.name) × (quanta.parts ≡ Q.parts) × (Q.parts ≡ program.now.limits.processors + 1) }
     requires ticks { (ticks.name ≡ K.name) × (ticks.parts ≡ K.parts) × (K.parts ≡ program.now.limits.processors + 1) }
     requires ledger { T.setting ≡ system.setting }
     ensures setting { IfOk result (λ closed. closed.setting ≡ system.setting) }
     ensures history { IfOk result (λ closed. IsFreeRun program.now closed.history) }
+    ensures fault { IfErr result (IsFaultOf program.now) }
 {
     let Ok((station, mut seats)) = Station::<T, Q, K>::open(alloc, system, turns, quanta, ticks)
     else {
@@ -96,10 +98,7 @@ fn run_system<
         return Err(FreeRunFault::Run(fault));
     }
     match station.close(seats) {
-        Ok(system) => {
-            let _ = system.history();
-            Ok(system)
-        }
+        Ok(system) => Ok(system),
         Err(_) => Err(FreeRunFault::CountsDiffer),
     }
 }
@@ -118,7 +117,9 @@ fn run_all_of<
     gate: &G,
     seats: &mut Vec<Seat<T, Q, K>>,
 ) -> Result<(), RunFault>
-    ensures { OnOk result (AllMade program.now seats.old.items seats.new.items) }
+    ensures count { length seats.new.items ≡ length seats.old.items }
+    ensures ok { OnOk result (AllMade station.now program.now seats.old.items seats.new.items) }
+    ensures err { IfErr result (λ e. FirstStops station.now program.now (fault_in e) seats.old.items seats.new.items) }
 {
     run_all(rt, station, program, gate, seats.as_mut_slice())
 }

@@ -1,6 +1,8 @@
 mod full;
 mod gates;
+mod many;
 mod runs;
+mod texts;
 
 use crate::Gate;
 use std::sync::atomic::{AtomicBool, AtomicU64, Ordering};
@@ -16,23 +18,36 @@ endscript
 fundx 10 base a spin
 ";
 
+/// Three processors with two turns each, and one thread.
+const THREE_PROCESSORS: &str = "lottery 1
+processors 3
+turns 2
+script spin
+compute 150
+endscript
+fundx 10 base a spin
+";
+
 /// How often a worker that is held back looks whether it may go on.
 const TRIES: u32 = 10_000_000;
 
-/// Holds a processor's worker back until the other processors' have come by twice, or it has looked often enough.
+/// Holds a processor's worker back until the other processors' have come by as often as is wanted, or it has looked often
+/// enough. With no processor of this number it holds none.
 #[derive(Drop)]
 struct Turnstile {
     held: u32,
+    wanted: u64,
     /// How often others came by.
     others: AtomicU64,
     gave_up: AtomicBool,
 }
 
 impl Turnstile {
-    /// One that holds this processor's worker.
-    fn new(held: u32) -> Turnstile {
+    /// One that holds this processor's worker, until others have come by so often.
+    fn new(held: u32, wanted: u64) -> Turnstile {
         Turnstile {
             held,
+            wanted,
             others: AtomicU64::new(0),
             gave_up: AtomicBool::new(false),
         }
@@ -51,7 +66,7 @@ impl Gate for Turnstile {
             return;
         }
         for _try in 0..TRIES {
-            if self.others.load(Ordering::SeqCst) >= 2 {
+            if self.others.load(Ordering::SeqCst) >= self.wanted {
                 return;
             }
             thread::yield_now();

@@ -1,6 +1,6 @@
 //! One worker for each seat.
-ghost use Rattle.std.specs.Prelude.{◌≡◌, All, IfSome, OnErr, OnOk, None};
-ghost use Rattle.lot_processors.specs.Workers.{AllMade, FirstStops, HasMade, HasStopped, HasWorked, IsFirstFault, turns_for};
+ghost use Rattle.std.specs.Prelude.{◌≡◌, All, IfErr, IfSome, OnOk, None, length};
+ghost use Rattle.lot_processors.specs.Workers.{AllMade, FirstStops, HasMade, HasStopped, HasWorked, IsFirstFault, fault_in, turns_for};
 
 use crate::{Gate, RunFault};
 use lot_station::{Seat, Station, TurnLedger};
@@ -14,6 +14,9 @@ use std::thread::Threads;
 /// Makes the program's turns by the seats, which are all of the station's, in order: the console's one for each command,
 /// and each processor's as many as the program has turns. Each seat has a worker, on a thread of its own where one can be
 /// started, which stops at its first fault. All have stopped when this returns. It may wait.
+///
+/// Answers the fault that stopped the first of the seats that were stopped, and takes it out of that seat. A later seat that
+/// was stopped keeps its own fault, until `Seat::stopped` takes it out or the next run begins.
 pub fn run_all<
     T: TurnLedger + Send + Sync,
     Q: Ledger + Send + Sync,
@@ -27,11 +30,11 @@ pub fn run_all<
     gate: &G,
     seats: &mut [Seat<T, Q, K>],
 ) -> Result<(), RunFault>
-    ensures ok { OnOk result (AllMade program.now seats.old seats.new) }
-    ensures err { OnErr result (FirstStops program.now seats.old seats.new) }
+    ensures ok { OnOk result (AllMade station.now program.now seats.old seats.new) }
+    ensures err { IfErr result (λ e. FirstStops station.now program.now (fault_in e) seats.old seats.new) }
 {
     let work = |_place: usize, seat: &mut Seat<T, Q, K>|
-        ensures { HasWorked (turns_for program.entry.now seat.entry.now.actor) seat.entry.now seat.exit.now }
+        ensures { HasWorked station.entry.now program.entry.now seat.entry.now seat.exit.now }
     { work_for(rt, station, program, gate, seat) };
     thread::for_each_mut(rt, seats, seats.len() + 1, &work);
     match first_fault(seats) {
@@ -44,7 +47,7 @@ pub fn run_all<
 fn first_fault<T: TurnLedger, Q: Ledger, K: Ledger>(
     seats: &mut [Seat<T, Q, K>],
 ) -> Option<TurnFault>
-    ensures none { result ≡ None → (seats.new ≡ seats.old) × All (λ seat. seat.stop ≡ None) seats.old }
+    ensures none { result ≡ None → (seats.new ≡ seats.old) × All (λ seat. seat.stopped ≡ None) seats.old }
     ensures some { IfSome result (λ fault. IsFirstFault fault seats.old seats.new) }
 {
     for place in 0..seats.len() {
@@ -64,37 +67,54 @@ fn work_for<T: TurnLedger, Q: Ledger, K: Ledger>(
     gate: &impl Gate,
     seat: &mut Seat<T, Q, K>,
 )
-    ensures { HasWorked (turns_for program.now seat.old.actor) seat.old seat.new }
+    ensures { HasWorked station.now program.now seat.old seat.new }
 {
     let _ = seat.stopped();
-    let worked = if seat.actor() == 0 {
-        command_turns(rt, station, program.commands().len(), seat)
-    } else {
-        processor_turns(rt, station, program, gate, seat)
-    };
-    if let Err(fault) = worked {
-        seat.stop(fault);
+    match actor_turns(rt, station, program, gate, seat) {
+        Ok(()) => {}
+        Err(fault) => seat.stop(fault),
     }
 }
 
-/// So many turns of the console.
+/// The turns of the seat's actor, until one isn't made.
+fn actor_turns<T: TurnLedger, Q: Ledger, K: Ledger>(
+    rt: &impl Wait,
+    station: &Station<T, Q, K>,
+    program: &Program,
+    gate: &impl Gate,
+    seat: &mut Seat<T, Q, K>,
+) -> Result<(), TurnFault>
+    ensures kept { seat.new.stopped ≡ seat.old.stopped }
+    ensures ok { OnOk result (HasMade station.now (turns_for program.now seat.old.actor) seat.old seat.new) }
+    ensures err { IfErr result (λ fault. HasStopped station.now program.now (turns_for program.now seat.old.actor) fault seat.old seat.new) }
+{
+    if seat.actor() == 0 {
+        command_turns(rt, station, program, seat)
+    } else {
+        processor_turns(rt, station, program, gate, seat)
+    }
+}
+
+/// A turn of the console for each command.
 fn command_turns<T: TurnLedger, Q: Ledger, K: Ledger>(
     rt: &impl Wait,
     station: &Station<T, Q, K>,
-    commands: usize,
+    program: &Program,
     seat: &mut Seat<T, Q, K>,
 ) -> Result<(), TurnFault>
-    ensures stop { seat.new.stop ≡ seat.old.stop }
-    ensures ok { OnOk result (HasMade commands seat.old seat.new) }
-    ensures err { OnErr result (HasStopped commands seat.old seat.new) }
+    requires { seat.old.actor ≡ 0 }
+    ensures kept { seat.new.stopped ≡ seat.old.stopped }
+    ensures ok { OnOk result (HasMade station.now (length program.now.commands) seat.old seat.new) }
+    ensures err { IfErr result (λ fault. HasStopped station.now program.now (length program.now.commands) fault seat.old seat.new) }
 {
+    let commands = program.commands().len();
     for _turn in 0..commands {
         station.turn(rt, seat, None)?;
     }
     Ok(())
 }
 
-/// The turns of a processor, each behind the gate and with the slice of its work.
+/// The turns of a processor, each after the gate and with the slice of its work.
 fn processor_turns<T: TurnLedger, Q: Ledger, K: Ledger>(
     rt: &impl Wait,
     station: &Station<T, Q, K>,
@@ -102,9 +122,9 @@ fn processor_turns<T: TurnLedger, Q: Ledger, K: Ledger>(
     gate: &impl Gate,
     seat: &mut Seat<T, Q, K>,
 ) -> Result<(), TurnFault>
-    ensures stop { seat.new.stop ≡ seat.old.stop }
-    ensures ok { OnOk result (HasMade program.now.turns seat.old seat.new) }
-    ensures err { OnErr result (HasStopped program.now.turns seat.old seat.new) }
+    ensures kept { seat.new.stopped ≡ seat.old.stopped }
+    ensures ok { OnOk result (HasMade station.now program.now.turns seat.old seat.new) }
+    ensures err { IfErr result (λ fault. HasStopped station.now program.now program.now.turns fault seat.old seat.new) }
 {
     let mut work = station.work(rt, seat);
     for made in 0..program.turns() {

@@ -1,15 +1,18 @@
 -- What a seat may say after it had the system in its hands.
 use Rattle.std.proofs.Common.{◌≡◌, ℕ, ◌+◌, Option, [], ◌∷◌, Result, Ok, Err, IfOk, IfErr, refl, sym, ap, ◌∙◌, subst, inl, inr, arith}
 use Rattle.lot_script.specs.Slices.{Parts}
+use Rattle.lot_system.specs.declared.counts.Counts.{Counts}
 use Rattle.lot_system.specs.declared.fault.TurnFault.{TurnFault}
 use Rattle.lot_system.specs.declared.turn.Answer.{Answer}
+use Rattle.lot_system.specs.Counted.{counted_with}
 use Rattle.lot_system.specs.Seen.{Seen, after_turn}
 use Rattle.lot_system.specs.Turns.{Answers, Faults, Goes}
 use Rattle.lot_station.specs.declared.baton.view.Claim.{Claim}
 use Rattle.lot_station.specs.declared.baton.view.View.{View}
 use Rattle.lot_station.specs.BatonViews.{claim, resting, holding, took, gave, note_of, together, Begins, Sees, Next}
-use Rattle.lot_station.specs.Settings.{turns_by}
-use Rattle.lot_station.specs.BatonSeats.{Seat, IsLegalIn, Looks, Turns}
+use Rattle.lot_station.specs.Settings.{IsLegalIn, counts_in, turns_by}
+use Rattle.lot_station.specs.BatonSeats.{Seat, Looks, Turns}
+use Rattle.lot_station.proofs.BatonCounts.{counts-still, counts-more}
 use Rattle.lot_station.proofs.BatonShares.{turns_by-append, turns_by-own}
 
 -- the clauses of the system's `turn`, where its answer is Ok, and where it is Err
@@ -39,7 +42,13 @@ looks old new was is sees legal =
       legal = subst (λ (y : Seen). IsLegalIn y) (sym is) legal;
       begins = subst (λ (y : Seen). Begins y old.seen) (sym is) sees.0;
       turns = ap (λ (y : Seen). turns_by old.actor y.history) is ∙ sees.1 old.actor (omega arith) (omega arith);
+      counts = ap (λ (y : Seen). counts_in y old.actor) is ∙ counts-still was old.seen old.actor sees.0 (sees.1 old.actor (omega arith) (omega arith));
     }
+
+-- what was counted when it last saw the system is what is counted now
+pub still_counted : (n : Counts) (a : ℕ) (old was new : Seen) → n ≡ counts_in old a → Sees was (claim a (a + 1) old) → new ≡ was → n ≡ counts_in new a
+still_counted n a old was new is sees same =
+    is ∙ sym (counts-still was old a sees.0 (sees.1 a (omega arith) (omega arith))) ∙ ap (λ (x : Seen). counts_in x a) (sym same)
 
 pub turned : (old new : Seat) (given : Option Parts) (was x : Seen) (result : Result Answer TurnFault) → new.seen ≡ x → Sees was (claim old.actor (old.actor + 1) old.seen)
     → IsLegalIn x → IfOk result (TurnOk old.actor given was x) → IfOk result (λ answer. Turns old given answer new)
@@ -54,6 +63,8 @@ turned old new given was x (Ok r) is sees legal ok =
       answered = ok.2;
       turns = ap (λ (y : Seen). turns_by old.actor y.history) (is ∙ ok.1) ∙ turns_by-append old.actor was.history (old.actor ∷ [])
           ∙ (λ i. sees.1 old.actor (omega arith) (omega arith) i + turns_by-own old.actor i);
+      counts = ap (λ (y : Seen). counts_in y old.actor) (is ∙ ok.1) ∙ counts-more was old.actor r ok.2
+          ∙ ap (λ c. counted_with c r.reply) (counts-still was old.seen old.actor sees.0 (sees.1 old.actor (omega arith) (omega arith)));
     }
 
 pub refused : (old new : Seat) (given : Option Parts) (was x : Seen) (result : Result Answer TurnFault) → new.seen ≡ x → Sees was (claim old.actor (old.actor + 1) old.seen)

@@ -46,8 +46,8 @@ at_last_or_before (x ∷ xs) y s (suc k) e = ⊎_elim (λ p. inl p) (λ p. inr (
 
 -- a seat with what is counted of its actor
 pub dealt_one : (x : Seen) (k turns quanta ticks : ℕ) → turns ≡ times_in x k → quanta ≡ total_of quanta_in (turns_of k (turns_in x)) → ticks ≡ total_of ticks_in (turns_of k (turns_in x))
-    → record { actor = k; turns = turns; quanta = quanta; ticks = ticks; stop = None } ≡ dealt x k
-dealt_one x k turns quanta ticks t q u j = record { actor = k; turns = t j; quanta = q j; ticks = u j; stop = None }
+    → record { actor = k; turns = turns; quanta = quanta; ticks = ticks; stopped = None } ≡ dealt x k
+dealt_one x k turns quanta ticks t q u j = record { actor = k; turns = t j; quanta = q j; ticks = u j; stopped = None }
 
 -- one seat more is dealt
 pub deals_one : (x : Seen) (old new : List Holder) (n : ℕ) (y : Holder) → ((k : ℕ) (s : Holder) → slice_get old k ≡ Some s → s ≡ dealt x k) → length old ≡ n → y ≡ dealt x n → new ≡ old ++ y ∷ []

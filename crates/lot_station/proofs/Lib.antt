@@ -4,6 +4,7 @@ pub mod Dealing
 pub mod Merging
 pub mod BatonClosing
 pub mod BatonCounting
+pub mod BatonCounts
 pub mod BatonShares
 pub mod BatonSharing
 pub mod BatonSteps

@@ -1,14 +1,15 @@
 -- What contracts say of seats.
 use Rattle.std.specs.Prelude.{◌≡◌, ℕ, ◌+◌, Option, Some, None, List, [], ◌∷◌, length, slice_get}
 use Rattle.atomic_table.specs.Seated.{TableId}
-use Rattle.lot_machine.specs.World.{IsLegal}
 use Rattle.lot_script.specs.Slices.{Parts}
 use Rattle.lot_system.specs.declared.fault.TurnFault.{TurnFault}
+use Rattle.lot_system.specs.declared.counts.Counts.{Counts}
 use Rattle.lot_system.specs.declared.turn.Answer.{Answer}
+use Rattle.lot_system.specs.Counted.{counted_with}
 use Rattle.lot_system.specs.Seen.{Seen, after_turn}
 use Rattle.lot_system.specs.Turns.{Answers, Goes}
 use Rattle.lot_station.specs.declared.baton.view.Claim.{Claim}
-use Rattle.lot_station.specs.Settings.{nothing_seen, turns_by}
+use Rattle.lot_station.specs.Settings.{IsLegalIn, counts_in, nothing_seen, turns_by}
 use Rattle.lot_station.specs.BatonViews.{claim, Begins}
 
 -- ---- seats and stations
@@ -46,6 +47,10 @@ claim_of s = claim s.actor (s.actor + 1) s.seen
 abbrev pub IsSeatOf : Baton → Seat → Type 0
 IsSeatOf station s = (s.station ≡ station.id) × (s.seen.setting.program.limits.processors ≡ station.processors)
 
+-- what is counted of the turns of the seat's actor in the history that it has seen
+abbrev pub seat_counts : Seat → Counts
+seat_counts s = counts_in s.seen s.actor
+
 -- ---- calls
 
 -- It is a seat of the same station, for the same actor, over the same program and room, and the fault that it keeps is the
@@ -56,19 +61,16 @@ pub record IsSameSeat (old new : Seat) : Type 0 where
   pub setting : new.seen.setting ≡ old.seen.setting
   pub stopped : new.stopped ≡ old.stopped
 
--- a legal history of the program and the room
-abbrev pub IsLegalIn : Seen → Type 0
-IsLegalIn x = IsLegal x.setting.program x.setting.room x.history
-
 -- It has seen a legal history of the same program and room that begins with what it had seen, and has no further turn of
--- its own.
+-- its own, so what is counted of its turns stays.
 pub record Looks (old new : Seat) : Type 0 where
   pub legal : IsLegalIn new.seen
   pub begins : Begins new.seen old.seen
   pub turns : turns_by old.actor new.seen.history ≡ turns_by old.actor old.seen.history
+  pub counts : counts_in new.seen old.actor ≡ seat_counts old
 
 -- It has seen a legal history of the same program and room that begins with what it had seen and ends with this turn, the
--- one turn more of its own. The answer is the one there.
+-- one turn more of its own. The answer is the one there, and what is counted of its turns grows by it.
 pub record Turns (old : Seat) (given : Option Parts) (answer : Answer) (new : Seat) : Type 0 where
   pub legal : IsLegalIn new.seen
   pub before : Seen
@@ -77,6 +79,7 @@ pub record Turns (old : Seat) (given : Option Parts) (answer : Answer) (new : Se
   pub ends : new.seen ≡ after_turn before old.actor
   pub answered : Answers before old.actor answer
   pub turns : turns_by old.actor new.seen.history ≡ turns_by old.actor old.seen.history + 1
+  pub counts : counts_in new.seen old.actor ≡ counted_with (seat_counts old) answer.reply
 
 -- the system begins with what the seat has seen, and has its actor as often
 pub record Shows (x : Seen) (s : Seat) : Type 0 where

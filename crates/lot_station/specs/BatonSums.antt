@@ -1,11 +1,9 @@
 -- Sums over the turns of a history, and over those of one actor.
 use Rattle.std.specs.Prelude.{◌≡◌, ℕ, ◌+◌, List, [], ◌∷◌, sum_by, if◌then◌else◌, ◌==◌}
 use Rattle.lot_machine.specs.World.{Program, World, opening_world, sys}
-use Rattle.lot_machine.specs.Report.{turns_made, turns_of}
-use Rattle.lot_system.specs.declared.counts.Counts.{Counts}
-use Rattle.lot_system.specs.Counted.{counted}
 use Rattle.lot_system.specs.Seen.{Seen}
-use Rattle.lot_station.specs.BatonSeats.{Seat}
+use Rattle.lot_station.specs.BatonSeats.{Seat, seat_counts}
+use Rattle.lot_station.specs.Settings.{counts_of}
 
 -- a number for each turn, added up
 abbrev pub summed : (World → ℕ → ℕ) → Program → World → List ℕ → ℕ
@@ -24,14 +22,6 @@ share f s = summed_by f s.seen.setting.program s.actor (opening_world s.seen.set
 -- whatever is added up over all turns is the sum of the seats' shares
 abbrev pub AddUp : Seen → List Seat → Type 0
 AddUp x seats = (f : World → ℕ → ℕ) → summed f x.setting.program (opening_world x.setting.program) x.history ≡ sum_by (share f) seats
-
--- what is counted of all turns
-abbrev pub counts_of : Seen → Counts
-counts_of x = counted (turns_made x.setting.program x.history)
-
--- what is counted of the turns of the seat's actor in the history that it has seen
-abbrev pub seat_counts : Seat → Counts
-seat_counts s = counted (turns_of s.actor (turns_made s.seen.setting.program s.seen.history))
 
 -- the turns, the quanta, the idle draws and the ticks are the sums of the seats'
 pub record CountsAddUp (x : Seen) (seats : List Seat) : Type 0 where

@@ -12,7 +12,7 @@ pub record Holder : Type 0 where
   pub turns : ℕ
   pub quanta : ℕ
   pub ticks : ℕ
-  pub stop : Option TurnFault
+  pub stopped : Option TurnFault
 
 -- the seat with one turn more, that was answered so
 abbrev pub with_turn : Holder → Reply → Holder
@@ -25,7 +25,7 @@ dealt x actor = record {
   turns = times_in x actor;
   quanta = total_of quanta_in (turns_of actor (turns_in x));
   ticks = total_of ticks_in (turns_of actor (turns_in x));
-  stop = None;
+  stopped = None;
 }
 
 -- there is one seat for each actor, in order, with what the system's history has of that actor

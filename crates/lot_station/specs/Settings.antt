@@ -1,7 +1,9 @@
 -- Systems of a program and a room.
 use Rattle.std.specs.Prelude.{ℕ, ◌==◌, List, [], count_by}
-use Rattle.lot_machine.specs.Report.{ActorTurn, turns_made}
+use Rattle.lot_machine.specs.Report.{ActorTurn, turns_made, turns_of}
 use Rattle.lot_machine.specs.World.{IsLegal}
+use Rattle.lot_system.specs.declared.counts.Counts.{Counts}
+use Rattle.lot_system.specs.Counted.{counted}
 use Rattle.lot_system.specs.Seen.{Setting, Seen}
 
 -- the turns of the system's history
@@ -15,6 +17,18 @@ turns_by actor history = count_by (λ a. a == actor) history
 -- how often the actor stands in the system's history
 abbrev pub times_in : Seen → ℕ → ℕ
 times_in x actor = turns_by actor x.history
+
+-- what is counted of all turns of the system's history
+abbrev pub counts_of : Seen → Counts
+counts_of x = counted (turns_in x)
+
+-- what is counted of the actor's turns there
+abbrev pub counts_in : Seen → ℕ → Counts
+counts_in x actor = counted (turns_of actor (turns_in x))
+
+-- the system's history is a legal one of its program and its room
+abbrev pub IsLegalIn : Seen → Type 0
+IsLegalIn x = IsLegal x.setting.program x.setting.room x.history
 
 -- it is so of a system of this program and room, after some legal history
 pub record AtSome (setting : Setting) (IsSo : Seen → Type 0) : Type 0 where

@@ -14,7 +14,7 @@ impl<T: TurnLedger, Q: Ledger, K: Ledger> Station<T, Q, K> {
     /// Makes the turn of the seat's actor, as `System::turn` does. The seat's shares grow by one turn, by one quantum where
     /// somebody won a draw, and by the turn's ticks; a fault leaves the seat as it was. It may wait.
     ///
-    /// The answer and the fault are such as the system's program has after some legal history.
+    /// The answer, the work that it hands on and the fault are such as the system's program has after some legal history.
     pub fn turn(
         &self,
         rt: &impl Wait,
@@ -24,6 +24,7 @@ impl<T: TurnLedger, Q: Ledger, K: Ledger> Station<T, Q, K> {
         ensures ok { IfOk result (λ answer. seat.new ≡ with_turn seat.old answer.reply) }
         ensures err { OnErr result (seat.new ≡ seat.old) }
         ensures answer { IfOk result (λ answer. AtSome self.now (λ x. Goes x seat.old.actor slice.entry × Answers x seat.old.actor answer)) }
+        ensures next { IfOk result (λ answer. AtSome self.now (λ x. IsWorkOf x seat.old.actor answer.next)) }
         ensures fault { IfErr result (λ fault. AtSome self.now (λ x. Faults x seat.old.actor slice.entry fault)) }
     {
         self.desk.lock(rt).turn(seat, slice)

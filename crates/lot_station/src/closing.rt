@@ -3,7 +3,7 @@ ghost use Rattle.std.specs.Prelude.{◌≡◌, ◌⊎◌, ◌+◌, ◌<◌, ◌�
 ghost use Rattle.lot_system.specs.Seen.{Seen};
 ghost use Rattle.lot_station.specs.declared.station.CloseFault.TheVariants.{SeatMissing, CountsDiffer};
 ghost use Rattle.lot_station.specs.Holders.{AddUp, CountsAgree, InOrder};
-ghost use Rattle.lot_station.specs.Settings.{times_in};
+ghost use Rattle.lot_station.specs.Settings.{IsLegalIn, times_in};
 
 use crate::desk::Desk;
 use crate::{CloseFault, Seat, Station, TurnLedger};
@@ -19,10 +19,11 @@ impl<T: TurnLedger, Q: Ledger, K: Ledger> Station<T, Q, K> {
     pub fn close(self, seats: Vec<Seat<T, Q, K>>) -> Result<System, CloseFault<T, Q, K>>
         requires { (T.parts ≡ self.program.limits.processors + 1) × (Q.parts ≡ self.program.limits.processors + 1) × (K.parts ≡ self.program.limits.processors + 1) }
         ensures setting { IfOk result (λ x. x.setting ≡ self) }
+        ensures legal { IfOk result IsLegalIn }
         ensures order { IfOk result (λ x. InOrder self.program.limits.processors seats.items) }
         ensures counts { IfOk result (λ x. CountsAgree x seats.items) }
         ensures sums { IfOk result (λ x. AddUp x seats.items) }
-        ensures err { IfErr result (λ f. ((f ≡ SeatMissing self seats) × (¬ InOrder self.program.limits.processors seats.items)) ⊎ ((x : Seen) × (f ≡ CountsDiffer x seats) × (x.setting ≡ self) × InOrder self.program.limits.processors seats.items × (¬ CountsAgree x seats.items))) }
+        ensures err { IfErr result (λ f. ((f ≡ SeatMissing self seats) × (¬ InOrder self.program.limits.processors seats.items)) ⊎ ((x : Seen) × (f ≡ CountsDiffer x seats) × (x.setting ≡ self) × IsLegalIn x × InOrder self.program.limits.processors seats.items × (¬ CountsAgree x seats.items))) }
     {
         if !in_order(self.processors, seats.as_slice()) {
             return Err(CloseFault::SeatMissing(self, seats));
@@ -100,7 +101,7 @@ fn merged<T: TurnLedger, Q: Ledger, K: Ledger>(
         turns,
         quanta,
         ticks,
-        stop: _,
+        stopped: _,
     } = seats.remove(0);
     let mut all_turns = turns.into_share();
     let mut all_quanta = quanta.into_share();
@@ -111,7 +112,7 @@ fn merged<T: TurnLedger, Q: Ledger, K: Ledger>(
             turns,
             quanta,
             ticks,
-            stop: _,
+            stopped: _,
         } = seat;
         all_turns.merge(turns.into_share());
         all_quanta.merge(quanta.into_share());

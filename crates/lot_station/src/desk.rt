@@ -3,9 +3,9 @@ ghost use Rattle.std.specs.Prelude.{◌≡◌, length, IfOk, IfErr, OnErr};
 ghost use Rattle.lot_machine.specs.Report as report;
 ghost use Rattle.lot_machine.specs.Report.{total_of};
 ghost use Rattle.lot_system.specs.Seen.{Setting};
-ghost use Rattle.lot_system.specs.Turns.{Answers, Faults, Goes};
+ghost use Rattle.lot_system.specs.Turns.{Answers, Faults, Goes, IsWorkOf};
 ghost use Rattle.lot_station.specs.Holders.{with_turn};
-ghost use Rattle.lot_station.specs.Settings.{AtSome, no_setting, turns_in};
+ghost use Rattle.lot_station.specs.Settings.{AtSome, IsLegalIn, no_setting, turns_in};
 
 use crate::Seat;
 use lot_machine::Reply;
@@ -31,6 +31,7 @@ pub(crate) struct Desk<T: TurnLedger, Q: Ledger, K: Ledger> {
     pub(crate) quanta: Book<Q>,
     pub(crate) ticks: Book<K>,
     ghost setting: { system.setting ≡ T.setting },
+    ghost legal: { IsLegalIn system },
     ghost all_turns: { turns.total ≡ length system.history },
     ghost all_quanta: { quanta.total ≡ total_of report.quanta_in (turns_in system) },
     ghost all_ticks: { ticks.total ≡ total_of report.ticks_in (turns_in system) },
@@ -46,6 +47,7 @@ impl<T: TurnLedger, Q: Ledger, K: Ledger> Desk<T, Q, K> {
         ensures ok { IfOk result (λ answer. seat.new ≡ with_turn seat.old answer.reply) }
         ensures err { OnErr result (seat.new ≡ seat.old) }
         ensures answer { IfOk result (λ answer. AtSome T.setting (λ x. Goes x seat.old.actor slice.entry × Answers x seat.old.actor answer)) }
+        ensures next { IfOk result (λ answer. AtSome T.setting (λ x. IsWorkOf x seat.old.actor answer.next)) }
         ensures fault { IfErr result (λ fault. AtSome T.setting (λ x. Faults x seat.old.actor slice.entry fault)) }
     {
         let Desk {

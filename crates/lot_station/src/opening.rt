@@ -72,7 +72,7 @@ fn deal<T: TurnLedger, Q: Ledger, K: Ledger>(
             turns: Holding::split_off(&mut turns, had.turns),
             quanta: Holding::split_off(&mut quanta, had.quanta),
             ticks: Holding::split_off(&mut ticks, had.ticks),
-            stop: None,
+            stopped: None,
         });
     }
     Ok(seats)

@@ -15,7 +15,7 @@ pub struct Seat<T: TurnLedger, Q: Ledger, K: Ledger> {
     pub(crate) turns: Holding<T>,
     pub(crate) quanta: Holding<Q>,
     pub(crate) ticks: Holding<K>,
-    pub(crate) stop: Option<TurnFault>,
+    pub(crate) stopped: Option<TurnFault>,
 }
 
 impl<T: TurnLedger, Q: Ledger, K: Ledger> Model for Seat<T, Q, K> {
@@ -24,7 +24,7 @@ impl<T: TurnLedger, Q: Ledger, K: Ledger> Model for Seat<T, Q, K> {
 
     ghost Value = { Holder };
 
-    ghost view = { λ s. record { actor = s.actor; turns = s.turns; quanta = s.quanta; ticks = s.ticks; stop = s.stop } };
+    ghost view = { λ s. record { actor = s.actor; turns = s.turns; quanta = s.quanta; ticks = s.ticks; stopped = s.stopped } };
 
     ghost invariant = { λ s. s.actor ≤ T.setting.program.limits.processors };
 }
@@ -60,16 +60,16 @@ impl<T: TurnLedger, Q: Ledger, K: Ledger> Seat<T, Q, K> {
 
     /// Keeps the fault that stopped who used the seat, in place of any that it had.
     pub fn stop(&mut self, fault: TurnFault)
-        ensures { self.new ≡ record self.old { stop = Some fault } }
+        ensures { self.new ≡ record self.old { stopped = Some fault } }
     {
-        self.stop = Some(fault);
+        self.stopped = Some(fault);
     }
 
     /// Takes out the fault that stopped who used the seat, if one did.
     pub fn stopped(&mut self) -> Option<TurnFault>
-        ensures fault { result ≡ self.old.stop }
-        ensures taken { self.new ≡ record self.old { stop = None } }
+        ensures fault { result ≡ self.old.stopped }
+        ensures taken { self.new ≡ record self.old { stopped = None } }
     {
-        self.stop.take()
+        self.stopped.take()
     }
 }

@@ -95,7 +95,7 @@ fn stops_behind_gates(rt: HostRuntime) -> Result<(), Fail> {
     let alloc = rt.alloc();
     let program = parse(alloc, TWO_PROCESSORS.as_bytes())?;
     for held in [1, 2] {
-        let gate = Turnstile::new(held);
+        let gate = Turnstile::new(held, 2);
         let outcome = worked(&rt, alloc, &program, &gate, 2)?;
         assert!(rt; !gate.gave_up());
         assert_eq!(rt; (outcome.is_full, outcome.turns), (true, 2));

@@ -1,9 +1,10 @@
 //! The right of an actor to make turns.
 ghost use Rattle.std.specs.Prelude.{◌≡◌, Some, None};
+ghost use Rattle.lot_station.specs.BatonSeats.{seat_counts};
 
 use crate::baton::view::View;
 use crossbeam_queue::Pass;
-use lot_system::{System, TurnFault};
+use lot_system::{Counts, System, TurnFault};
 use std::marker::Model;
 
 /// What a seat has of the queue.
@@ -18,7 +19,9 @@ pub(super) type Token = Pass<System, View>;
 pub struct BatonSeat {
     pub(super) pass: Token,
     pub(super) actor: u32,
-    pub(super) fault: Option<TurnFault>,
+    /// Of its actor's turns in the history that it has seen.
+    pub(super) counts: Counts,
+    pub(super) stopped: Option<TurnFault>,
 }
 
 impl Model for BatonSeat {
@@ -26,15 +29,17 @@ impl Model for BatonSeat {
     ghost use Rattle.crossbeam_queue.specs.Passes.{view as pass_view};
     ghost use Rattle.lot_station.specs.BatonViews.{claim, resting};
     ghost use Rattle.lot_station.specs.BatonSeats.{Seat, seat, seen_in};
+    ghost use Rattle.lot_station.specs.Settings.{counts_in};
 
     ghost Value = { Seat };
 
-    ghost view = { λ s. seat s.pass.table_id s.actor (seen_in (pass_view s.pass).claims) s.fault };
+    ghost view = { λ s. seat s.pass.table_id s.actor (seen_in (pass_view s.pass).claims) s.stopped };
 
     ghost invariant = { λ s.
         (s.pass.me.1 ≡ [])
         × (pass_view s.pass ≡ resting (claim s.actor (s.actor + 1) (seen_in (pass_view s.pass).claims) ∷ []))
-        × (s.actor ≤ (seen_in (pass_view s.pass).claims).setting.program.limits.processors) };
+        × (s.actor ≤ (seen_in (pass_view s.pass).claims).setting.program.limits.processors)
+        × (s.counts ≡ counts_in (seen_in (pass_view s.pass).claims) s.actor) };
 }
 
 impl BatonSeat {
@@ -45,11 +50,32 @@ impl BatonSeat {
         self.actor
     }
 
+    /// How many turns it has made.
+    pub fn turns(&self) -> u64
+        ensures { result ≡ (seat_counts self.now).turns }
+    {
+        self.counts.turns
+    }
+
+    /// Its quanta: the draws among its turns that somebody won.
+    pub fn quanta(&self) -> u64
+        ensures { result ≡ (seat_counts self.now).quanta }
+    {
+        self.counts.quanta
+    }
+
+    /// Its ticks: those of the expiries and traps among its turns.
+    pub fn ticks(&self) -> u64
+        ensures { result ≡ (seat_counts self.now).ticks }
+    {
+        self.counts.ticks
+    }
+
     /// Keeps the fault that stopped the seat's worker, in place of one that it may have kept.
     pub fn stop(&mut self, fault: TurnFault)
         ensures { self.new ≡ record self.old { stopped = Some fault } }
     {
-        self.fault = Some(fault);
+        self.stopped = Some(fault);
     }
 
     /// Takes the fault out that was kept, if one was.
@@ -57,6 +83,6 @@ impl BatonSeat {
         ensures fault { result ≡ self.old.stopped }
         ensures seat { self.new ≡ record self.old { stopped = None } }
     {
-        self.fault.take()
+        self.stopped.take()
     }
 }

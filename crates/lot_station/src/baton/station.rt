@@ -1,19 +1,20 @@
 //! The station, and what a seat may ask of the system.
-ghost use Rattle.std.specs.Prelude.{◌≡◌, ℕ, ◌+◌, ◌<◌, ◌↔◌, false, [], ◌∷◌, All, length, map, IfOk, IfErr, IsTrue};
+ghost use Rattle.std.specs.Prelude.{◌≡◌, ℕ, ◌+◌, ◌<◌, ◌↔◌, false, [], ◌∷◌, All, EachIndex, Some, length, map, slice_get, IfOk, IfErr, IsTrue};
 ghost use Rattle.crossbeam_queue.specs.Passes.{view, IsPassOf, ruled_capacity};
 ghost use Rattle.lot_system.specs.Seen.{Seen};
 ghost use Rattle.lot_system.specs.Turns.{Faults, IsWorkOf};
 ghost use Rattle.lot_station.specs.declared.baton.view.Claim.{Claim};
 ghost use Rattle.lot_station.specs.BatonViews.{Begins, Next, SeesAll, gave, holding, resting, took};
-ghost use Rattle.lot_station.specs.BatonSeats.{Dealt, InOrder, IsLegalIn, IsSameSeat, IsSeatOf, Looks, Shows, Turns, claim_of};
+ghost use Rattle.lot_station.specs.BatonSeats.{Dealt, InOrder, IsSameSeat, IsSeatOf, Looks, Shows, Turns, claim_of};
 ghost use Rattle.lot_station.specs.BatonSums.{AddUp, CountsAddUp};
+ghost use Rattle.lot_station.specs.Settings.{IsLegalIn, counts_in};
 
 use crate::baton::rule::{Both, Deals, Gives, Notes, OneBaton, Opens, Takes};
 use crate::baton::seat::{BatonSeat, Token};
 use crate::baton::view::View;
 use crossbeam_queue::RuledArrayQueue;
 use lot_script::Slice;
-use lot_system::{Answer, System, TurnFault, Work};
+use lot_system::{Answer, Counts, System, TurnFault, Work};
 use std::alloc::{AllocError, Global};
 use std::marker::Model;
 use std::sync::Wait;
@@ -57,6 +58,7 @@ impl BatonStation {
     {
         let processors = system.processors();
         let count = processors as usize + 1;
+        let counts = counts_of_actors(alloc, &system)?;
         let mut seats = Vec::with_capacity(alloc, count)?;
         let (queue, mut pass) = Queue::ruled(alloc, 1)?;
         if queue.try_push_as::<Opens>(&mut pass, system).is_err() {
@@ -67,7 +69,8 @@ impl BatonStation {
             let seat = BatonSeat {
                 pass,
                 actor: k as u32,
-                fault: None,
+                counts: counts[k],
+                stopped: None,
             };
             seats.push_reserved(seat);
         }
@@ -91,6 +94,7 @@ impl BatonStation {
     {
         let mut system = take(rt, &self.queue, &mut seat.pass);
         let answer = system.turn(seat.actor, slice);
+        seat.counts = system.counts(seat.actor);
         give(rt, &self.queue, &mut seat.pass, system);
         answer
     }
@@ -160,6 +164,19 @@ impl BatonStation {
         let _ = system.history();
         Ok(system)
     }
+}
+
+/// What is counted of each actor's turns in the system's history, the console's first.
+fn counts_of_actors(alloc: Global, system: &System) -> Result<Vec<Counts>, AllocError>
+    ensures count { IfOk result (λ counts. length counts.items ≡ system.now.setting.program.limits.processors + 1) }
+    ensures each { IfOk result (λ counts. EachIndex counts.items (λ k. slice_get counts.items k ≡ Some (counts_in system.now k))) }
+{
+    let count = system.processors() as usize + 1;
+    let mut counts = Vec::with_capacity(alloc, count)?;
+    for k in 0..count {
+        counts.push_reserved(system.counts(k as u32));
+    }
+    Ok(counts)
 }
 
 /// Whether each actor from 0 to the last has its seat once, in order.

@@ -2,6 +2,7 @@
 ghost use Rattle.std.specs.Prelude.{◌≡◌, All, IfOk};
 ghost use Rattle.lot_station.specs.BatonSeats.{IsSameSeat, IsSeatOf};
 
+use crate::tests::{END, ENDED, Shares, TWO_PROCESSORS, end_of};
 use crate::{BatonSeat, BatonStation};
 use lot_machine::Reply;
 use lot_script::Slice;
@@ -12,15 +13,6 @@ use std::sync::Wait;
 use std::test::*;
 
 mod threads;
-
-/// Two processors and one thread.
-const TWO_PROCESSORS: &str = "lottery 1
-processors 2
-script spin
-compute 150
-endscript
-fundx 10 base a spin
-";
 
 fn program_of(alloc: Global, text: &str) -> Result<Program, Fail> {
     match parse(alloc, text.as_bytes()) {
@@ -167,7 +159,7 @@ fn scheduled<R: Wait>(
     two: &mut BatonSeat,
 ) -> [Option<Reply>; 5]
     requires { IsSeatOf station.now zero.old × IsSeatOf station.now one.old × IsSeatOf station.now two.old }
-    ensures { IsSameSeat zero.old zero.new }
+    ensures { IsSeatOf station.now zero.new × IsSeatOf station.now one.new × IsSeatOf station.now two.new }
 {
     [
         reply_of(rt, station, program, zero),
@@ -186,6 +178,7 @@ fn is_ended<R: Wait>(
     seat: &mut BatonSeat,
 ) -> bool
     requires { IsSeatOf station.now seat.old }
+    ensures { IsSeatOf station.now seat.new }
 {
     match turn_of(rt, station, program, seat) {
         Err(fault) => seat.stop(fault),
@@ -194,6 +187,30 @@ fn is_ended<R: Wait>(
     matches!(seat.stopped(), Some(TurnFault::Ended)) && seat.stopped().is_none()
 }
 
+/// What the seat has.
+fn shares_of(seat: &BatonSeat) -> Shares {
+    (seat.turns(), seat.quanta(), seat.ticks())
+}
+
+/// Whether the closed station's system has the row's history and report.
+fn ends_the_row<R: Wait>(
+    rt: &R,
+    alloc: Global,
+    station: BatonStation,
+    zero: BatonSeat,
+    one: BatonSeat,
+    two: BatonSeat,
+) -> Result<bool, Fail>
+    requires { IsSeatOf station zero × IsSeatOf station one × IsSeatOf station two }
+{
+    let system = closed(rt, alloc, station, zero, one, two)?;
+    match end_of(alloc, system) {
+        Some(end) => Ok(end.as_slice() == END.as_bytes()),
+        None => Err("end".into()),
+    }
+}
+
+// The row of the station under a lock: the same replies, the same numbers of the seats, and the same end.
 #[test]
 fn write_then_read(rt: HostRuntime) -> Result<(), Fail> {
     let program = program_of(rt.alloc(), TWO_PROCESSORS)?;
@@ -213,5 +230,7 @@ fn write_then_read(rt: HostRuntime) -> Result<(), Fail> {
         ]
     );
     assert!(rt; is_ended(&rt, &station, &program, &mut zero));
+    assert_eq!(rt; [shares_of(&zero), shares_of(&one), shares_of(&two)], ENDED);
+    assert!(rt; ends_the_row(&rt, rt.alloc(), station, zero, one, two)?);
     Ok(())
 }

@@ -1,7 +1,7 @@
 //! Turns by seats, one after another.
 ghost use Rattle.std.specs.Prelude.{◌≡◌, ◌+◌};
 
-use crate::tests::{TWO_PROCESSORS, end_of, opened};
+use crate::tests::{END, ENDED, Shares, TWO_PROCESSORS, end_of, opened};
 use crate::{Seat, Station, TurnLedger};
 use lot_machine::Reply;
 use lot_system::{System, slice_for};
@@ -11,9 +11,6 @@ use std::marker::Brand;
 use std::sync::Wait;
 use std::sync::ledger::{Blank, Ledger};
 use std::test::*;
-
-/// A seat's turns, quanta and ticks.
-type Shares = (u64, u64, u64);
 
 /// What was seen of a session: each seat's shares at its beginning and at its end, and each turn's reply, or `None` where it
 /// had a fault.
@@ -139,17 +136,6 @@ const SECOND_DRAW: Option<Reply> = Some(Reply::Winner {
 
 /// The replies to turns of the actors 0, 1, 2, 1, 2 and 0.
 const REPLIES: [Option<Reply>; 6] = [FUNDED, FIRST_DRAW, IDLE, EXPIRED, SECOND_DRAW, None];
-
-/// What the seats have then.
-const ENDED: [Shares; 3] = [(1, 0, 0), (2, 1, 100), (2, 1, 0)];
-
-const END: &str = "report
-thread 1 a quanta 2 ticks 100
-processor 1 quanta 1 idle 0 ticks 100
-processor 2 quanta 1 idle 1 ticks 0
-total turns 5 quanta 2 ticks 100
-schedule 0 1 2 1 2
-";
 
 /// Whether the seats play the row, and its end; `None` where memory was refused or the station wasn't closed.
 fn plays_the_row(rt: &impl Wait, alloc: Global) -> Option<(bool, bool)> {

@@ -1,7 +1,7 @@
 //! A slice twice.
 ghost use Rattle.std.specs.Prelude.{◌≡◌, ◌+◌};
 
-use crate::tests::opened;
+use crate::tests::{Shares, opened};
 use crate::{Seat, Station, TurnLedger};
 use lot_machine::{Outcome, Reply};
 use lot_script::Context;
@@ -22,9 +22,6 @@ compute 5
 endscript
 fundx 1 base a s
 ";
-
-/// A seat's turns, quanta and ticks.
-type Shares = (u64, u64, u64);
 
 /// What was seen: what the slice came to, where it ended, the work that its second use was refused with, the seat's shares
 /// before and after that, and whether the right slice then found the history full.

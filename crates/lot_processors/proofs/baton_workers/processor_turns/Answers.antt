@@ -1,30 +1,59 @@
--- What was made before the loop, in front of a turn, and by it.
-use Rattle.std.proofs.Common.{◌+◌, ◌∙◌, arith}
-use Rattle.lot_processors.proofs.BatonWork.{looked, made_then, on_err, stops, turned}
+-- What was made before the loop, before a turn, and by it.
+use Rattle.std.proofs.Common.{◌≡◌, ◌+◌, ◌∙◌, refl, sym, subst, arith}
+use Rattle.std.proofs.lemmas.Result.{err_from_is_err_and}
+use Rattle.lot_system.specs.Turns.{IsWorkOf}
+use Rattle.lot_processors.specs.BatonWorkers.{HasMade}
+use Rattle.lot_processors.proofs.BatonWork.{looked, made_then, next_work, none_made, refused, stopped, turned, unfit}
 use Rattle.lot_processors.proofs.baton_workers.processor_turns.Goals as goal
+
+pub loop-made-init : goal.loop-made-init
+loop-made-init g c =
+    let first = c.work-work.new.seat in
+    let told = c.work-work.ensures in
+    (refl, none_made first, told.seen.legal, subst (λ actor. IsWorkOf first.seen actor c.work-work.result) (sym told.same.actor) told.work)
 
 pub returns-in_err-slice-clause-err : goal.returns-in_err-slice-clause-err
 returns-in_err-slice-clause-err g c =
+    let program = c.args.program.now in
     let first = c.work-work.new.seat in
     let before = c.loop-made.seat in
-    on_err c.from_residual.result
-    (stops (0 + c.loop-made.made) c.args.program.now.turns c.args.seat.now before (omega (arith, c.loop-made-test.true, c.turns-made-end.ensures.turns))
-    (made_then 0 c.loop-made.made c.args.seat.now first before (looked c.args.seat.now first c.work-work.ensures.same c.work-work.ensures.seen) c.loop-made.invariant.1))
+    let i = c.loop-made.invariant in
+    let p = err_from_is_err_and c.from_residual.result c.from_residual.ensures.1 in
+    rw (p.1, p.2)
+    (stopped program (0 + c.loop-made.made) _ _ c.args.seat.now before (omega (arith, c.loop-made-test.true, c.turns-made-end.ensures.turns))
+    (made_then 0 c.loop-made.made c.args.seat.now first before (looked c.args.seat.now first c.work-work.ensures.same c.work-work.ensures.seen) i.1)
+    (unfit program before c.loop-made.work _ i.2 i.3 c.in_err-slice.ensures.err))
 
 pub returns-in_err-work-clause-err : goal.returns-in_err-work-clause-err
 returns-in_err-work-clause-err g c =
+    let program = c.args.program.now in
     let first = c.work-work.new.seat in
     let before = c.loop-made.seat in
     let after = c.turn.new.seat in
+    let i = c.loop-made.invariant in
     let told = c.in_err-work.ensures in
-    on_err c.from_residual-in_err-work.result
-    (stops (0 + (c.loop-made.made + 0)) c.args.program.now.turns c.args.seat.now after (omega (arith, c.loop-made-test.true, c.turns-made-end.ensures.turns))
+    let p = err_from_is_err_and c.from_residual-in_err-work.result c.from_residual-in_err-work.ensures.1 in
+    rw (p.1, p.2)
+    (stopped program (0 + (c.loop-made.made + 0)) _ _ c.args.seat.now after (omega (arith, c.loop-made-test.true, c.turns-made-end.ensures.turns))
     (made_then 0 (c.loop-made.made + 0) c.args.seat.now first after (looked c.args.seat.now first c.work-work.ensures.same c.work-work.ensures.seen)
-    (made_then c.loop-made.made 0 first before after c.loop-made.invariant.1 (looked before after told.same told.err.0))))
+    (made_then c.loop-made.made 0 first before after i.1 (looked before after told.same told.err.0)))
+    (refused program before after c.loop-made.work _ _ i.3 c.in_ok-slice.ensures.ok told.same told.err.0 told.err.1))
 
 pub loop-made-preserved : goal.loop-made-preserved
 loop-made-preserved g c =
     let before = c.loop-made.seat in
     let after = c.turn.new.seat in
-    let told = c.in_ok-work.ensures in
-    (told.same.stopped ∙ c.loop-made.invariant.0, made_then c.loop-made.made 1 c.work-work.new.seat before after c.loop-made.invariant.1 (turned before after _ c.in_ok-work.field-0 told.same told.ok))
+    let i = c.loop-made.invariant in
+    let told = c.in_ok-work.ensures in (
+      told.same.stopped ∙ i.0,
+      made_then c.loop-made.made 1 c.work-work.new.seat before after i.1 (turned before after _ c.in_ok-work.field-0 told.same told.ok),
+      told.ok.legal,
+      next_work before after _ c.in_ok-work.field-0 told.same told.ok,
+    )
+
+pub returns-clause-ok : goal.returns-clause-ok
+returns-clause-ok g c =
+    let first = c.work-work.new.seat in
+    let all : 0 + c.loop-made.made ≡ c.args.program.now.turns = omega (arith, c.loop-made-test.false, c.loop-made.auto.made-end, c.turns-made-end.ensures.turns) in
+    subst (λ n. HasMade n c.args.seat.now c.loop-made.seat) all
+    (made_then 0 c.loop-made.made c.args.seat.now first c.loop-made.seat (looked c.args.seat.now first c.work-work.ensures.same c.work-work.ensures.seen) c.loop-made.invariant.1)

@@ -1,6 +1,10 @@
 use Rattle.std.proofs.Common.{◌≡◌}
+use Rattle.lot_system.specs.Turns.{IsWorkOf}
+use Rattle.lot_station.specs.Settings.{IsLegalIn}
 use Rattle.lot_processors.specs.BatonWorkers.{HasMade}
 use Rattle.lot_processors.proofs.baton_workers.processor_turns.Given as goal
 
 abbrev pub invariant-loop-made : goal.invariant-loop-made
-invariant-loop-made g l = (l.seat.stopped ≡ l.initial.seat.stopped) × HasMade l.made l.initial.seat l.seat
+invariant-loop-made g l =
+    (l.seat.stopped ≡ l.initial.seat.stopped) × HasMade l.made l.initial.seat l.seat
+    × IsLegalIn l.seat.seen × IsWorkOf l.seat.seen l.seat.actor l.work

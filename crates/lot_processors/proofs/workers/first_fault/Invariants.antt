@@ -4,4 +4,4 @@ use Rattle.lot_processors.proofs.workers.first_fault.Given as goal
 
 -- no seat in front of the place has a fault, and the seats are as they were
 abbrev pub invariant-loop-place : goal.invariant-loop-place
-invariant-loop-place g l = (l.seats ≡ l.initial.seats) × ((k : ℕ) (d : Holder) → k < l.place → (slice_index_or l.seats k d).stop ≡ None)
+invariant-loop-place g l = (l.seats ≡ l.initial.seats) × ((k : ℕ) (d : Holder) → k < l.place → (slice_index_or l.seats k d).stopped ≡ None)

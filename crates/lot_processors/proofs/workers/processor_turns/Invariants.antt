@@ -1,6 +1,10 @@
 use Rattle.std.proofs.Common.{◌≡◌}
+use Rattle.lot_system.specs.Turns.{IsWorkOf}
+use Rattle.lot_station.specs.Settings.{AtSome}
 use Rattle.lot_processors.specs.Workers.{HasMade}
 use Rattle.lot_processors.proofs.workers.processor_turns.Given as goal
 
 abbrev pub invariant-loop-made : goal.invariant-loop-made
-invariant-loop-made g l = (l.seat.stop ≡ l.initial.seat.stop) × HasMade l.made l.initial.seat l.seat
+invariant-loop-made g l =
+    (l.seat.stopped ≡ l.initial.seat.stopped) × HasMade l.station l.made l.initial.seat l.seat
+    × AtSome l.station (λ x. IsWorkOf x l.seat.actor l.work)

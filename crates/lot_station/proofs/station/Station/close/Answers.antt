@@ -8,7 +8,7 @@ returns-then-not-counts_agree-clause-err g c =
     let x = c.into_inner-system.result.system in
     let processors = c.self.invariant ∙ ap (λ (s : Setting). s.program.limits.processors) c.self.view_is in
     let order = subst (λ n. InOrder n c.args.seats.items) processors (subst (InOrder c.self.inside.processors) c.as_slice.ensures.value c.if-not-in_order.ensures) in
-    inr (x, refl, c.into_inner-system.result.setting ∙ c.self.view_is, order, λ agree. c.if-not-counts_agree.ensures (subst (λ (l : List Holder). CountsAgree x l) (sym c.as_slice-2.ensures.value) agree))
+    inr (x, refl, c.into_inner-system.result.setting ∙ c.self.view_is, c.into_inner-system.result.legal, order, λ agree. c.if-not-counts_agree.ensures (subst (λ (l : List Holder). CountsAgree x l) (sym c.as_slice-2.ensures.value) agree))
 
 pub returns-clause-counts : goal.returns-clause-counts
 returns-clause-counts g c =

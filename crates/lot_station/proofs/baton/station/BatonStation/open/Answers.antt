@@ -1,5 +1,9 @@
-use Rattle.std.proofs.Common.{rules, None, ap, ◌∙◌}
-use Rattle.lot_station.specs.BatonViews.{all_but_first, first_actor}
+use Rattle.std.proofs.Common.{rules, ◌+◌, ◌<◌, [], ◌∷◌, length, arith, None, sym, ap, ◌∙◌}
+use Rattle.std.proofs.lemmas.Option.{get_or_from_slice_get}
+use Rattle.lot_system.specs.Seen.{Seen}
+use Rattle.lot_station.specs.declared.baton.view.View.{View}
+use Rattle.lot_station.specs.Settings.{counts_in}
+use Rattle.lot_station.specs.BatonViews.{all_but_first, claim, first_actor, resting}
 use Rattle.lot_station.specs.BatonSeats.{baton, seat, seen_in}
 use Rattle.lot_station.proofs.BatonSteps.{opens, deals}
 use Rattle.lot_station.proofs.BatonClosing.{deals_one, dealt_of}
@@ -26,3 +30,16 @@ loop-k-preserved c =
 pub returns-clause-own : goal.returns-clause-own
 returns-clause-own c =
     dealt_of (baton c.in_ok-queue.queue.table.shared.table_id c.processors-processors.result) c.args.system c.loop-k.seats.items c.processors-processors.ensures.program c.loop-k.invariant.2
+
+pub invariant_of-seat : goal.invariant_of-seat
+invariant_of-seat c =
+    let i = c.loop-k.invariant in
+    let theirs = c.another-pass.ensures.rule.1 ∙ ap first_actor i.1 in
+    let seen = ap (λ (v : View). seen_in v.claims) theirs in
+    let low : c.loop-k.k < length c.in_ok-counts.counts.items = omega (arith, c.in_ok-counts.ensures.count, c.loop-k-test.true, c.processors-processors.ensures.program) in
+    let own = get_or_from_slice_get c.in_ok-counts.counts.items c.loop-k.k (counts_in c.args.system c.loop-k.k) c.index.result.now (c.in_ok-counts.ensures.each c.loop-k.k low) in (
+      search rules,
+      theirs ∙ ap (λ (x : Seen). resting (claim c.loop-k.k (c.loop-k.k + 1) x ∷ [])) (sym seen),
+      search rules,
+      c.index.ensures ∙ own ∙ ap (λ (x : Seen). counts_in x c.loop-k.k) (sym seen),
+    )

@@ -13,8 +13,8 @@ returns-clause-ok g c =
     let held = held_after _ _ _ _ _ i.1 c.take-system.ensures.holds in
     let given = given_after _ _ _ _ _ _ held c.give.ensures.gave in
     let sees = (subst (λ (y : View). SeesAll c.take-system.result y.claims) i.1 c.take-system.ensures.seen).0 in
-    let old = seat c.seat.inside.pass.table_id c.seat.inside.actor (seen_in (view c.seat.inside.pass).claims) c.seat.inside.fault in
-    let new = seat c.give.new.pass.table_id c.seat.inside.actor (seen_in (view c.give.new.pass).claims) c.seat.inside.fault in
+    let old = seat c.seat.inside.pass.table_id c.seat.inside.actor (seen_in (view c.seat.inside.pass).claims) c.seat.inside.stopped in
+    let new = seat c.give.new.pass.table_id c.seat.inside.actor (seen_in (view c.give.new.pass).claims) c.seat.inside.stopped in
     subst (λ o. IfOk c.turn-answer.result (λ answer. Turns o c.args.slice answer new)) c.seat.view_is
     (turned old new c.args.slice c.take-system.result c.turn-answer.new.self c.turn-answer.result (ap (λ (y : View). seen_in y.claims) given) sees c.turn-answer.ensures.legal c.turn-answer.ensures.ok)
 
@@ -24,7 +24,7 @@ returns-clause-err g c =
     let held = held_after _ _ _ _ _ i.1 c.take-system.ensures.holds in
     let given = given_after _ _ _ _ _ _ held c.give.ensures.gave in
     let sees = (subst (λ (y : View). SeesAll c.take-system.result y.claims) i.1 c.take-system.ensures.seen).0 in
-    let old = seat c.seat.inside.pass.table_id c.seat.inside.actor (seen_in (view c.seat.inside.pass).claims) c.seat.inside.fault in
-    let new = seat c.give.new.pass.table_id c.seat.inside.actor (seen_in (view c.give.new.pass).claims) c.seat.inside.fault in
+    let old = seat c.seat.inside.pass.table_id c.seat.inside.actor (seen_in (view c.seat.inside.pass).claims) c.seat.inside.stopped in
+    let new = seat c.give.new.pass.table_id c.seat.inside.actor (seen_in (view c.give.new.pass).claims) c.seat.inside.stopped in
     subst (λ o. IfErr c.turn-answer.result (λ fault. Looks o new × Faults new.seen o.actor c.args.slice fault)) c.seat.view_is
     (refused old new c.args.slice c.take-system.result c.turn-answer.new.self c.turn-answer.result (ap (λ (y : View). seen_in y.claims) given) sees c.turn-answer.ensures.legal c.turn-answer.ensures.err)

@@ -1,0 +1,8 @@
+use Rattle.std.proofs.Common.{◌≡◌, ℕ, ◌<◌, ◌≤◌, slice_get, Some, vec_len, vec_capacity}
+use Rattle.lot_station.specs.Settings.{counts_in}
+use Rattle.lot_station.proofs.baton.station.counts_of_actors.Given as goal
+
+abbrev pub invariant-loop-k : goal.invariant-loop-k
+invariant-loop-k l =
+    (vec_len l.counts ≡ l.k) × (l.count ≤ vec_capacity l.counts)
+    × ((j : ℕ) → j < l.k → slice_get l.counts.items j ≡ Some (counts_in l.system j))
