@@ -22,4 +22,4 @@ returns-clause-text g c =
     let event = c.made-event.result.0 in
     let reply = c.made-event.result.1 in
     let text = ap (λ (x : Seen). decimal actor ++ (codes " " ++ reply_text (world_of x).state event reply)) c.made-event.ensures.seen ∙ text-after old actor event reply c.made-event.ensures.answer in
-    subst (Writes (g.W.Write.contents c.args.writer.now.0) (g.W.Write.contents c.write_answer.new.writer.0) c.write_answer.new.writer.1 c.write_answer.result) text c.write_answer.ensures.text
+    subst (Writes (g.W.Write.contents c.args.writer.now.inner) (g.W.Write.contents c.write_answer.new.writer.inner) c.write_answer.new.writer.failed c.write_answer.result) text c.write_answer.ensures.text
