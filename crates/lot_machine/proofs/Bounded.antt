@@ -19,7 +19,7 @@ use Rattle.lot_machine.proofs.CountsOnce.{counts-once}
 use Rattle.lot_machine.proofs.Flow.{owned-within}
 
 -- what passes is no more than all
-some-le : (b : Bool) (n : ℕ) → cond b n 0 ≤ n
+pub some-le : (b : Bool) (n : ℕ) → cond b n 0 ≤ n
 some-le true n = omega arith
 some-le false n = omega arith
 
@@ -76,4 +76,4 @@ module _ (s : State) where
       let quantum : base_value s * s.limits.quantum ≤ base_value s * 1000 = mul-le-mul_left (base_value s) bounds.of_quantum.1 in
       let small : base_value s < 72057594037927936 = base in
       let weights : total_weight s < 73786976294838206464 = omega (arith, weights-within no_cycle there bounds, quantum, small) in
-      record { no_cycle = no_cycle; runs_apart = apart; counts_once = counts-once s no_cycle; bounded = record { values = values-within no_cycle there; base = base; weights = weights } }
+      record { no_cycle = no_cycle; funds_there = there; runs_apart = apart; counts_once = counts-once s no_cycle; bounded = record { values = values-within no_cycle there; base = base; weights = weights } }

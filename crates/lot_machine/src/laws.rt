@@ -1,12 +1,16 @@
 //! What the definitions come to: laws of the machine, with nothing to run.
-ghost use Rattle.std.specs.Prelude.{◌≡◌, ◌+◌, ◌==◌, ◌*◌, ◌/◌, if◌then◌else◌, sum_by, count_by, slice_get, ◌≤◌, ◌↔◌, ◌⊎◌, ◌<◌, ◌^◌, Some, ◌%◌, IsTrue, MatchOption, sum, List, Bool, ℕ, length};
+ghost use Rattle.std.specs.Prelude.{◌≡◌, ◌+◌, ◌==◌, ◌*◌, ◌/◌, if◌then◌else◌, sum_by, count_by, slice_get, ◌≤◌, ◌↔◌, ◌⊎◌, ◌<◌, ◌^◌, Some, ◌%◌, ◌≢◌, Contains, IsTrue, MatchOption, sum, List, Bool, ℕ, length};
 ghost use Rattle.lot_machine.specs.Bounds.{IsWithinBounds};
-ghost use Rattle.lot_machine.specs.Funding.{Funding, WouldCycle, would_cycle, ticket_at, target_of, issuer_of, IsChain, reaches_within, backing_currency, user_currency_count};
+ghost use Rattle.lot_machine.specs.Funding.{Funding, IsEdge, edge_count_into, backing_thread, WouldCycle, would_cycle, ticket_at, target_of, issuer_of, IsChain, reaches_within, backing_currency, user_currency_count};
 ghost use Rattle.lot_machine.specs.Activity.{IsActive, is_active, activates_within, active_amount};
-ghost use Rattle.lot_machine.specs.Value.{ticket_value, currency_value, ticket_value_within};
+ghost use Rattle.lot_machine.specs.Value.{ticket_value, currency_value, ticket_value_within, own_value, thread_value, waiters_for, mutex_value, node_value};
+ghost use Rattle.lot_machine.specs.Equations.{direct_lenders, owned_by, LeadsInto, HasEachOnce, edges_into, ticket_share, share, shares_into, HasEquation, Solves, Reaches};
+ghost use Rattle.lot_machine.specs.declared.funding.Edge.{Edge};
+ghost use Rattle.lot_machine.specs.declared.funding.Node.{Node};
 ghost use Rattle.lot_machine.specs.declared.ticket.Ticket.{Ticket};
 ghost use Rattle.lot_machine.specs.declared.ticket.Target.{Target};
 ghost use Rattle.lot_machine.specs.declared.ticket.Target.TheVariants.{Currency, Thread};
+ghost use Rattle.lot_machine.specs.declared.funding.Node.TheVariants as nodes;
 ghost use Rattle.lot_machine.specs.Lottery.{winner, IsFirstAbove};
 ghost use Rattle.lot_machine.specs.Facts.{HasNoCycle, FundsThere, CountsOnce, RunsApart, IsSound, live_value, base_value, total_weight, is_won_by};
 ghost use Rattle.std.specs.List.{range_with_len};
@@ -113,4 +117,101 @@ pub fn actors_add_up()
         → sum_by (λ actor. length (turns_of actor (turns_made program history))) (range_with_len 0 (program.limits.processors + 1)) ≡ length history }
     ensures counts { (count : Reply → ℕ) (program : Program) (room : ℕ) (history : List ℕ) → IsLegal program room history
         → sum_by (λ actor. total_of count (turns_of actor (turns_made program history))) (range_with_len 0 (program.limits.processors + 1)) ≡ total_of count (turns_made program history) }
+{}
+
+/// If lends make no cycle, a thread is worth its own tickets, the threads that lend to it directly, and the mutexes that it
+/// owns, each counted once.
+pub fn thread_values_add_up()
+    ensures { (f : Funding) → HasNoCycle f → (unit : ℕ) (live : List Bool) (t : ℕ) → 0 < t → t ≤ length f.lends
+        → thread_value unit f live t ≡ own_value unit f live t + sum_by (thread_value unit f live) (direct_lenders f t) + sum_by (mutex_value unit f live) (owned_by f t) }
+{}
+
+/// A mutex is worth what its waiters are worth together.
+pub fn mutex_values_add_up()
+    ensures { (f : Funding) (unit : ℕ) (live : List Bool) (m : ℕ) → mutex_value unit f live m ≡ sum_by (thread_value unit f live) (waiters_for f m) }
+{}
+
+/// A currency is worth what the tickets that fund it are worth together. An active ticket of a user currency is worth its share of
+/// the currency, an active base ticket its amount times the unit, and one that isn't active nothing.
+pub fn currency_values_add_up()
+    ensures currency { (f : Funding) (unit : ℕ) (live : List Bool) (c : ℕ) → currency_value unit f live c ≡ sum_by (ticket_value unit f live) (backing_currency f c) }
+    ensures user_ticket { (f : Funding) → HasNoCycle f → FundsThere f → (unit : ℕ) (live : List Bool) (t : Ticket) → IsTrue (is_active f live t) → t.issuer ≢ 0
+        → ticket_value unit f live t ≡ currency_value unit f live t.issuer * t.amount / active_amount f live t.issuer }
+    ensures base_ticket { (f : Funding) → HasNoCycle f → FundsThere f → (unit : ℕ) (live : List Bool) (t : Ticket) → IsTrue (is_active f live t) → t.issuer ≡ 0
+        → ticket_value unit f live t ≡ t.amount * unit }
+    ensures other_ticket { (f : Funding) → HasNoCycle f → FundsThere f → (unit : ℕ) (live : List Bool) (t : Ticket) → ¬ IsTrue (is_active f live t) → ticket_value unit f live t ≡ 0 }
+{}
+
+/// An active ticket's issuer has at least the ticket's amount active, so some where the ticket has some.
+pub fn issuers_are_active()
+    ensures amount { (f : Funding) (live : List Bool) (n : ℕ) (t : Ticket) → ticket_at f n ≡ Some t → IsTrue (is_active f live t) → t.amount ≤ active_amount f live t.issuer }
+    ensures some { (f : Funding) (live : List Bool) (n : ℕ) (t : Ticket) → ticket_at f n ≡ Some t → IsTrue (is_active f live t) → 0 < t.amount → 0 < active_amount f live t.issuer }
+{}
+
+/// If nothing makes a cycle, and tickets fund only currencies that are there, no thread, no mutex and no user currency is
+/// worth more than base's active tickets.
+pub fn node_values_are_bounded()
+    ensures thread { (f : Funding) → HasNoCycle f → FundsThere f → (unit : ℕ) (live : List Bool) (t : ℕ) → thread_value unit f live t ≤ active_amount f live 0 * unit }
+    ensures mutex { (f : Funding) → HasNoCycle f → FundsThere f → (unit : ℕ) (live : List Bool) (m : ℕ) → mutex_value unit f live m ≤ active_amount f live 0 * unit }
+    ensures node { (f : Funding) → HasNoCycle f → FundsThere f → (unit : ℕ) (live : List Bool) (node : Node) → node ≢ nodes.Currency 0 → node_value unit f live node ≤ active_amount f live 0 * unit }
+{}
+
+/// The edges into a node are exactly those that lead into it, each once, and as many as are counted. Any list that has exactly
+/// those, each once, has the same sums.
+pub fn edges_into_are_exact()
+    ensures edges { (f : Funding) (node : Node) → HasEachOnce (edges_into f node) (LeadsInto f node) }
+    ensures count { (f : Funding) (node : Node) → length (edges_into f node) ≡ edge_count_into f node }
+    ensures sums { (f : Funding) (node : Node) (counted : Edge → ℕ) (edges : List Edge) → HasEachOnce edges (LeadsInto f node) → sum_by counted edges ≡ sum_by counted (edges_into f node) }
+{}
+
+/// What the edges into a node pass on together is a sum over the tickets that fund it, over the threads that lend to it, and over
+/// the mutexes that it owns.
+pub fn shares_are_sums()
+    ensures currency { (f : Funding) (unit : ℕ) (live : List Bool) (worth : Node → ℕ) (c : ℕ)
+        → shares_into unit f live worth (nodes.Currency c) ≡ sum_by (ticket_share unit f live worth) (backing_currency f c) }
+    ensures thread { (f : Funding) (unit : ℕ) (live : List Bool) (worth : Node → ℕ) (t : ℕ) → shares_into unit f live worth (nodes.Thread t)
+        ≡ sum_by (ticket_share unit f live worth) (backing_thread f t) + sum_by (λ s. worth (nodes.Thread s)) (direct_lenders f t) + sum_by (λ m. worth (nodes.Mutex m)) (owned_by f t) }
+    ensures mutex { (f : Funding) (unit : ℕ) (live : List Bool) (worth : Node → ℕ) (m : ℕ)
+        → shares_into unit f live worth (nodes.Mutex m) ≡ sum_by (λ s. worth (nodes.Thread s)) (waiters_for f m) }
+{}
+
+/// If nothing makes a cycle, and tickets fund only currencies that are there, what nodes are worth solves the equation of
+/// each node: it is what the edges into it pass on.
+pub fn node_values_solve()
+    ensures { (f : Funding) → HasNoCycle f → FundsThere f → (unit : ℕ) (live : List Bool) (node : Node) → HasEquation f node → Solves unit f live (node_value unit f live) node }
+{}
+
+/// Nothing else solves the equations there: what solves each is what nodes are worth, whatever base is given. It is enough to
+/// solve them at nodes to which no others lead but base.
+pub fn solutions_are_node_values()
+    ensures all { (f : Funding) → HasNoCycle f → FundsThere f → (unit : ℕ) (live : List Bool) (worth : Node → ℕ)
+        → ((node : Node) → HasEquation f node → Solves unit f live worth node)
+        → (node : Node) → HasEquation f node → worth node ≡ node_value unit f live node }
+    ensures known { (f : Funding) → HasNoCycle f → FundsThere f → (unit : ℕ) (live : List Bool) (worth : Node → ℕ) (unknown : List Node)
+        → ((from to : Node) → IsEdge f from to → ¬ Contains unknown to → from ≢ nodes.Currency 0 → ¬ Contains unknown from)
+        → ((node : Node) → ¬ Contains unknown node → HasEquation f node → Solves unit f live worth node)
+        → (node : Node) → ¬ Contains unknown node → HasEquation f node → worth node ≡ node_value unit f live node }
+{}
+
+/// The equation of a node reads what nodes are worth from which an edge leads to it, and never base; and it is the same if
+/// the same edges lead into the node and pass on as much.
+pub fn equations_are_local()
+    ensures reads { (f : Funding) (unit : ℕ) (live : List Bool) (worth other : Node → ℕ) (node : Node)
+        → ((from : Node) → IsEdge f from node → from ≢ nodes.Currency 0 → worth from ≡ other from)
+        → shares_into unit f live worth node ≡ shares_into unit f live other node }
+    ensures kept { (f g : Funding) (unit : ℕ) (live now_live : List Bool) (worth : Node → ℕ) (node : Node)
+        → ((edge : Edge) → LeadsInto f node edge ↔ LeadsInto g node edge)
+        → ((edge : Edge) → LeadsInto f node edge → share unit f live worth edge ≡ share unit g now_live worth edge)
+        → shares_into unit f live worth node ≡ shares_into unit g now_live worth node }
+{}
+
+/// If nothing makes a cycle, and tickets fund only currencies that are there, no way over edges of any kind leads back to
+/// where an edge came from.
+pub fn no_way_leads_back()
+    ensures { (f : Funding) → HasNoCycle f → FundsThere f → (from next : Node) → IsEdge f from next → ¬ Reaches f next from }
+{}
+
+/// If nothing makes a cycle, and tickets fund only currencies that are there, nodes have ranks that rise along each edge.
+pub fn ranks_rise()
+    ensures { (f : Funding) → HasNoCycle f → FundsThere f → (rank : Node → ℕ) × ((from to : Node) → IsEdge f from to → rank from < rank to) }
 {}

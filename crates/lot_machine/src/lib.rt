@@ -20,7 +20,6 @@ mod reply;
 mod row;
 mod script;
 pub mod sliced;
-pub mod stated;
 mod ticket;
 pub mod worked;
 

@@ -1,5 +1,5 @@
 //! Which currencies have active tickets, and how much of each is active (4.4).
-ghost use Rattle.std.specs.Prelude.{◌≡◌, ◌==◌, ◌+◌, ◌*◌, ◌<◌, ◌≤◌, ℕ, IfSome, length, vec_len, slice_index, sum_by, true, ◌||◌};
+ghost use Rattle.std.specs.Prelude.{◌≡◌, ◌==◌, ◌+◌, ◌*◌, ◌<◌, ◌≤◌, ℕ, IfSome, length, vec_len, slice_index, sum_by, ◌↔◌, IsTrue, ◌||◌};
 ghost use Rattle.std.specs.List.{list_any};
 ghost use Rattle.lot_machine.specs.Numbered.{option_any};
 ghost use Rattle.lot_rounds.specs.Tables.{AreWithin, IsTargetWithin, IsTicketWithin, amount_added, flagged, leads_within, ticket_leads};
@@ -47,7 +47,7 @@ fn flag_one(to: Option<u32>, flags: &mut Vec<bool>)
 }
 
 fn are_same(flags: &[bool], others: &[bool]) -> bool
-    ensures { result ≡ true → flags.now ≡ others.now }
+    ensures { IsTrue result ↔ (flags.now ≡ others.now) }
 {
     flags == others
 }

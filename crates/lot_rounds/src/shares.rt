@@ -1,5 +1,5 @@
 //! What currencies and threads are worth (4.4).
-ghost use Rattle.std.specs.Prelude.{◌≡◌, ◌+◌, ◌*◌, ◌/◌, ◌<◌, ◌^◌, ℕ, true, IfSome, length, vec_len, slice_index, sum_by};
+ghost use Rattle.std.specs.Prelude.{◌≡◌, ◌+◌, ◌*◌, ◌/◌, ◌<◌, ◌^◌, ℕ, ◌↔◌, IsTrue, IfSome, length, vec_len, slice_index, sum_by};
 ghost use Rattle.lot_rounds.specs.Tables.{AreWithin, IsOfSize, IsTicketWithin, added_to_currency, added_to_thread, worth_after};
 ghost use Rattle.lot_rounds.specs.Tables as tables;
 
@@ -42,7 +42,7 @@ pub(crate) fn list_worths(
 }
 
 fn are_equal(worths: &[u64], others: &[u64]) -> bool
-    ensures { result ≡ true → worths.now ≡ others.now }
+    ensures { IsTrue result ↔ (worths.now ≡ others.now) }
 {
     worths == others
 }

@@ -2,6 +2,7 @@ pub mod Copies
 pub mod Fronts
 pub mod Lists
 pub mod Nesting
+pub mod OnePlace
 pub mod Opened
 pub mod Passed
 pub mod Reached

@@ -26,7 +26,7 @@ length-open_after i line.Reply loops = refl
 length-open_after i (line.Lock n) loops = refl
 length-open_after i (line.Unlock n) loops = refl
 
-length-open_behind : (i : ℕ) (loops : List OpenLoop) (lines : List Line) → length (open_behind i loops lines) ≡ fold loops_behind (length loops) lines
+pub length-open_behind : (i : ℕ) (loops : List OpenLoop) (lines : List Line) → length (open_behind i loops lines) ≡ fold loops_behind (length loops) lines
 length-open_behind i loops [] = refl
 length-open_behind i loops (l ∷ lines) =
     length-open_behind (i + 1) (open_after i l loops) lines ∙ ap (λ count. fold loops_behind count lines) (length-open_after i l loops)

@@ -7,6 +7,7 @@
 
 mod builder;
 mod context;
+pub mod laws;
 mod open_loops;
 mod passing;
 mod script;

@@ -7,26 +7,14 @@
 //! places in question reads at most one for each binary digit of their number.
 #![tactic(auto)]
 
-ghost use Rattle.std.specs.Prelude.{
-  ◌≡◌,
-  ℕ,
-  ◌+◌,
-  ◌*◌,
-  ◌^◌,
-  ◌<◌,
-  ◌≤◌,
-  List,
-  length,
-  sum,
-  slice_index,
-  slice_set,
-  IfOk,
-  replicate,
-};
+ghost use Rattle.std.specs.Prelude.{◌≡◌, ℕ, ◌^◌, ◌<◌, List, length, sum, slice_index, slice_set, IfOk, replicate};
 ghost use Rattle.lot_machine.specs.Lottery.{IsFirstAbove, first_above, running_sums};
-ghost use Rattle.lot_tree.specs.Sums.{ArePartialSumsAt, IsSumTree};
-ghost use Rattle.lot_tree.specs.Visits.{CountsReads, counted_up};
+ghost use Rattle.lot_tree.specs.Sums.{IsSumTree};
+ghost use Rattle.lot_tree.specs.Visits.{CountsReads};
 
+mod partial_sums;
+
+use partial_sums::{PartialSums, binary_digits};
 use std::alloc::{AllocError, Global};
 use std::marker::Model;
 
@@ -34,7 +22,7 @@ use std::marker::Model;
 #[derive(Debug, Drop)]
 pub struct SumTree {
     weights: Vec<u128>,
-    sums: Vec<u128>,
+    sums: PartialSums,
     total: u128,
 }
 
@@ -44,7 +32,7 @@ impl Model for SumTree {
 
     ghost view = { λ t. t.weights.items };
 
-    ghost invariant = { λ t. IsSumTree t.weights.items t.sums.items t.total };
+    ghost invariant = { λ t. IsSumTree t.weights.items t.sums t.total };
 }
 
 impl SumTree {
@@ -53,7 +41,7 @@ impl SumTree {
         ensures { IfOk result (λ tree. tree ≡ replicate n 0) }
     {
         let weights = vec![in alloc; 0; n]?;
-        let sums = vec![in alloc; 0; n]?;
+        let sums = PartialSums::new(alloc, n)?;
         Ok(SumTree {
             weights,
             sums,
@@ -84,7 +72,7 @@ impl SumTree {
         ensures { self.new ≡ slice_set self.old i w }
     {
         let old = self.get(i);
-        set_partial_sums(&mut self.sums, &self.weights, i, w);
+        self.sums.follow(&self.weights, i, w);
         self.weights[i] = w;
         self.total = self.total - old + w;
     }
@@ -115,7 +103,7 @@ impl SumTree {
             let size = 1usize << level;
             // A left half that is cut short has all the places that are left.
             if size <= n - base {
-                let left = read_partial_sum(&self.sums, base + size - 1, visits);
+                let left = self.sums.read(base + size - 1, visits);
                 if left <= rest {
                     rest -= left;
                     base += size;
@@ -123,47 +111,6 @@ impl SumTree {
             }
         }
         base
-    }
-}
-
-/// How many binary digits `n` has: 0 for 0, and 10 for 1000.
-fn binary_digits(n: usize) -> u32
-    ensures enough { n < 2 ^ result }
-    ensures needed { 2 ^ result ≤ 2 * n + 1 }
-    ensures within { result ≤ 64 }
-{
-    usize::BITS - n.leading_zeros()
-}
-
-/// The partial sum at `place`, counted in `visits`. A descent reads them in no other way.
-fn read_partial_sum(sums: &[u128], place: usize, visits: &mut u64) -> u128
-    requires { place < length sums.now }
-    ensures value { result ≡ slice_index sums.now place }
-    ensures counted { visits.new ≡ counted_up visits.old 1 }
-{
-    *visits = visits.saturating_add(1);
-    sums[place]
-}
-
-/// Takes the partial sums of `weights` to those of the weights with `w` at the place `i`.
-fn set_partial_sums(sums: &mut [u128], weights: &[u128], i: usize, w: u128)
-    requires within { i < length weights.now }
-    requires same_length { length sums.old ≡ length weights.now }
-    requires limited { sum (slice_set weights.now i w) < 2 ^ 68 }
-    requires partial { (level : ℕ) → ArePartialSumsAt weights.now sums.old level }
-    ensures partial { (level : ℕ) → ArePartialSumsAt (slice_set weights.now i w) sums.new level }
-{
-    let n = weights.len();
-    let old = weights[i];
-    for level in 0..binary_digits(n) {
-        let size = 1usize << level;
-        let block = i >> level;
-        let from = block * size;
-        // The odd blocks and the one that is cut short keep no partial sum.
-        if block % 2 == 0 && size <= n - from {
-            let last = from + size - 1;
-            sums[last] = sums[last] - old + w;
-        }
     }
 }
 

@@ -3,4 +3,4 @@ use Rattle.std.proofs.lemmas.Slice.Eq.{slice_eq-Decides}
 use Rattle.lot_rounds.proofs.activity.are_same.Goals as goal
 
 pub returns : goal.returns
-returns c same = (slice_eq-Decides booleans_Decides c.args.flags.now c.args.others.now _ c.eq.ensures).0 same
+returns c = slice_eq-Decides booleans_Decides c.args.flags.now c.args.others.now _ c.eq.ensures

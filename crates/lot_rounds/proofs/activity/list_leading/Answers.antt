@@ -8,7 +8,7 @@ returns-then-are_same-clause-leading c =
     let n = vec_len c.loop.leading in
     let threads = length c.args.backed.now in
     let within = rw (← (c.loop.invariant.count ∙ c.flag_one.ensures.count)) at c.requires.within in
-    let same = sym c.deref-in-loop.ensures.value ∙ c.are_same.ensures c.if-are_same.true ∙ c.deref-in-loop-2.ensures.value in
+    let same = sym c.deref-in-loop.ensures.value ∙ c.are_same.ensures.0 c.if-are_same.true ∙ c.deref-in-loop-2.ensures.value in
     let next : (e : ℕ) → e < n → flagged c.loop.leading.items e ≡ leads_within (c.loop.counter + 1) c.args.to c.args.tickets.now c.args.backed.now e =
     λ e inside.
     let seen : e < vec_len c.flag_one-in-loop.new.flags = omega (arith, inside, c.flag_one-in-loop.ensures.count, c.loop.invariant.count, c.loop.invariant.next_count, c.flag_one.ensures.count, c.requires.same) in

@@ -3,4 +3,4 @@ use Rattle.std.proofs.lemmas.Slice.Eq.{slice_eq-Decides}
 use Rattle.lot_rounds.proofs.shares.are_equal.Goals as goal
 
 pub returns : goal.returns
-returns c same = (slice_eq-Decides unsigned_Decides c.args.worths.now c.args.others.now _ c.eq.ensures).0 same
+returns c = slice_eq-Decides unsigned_Decides c.args.worths.now c.args.others.now _ c.eq.ensures

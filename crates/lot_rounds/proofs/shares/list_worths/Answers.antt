@@ -15,7 +15,7 @@ returns-then-are_equal-clause-worths c =
     let n = vec_len c.loop.worths in
     let threads = vec_len c.args.activity.now.backed in
     let within = rw (← (c.loop.invariant.count ∙ c.fill.ensures.len)) at c.requires.within in
-    let same = sym c.deref-in-loop.ensures.value ∙ c.are_equal.ensures c.if-are_equal.true ∙ c.deref-in-loop-2.ensures.value in
+    let same = sym c.deref-in-loop.ensures.value ∙ c.are_equal.ensures.0 c.if-are_equal.true ∙ c.deref-in-loop-2.ensures.value in
     let next : (d : ℕ) → d < n → slice_index c.loop.worths.items d ≡ worth_after (c.loop.counter + 1) c.args.unit c.args.activity.now c.args.tickets.now d =
     λ d inside.
     let found : d < vec_len c.list_currencies.new.next = omega (arith, inside, c.list_currencies.ensures.count, c.loop.invariant.count, c.loop.invariant.next_count, c.fill.ensures.len, c.requires.same) in

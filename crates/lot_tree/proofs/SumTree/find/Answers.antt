@@ -13,23 +13,23 @@ loop-level-init c = record {
 
 pub loop-level-preserved-then-left-rest : goal.loop-level-preserved-then-left-rest
 loop-level-preserved-then-left-rest c = record {
-  narrowed = IsNarrowed_right c.self.inside.weights.items c.self.inside.sums.items c.args.d c.loop-level.level (c.loop-level.level - 1) _ c.loop-level.base c.loop-level.rest
+  narrowed = IsNarrowed_right c.self.inside.weights.items c.self.inside.sums c.args.d c.loop-level.level (c.loop-level.level - 1) _ c.loop-level.base c.loop-level.rest
       (omega arith) (one_shl (c.loop-level.level - 1) 64 (omega arith)) c.loop-level.invariant.narrowed (c.self.invariant.partial (c.loop-level.level - 1)) (omega arith)
-      c.read_partial_sum-left.result (rw c.deref.ensures.value at c.read_partial_sum-left.ensures.value) c.if-left-rest.true;
-  counted = inr (IsCounted_read c.binary_digits-level.result c.loop-level.level (c.loop-level.level - 1) c.args.visits.now c.loop-level.visits (omega arith) c.loop-level.auto.level c.loop-level.base _ c.loop-level.invariant.counted c.read_partial_sum-left.ensures.counted);
+      c.read-left.result c.read-left.ensures.value c.if-left-rest.true;
+  counted = inr (IsCounted_read c.binary_digits-level.result c.loop-level.level (c.loop-level.level - 1) c.args.visits.now c.loop-level.visits (omega arith) c.loop-level.auto.level c.loop-level.base _ c.loop-level.invariant.counted c.read-left.ensures.counted);
 }
 
 pub loop-level-preserved-else-left-rest : goal.loop-level-preserved-else-left-rest
 loop-level-preserved-else-left-rest c = record {
-  narrowed = IsNarrowed_left c.self.inside.weights.items c.self.inside.sums.items c.args.d c.loop-level.level (c.loop-level.level - 1) _ c.loop-level.base c.loop-level.rest
+  narrowed = IsNarrowed_left c.self.inside.weights.items c.self.inside.sums c.args.d c.loop-level.level (c.loop-level.level - 1) _ c.loop-level.base c.loop-level.rest
       (omega arith) (one_shl (c.loop-level.level - 1) 64 (omega arith)) c.loop-level.invariant.narrowed (c.self.invariant.partial (c.loop-level.level - 1)) (omega arith)
-      c.read_partial_sum-left.result (rw c.deref.ensures.value at c.read_partial_sum-left.ensures.value) c.if-left-rest.false;
-  counted = inr (IsCounted_read c.binary_digits-level.result c.loop-level.level (c.loop-level.level - 1) c.args.visits.now c.loop-level.visits (omega arith) c.loop-level.auto.level c.loop-level.base _ c.loop-level.invariant.counted c.read_partial_sum-left.ensures.counted);
+      c.read-left.result c.read-left.ensures.value c.if-left-rest.false;
+  counted = inr (IsCounted_read c.binary_digits-level.result c.loop-level.level (c.loop-level.level - 1) c.args.visits.now c.loop-level.visits (omega arith) c.loop-level.auto.level c.loop-level.base _ c.loop-level.invariant.counted c.read-left.ensures.counted);
 }
 
 pub loop-level-preserved : goal.loop-level-preserved
 loop-level-preserved c = record {
-  narrowed = IsNarrowed_short c.self.inside.weights.items c.self.inside.sums.items c.args.d c.loop-level.level (c.loop-level.level - 1) _ c.loop-level.base c.loop-level.rest
+  narrowed = IsNarrowed_short c.self.inside.weights.items c.self.inside.sums c.args.d c.loop-level.level (c.loop-level.level - 1) _ c.loop-level.base c.loop-level.rest
       (omega arith) (one_shl (c.loop-level.level - 1) 64 (omega arith)) c.loop-level.invariant.narrowed (omega arith);
   counted = inr (IsCounted_short c.binary_digits-level.result c.loop-level.level (c.loop-level.level - 1) c.args.visits.now c.loop-level.visits (omega arith) c.loop-level.auto.level c.len-n.result c.loop-level.base _ (one_shl (c.loop-level.level - 1) 64 (omega arith)) c.binary_digits-level.ensures.needed (omega arith) c.loop-level.invariant.counted);
 }

@@ -2,8 +2,8 @@
 use Rattle.std.proofs.Common.{arith}
 use Rattle.std.proofs.lemmas.Nat.{one_shl}
 use Rattle.lot_tree.proofs.Levels.{last_sum_within, last_sum_written, odd_skipped, short_skipped, IsWrittenBelow_all}
-use Rattle.lot_tree.proofs.set_partial_sums.Goals as goal
-use Rattle.lot_tree.proofs.set_partial_sums.Goals.{then-block-eq0+then-size-n, else-block-eq0, else-block-eq0-via-then-block-eq0+else-size-n, else-block-eq0-via-else-block-eq0}
+use Rattle.lot_tree.proofs.partial_sums.set_partial_sums.Goals as goal
+use Rattle.lot_tree.proofs.partial_sums.set_partial_sums.Goals.{then-block-eq0+then-size-n, else-block-eq0, else-block-eq0-via-then-block-eq0+else-size-n, else-block-eq0-via-else-block-eq0}
 
 pub overflow_sub-sums : goal.overflow_sub-sums
 overflow_sub-sums c =

@@ -1,5 +1,5 @@
 use Rattle.lot_tree.proofs.Digits.{digits_of}
-use Rattle.lot_tree.proofs.binary_digits.Goals as goal
+use Rattle.lot_tree.proofs.partial_sums.binary_digits.Goals as goal
 
 pub returns-clause-enough : goal.returns-clause-enough
 returns-clause-enough c = (digits_of c.args.n c.ranges.n.fits).0
