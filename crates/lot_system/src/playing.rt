@@ -14,7 +14,7 @@ ghost use Rattle.lot_system.specs.Played.{Leaves, Plays, came_of};
 ghost use Rattle.lot_system.specs.declared.playing.Played.TheVariants.{Done, Refused};
 ghost use Rattle.lot_system.specs.Reading.{HasRead};
 ghost use Rattle.lot_system.specs.Seen.{world_of};
-ghost use Rattle.lot_system.specs.Turns.{IsSliceOf};
+ghost use Rattle.lot_system.specs.Turns.{IsFresh};
 ghost use Rattle.lot_system.specs.Writing.{IsFaultOf, Writes};
 
 use crate::lines::{write_ended, write_fault, write_turn};
@@ -22,8 +22,9 @@ use crate::listing::write_listing;
 use crate::report::write_report;
 use crate::slices::slice_of;
 use crate::writing::flush;
-use crate::{PlayFault, System, read_input};
+use crate::{PlayFault, System, TurnFault, read_input};
 use lot_machine::{Event, InputFault, Reply};
+use lot_script::Slice;
 use lot_text::{ParseFault, Program, Watched, parse};
 use std::alloc::Global;
 use std::io::{Read, Write};
@@ -148,15 +149,24 @@ fn play_turn<W: Write>(
     ensures played { IsPlayed system.old actor system.new }
     ensures text { Writes (W.contents writer.old.inner) (W.contents writer.new.inner) writer.new.failed result (turn_text actor (turn_in system.old actor)) }
 {
-    if system.is_ended(actor) {
-        return write_ended(writer, actor);
+    let slice = slice_in(system, program, actor);
+    match system.turn(actor, slice) {
+        Ok(answer) => write_answer(system, actor, &answer.event, answer.reply, writer),
+        Err(TurnFault::Ended) => write_ended(writer, actor),
+        Err(TurnFault::Stale(_)) => unreachable!(),
+        Err(TurnFault::HistoryFull) => unreachable!(),
     }
-    let slice = match system.work(actor) {
+}
+
+/// The slice of the actor's work, if it has any.
+fn slice_in<'a>(system: &System, program: &'a Program, actor: u32) -> Option<Slice<'a>>
+    requires { system.now.setting.program ≡ program.now }
+    ensures { IsFresh system.now actor result }
+{
+    match system.work(actor) {
         Some(work) => Some(slice_of(program, work)),
         None => None,
-    };
-    let (event, reply) = system.made(actor, &slice);
-    write_answer(system, actor, &event, reply, writer)
+    }
 }
 
 /// Writes what a turn answered: a line, or the listing that was asked for.
