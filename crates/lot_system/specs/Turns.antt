@@ -69,12 +69,18 @@ pub record Goes (seen : Seen) (actor : ℕ) (given : Option Parts) : Type 0 wher
   pub not_ended : ¬ IsEnded seen actor
   pub room : length seen.history < seen.setting.room
 
--- Why a turn isn't made, in this order: what is given isn't the slice of the actor's work, which is this; no command is left;
--- or there is no room.
+-- Why a turn isn't made, in this order: the slice isn't that of the work, which is this; no command is left; or there is
+-- no room.
 abbrev pub Faults : Seen → ℕ → Option Parts → TurnFault → Type 0
-Faults seen actor given (Stale work) = IsWorkOf seen actor work × ¬ IsFresh seen actor given
+Faults seen actor given (Stale work) = IsWorkOf seen actor work × ¬ Matches seen.setting.program work given
 Faults seen actor given Ended = IsFresh seen actor given × IsEnded seen actor
 Faults seen actor given HistoryFull = IsFresh seen actor given × (¬ IsEnded seen actor) × (seen.setting.room ≤ length seen.history)
+
+-- this holds, if the fault is Stale
+abbrev pub IfStale : TurnFault → Type 0 → Type 0
+IfStale (Stale work) fact = fact
+IfStale Ended fact = ⊤
+IfStale HistoryFull fact = ⊤
 
 -- the event and the reply are those of the actor's next turn, and what it has to do next is its work after it
 pub record Answers (seen : Seen) (actor : ℕ) (answer : Answer) : Type 0 where

@@ -9,7 +9,7 @@ ghost use Rattle.lot_machine.specs.Report.{turns_made, turns_of};
 ghost use Rattle.lot_system.specs.Counted.{counted};
 ghost use Rattle.lot_system.specs.Listing.{given_count};
 ghost use Rattle.lot_system.specs.Seen.{after_turn, world_of};
-ghost use Rattle.lot_system.specs.Turns.{Answers, Faults, Goes, IsEnded, IsFresh, IsWorkOf};
+ghost use Rattle.lot_system.specs.Turns.{Answers, Faults, Goes, IfStale, IsEnded, IsFresh, IsWorkOf};
 
 use crate::TurnFault;
 use crate::contexts::{contexts_for, follow_command, follow_turn};
@@ -139,6 +139,7 @@ impl System {
         requires { actor ≤ self.old.setting.program.limits.processors }
         ensures ok { IfOk result (λ answer. Goes self.old actor slice.entry × (self.new ≡ after_turn self.old actor) × Answers self.old actor answer) }
         ensures err { IfErr result (λ fault. Faults self.old actor slice.entry fault × (self.new ≡ self.old)) }
+        ensures stale { IfErr result (λ fault. IfStale fault (¬ IsFresh self.old actor slice.entry)) }
         ensures legal { IsLegal self.new.setting.program self.new.setting.room self.new.history }
     {
         let work = self.work(actor);
