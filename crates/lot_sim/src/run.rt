@@ -1,13 +1,11 @@
 //! A free run: the turns of an input's program, made by workers.
-ghost use Rattle.std.specs.Prelude.{◌≡◌, ℕ, List, false, IfErr, IfOk};
+ghost use Rattle.std.specs.Prelude.{◌≡◌, ℕ, List, false, true, IfErr, IfOk, OnOk};
 ghost use Rattle.lot_machine.specs.Grammar.{program_in};
-ghost use Rattle.lot_machine.specs.Output.{end_text};
 ghost use Rattle.lot_system.specs.Reading.{HasRead};
-ghost use Rattle.lot_system.specs.Writing.{Writes};
 ghost use Rattle.lot_sim.specs.Running.{HasRun, Leaves, Runs};
 
 use lot_processors::{FreeRunFault, OpenGate, free_run};
-use lot_system::{PlayFault, Played, System, read_input, refuse, write_end};
+use lot_system::{PlayFault, Played, read_input, refuse, write_end};
 use lot_text::{ParseFault, Program, Watched, parse};
 use std::alloc::Global;
 use std::io::{Read, Write};
@@ -34,9 +32,10 @@ pub(crate) fn run<R: Read, W: Write, H: Threads + Wait + Sync>(
     reader: &mut Watched<R>,
     writer: &mut Watched<W>,
 ) -> Result<Played, RunStop>
-    requires { (reader.old.1 ≡ false) × (writer.old.1 ≡ false) }
-    ensures output { IfOk result (λ played. (bytes : List ℕ) × HasRead (R.remaining reader.old.0) (R.remaining reader.new.0) bytes × HasRun (program_in bytes) (W.contents writer.old.0) (W.contents writer.new.0) played) }
-    ensures fault { IfErr result (λ stop. Leaves (R.remaining reader.old.0) (R.remaining reader.new.0) (W.contents writer.old.0) (W.contents writer.new.0) stop) }
+    requires { (reader.old.failed ≡ false) × (writer.old.failed ≡ false) }
+    ensures flushed { OnOk result (writer.new.flushed ≡ true) }
+    ensures output { IfOk result (λ played. (bytes : List ℕ) × HasRead (R.remaining reader.old.inner) (R.remaining reader.new.inner) bytes × HasRun (program_in bytes) (W.contents writer.old.inner) (W.contents writer.new.inner) played) }
+    ensures fault { IfErr result (λ stop. Leaves (R.remaining reader.old.inner) (R.remaining reader.new.inner) (W.contents writer.old.inner) (W.contents writer.new.inner) stop) }
 {
     match read_input(alloc, reader) {
         Ok(bytes) => run_bytes(rt, alloc, &bytes, writer),
@@ -51,8 +50,9 @@ fn run_bytes<W: Write, H: Threads + Wait + Sync>(
     bytes: &[u8],
     writer: &mut Watched<W>,
 ) -> Result<Played, RunStop>
-    requires { writer.old.1 ≡ false }
-    ensures { Runs (program_in bytes.now) (W.contents writer.old.0) (W.contents writer.new.0) writer.new.1 result }
+    requires { writer.old.failed ≡ false }
+    ensures flushed { OnOk result (writer.new.flushed ≡ true) }
+    ensures run { Runs (program_in bytes.now) (W.contents writer.old.inner) (W.contents writer.new.inner) writer.new.failed result }
 {
     match parse(alloc, bytes) {
         Ok(program) => run_program(rt, alloc, &program, writer),
@@ -71,27 +71,16 @@ fn run_program<W: Write, H: Threads + Wait + Sync>(
     program: &Program,
     writer: &mut Watched<W>,
 ) -> Result<Played, RunStop>
-    requires { writer.old.1 ≡ false }
-    ensures { Runs (Ok program.now) (W.contents writer.old.0) (W.contents writer.new.0) writer.new.1 result }
+    requires { writer.old.failed ≡ false }
+    ensures flushed { OnOk result (writer.new.flushed ≡ true) }
+    ensures run { Runs (Ok program.now) (W.contents writer.old.inner) (W.contents writer.new.inner) writer.new.failed result }
 {
     let mut system = match free_run(rt, alloc, program, &OpenGate) {
         Ok(system) => system,
         Err(fault) => return Err(RunStop::Workers(fault)),
     };
-    match write_run(&mut system, writer) {
+    match write_end(&mut system, writer) {
         Ok(()) => Ok(Played::Done),
         Err(fault) => Err(RunStop::Play(fault)),
-    }
-}
-
-/// Writes the system's report and its history, and flushes.
-fn write_run<W: Write>(system: &mut System, writer: &mut Watched<W>) -> Result<(), PlayFault>
-    requires { writer.old.1 ≡ false }
-    ensures { Writes (W.contents writer.old.0) (W.contents writer.new.0) writer.new.1 result (end_text system.old.setting.program system.old.history) }
-{
-    write_end(system, writer)?;
-    match writer.flush() {
-        Ok(()) => Ok(()),
-        Err(_) => Err(PlayFault::Write),
     }
 }

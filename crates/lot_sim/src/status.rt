@@ -8,6 +8,7 @@ use lot_system::{Played, play};
 use lot_text::Watched;
 use std::alloc::Global;
 use std::convert::AsStr;
+use std::io;
 use std::io::{BufWriter, Read, Write};
 use std::sync::Wait;
 use std::thread::Threads;
@@ -21,17 +22,20 @@ const COMMAND_LINE: u8 = 2;
 /// Memory was refused, a read or a write failed, or workers stopped early.
 const FAILED: u8 = 3;
 
-/// Runs the program with these words, of which the first is its own name, and answers its exit status.
+/// Runs the program with these words, of which the first is its own name, and answers its exit status. Nothing more is
+/// written to an output after its first error.
 pub(crate) fn status<
     H: Threads + Wait + Sync,
     S: AsStr,
     R: Read + Drop,
     W: Write + Drop,
     E: Write + Drop,
->(rt: &H, alloc: Global, words: &[S], reader: R, output: W, mut errors: E) -> u8 {
+>(rt: &H, alloc: Global, words: &[S], reader: R, output: W, errors: E) -> u8 {
+    // A buffer tries a failed write again, when it is dropped too. What lies between it and the output lets none through.
+    let output = Watched::new(output);
     match request_of(alloc, words) {
         Ok(request) => request_status(rt, alloc, request, reader, output),
-        Err(error) => told(&error, output, &mut errors),
+        Err(error) => told(&error, output, Watched::new(errors)),
     }
 }
 
@@ -41,7 +45,7 @@ fn request_status<H: Threads + Wait + Sync, R: Read + Drop, W: Write + Drop>(
     alloc: Global,
     request: Request,
     reader: R,
-    output: W,
+    output: Watched<W>,
 ) -> u8 {
     let Ok(buffered) = BufWriter::new(alloc, output) else {
         return FAILED;
@@ -60,17 +64,27 @@ fn request_status<H: Threads + Wait + Sync, R: Read + Drop, W: Write + Drop>(
 }
 
 /// Writes the text of a refused command line to the errors, or the help that was asked for to the output.
-fn told<W: Write + Drop, E: Write>(error: &Error, mut output: W, errors: &mut E) -> u8 {
+fn told<W: Write + Drop, E: Write + Drop>(
+    error: &Error,
+    output: Watched<W>,
+    errors: Watched<E>,
+) -> u8 {
     if error.kind() == ErrorKind::OutOfMemory {
         return FAILED;
     }
     let (written, status) = if error.use_stderr() {
-        (write!(errors, "{error}"), COMMAND_LINE)
+        (write_text(error, errors), COMMAND_LINE)
     } else {
-        (write!(output, "{error}"), DONE)
+        (write_text(error, output), DONE)
     };
     match written {
         Ok(()) => status,
         Err(_) => FAILED,
     }
+}
+
+/// Writes the text, and flushes.
+fn write_text<W: Write + Drop>(text: &Error, mut to: Watched<W>) -> io::Result<()> {
+    write!(to, "{text}")?;
+    to.flush()
 }

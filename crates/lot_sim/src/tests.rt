@@ -1,3 +1,4 @@
+mod outputs;
 mod running;
 
 use crate::status::status;
@@ -343,6 +344,36 @@ processor 1 quanta 1 idle 2 ticks 10
 total turns 5 quanta 1 ticks 10
 ";
 
+/// A currency worth 256 units, which are one of base: a thread has 2 of them and the other 253, so that both show 0.
+const LESS_THAN_ONE: &str = "lottery 2
+script s
+compute 100
+endscript
+mkcur c
+mktkt 1 base
+fund 1 c
+fundx 10 c a s
+fundx 990 c b s
+lsthr
+schedule 0 0 0 0 0 0 1
+";
+
+const LESS_THAN_ONE_PLAYED: &str = "0 currency 1
+0 ticket 1
+0 done
+0 funded 2 1
+0 funded 3 2
+0 lsthr 2
+thread 1 a ready value 0 weight 0 quanta 0 ticks 0
+thread 2 b ready value 0 weight 0 quanta 0 ticks 0
+1 draw 54 of 255 thread 2
+report
+thread 1 a quanta 0 ticks 0
+thread 2 b quanta 1 ticks 0
+processor 1 quanta 1 idle 0 ticks 0
+total turns 7 quanta 1 ticks 0
+";
+
 #[test]
 fn played(rt: HostRuntime) {
     let rows = [
@@ -356,6 +387,7 @@ fn played(rt: HostRuntime) {
         (CALL_AND_REPLY, 0, CALL_AND_REPLY_PLAYED),
         (LOOP_IN_TWO, 0, LOOP_IN_TWO_PLAYED),
         (LOOP_IN_ONE, 0, LOOP_IN_ONE_PLAYED),
+        (LESS_THAN_ONE, 0, LESS_THAN_ONE_PLAYED),
     ];
     for (input, code, output) in rows {
         check_play(&rt, rt.alloc(), input, code, output);
@@ -512,10 +544,12 @@ fn failures(rt: HostRuntime) {
     assert!(rt; errors.is_empty());
 }
 
-/// A writer that keeps what it takes, and whose call of this number fails: with an error of this kind, or by taking nothing.
+/// A writer that keeps what it takes and whether all of that was flushed, and whose call of this number fails: with an error
+/// of this kind, or by taking nothing.
 #[derive(Drop)]
 struct FailingCall {
     written: Vec<u8>,
+    is_flushed: bool,
     calls: u32,
     fails_at: u32,
     kind: Option<ErrorKind>,
@@ -538,11 +572,14 @@ impl Write for FailingCall {
         if self.calls == self.fails_at {
             return Ok(0);
         }
+        self.is_flushed = false;
         self.written.write(buf)
     }
 
     fn flush(&mut self) -> io::Result<()> {
-        self.call()
+        self.call()?;
+        self.is_flushed = true;
+        Ok(())
     }
 }
 
@@ -557,6 +594,7 @@ fn writing_fails(
 ) -> bool {
     let mut writer = Watched::new(FailingCall {
         written: Vec::new(alloc),
+        is_flushed: false,
         calls: 0,
         fails_at,
         kind,
@@ -564,13 +602,18 @@ fn writing_fails(
     let mut reader = Watched::new(input.as_bytes());
     let ended = play(alloc, &mut reader, &mut writer);
     let has_failed = writer.failed();
-    let FailingCall { written, calls, .. } = writer.into_inner();
+    let FailingCall {
+        written,
+        calls,
+        is_flushed,
+        ..
+    } = writer.into_inner();
     let whole = output.as_bytes();
     if has_failed {
         assert_eq!(rt; (ended, calls), (Err(PlayFault::Write), fails_at));
         assert!(rt; whole.starts_with(written.as_slice()), "at call {fails_at}");
     } else {
-        assert_eq!(rt; ended, Ok(Played::Done));
+        assert_eq!(rt; (ended, is_flushed), (Ok(Played::Done), true));
         assert!(rt; whole == written.as_slice(), "at call {fails_at}");
     }
     has_failed

@@ -10,3 +10,4 @@ pub mod WritingFacts
 pub mod ListingFacts
 pub mod PlayingFacts
 pub mod ReadingFacts
+pub mod WorkFacts

@@ -27,6 +27,7 @@ use Rattle.lot_machine.specs.Step.{step, thread_there, used_there}
 use Rattle.lot_machine.specs.World.{Program, World, action_of, event_of_slice, generator_of, context_of, slice_on, processor_event, takes_number, handed, number_received, contexts_after, new_contexts, console_turn, processor_turn, sys, IsLegal}
 use Rattle.lot_machine.specs.World.Answer.{Answered}
 use Rattle.lot_machine.proofs.RecordsKept.{found-runs}
+use Rattle.lot_script.specs.Drafts.{IsScript}
 use Rattle.lot_script.specs.Places.{Place, context_at, first_place}
 use Rattle.lot_script.specs.Slices.{Parts, IsSlice}
 use Rattle.lot_system.specs.declared.turn.Work.{Work}
@@ -143,10 +144,23 @@ slice-names s p drawn given (Some trap) is = rw is (trap-names s p given.ticks (
 
 -- what a system answers for the thread on a processor is its work
 module _ (program : Program) (w : World) (s : State) (places : List Place) (seeds : List ℕ) (spent : ℕ) (held : IsHeld program w s places seeds spent) (p : ℕ) where
+  -- the thread's script is one of the program's
+  pub script-there : (t script : ℕ) → IsBetween 1 (length s.records) t → option_map (λ t. t.script) (at_number s.threads t) ≡ Some script → IsBetween 1 (length program.scripts) script
+  script-there t script between is =
+      let none : Thread = record { name = []; script = 0 } in
+      let start : Context = record { rest = []; accumulator = 0 } in
+      let count : IsBetween 1 (length s.threads) t = rw held.kept.records at between in
+      let numbered : at_number s.threads t ≡ Some (get_or s.threads (t - 1) none) = number-some s.threads t none count in
+      let at : IsAt program (get_or s.threads (t - 1) none) (get_or places (t - 1) first_place) (get_or w.contexts (t - 1) start) =
+      at-place program s.threads places w.contexts (t - 1) none first_place start held.places_at (omega (arith, count)) in
+      let same : Some (get_or s.threads (t - 1) none).script ≡ Some script = ap (option_map (λ (t : Thread). t.script)) (sym numbered) ∙ is in
+      let number : (get_or s.threads (t - 1) none).script ≡ script = cc in
+      rw (← number) at.script
+
   pub work-is : (work : Work) (used : ℕ) → thread_on s.records p ≡ Some work.thread → used_by s.records p work.thread ≡ Some used → IsBetween 1 (length s.records) work.thread → used < s.limits.quantum
       → s.limits.quantum ≤ 1000 → option_map (λ t. t.script) (at_number s.threads work.thread) ≡ Some work.script → (d : Place) → work.context ≡ get_or places (work.thread - 1) d → work.budget ≡ s.limits.quantum - used
-      → IsWork program w p work
-  work-is work used runs there between below most script d context budget =
+      → IsScript (script_lines program work.script) → IsWork program w p work
+  work-is work used runs there between below most script d context budget legal =
       let none : Thread = record { name = []; script = 0 } in
       let start : Context = record { rest = []; accumulator = 0 } in
       let count : IsBetween 1 (length s.threads) work.thread = rw held.kept.records at between in
@@ -163,6 +177,7 @@ module _ (program : Program) (w : World) (s : State) (places : List Place) (seed
         runs = ap (λ (x : State). thread_on x.records p) (sym held.state) ∙ runs;
         script = ap (λ (x : State). option_map (λ (t : Thread). t.script) (at_number x.threads work.thread)) (sym held.state) ∙ script;
         there = rw (← number) here.script;
+        legal = legal;
         fits = rw (← number) here.fits;
         means = rw (← number) here.means;
         budget = left;

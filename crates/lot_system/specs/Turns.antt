@@ -6,6 +6,7 @@ use Rattle.lot_machine.specs.State.{thread_on}
 use Rattle.lot_machine.specs.Step.{used_there}
 use Rattle.lot_machine.specs.World.{Program, World, context_of, sys}
 use Rattle.lot_machine.specs.World.Answer.{Answered}
+use Rattle.lot_script.specs.Drafts.{IsScript}
 use Rattle.lot_script.specs.Places.{Fits, context_at}
 use Rattle.lot_script.specs.Slices.{Parts}
 use Rattle.lot_system.specs.declared.turn.Work.{Work}
@@ -18,11 +19,12 @@ use Rattle.lot_system.specs.Held.{script_lines}
 -- ---- what an actor has to do
 
 -- The thread that runs on the processor in this world, its script's number, where it is there, and what is left of its
--- quantum.
+-- quantum. Its script is one that was built.
 pub record IsWork (program : Program) (w : World) (p : ℕ) (work : Work) : Type 0 where
   pub runs : thread_on w.state.records p ≡ Some work.thread
   pub script : option_map (λ t. t.script) (at_number w.state.threads work.thread) ≡ Some work.script
   pub there : IsBetween 1 (length program.scripts) work.script
+  pub legal : IsScript (script_lines program work.script)
   pub fits : Fits (script_lines program work.script) work.context
   pub means : context_at (script_lines program work.script) work.context ≡ context_of w work.thread
   pub budget : work.budget ≡ w.state.limits.quantum - used_there w.state p
@@ -73,6 +75,12 @@ abbrev pub Faults : Seen → ℕ → Option Parts → TurnFault → Type 0
 Faults seen actor given (Stale work) = IsWorkOf seen actor work × ¬ Matches seen.setting.program work given
 Faults seen actor given Ended = IsFresh seen actor given × IsEnded seen actor
 Faults seen actor given HistoryFull = IsFresh seen actor given × (¬ IsEnded seen actor) × (seen.setting.room ≤ length seen.history)
+
+-- this holds, if the fault is Stale
+abbrev pub IfStale : TurnFault → Type 0 → Type 0
+IfStale (Stale work) fact = fact
+IfStale Ended fact = ⊤
+IfStale HistoryFull fact = ⊤
 
 -- the event and the reply are those of the actor's next turn, and what it has to do next is its work after it
 pub record Answers (seen : Seen) (actor : ℕ) (answer : Answer) : Type 0 where

@@ -16,10 +16,10 @@ const PIECE: usize = 65536;
 
 /// Reads to the end of the input, or to its byte 16777217, and leaves the rest unread.
 pub fn read_input<R: Read>(alloc: Global, reader: &mut Watched<R>) -> Result<Vec<u8>, PlayFault>
-    requires { reader.old.1 ≡ false }
-    ensures read { IfOk result (λ bytes. HasRead (R.remaining reader.old.0) (R.remaining reader.new.0) bytes.items) }
-    ensures ok { OnOk result (reader.new.1 ≡ false) }
-    ensures err { IfErr result (λ fault. IsReadFault fault reader.new.1) }
+    requires { reader.old.failed ≡ false }
+    ensures read { IfOk result (λ bytes. HasRead (R.remaining reader.old.inner) (R.remaining reader.new.inner) bytes.items) }
+    ensures ok { OnOk result (reader.new.failed ≡ false) }
+    ensures err { IfErr result (λ fault. IsReadFault fault reader.new.failed) }
 {
     let mut bytes = Vec::new(alloc);
     let Ok(mut piece) = vec![in alloc; 0u8; PIECE] else {
@@ -43,12 +43,12 @@ fn read_piece<R: Read>(
     room: &mut [u8],
     bytes: &mut Vec<u8>,
 ) -> Result<usize, PlayFault>
-    requires working { reader.old.1 ≡ false }
+    requires working { reader.old.failed ≡ false }
     requires some { 0 < length room.old }
     ensures most { IfOk result (λ count. count ≤ length room.old) }
-    ensures read { IfOk result (λ count. HasTaken (R.remaining reader.old.0) (R.remaining reader.new.0) bytes.old.items bytes.new.items count) }
-    ensures ok { OnOk result (reader.new.1 ≡ false) }
-    ensures err { IfErr result (λ fault. IsReadFault fault reader.new.1) }
+    ensures read { IfOk result (λ count. HasTaken (R.remaining reader.old.inner) (R.remaining reader.new.inner) bytes.old.items bytes.new.items count) }
+    ensures ok { OnOk result (reader.new.failed ≡ false) }
+    ensures err { IfErr result (λ fault. IsReadFault fault reader.new.failed) }
 {
     let Ok(read) = reader.read(room) else {
         return Err(PlayFault::Read);

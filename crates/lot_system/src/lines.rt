@@ -24,8 +24,8 @@ pub(crate) fn write_turn<W: Write>(
     event: &Event,
     reply: Reply,
 ) -> Result<(), PlayFault>
-    requires { writer.old.1 ≡ false }
-    ensures { Writes (W.contents writer.old.0) (W.contents writer.new.0) writer.new.1 result (decimal actor ++ (codes " " ++ plain_text event.now reply)) }
+    requires { writer.old.failed ≡ false }
+    ensures { Writes (W.contents writer.old.inner) (W.contents writer.new.inner) writer.new.failed result (decimal actor ++ (codes " " ++ plain_text event.now reply)) }
 {
     let who = number(actor);
     match reply {
@@ -109,8 +109,8 @@ fn write_winner<W: Write>(
     drawn: (u128, u128),
     delivered: Option<u32>,
 ) -> Result<(), PlayFault>
-    requires { writer.old.1 ≡ false }
-    ensures { Writes (W.contents writer.old.0) (W.contents writer.new.0) writer.new.1 result (piece_text who.entry ++ (codes " " ++ (codes "draw " ++ (decimal drawn.0 ++ (codes " of " ++ (decimal drawn.1 ++ (codes " thread " ++ (decimal thread ++ (texts.delivered_text delivered ++ newline))))))))) }
+    requires { writer.old.failed ≡ false }
+    ensures { Writes (W.contents writer.old.inner) (W.contents writer.new.inner) writer.new.failed result (piece_text who.entry ++ (codes " " ++ (codes "draw " ++ (decimal drawn.0 ++ (codes " of " ++ (decimal drawn.1 ++ (codes " thread " ++ (decimal thread ++ (texts.delivered_text delivered ++ newline))))))))) }
 {
     let (place, total) = drawn;
     match delivered {
@@ -147,8 +147,8 @@ fn write_winner<W: Write>(
 
 /// Writes the line of a turn of the console without a command.
 pub(crate) fn write_ended<W: Write>(writer: &mut Watched<W>, actor: u32) -> Result<(), PlayFault>
-    requires { writer.old.1 ≡ false }
-    ensures { Writes (W.contents writer.old.0) (W.contents writer.new.0) writer.new.1 result (decimal actor ++ (codes " " ++ (refused 41 (codes "Ended") ++ newline))) }
+    requires { writer.old.failed ≡ false }
+    ensures { Writes (W.contents writer.old.inner) (W.contents writer.new.inner) writer.new.failed result (decimal actor ++ (codes " " ++ (refused 41 (codes "Ended") ++ newline))) }
 {
     write_pieces(
         writer,
@@ -166,8 +166,8 @@ pub(crate) fn write_fault<W: Write>(
     writer: &mut Watched<W>,
     fault: InputFault,
 ) -> Result<(), PlayFault>
-    requires { writer.old.1 ≡ false }
-    ensures { Writes (W.contents writer.old.0) (W.contents writer.new.0) writer.new.1 result (texts.fault_line fault) }
+    requires { writer.old.failed ≡ false }
+    ensures { Writes (W.contents writer.old.inner) (W.contents writer.new.inner) writer.new.failed result (texts.fault_line fault) }
 {
     let code = input_refusal_code(fault.refusal);
     let name = input_refusal_name(fault.refusal);

@@ -24,9 +24,9 @@ pub(crate) fn write_listing<W: Write>(
     kind: Kind,
     writer: &mut Watched<W>,
 ) -> Result<(), PlayFault>
-    requires { writer.old.1 ≡ false }
+    requires { writer.old.failed ≡ false }
     ensures same { system.new ≡ system.old }
-    ensures text { Writes (W.contents writer.old.0) (W.contents writer.new.0) writer.new.1 result (decimal actor ++ (codes " " ++ texts.listing_text (world_of system.old).state kind)) }
+    ensures text { Writes (W.contents writer.old.inner) (W.contents writer.new.inner) writer.new.failed result (decimal actor ++ (codes " " ++ texts.listing_text (world_of system.old).state kind)) }
 {
     let rows = count_rows(system, kind);
     write_pieces(
@@ -96,9 +96,9 @@ fn write_rows<W: Write>(
     kind: Kind,
     writer: &mut Watched<W>,
 ) -> Result<(), PlayFault>
-    requires { writer.old.1 ≡ false }
+    requires { writer.old.failed ≡ false }
     ensures same { system.new ≡ system.old }
-    ensures text { Writes (W.contents writer.old.0) (W.contents writer.new.0) writer.new.1 result (flat_map (row_line (world_of system.old).state kind) (range_with_len (listing.first_number kind) (given_count (world_of system.old).state kind))) }
+    ensures text { Writes (W.contents writer.old.inner) (W.contents writer.new.inner) writer.new.failed result (flat_map (row_line (world_of system.old).state kind) (range_with_len (listing.first_number kind) (given_count (world_of system.old).state kind))) }
 {
     let first = first_number(kind);
     for place in 0..system.given_count(kind) {
@@ -114,9 +114,9 @@ fn write_row<W: Write>(
     number: u32,
     writer: &mut Watched<W>,
 ) -> Result<(), PlayFault>
-    requires { writer.old.1 ≡ false }
+    requires { writer.old.failed ≡ false }
     ensures same { system.new ≡ system.old }
-    ensures text { Writes (W.contents writer.old.0) (W.contents writer.new.0) writer.new.1 result (row_line (world_of system.old).state kind number) }
+    ensures text { Writes (W.contents writer.old.inner) (W.contents writer.new.inner) writer.new.failed result (row_line (world_of system.old).state kind number) }
 {
     match kind {
         Kind::Tickets => write_ticket(system, number, writer),
@@ -130,9 +130,9 @@ fn write_ticket<W: Write>(
     number: u32,
     writer: &mut Watched<W>,
 ) -> Result<(), PlayFault>
-    requires { writer.old.1 ≡ false }
+    requires { writer.old.failed ≡ false }
     ensures same { system.new ≡ system.old }
-    ensures text { Writes (W.contents writer.old.0) (W.contents writer.new.0) writer.new.1 result (option_map_or (texts.ticket_line (world_of system.old).state.limits.unit number) (rows.ticket_row (world_of system.old).state number) []) }
+    ensures text { Writes (W.contents writer.old.inner) (W.contents writer.new.inner) writer.new.failed result (option_map_or (texts.ticket_line (world_of system.old).state.limits.unit number) (rows.ticket_row (world_of system.old).state number) []) }
 {
     let unit = u64::from(system.limits().unit);
     match system.ticket_row(number) {
@@ -180,9 +180,9 @@ fn write_currency<W: Write>(
     number: u32,
     writer: &mut Watched<W>,
 ) -> Result<(), PlayFault>
-    requires { writer.old.1 ≡ false }
+    requires { writer.old.failed ≡ false }
     ensures same { system.new ≡ system.old }
-    ensures text { Writes (W.contents writer.old.0) (W.contents writer.new.0) writer.new.1 result (option_map_or (texts.currency_line (world_of system.old).state.limits.unit number) (rows.currency_row (world_of system.old).state number) []) }
+    ensures text { Writes (W.contents writer.old.inner) (W.contents writer.new.inner) writer.new.failed result (option_map_or (texts.currency_line (world_of system.old).state.limits.unit number) (rows.currency_row (world_of system.old).state number) []) }
 {
     // Base is shown as worth its active amount.
     let unit = if number == 0 {
@@ -218,9 +218,9 @@ fn write_thread<W: Write>(
     number: u32,
     writer: &mut Watched<W>,
 ) -> Result<(), PlayFault>
-    requires { writer.old.1 ≡ false }
+    requires { writer.old.failed ≡ false }
     ensures same { system.new ≡ system.old }
-    ensures text { Writes (W.contents writer.old.0) (W.contents writer.new.0) writer.new.1 result (option_map_or (texts.thread_line (world_of system.old).state.limits.unit number) (rows.thread_row (world_of system.old).state number) []) }
+    ensures text { Writes (W.contents writer.old.inner) (W.contents writer.new.inner) writer.new.failed result (option_map_or (texts.thread_line (world_of system.old).state.limits.unit number) (rows.thread_row (world_of system.old).state number) []) }
 {
     let unit = system.limits().unit;
     match system.thread_row(number) {

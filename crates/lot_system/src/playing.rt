@@ -1,5 +1,5 @@
 //! Playing a schedule.
-ghost use Rattle.std.specs.Prelude.{◌≡◌, ℕ, ◌<◌, ◌≤◌, List, ◌++◌, [], codes, false, length, IfErr, IfOk, OnOk};
+ghost use Rattle.std.specs.Prelude.{◌≡◌, ℕ, ◌<◌, ◌≤◌, List, ◌++◌, codes, false, true, length, IfErr, IfOk, OnOk};
 ghost use Rattle.std.specs.Fmt.{decimal};
 ghost use Rattle.std.specs.Io.KnownBytes.{Appends};
 ghost use Rattle.lot_machine.specs.Bounds.{IsBetween};
@@ -14,15 +14,17 @@ ghost use Rattle.lot_system.specs.Played.{Leaves, Plays, came_of};
 ghost use Rattle.lot_system.specs.declared.playing.Played.TheVariants.{Done, Refused};
 ghost use Rattle.lot_system.specs.Reading.{HasRead};
 ghost use Rattle.lot_system.specs.Seen.{world_of};
-ghost use Rattle.lot_system.specs.Turns.{IsSliceOf};
+ghost use Rattle.lot_system.specs.Turns.{IsFresh};
 ghost use Rattle.lot_system.specs.Writing.{IsFaultOf, Writes};
 
 use crate::lines::{write_ended, write_fault, write_turn};
 use crate::listing::write_listing;
 use crate::report::write_report;
 use crate::slices::slice_of;
-use crate::{PlayFault, System, read_input};
+use crate::writing::flush;
+use crate::{PlayFault, System, TurnFault, read_input};
 use lot_machine::{Event, InputFault, Reply};
+use lot_script::Slice;
 use lot_text::{ParseFault, Program, Watched, parse};
 use std::alloc::Global;
 use std::io::{Read, Write};
@@ -43,11 +45,12 @@ pub fn play<R: Read, W: Write>(
     reader: &mut Watched<R>,
     writer: &mut Watched<W>,
 ) -> Result<Played, PlayFault>
-    requires { (reader.old.1 ≡ false) × (writer.old.1 ≡ false) }
-    ensures ok { OnOk result ((reader.new.1 ≡ false) × (writer.new.1 ≡ false)) }
-    ensures err { IfErr result (λ fault. IsFaultOf fault reader.new.1 writer.new.1) }
-    ensures output { IfOk result (λ played. (bytes : List ℕ) × HasRead (R.remaining reader.old.0) (R.remaining reader.new.0) bytes × (played ≡ came_of (program_in bytes)) × Appends (W.contents writer.old.0) (W.contents writer.new.0) (output bytes)) }
-    ensures fault { IfErr result (λ fault. Leaves (R.remaining reader.old.0) (R.remaining reader.new.0) (W.contents writer.old.0) (W.contents writer.new.0) fault) }
+    requires { (reader.old.failed ≡ false) × (writer.old.failed ≡ false) }
+    ensures ok { OnOk result ((reader.new.failed ≡ false) × (writer.new.failed ≡ false)) }
+    ensures flushed { OnOk result (writer.new.flushed ≡ true) }
+    ensures err { IfErr result (λ fault. IsFaultOf fault reader.new.failed writer.new.failed) }
+    ensures output { IfOk result (λ played. (bytes : List ℕ) × HasRead (R.remaining reader.old.inner) (R.remaining reader.new.inner) bytes × (played ≡ came_of (program_in bytes)) × Appends (W.contents writer.old.inner) (W.contents writer.new.inner) (output bytes)) }
+    ensures fault { IfErr result (λ fault. Leaves (R.remaining reader.old.inner) (R.remaining reader.new.inner) (W.contents writer.old.inner) (W.contents writer.new.inner) fault) }
 {
     let bytes = read_input(alloc, reader)?;
     play_bytes(alloc, &bytes, writer)
@@ -59,8 +62,9 @@ fn play_bytes<W: Write>(
     bytes: &[u8],
     writer: &mut Watched<W>,
 ) -> Result<Played, PlayFault>
-    requires { writer.old.1 ≡ false }
-    ensures { Plays (W.contents writer.old.0) (W.contents writer.new.0) writer.new.1 result (came_of (program_in bytes.now)) (output bytes.now) }
+    requires { writer.old.failed ≡ false }
+    ensures flushed { OnOk result (writer.new.flushed ≡ true) }
+    ensures played { Plays (W.contents writer.old.inner) (W.contents writer.new.inner) writer.new.failed result (came_of (program_in bytes.now)) (output bytes.now) }
 {
     match parse(alloc, bytes) {
         Ok(program) => play_program(alloc, &program, writer),
@@ -71,8 +75,9 @@ fn play_bytes<W: Write>(
 
 /// Writes the one line of a refused input, as `play` does.
 pub fn refuse<W: Write>(fault: InputFault, writer: &mut Watched<W>) -> Result<Played, PlayFault>
-    requires { writer.old.1 ≡ false }
-    ensures { Plays (W.contents writer.old.0) (W.contents writer.new.0) writer.new.1 result Refused (fault_line fault) }
+    requires { writer.old.failed ≡ false }
+    ensures flushed { OnOk result (writer.new.flushed ≡ true) }
+    ensures played { Plays (W.contents writer.old.inner) (W.contents writer.new.inner) writer.new.failed result Refused (fault_line fault) }
 {
     write_fault(writer, fault)?;
     flush(writer)?;
@@ -85,8 +90,9 @@ fn play_program<W: Write>(
     program: &Program,
     writer: &mut Watched<W>,
 ) -> Result<Played, PlayFault>
-    requires { writer.old.1 ≡ false }
-    ensures { Plays (W.contents writer.old.0) (W.contents writer.new.0) writer.new.1 result Done (scheduled_output program.now) }
+    requires { writer.old.failed ≡ false }
+    ensures flushed { OnOk result (writer.new.flushed ≡ true) }
+    ensures played { Plays (W.contents writer.old.inner) (W.contents writer.new.inner) writer.new.failed result Done (scheduled_output program.now) }
 {
     let room = program.schedule().len() as u32;
     let Ok(mut system) = System::open(alloc, program, room) else {
@@ -96,17 +102,6 @@ fn play_program<W: Write>(
     Ok(Played::Done)
 }
 
-/// Flushes the writer.
-fn flush<W: Write>(writer: &mut Watched<W>) -> Result<(), PlayFault>
-    requires { writer.old.1 ≡ false }
-    ensures { Writes (W.contents writer.old.0) (W.contents writer.new.0) writer.new.1 result [] }
-{
-    match writer.flush() {
-        Ok(()) => Ok(()),
-        Err(_) => Err(PlayFault::Write),
-    }
-}
-
 /// Makes the turns of the program's schedule, and writes what they answer and the report.
 fn play_schedule<W: Write>(
     program: &Program,
@@ -114,8 +109,9 @@ fn play_schedule<W: Write>(
     writer: &mut Watched<W>,
 ) -> Result<(), PlayFault>
     requires opened { IsOpened program.now system.old }
-    requires working { writer.old.1 ≡ false }
-    ensures { Writes (W.contents writer.old.0) (W.contents writer.new.0) writer.new.1 result (scheduled_output program.now) }
+    requires working { writer.old.failed ≡ false }
+    ensures flushed { OnOk result (writer.new.flushed ≡ true) }
+    ensures text { Writes (W.contents writer.old.inner) (W.contents writer.new.inner) writer.new.failed result (scheduled_output program.now) }
 {
     play_turns(program, system, writer)?;
     write_report(system, writer)?;
@@ -129,9 +125,9 @@ fn play_turns<W: Write>(
     writer: &mut Watched<W>,
 ) -> Result<(), PlayFault>
     requires opened { IsOpened program.now system.old }
-    requires working { writer.old.1 ≡ false }
+    requires working { writer.old.failed ≡ false }
     ensures played { OnOk result (HasPlayed program.now program.now.schedule system.new) }
-    ensures text { Writes (W.contents writer.old.0) (W.contents writer.new.0) writer.new.1 result (turn_texts program.now (opening_world program.now) program.now.schedule) }
+    ensures text { Writes (W.contents writer.old.inner) (W.contents writer.new.inner) writer.new.failed result (turn_texts program.now (opening_world program.now) program.now.schedule) }
 {
     for actor in program.schedule() {
         play_turn(program, system, u32::from(*actor), writer)?;
@@ -149,19 +145,28 @@ fn play_turn<W: Write>(
     requires there { actor ≤ system.old.setting.program.limits.processors }
     requires program { system.old.setting.program ≡ program.now }
     requires room { length system.old.history < system.old.setting.room }
-    requires working { writer.old.1 ≡ false }
+    requires working { writer.old.failed ≡ false }
     ensures played { IsPlayed system.old actor system.new }
-    ensures text { Writes (W.contents writer.old.0) (W.contents writer.new.0) writer.new.1 result (turn_text actor (turn_in system.old actor)) }
+    ensures text { Writes (W.contents writer.old.inner) (W.contents writer.new.inner) writer.new.failed result (turn_text actor (turn_in system.old actor)) }
 {
-    if system.is_ended(actor) {
-        return write_ended(writer, actor);
+    let slice = slice_in(system, program, actor);
+    match system.turn(actor, slice) {
+        Ok(answer) => write_answer(system, actor, &answer.event, answer.reply, writer),
+        Err(TurnFault::Ended) => write_ended(writer, actor),
+        Err(TurnFault::Stale(_)) => unreachable!(),
+        Err(TurnFault::HistoryFull) => unreachable!(),
     }
-    let slice = match system.work(actor) {
+}
+
+/// The slice of the actor's work, if it has any.
+fn slice_in<'a>(system: &System, program: &'a Program, actor: u32) -> Option<Slice<'a>>
+    requires { system.now.setting.program ≡ program.now }
+    ensures { IsFresh system.now actor result }
+{
+    match system.work(actor) {
         Some(work) => Some(slice_of(program, work)),
         None => None,
-    };
-    let (event, reply) = system.made(actor, &slice);
-    write_answer(system, actor, &event, reply, writer)
+    }
 }
 
 /// Writes what a turn answered: a line, or the listing that was asked for.
@@ -172,9 +177,9 @@ fn write_answer<W: Write>(
     reply: Reply,
     writer: &mut Watched<W>,
 ) -> Result<(), PlayFault>
-    requires { writer.old.1 ≡ false }
+    requires { writer.old.failed ≡ false }
     ensures same { system.new ≡ system.old }
-    ensures text { Writes (W.contents writer.old.0) (W.contents writer.new.0) writer.new.1 result (decimal actor ++ (codes " " ++ reply_text (world_of system.old).state event.now reply)) }
+    ensures text { Writes (W.contents writer.old.inner) (W.contents writer.new.inner) writer.new.failed result (decimal actor ++ (codes " " ++ reply_text (world_of system.old).state event.now reply)) }
 {
     match reply {
         Reply::List(kind) => write_listing(system, actor, kind, writer),

@@ -17,9 +17,9 @@ use std::io::Write;
 
 /// Writes each thread's line.
 fn write_threads<W: Write>(system: &mut System, writer: &mut Watched<W>) -> Result<(), PlayFault>
-    requires { writer.old.1 ≡ false }
+    requires { writer.old.failed ≡ false }
     ensures same { system.new ≡ system.old }
-    ensures text { Writes (W.contents writer.old.0) (W.contents writer.new.0) writer.new.1 result (lines_for reports.thread_total (thread_row (world_of system.old).state) (numbers (world_of system.old).state.records)) }
+    ensures text { Writes (W.contents writer.old.inner) (W.contents writer.new.inner) writer.new.failed result (lines_for reports.thread_total (thread_row (world_of system.old).state) (numbers (world_of system.old).state.records)) }
 {
     for place in 0..system.thread_count() {
         write_thread(system, place + 1, writer)?;
@@ -33,9 +33,9 @@ fn write_thread<W: Write>(
     number: u32,
     writer: &mut Watched<W>,
 ) -> Result<(), PlayFault>
-    requires { writer.old.1 ≡ false }
+    requires { writer.old.failed ≡ false }
     ensures same { system.new ≡ system.old }
-    ensures text { Writes (W.contents writer.old.0) (W.contents writer.new.0) writer.new.1 result (option_map_or (reports.thread_total number) (thread_row (world_of system.old).state number) []) }
+    ensures text { Writes (W.contents writer.old.inner) (W.contents writer.new.inner) writer.new.failed result (option_map_or (reports.thread_total number) (thread_row (world_of system.old).state number) []) }
 {
     match system.thread_row(number) {
         Some(row) => write_pieces(
@@ -58,8 +58,8 @@ fn write_thread<W: Write>(
 
 /// Writes each processor's line.
 fn write_processors<W: Write>(system: &System, writer: &mut Watched<W>) -> Result<(), PlayFault>
-    requires { writer.old.1 ≡ false }
-    ensures { Writes (W.contents writer.old.0) (W.contents writer.new.0) writer.new.1 result (flat_map (reports.processor_total (turns_made system.now.setting.program system.now.history)) (range_with_len 1 (world_of system.now).state.limits.processors)) }
+    requires { writer.old.failed ≡ false }
+    ensures { Writes (W.contents writer.old.inner) (W.contents writer.new.inner) writer.new.failed result (flat_map (reports.processor_total (turns_made system.now.setting.program system.now.history)) (range_with_len 1 (world_of system.now).state.limits.processors)) }
 {
     for place in 0..system.processors() {
         write_processor(system, place + 1, writer)?;
@@ -73,9 +73,9 @@ fn write_processor<W: Write>(
     processor: u32,
     writer: &mut Watched<W>,
 ) -> Result<(), PlayFault>
-    requires working { writer.old.1 ≡ false }
+    requires working { writer.old.failed ≡ false }
     requires there { processor ≤ system.now.setting.program.limits.processors }
-    ensures { Writes (W.contents writer.old.0) (W.contents writer.new.0) writer.new.1 result (reports.processor_total (turns_made system.now.setting.program system.now.history) processor) }
+    ensures { Writes (W.contents writer.old.inner) (W.contents writer.new.inner) writer.new.failed result (reports.processor_total (turns_made system.now.setting.program system.now.history) processor) }
 {
     let counts = system.counts(processor);
     write_pieces(
@@ -96,8 +96,8 @@ fn write_processor<W: Write>(
 
 /// Writes the totals of all actors.
 fn write_total<W: Write>(system: &System, writer: &mut Watched<W>) -> Result<(), PlayFault>
-    requires { writer.old.1 ≡ false }
-    ensures { Writes (W.contents writer.old.0) (W.contents writer.new.0) writer.new.1 result (reports.whole_total (length (world_of system.now).history) (turns_made system.now.setting.program system.now.history)) }
+    requires { writer.old.failed ≡ false }
+    ensures { Writes (W.contents writer.old.inner) (W.contents writer.new.inner) writer.new.failed result (reports.whole_total (length (world_of system.now).history) (turns_made system.now.setting.program system.now.history)) }
 {
     let total = system.total();
     write_pieces(
@@ -119,9 +119,9 @@ pub(crate) fn write_report<W: Write>(
     system: &mut System,
     writer: &mut Watched<W>,
 ) -> Result<(), PlayFault>
-    requires { writer.old.1 ≡ false }
+    requires { writer.old.failed ≡ false }
     ensures same { system.new ≡ system.old }
-    ensures text { Writes (W.contents writer.old.0) (W.contents writer.new.0) writer.new.1 result (reports.report system.old.setting.program system.old.history) }
+    ensures text { Writes (W.contents writer.old.inner) (W.contents writer.new.inner) writer.new.failed result (reports.report system.old.setting.program system.old.history) }
 {
     write_pieces(writer, &[Piece::Text("report\n")])?;
     write_threads(system, writer)?;

@@ -1,6 +1,7 @@
 //! The slice of a work.
 ghost use Rattle.std.specs.Prelude.{◌≡◌, ◌↔◌, length, IfErr, IfOk, IsTrue};
 ghost use Rattle.lot_machine.specs.Bounds.{IsBetween};
+ghost use Rattle.lot_script.specs.Drafts.{IsScript};
 ghost use Rattle.lot_script.specs.Places.{Fits};
 ghost use Rattle.lot_system.specs.Held.{script_lines};
 ghost use Rattle.lot_system.specs.Turns.{IsSliceOf, Matches};
@@ -52,7 +53,10 @@ fn has_script(program: &Program, number: u32) -> bool
 /// The script with this number.
 pub(crate) fn script_numbered(program: &Program, number: u32) -> &Script
     requires { IsBetween 1 (length program.now.scripts) number }
-    ensures { result.now ≡ script_lines program.now number }
+    ensures lines { result.now ≡ script_lines program.now number }
+    ensures legal { IsScript result.now }
 {
-    &program.scripts()[number as usize - 1]
+    let script = &program.scripts()[number as usize - 1];
+    let _lines = script.lines();
+    script
 }

@@ -1,5 +1,5 @@
 //! The system.
-ghost use Rattle.std.specs.Prelude.{◌≡◌, ◌↔◌, ◌<◌, ◌≤◌, ◌^◌, [], All, IfOk, IfErr, IsTrue, length};
+ghost use Rattle.std.specs.Prelude.{◌≡◌, ◌↔◌, ◌<◌, ◌≤◌, ◌^◌, [], ◌∷◌, ◌++◌, All, IfOk, IfErr, IsTrue, length, vec_len, vec_capacity};
 ghost use Rattle.lot_machine.specs.Bounds.{IsBetween};
 ghost use Rattle.lot_machine.specs.Rows as rows;
 ghost use Rattle.lot_machine.specs.State.{sizes_of};
@@ -9,12 +9,13 @@ ghost use Rattle.lot_machine.specs.Report.{turns_made, turns_of};
 ghost use Rattle.lot_system.specs.Counted.{counted};
 ghost use Rattle.lot_system.specs.Listing.{given_count};
 ghost use Rattle.lot_system.specs.Seen.{after_turn, world_of};
-ghost use Rattle.lot_system.specs.Turns.{Answers, Faults, Goes, IsEnded, IsFresh, IsWorkOf};
+ghost use Rattle.lot_system.specs.Turns.{Answers, Faults, Goes, IfStale, IsEnded, IsFresh, IsWorkOf};
 
 use crate::TurnFault;
 use crate::contexts::{contexts_for, follow_command, follow_turn};
 use crate::counts::{Counts, count_turn, no_counts};
 use crate::generators::{generators_of, next_number, pass_number};
+use crate::slices::script_numbered;
 use crate::turn::{Answer, Work, event_of, matches_work};
 use lot_draw::ParkMiller;
 use lot_kernel::Kernel;
@@ -123,6 +124,7 @@ impl System {
         }
         let runner = self.kernel.runner(actor)?;
         let script = self.kernel.script_of(runner.thread).unwrap();
+        let _lines = script_numbered(&self.program, script);
         Some(Work {
             thread: runner.thread,
             script,
@@ -137,6 +139,7 @@ impl System {
         requires { actor ≤ self.old.setting.program.limits.processors }
         ensures ok { IfOk result (λ answer. Goes self.old actor slice.entry × (self.new ≡ after_turn self.old actor) × Answers self.old actor answer) }
         ensures err { IfErr result (λ fault. Faults self.old actor slice.entry fault × (self.new ≡ self.old)) }
+        ensures stale { IfErr result (λ fault. IfStale fault (¬ IsFresh self.old actor slice.entry)) }
         ensures legal { IsLegal self.new.setting.program self.new.setting.room self.new.history }
     {
         let work = self.work(actor);
@@ -158,7 +161,7 @@ impl System {
     }
 
     /// Whether the actor is the console, and no command is left.
-    pub(crate) fn is_ended(&self, actor: u32) -> bool
+    fn is_ended(&self, actor: u32) -> bool
         ensures { IsTrue result ↔ IsEnded self.now actor }
     {
         actor == 0 && self.spent >= self.program.commands().len()
@@ -172,7 +175,7 @@ impl System {
     }
 
     /// A turn that goes: what it was, and what the kernel replied.
-    pub(crate) fn made(&mut self, actor: u32, slice: &Option<Slice>) -> (Event, Reply)
+    fn made(&mut self, actor: u32, slice: &Option<Slice>) -> (Event, Reply)
         requires actor { actor ≤ self.old.setting.program.limits.processors }
         requires goes { Goes self.old actor slice.now }
         ensures seen { self.new ≡ after_turn self.old actor }
@@ -198,7 +201,7 @@ impl System {
         follow_command(&mut self.contexts, &self.program, &self.kernel, reply);
         count_turn(&mut self.counts, 0, reply);
         self.total = self.total.with_turn(reply);
-        self.history.push_reserved(0);
+        remember(&mut self.history, 0);
         (event, reply)
     }
 
@@ -216,7 +219,7 @@ impl System {
         follow_turn(&mut self.contexts, slice, reply);
         count_turn(&mut self.counts, actor, reply);
         self.total = self.total.with_turn(reply);
-        self.history.push_reserved(actor as u8);
+        remember(&mut self.history, actor);
         (event, reply)
     }
 
@@ -297,4 +300,14 @@ impl System {
     {
         self.total
     }
+}
+
+/// Puts the actor behind the history, which has room for it.
+fn remember(history: &mut Vec<u8>, actor: u32)
+    requires small { actor < 256 }
+    requires room { vec_len history.old < vec_capacity history.old }
+    ensures items { history.new.items ≡ history.old.items ++ actor ∷ [] }
+    ensures capacity { vec_capacity history.new ≡ vec_capacity history.old }
+{
+    history.push_reserved(actor as u8);
 }

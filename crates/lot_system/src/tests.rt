@@ -1,5 +1,6 @@
-//! Systems: turns and what each answers, reports, histories, and runs in which memory is refused.
+//! Systems: turns and what each answers, reports, histories, the texts of faults, and runs in which memory is refused.
 
+mod faults;
 mod memory;
 mod reports;
 mod turns;

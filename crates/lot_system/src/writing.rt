@@ -1,5 +1,5 @@
 //! Writing pieces of text to a writer that keeps in mind whether it has failed.
-ghost use Rattle.std.specs.Prelude.{◌≡◌, ◌++◌, false};
+ghost use Rattle.std.specs.Prelude.{◌≡◌, ◌++◌, [], false, true, OnOk};
 ghost use Rattle.std.specs.List.{flat_map};
 ghost use Rattle.lot_system.specs.Writing.{Writes, piece_text};
 
@@ -22,8 +22,8 @@ pub(crate) fn write_pieces<W: Write>(
     writer: &mut Watched<W>,
     pieces: &[Piece],
 ) -> Result<(), PlayFault>
-    requires { writer.old.1 ≡ false }
-    ensures { Writes (W.contents writer.old.0) (W.contents writer.new.0) writer.new.1 result (flat_map piece_text pieces.now) }
+    requires { writer.old.failed ≡ false }
+    ensures { Writes (W.contents writer.old.inner) (W.contents writer.new.inner) writer.new.failed result (flat_map piece_text pieces.now) }
 {
     for piece in pieces {
         write_piece(writer, *piece)?;
@@ -38,8 +38,8 @@ pub(crate) fn write_around<W: Write>(
     middle: &[Piece],
     back: &[Piece],
 ) -> Result<(), PlayFault>
-    requires { writer.old.1 ≡ false }
-    ensures { Writes (W.contents writer.old.0) (W.contents writer.new.0) writer.new.1 result (flat_map piece_text front.now ++ (flat_map piece_text middle.now ++ flat_map piece_text back.now)) }
+    requires { writer.old.failed ≡ false }
+    ensures { Writes (W.contents writer.old.inner) (W.contents writer.new.inner) writer.new.failed result (flat_map piece_text front.now ++ (flat_map piece_text middle.now ++ flat_map piece_text back.now)) }
 {
     write_pieces(writer, front)?;
     write_pieces(writer, middle)?;
@@ -48,8 +48,8 @@ pub(crate) fn write_around<W: Write>(
 
 /// Writes the piece.
 fn write_piece<W: Write>(writer: &mut Watched<W>, piece: Piece) -> Result<(), PlayFault>
-    requires { writer.old.1 ≡ false }
-    ensures { Writes (W.contents writer.old.0) (W.contents writer.new.0) writer.new.1 result (piece_text piece.entry) }
+    requires { writer.old.failed ≡ false }
+    ensures { Writes (W.contents writer.old.inner) (W.contents writer.new.inner) writer.new.failed result (piece_text piece.entry) }
 {
     match piece {
         Piece::Text(text) => write_bytes(writer, text.as_bytes()),
@@ -67,8 +67,8 @@ fn write_piece<W: Write>(writer: &mut Watched<W>, piece: Piece) -> Result<(), Pl
 
 /// Writes the bytes. No failed write is tried again.
 fn write_bytes<W: Write>(writer: &mut Watched<W>, bytes: &[u8]) -> Result<(), PlayFault>
-    requires { writer.old.1 ≡ false }
-    ensures { Writes (W.contents writer.old.0) (W.contents writer.new.0) writer.new.1 result bytes.now }
+    requires { writer.old.failed ≡ false }
+    ensures { Writes (W.contents writer.old.inner) (W.contents writer.new.inner) writer.new.failed result bytes.now }
 {
     let mut rest = bytes;
     while !rest.is_empty() {
@@ -78,4 +78,16 @@ fn write_bytes<W: Write>(writer: &mut Watched<W>, bytes: &[u8]) -> Result<(), Pl
         }
     }
     Ok(())
+}
+
+/// Flushes the writer.
+pub(crate) fn flush<W: Write>(writer: &mut Watched<W>) -> Result<(), PlayFault>
+    requires { writer.old.failed ≡ false }
+    ensures flushed { OnOk result (writer.new.flushed ≡ true) }
+    ensures text { Writes (W.contents writer.old.inner) (W.contents writer.new.inner) writer.new.failed result [] }
+{
+    match writer.flush() {
+        Ok(()) => Ok(()),
+        Err(_) => Err(PlayFault::Write),
+    }
 }

@@ -474,6 +474,46 @@ fn keeps_failures(rt: HostRuntime) {
     }
 }
 
+/// A writer that keeps whether all that it took was flushed, and whose flushes fail.
+#[derive(Drop)]
+struct Flushing {
+    is_flushed: bool,
+    fails: bool,
+}
+
+impl Write for Flushing {
+    fn write(&mut self, buf: &[u8]) -> io::Result<usize> {
+        self.is_flushed = false;
+        Ok(buf.len())
+    }
+
+    fn flush(&mut self) -> io::Result<()> {
+        if self.fails {
+            return Err(Error::new(ErrorKind::Other, "as asked"));
+        }
+        self.is_flushed = true;
+        Ok(())
+    }
+}
+
+// No clause can tell a flush that isn't handed on.
+#[test]
+fn hands_flushes_on(rt: HostRuntime) {
+    for fails in [false, true] {
+        let mut writer = Watched::new(Flushing {
+            is_flushed: true,
+            fails,
+        });
+        assert!(rt; writer.flushed());
+        assert_eq!(rt; writer.write(b"ab").ok(), Some(2));
+        assert!(rt; !writer.flushed());
+        assert_eq!(rt; writer.flush().is_err(), fails);
+        assert_eq!(rt; writer.flushed(), !fails);
+        let Flushing { is_flushed, .. } = writer.into_inner();
+        assert_eq!(rt; is_flushed, !fails);
+    }
+}
+
 #[test]
 fn keeps_failed_reads(rt: HostRuntime) -> Result<(), Fail> {
     for kind in [ErrorKind::Other, ErrorKind::Interrupted] {
@@ -489,6 +529,22 @@ fn keeps_failed_reads(rt: HostRuntime) -> Result<(), Fail> {
             let Failing { calls, .. } = reader.into_inner();
             assert_eq!(rt; calls, fails_at);
         }
+    }
+    Ok(())
+}
+
+#[test]
+fn texts_of_faults(rt: HostRuntime) -> Result<(), Fail> {
+    let refused = ParseFault::Input(InputFault {
+        line: 3,
+        refusal: InputRefusal::BadLine,
+    });
+    for (fault, text) in [
+        (ParseFault::Memory, "out of memory"),
+        (refused, "line 3 is refused: BadLine"),
+    ] {
+        let shown = format!(in rt.alloc(); "{fault}")?;
+        assert_eq!(rt; shown.as_str(), text);
     }
     Ok(())
 }

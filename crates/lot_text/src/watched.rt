@@ -1,52 +1,61 @@
 //! Readers and writers that keep in mind whether they have failed.
-ghost use Rattle.std.specs.Prelude.{◌≡◌, ◌||◌, false, is_err, IsTrue, IsErr, OnOk};
+ghost use Rattle.std.specs.Prelude.{◌≡◌, ◌==◌, ◌||◌, ◌&&◌, true, false, is_err, is_ok, length, IsTrue, IsErr, OnOk};
 ghost use Rattle.std.specs.Io.{ReadsAtMost, WritesAtMost};
 ghost use Rattle.std.specs.Io.KnownBytes.{Appends, Keeps, ReadConsumes, WriteAppends};
-ghost use Rattle.lot_text.specs.Watching.{AppendsBeginning, is_failed_write};
+ghost use Rattle.lot_text.specs.Watching.{AppendsBeginning, has_taken_none, is_failed_write};
 
 use std::io;
 use std::io::{Error, ErrorKind, Read, Write};
 use std::marker::Model;
 
 /// A reader or a writer that keeps in mind whether it has failed, and lets nothing through once it has. No error is tried
-/// again, interrupted calls neither.
+/// again, interrupted calls neither. Of a writer it keeps in mind, too, whether all that it took has been flushed.
 #[derive(Debug, Drop)]
 pub struct Watched<T> {
     inner: T,
     failed: bool,
+    flushed: bool,
 }
 
 impl<T> Model for Watched<T> {
-    ghost use Rattle.std.specs.Prelude.{Bool};
+    ghost use Rattle.lot_text.specs.Watching.{Watch};
 
-    ghost Value = { T × Bool };
+    ghost Value = { Watch T };
 
-    ghost view = { λ w. (w.inner, w.failed) };
+    ghost view = { λ w. record { inner = w.inner; failed = w.failed; flushed = w.flushed } };
 }
 
 impl<T> Watched<T> {
-    /// Watches this reader or writer, which hasn't failed yet.
+    /// Watches this reader or writer, which hasn't failed yet, and has taken nothing.
     pub fn new(inner: T) -> Self
-        ensures { result ≡ (inner, false) }
+        ensures { result ≡ record { inner = inner; failed = false; flushed = true } }
     {
         Watched {
             inner,
             failed: false,
+            flushed: true,
         }
     }
 
     /// Whether a call of the reader or writer has answered an error, or a write of some bytes has taken none.
     pub fn failed(&self) -> bool
-        ensures { result ≡ self.now.1 }
+        ensures { result ≡ self.now.failed }
     {
         self.failed
     }
 
+    /// Whether all that the writer took has been flushed.
+    pub fn flushed(&self) -> bool
+        ensures { result ≡ self.now.flushed }
+    {
+        self.flushed
+    }
+
     /// The reader or writer itself.
     pub fn into_inner(self) -> T
-        ensures { result ≡ self.0 }
+        ensures { result ≡ self.inner }
     {
-        let Watched { inner, failed: _ } = self;
+        let Watched { inner, .. } = self;
         inner
     }
 }
@@ -57,13 +66,14 @@ fn has_failed() -> Error {
 }
 
 impl<R: Read> Read for Watched<R> {
-    ghost remaining = { λ w. R.remaining w.0 };
+    ghost remaining = { λ w. R.remaining w.inner };
 
     fn read(&mut self, buf: &mut [u8]) -> io::Result<usize>
         ensures bound { ReadsAtMost result buf.new }
-        ensures bytes { ReadConsumes (R.remaining self.old.0) (R.remaining self.new.0) result buf.new }
-        ensures failed { self.new.1 ≡ (self.old.1 || is_err result) }
-        ensures nothing_after { IsTrue self.old.1 → (self.new ≡ self.old) × IsErr result }
+        ensures bytes { ReadConsumes (R.remaining self.old.inner) (R.remaining self.new.inner) result buf.new }
+        ensures failed { self.new.failed ≡ (self.old.failed || is_err result) }
+        ensures flushed { self.new.flushed ≡ self.old.flushed }
+        ensures nothing_after { IsTrue self.old.failed → (self.new ≡ self.old) × IsErr result }
     {
         if self.failed {
             return Err(has_failed());
@@ -75,43 +85,50 @@ impl<R: Read> Read for Watched<R> {
 }
 
 impl<W: Write> Write for Watched<W> {
-    ghost contents = { λ w. W.contents w.0 };
+    ghost contents = { λ w. W.contents w.inner };
 
     fn write(&mut self, buf: &[u8]) -> io::Result<usize>
         ensures bound { WritesAtMost result buf.now }
-        ensures bytes { WriteAppends (W.contents self.old.0) (W.contents self.new.0) result buf.now }
-        ensures failed { self.new.1 ≡ (self.old.1 || is_failed_write result buf.now) }
-        ensures nothing_after { IsTrue self.old.1 → (self.new ≡ self.old) × IsErr result }
+        ensures bytes { WriteAppends (W.contents self.old.inner) (W.contents self.new.inner) result buf.now }
+        ensures failed { self.new.failed ≡ (self.old.failed || is_failed_write result buf.now) }
+        ensures flushed { self.new.flushed ≡ (self.old.flushed && has_taken_none result) }
+        ensures nothing_after { IsTrue self.old.failed → (self.new ≡ self.old) × IsErr result }
     {
         if self.failed {
             return Err(has_failed());
         }
         let result = self.inner.write(buf);
-        self.failed = match &result {
-            Ok(taken) => *taken == 0 && !buf.is_empty(),
-            Err(_) => true,
+        let taken = match &result {
+            Ok(taken) => *taken,
+            Err(_) => 0,
         };
+        self.failed = result.is_err() || (taken == 0 && !buf.is_empty());
+        self.flushed = self.flushed && taken == 0;
         result
     }
 
     fn flush(&mut self) -> io::Result<()>
-        ensures bytes { Keeps (W.contents self.old.0) (W.contents self.new.0) }
-        ensures failed { self.new.1 ≡ (self.old.1 || is_err result) }
-        ensures nothing_after { IsTrue self.old.1 → (self.new ≡ self.old) × IsErr result }
+        ensures bytes { Keeps (W.contents self.old.inner) (W.contents self.new.inner) }
+        ensures failed { self.new.failed ≡ (self.old.failed || is_err result) }
+        ensures flushed { self.new.flushed ≡ (self.old.flushed || is_ok result) }
+        ensures nothing_after { IsTrue self.old.failed → (self.new ≡ self.old) × IsErr result }
     {
         if self.failed {
             return Err(has_failed());
         }
         let result = self.inner.flush();
         self.failed = result.is_err();
+        self.flushed = self.flushed || result.is_ok();
         result
     }
 
     fn write_all(&mut self, buf: &[u8]) -> io::Result<()>
-        ensures bytes { OnOk result (Appends (W.contents self.old.0) (W.contents self.new.0) buf.now) }
-        ensures begun { AppendsBeginning (W.contents self.old.0) (W.contents self.new.0) buf.now }
-        ensures failed { self.new.1 ≡ (self.old.1 || is_err result) }
-        ensures nothing_after { IsTrue self.old.1 → self.new ≡ self.old }
+        ensures bytes { OnOk result (Appends (W.contents self.old.inner) (W.contents self.new.inner) buf.now) }
+        ensures begun { AppendsBeginning (W.contents self.old.inner) (W.contents self.new.inner) buf.now }
+        ensures failed { self.new.failed ≡ (self.old.failed || is_err result) }
+        ensures flushed { OnOk result (self.new.flushed ≡ (self.old.flushed && (length buf.now == 0))) }
+        ensures unflushed { IsTrue self.new.flushed → IsTrue self.old.flushed }
+        ensures nothing_after { IsTrue self.old.failed → self.new ≡ self.old }
     {
         let mut rest = buf;
         while !rest.is_empty() {

@@ -1,7 +1,10 @@
 //! Free runs.
 
+use crate::run::RunStop;
 use crate::status::status;
 use crate::tests::check_words_on;
+use lot_processors::FreeRunFault;
+use lot_system::PlayFault;
 use std::alloc::Global;
 use std::str;
 use std::sync::Wait;
@@ -165,6 +168,18 @@ fn a_run_is_played_back(rt: HostRuntime) -> Result<(), Fail> {
         let input = format!(in alloc; "{program}{schedule}")?;
         let played = written(&rt, alloc, "play", input.as_str())?;
         assert!(rt; played.as_str().ends_with(report));
+    }
+    Ok(())
+}
+
+#[test]
+fn texts_of_stops(rt: HostRuntime) -> Result<(), Fail> {
+    for (stop, text) in [
+        (RunStop::Play(PlayFault::Read), "the reader has failed"),
+        (RunStop::Workers(FreeRunFault::Memory), "out of memory"),
+    ] {
+        let shown = format!(in rt.alloc(); "{stop}")?;
+        assert_eq!(rt; shown.as_str(), text);
     }
     Ok(())
 }

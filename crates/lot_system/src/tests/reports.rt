@@ -12,61 +12,78 @@ use std::io::{ErrorKind, Write};
 use std::process::Abort;
 use std::test::Fail;
 
-/// A writer that keeps what it takes, and whose call of this number fails.
+/// A writer that keeps what it takes and whether all of that was flushed, and whose call of this number fails: with an error
+/// of this kind, or by taking nothing.
 #[derive(Drop)]
 struct Failing {
     written: Vec<u8>,
+    is_flushed: bool,
     calls: u32,
     fails_at: u32,
+    kind: Option<ErrorKind>,
 }
 
 impl Failing {
     /// Counts one call more, and fails if it is to.
     fn call(&mut self) -> io::Result<()> {
         self.calls = self.calls.saturating_add(1);
-        if self.calls == self.fails_at {
-            return Err(io::Error::from(ErrorKind::Other));
+        match self.kind {
+            Some(kind) if self.calls == self.fails_at => Err(io::Error::from(kind)),
+            _ => Ok(()),
         }
-        Ok(())
     }
 }
 
 impl Write for Failing {
     fn write(&mut self, buf: &[u8]) -> io::Result<usize> {
         self.call()?;
+        if self.calls == self.fails_at {
+            return Ok(0);
+        }
+        self.is_flushed = false;
         self.written.write(buf)
     }
 
     fn flush(&mut self) -> io::Result<()> {
-        self.call()
+        self.call()?;
+        self.is_flushed = true;
+        Ok(())
     }
 }
 
-/// Ends a system to a writer whose call of this number fails, and answers whether it has failed: then what it took is a
-/// beginning of the text.
+/// Ends a system to a writer whose call of this number fails, and answers whether it has failed: then that was its last call,
+/// and what it took is a beginning of the text.
 fn ending_fails(
     rt: &impl Abort,
     alloc: Global,
     system: &mut System,
     text: &str,
     fails_at: u32,
+    kind: Option<ErrorKind>,
 ) -> bool {
     let mut writer = Watched::new(Failing {
         written: Vec::new(alloc),
+        is_flushed: false,
         calls: 0,
         fails_at,
+        kind,
     });
     let ended = write_end(system, &mut writer);
     let has_failed = writer.failed();
-    let Failing { written, .. } = writer.into_inner();
+    let Failing {
+        written,
+        is_flushed,
+        calls,
+        ..
+    } = writer.into_inner();
     if has_failed {
-        assert_eq!(rt; ended, Err(PlayFault::Write));
+        assert_eq!(rt; (ended, calls), (Err(PlayFault::Write), fails_at));
         assert!(rt;
             text.as_bytes().starts_with(written.as_slice()),
             "at call {fails_at}"
         );
     } else {
-        assert_eq!(rt; ended, Ok(()));
+        assert_eq!(rt; (ended, is_flushed), (Ok(()), true));
         assert!(rt; text.as_bytes() == written.as_slice(), "at call {fails_at}");
     }
     has_failed
@@ -82,12 +99,28 @@ fn check_end(
     let program = program_of(alloc, input)?;
     let mut system = System::open(alloc, &program, 3)?;
     make_turns(&mut system, &program, actors)?;
+    for kind in [Some(ErrorKind::Other), Some(ErrorKind::Interrupted), None] {
+        let unmade = first_unmade_call(rt, alloc, &mut system, text, kind);
+        assert!(rt; 10 < unmade, "{unmade}");
+    }
+    Ok(())
+}
+
+/// The number of the first call whose failure doesn't come, since there are fewer, or since it is a flush, which can't take
+/// nothing.
+fn first_unmade_call(
+    rt: &impl Abort,
+    alloc: Global,
+    system: &mut System,
+    text: &str,
+    kind: Option<ErrorKind>,
+) -> u32 {
     for call in 1..1000 {
-        if !ending_fails(rt, alloc, &mut system, text, call) {
-            return Ok(());
+        if !ending_fails(rt, alloc, system, text, call, kind) {
+            return call;
         }
     }
-    Err("a call that is the last".into())
+    0
 }
 
 #[test]

@@ -22,7 +22,7 @@ returns-in_err-write_pieces g c =
     rw is (
       told.0,
       told.1,
-      parts-stop (g.W.Write.contents c.args.writer.now.0) (g.W.Write.contents c.loop-actor.writer.0) (g.W.Write.contents c.write_pieces.new.writer.0) i.bytes.0 (codes " " ++ (decimal c.from.result ++ [])) (flat_map actor_text others) (flat_map actor_text xs) (flat_map actor_text c.args.actors.now)
+      parts-stop (g.W.Write.contents c.args.writer.now.inner) (g.W.Write.contents c.loop-actor.writer.inner) (g.W.Write.contents c.write_pieces.new.writer.inner) i.bytes.0 (codes " " ++ (decimal c.from.result ++ [])) (flat_map actor_text others) (flat_map actor_text xs) (flat_map actor_text c.args.actors.now)
           i.bytes.1 (next xs others c.in-Some.actor.now c.from.result first c.from.ensures) i.bytes.2 told.2,
     )
 
@@ -35,6 +35,6 @@ loop-actor-preserved g c =
     let first : xs ≡ c.in-Some.actor.now ∷ others = search rules in
     record {
       working = told.0;
-      bytes = parts-more (g.W.Write.contents c.args.writer.now.0) (g.W.Write.contents c.loop-actor.writer.0) (g.W.Write.contents c.write_pieces.new.writer.0) i.bytes.0 (codes " " ++ (decimal c.from.result ++ [])) (flat_map actor_text others) (flat_map actor_text xs) (flat_map actor_text c.args.actors.now)
+      bytes = parts-more (g.W.Write.contents c.args.writer.now.inner) (g.W.Write.contents c.loop-actor.writer.inner) (g.W.Write.contents c.write_pieces.new.writer.inner) i.bytes.0 (codes " " ++ (decimal c.from.result ++ [])) (flat_map actor_text others) (flat_map actor_text xs) (flat_map actor_text c.args.actors.now)
           i.bytes.1 (next xs others c.in-Some.actor.now c.from.result first c.from.ensures) i.bytes.2 told.1;
     }

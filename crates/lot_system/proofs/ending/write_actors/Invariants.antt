@@ -7,8 +7,8 @@ use Rattle.lot_system.proofs.ending.write_actors.Given as goal
 -- what was written so far, and the texts of the rest, are the texts of all
 abbrev pub invariant-loop-actor : goal.invariant-loop-actor
 invariant-loop-actor g l = record {
-  working : l.writer.1 ≡ false;
-  bytes : (done : List ℕ) × (done ++ flat_map actor_text l.rest ≡ flat_map actor_text l.actors) × Appends (g.W.Write.contents l.initial.writer.0) (g.W.Write.contents l.writer.0) done;
+  working : l.writer.failed ≡ false;
+  bytes : (done : List ℕ) × (done ++ flat_map actor_text l.rest ≡ flat_map actor_text l.actors) × Appends (g.W.Write.contents l.initial.writer.inner) (g.W.Write.contents l.writer.inner) done;
 }
 
 abbrev pub decreases-loop-actor : goal.decreases-loop-actor

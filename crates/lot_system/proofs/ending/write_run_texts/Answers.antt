@@ -32,7 +32,7 @@ returns-in_err-write_pieces g c =
     rw is (
       told.0,
       told.1,
-      parts-stop (g.W.Write.contents c.args.writer.now.0) (g.W.Write.contents c.loop-pair.writer.0) (g.W.Write.contents c.write_pieces.new.writer.0) i.bytes.0 (written c.from.result run.count)
+      parts-stop (g.W.Write.contents c.args.writer.now.inner) (g.W.Write.contents c.loop-pair.writer.inner) (g.W.Write.contents c.write_pieces.new.writer.inner) i.bytes.0 (written c.from.result run.count)
           (flat_map run_text (take (32 - (n + 1)) (runs_in others))) (flat_map run_text (take (32 - n) (runs_in xs))) (flat_map run_text (take 32 (runs_in c.args.history.now))) i.bytes.1
           (next n c.from.result run xs others c.loop-pair-test.true c.from.ensures c.in-Some.ensures.run) i.bytes.2 told.2,
     )
@@ -48,7 +48,7 @@ loop-pair-preserved g c =
     let first : runs_in xs ≡ run ∷ runs_in others = c.in-Some.ensures.run ∙ ap (λ (more : List ℕ). run ∷ runs_in more) (sym (take_rest xs run.count)) in
     record {
       working = told.0;
-      bytes = parts-more (g.W.Write.contents c.args.writer.now.0) (g.W.Write.contents c.loop-pair.writer.0) (g.W.Write.contents c.write_pieces.new.writer.0) i.bytes.0 (written c.from.result run.count)
+      bytes = parts-more (g.W.Write.contents c.args.writer.now.inner) (g.W.Write.contents c.loop-pair.writer.inner) (g.W.Write.contents c.write_pieces.new.writer.inner) i.bytes.0 (written c.from.result run.count)
           (flat_map run_text (take (32 - (n + 1)) (runs_in others))) (flat_map run_text (take (32 - n) (runs_in xs))) (flat_map run_text (take 32 (runs_in c.args.history.now))) i.bytes.1
           (next n c.from.result run xs others c.loop-pair-test.true c.from.ensures first) i.bytes.2 told.1;
     }

@@ -8,25 +8,25 @@ pub returns-in_err-write_pieces : goal.returns-in_err-write_pieces
 returns-in_err-write_pieces g c =
     let is : c.from_residual.result ≡ Err c.in_err-write_pieces.field-0.0 = search rules in
     let told = c.in_err-write_pieces.ensures in
-    rw is (told.0, told.1, begins-front (g.W.Write.contents c.args.writer.now.0) (g.W.Write.contents c.write_pieces.new.writer.0) (codes "runs") (flat_map run_text (take 32 (runs_in c.args.history.now)) ++ 10 ∷ []) told.2)
+    rw is (told.0, told.1, begins-front (g.W.Write.contents c.args.writer.now.inner) (g.W.Write.contents c.write_pieces.new.writer.inner) (codes "runs") (flat_map run_text (take 32 (runs_in c.args.history.now)) ++ 10 ∷ []) told.2)
 
 pub returns-in_err-write_run_texts : goal.returns-in_err-write_run_texts
 returns-in_err-write_run_texts g c =
     let is : c.from_residual-in_err-write_run_texts.result ≡ Err c.in_err-write_run_texts.field-0.0 = search rules in
     let told = c.in_err-write_run_texts.ensures in
-    let old = g.W.Write.contents c.args.writer.now.0 in
-    let one = g.W.Write.contents c.write_pieces.new.writer.0 in
-    let new = g.W.Write.contents c.write_run_texts.new.writer.0 in
+    let old = g.W.Write.contents c.args.writer.now.inner in
+    let one = g.W.Write.contents c.write_pieces.new.writer.inner in
+    let new = g.W.Write.contents c.write_run_texts.new.writer.inner in
     let text = flat_map run_text (take 32 (runs_in c.args.history.now)) in
     rw is (told.0, told.1, begins-behind old one new (codes "runs") (text ++ 10 ∷ []) c.in_ok-write_pieces.ensures.1 (begins-front one new text (10 ∷ []) told.2))
 
 pub returns : goal.returns
 returns g c =
-    let old = g.W.Write.contents c.args.writer.now.0 in
-    let one = g.W.Write.contents c.write_pieces.new.writer.0 in
-    let two = g.W.Write.contents c.write_run_texts.new.writer.0 in
-    let new = g.W.Write.contents c.write_pieces-2.new.writer.0 in
-    let failed = c.write_pieces-2.new.writer.1 in
+    let old = g.W.Write.contents c.args.writer.now.inner in
+    let one = g.W.Write.contents c.write_pieces.new.writer.inner in
+    let two = g.W.Write.contents c.write_run_texts.new.writer.inner in
+    let new = g.W.Write.contents c.write_pieces-2.new.writer.inner in
+    let failed = c.write_pieces-2.new.writer.failed in
     let result = c.write_pieces-2.result in
     let text = flat_map run_text (take 32 (runs_in c.args.history.now)) in
     writes-behind old one new failed result (codes "runs") (text ++ 10 ∷ []) c.in_ok-write_pieces.ensures.1

@@ -7,7 +7,7 @@ abbrev pub invariant-loop : goal.invariant-loop
 invariant-loop g l = record {
   most : vec_len l.bytes ≤ 16777217;
   room : vec_len l.piece ≡ 65536;
-  working : l.reader.1 ≡ false;
+  working : l.reader.failed ≡ false;
   grows : l.counter ≤ vec_len l.bytes;
-  consumed : Consumes (g.R.Read.remaining l.initial.reader.0) (g.R.Read.remaining l.reader.0) l.bytes.items;
+  consumed : Consumes (g.R.Read.remaining l.initial.reader.inner) (g.R.Read.remaining l.reader.inner) l.bytes.items;
 }

@@ -8,7 +8,7 @@ use Rattle.lot_system.proofs.listing.write_rows.Given as goal
 -- the lines of the numbers passed so far are written
 abbrev pub invariant-loop-place : goal.invariant-loop-place
 invariant-loop-place g l = record {
-  working : l.writer.1 ≡ false;
+  working : l.writer.failed ≡ false;
   system : l.system ≡ l.initial.system;
-  bytes : Appends (g.W.Write.contents l.initial.writer.0) (g.W.Write.contents l.writer.0) (flat_map (row_line (world_of l.initial.system).state l.kind) (range_with_len (first_number l.kind) l.place));
+  bytes : Appends (g.W.Write.contents l.initial.writer.inner) (g.W.Write.contents l.writer.inner) (flat_map (row_line (world_of l.initial.system).state l.kind) (range_with_len (first_number l.kind) l.place));
 }

@@ -14,31 +14,31 @@ texts program = turn_texts program (opening_world program) program.schedule
 abbrev last : Program → List ℕ
 last program = report program (sysrun program program.schedule).history
 
-pub returns-in_err-play_turns : goal.returns-in_err-play_turns
-returns-in_err-play_turns g c =
+pub returns-in_err-play_turns-clause-text : goal.returns-in_err-play_turns-clause-text
+returns-in_err-play_turns-clause-text g c =
     let program = c.args.program.now in
     let is : c.from_residual.result ≡ Err c.in_err-play_turns.field-0.0 = search rules in
     let told = c.in_err-play_turns.ensures.text in
-    rw is (told.0, told.1, begins-front (g.W.Write.contents c.args.writer.now.0) (g.W.Write.contents c.play_turns.new.writer.0) (texts program) (last program) told.2)
+    rw is (told.0, told.1, begins-front (g.W.Write.contents c.args.writer.now.inner) (g.W.Write.contents c.play_turns.new.writer.inner) (texts program) (last program) told.2)
 
-pub returns-in_err-write_report : goal.returns-in_err-write_report
-returns-in_err-write_report g c =
+pub returns-in_err-write_report-clause-text : goal.returns-in_err-write_report-clause-text
+returns-in_err-write_report-clause-text g c =
     let program = c.args.program.now in
     let is : c.from_residual-in_err-write_report.result ≡ Err c.in_err-write_report.field-0.0 = search rules in
     let told = c.in_err-write_report.ensures.text in
-    let old = g.W.Write.contents c.args.writer.now.0 in
-    let mid = g.W.Write.contents c.play_turns.new.writer.0 in
-    let new = g.W.Write.contents c.write_report.new.writer.0 in
+    let old = g.W.Write.contents c.args.writer.now.inner in
+    let mid = g.W.Write.contents c.play_turns.new.writer.inner in
+    let new = g.W.Write.contents c.write_report.new.writer.inner in
     let its = subst (Begins mid new) (report-is program c.play_turns.new.system c.in_ok-play_turns.ensures.played) told.2 in
     rw is (told.0, told.1, begins-behind old mid new (texts program) (last program) c.in_ok-play_turns.ensures.text.1 its)
 
-pub returns : goal.returns
-returns g c =
+pub returns-clause-text : goal.returns-clause-text
+returns-clause-text g c =
     let program = c.args.program.now in
-    let old = g.W.Write.contents c.args.writer.now.0 in
-    let mid = g.W.Write.contents c.play_turns.new.writer.0 in
-    let one = g.W.Write.contents c.write_report.new.writer.0 in
-    let new = g.W.Write.contents c.flush.new.writer.0 in
-    let both = writes-flushed mid one new c.flush.new.writer.1 c.flush.result _ c.in_ok-write_report.ensures.text.1 c.flush.ensures in
-    let its = subst (Writes mid new c.flush.new.writer.1 c.flush.result) (report-is program c.play_turns.new.system c.in_ok-play_turns.ensures.played) both in
-    writes-behind old mid new c.flush.new.writer.1 c.flush.result (texts program) (last program) c.in_ok-play_turns.ensures.text.1 its
+    let old = g.W.Write.contents c.args.writer.now.inner in
+    let mid = g.W.Write.contents c.play_turns.new.writer.inner in
+    let one = g.W.Write.contents c.write_report.new.writer.inner in
+    let new = g.W.Write.contents c.flush.new.writer.inner in
+    let both = writes-flushed mid one new c.flush.new.writer.failed c.flush.result _ c.in_ok-write_report.ensures.text.1 c.flush.ensures.text in
+    let its = subst (Writes mid new c.flush.new.writer.failed c.flush.result) (report-is program c.play_turns.new.system c.in_ok-play_turns.ensures.played) both in
+    writes-behind old mid new c.flush.new.writer.failed c.flush.result (texts program) (last program) c.in_ok-play_turns.ensures.text.1 its

@@ -8,18 +8,20 @@ use Rattle.lot_system.specs.Writing.{Writes}
 use Rattle.lot_system.proofs.PlayingFacts.{played-after, text-after}
 use Rattle.lot_system.proofs.playing.play_turn.Goals as goal
 
-pub returns-clause-played : goal.returns-clause-played
-returns-clause-played g c =
+pub returns-in-Ok-clause-played : goal.returns-in-Ok-clause-played
+returns-in-Ok-clause-played g c =
     let old = c.args.system.now in
     let actor = c.args.actor in
-    let now : c.write_answer.new.system ≡ after_turn old actor = c.write_answer.ensures.same ∙ c.made-event.ensures.seen in
-    subst (IsPlayed old actor) (sym now) (played-after old actor c.made-event.result.0 c.made-event.result.1 c.made-event.ensures.answer)
+    let answer = c.in-Ok.answer in
+    let told = c.in-Ok.ensures.ok in
+    let now : c.write_answer.new.system ≡ after_turn old actor = c.write_answer.ensures.same ∙ told.1 in
+    subst (IsPlayed old actor) (sym now) (played-after old actor answer.event answer.reply told.2.turn)
 
-pub returns-clause-text : goal.returns-clause-text
-returns-clause-text g c =
+pub returns-in-Ok-clause-text : goal.returns-in-Ok-clause-text
+returns-in-Ok-clause-text g c =
     let old = c.args.system.now in
     let actor = c.args.actor in
-    let event = c.made-event.result.0 in
-    let reply = c.made-event.result.1 in
-    let text = ap (λ (x : Seen). decimal actor ++ (codes " " ++ reply_text (world_of x).state event reply)) c.made-event.ensures.seen ∙ text-after old actor event reply c.made-event.ensures.answer in
-    subst (Writes (g.W.Write.contents c.args.writer.now.0) (g.W.Write.contents c.write_answer.new.writer.0) c.write_answer.new.writer.1 c.write_answer.result) text c.write_answer.ensures.text
+    let answer = c.in-Ok.answer in
+    let told = c.in-Ok.ensures.ok in
+    let text = ap (λ (x : Seen). decimal actor ++ (codes " " ++ reply_text (world_of x).state answer.event answer.reply)) told.1 ∙ text-after old actor answer.event answer.reply told.2.turn in
+    subst (Writes (g.W.Write.contents c.args.writer.now.inner) (g.W.Write.contents c.write_answer.new.writer.inner) c.write_answer.new.writer.failed c.write_answer.result) text c.write_answer.ensures.text

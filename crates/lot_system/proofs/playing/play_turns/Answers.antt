@@ -15,7 +15,7 @@ returns-in_err-play_turn-clause-text g c =
     rw is (
       told.0,
       told.1,
-      texts-stop c.args.program.now xs n 0 c.from.result below actor c.loop-actor.system i.played (g.W.Write.contents c.args.writer.now.0) (g.W.Write.contents c.loop-actor.writer.0) (g.W.Write.contents c.play_turn.new.writer.0) i.bytes told.2,
+      texts-stop c.args.program.now xs n 0 c.from.result below actor c.loop-actor.system i.played (g.W.Write.contents c.args.writer.now.inner) (g.W.Write.contents c.loop-actor.writer.inner) (g.W.Write.contents c.play_turn.new.writer.inner) i.bytes told.2,
     )
 
 pub loop-actor-preserved : goal.loop-actor-preserved
@@ -28,9 +28,9 @@ loop-actor-preserved g c =
     let schedule = c.schedule-actor-items.ensures.schedule in
     let below : n < length xs = omega (arith, c.loop-actor-test.true, ap length schedule) in
     let actor : c.from.result ≡ get_or xs n 0 = c.from.ensures ∙ ap (λ (ys : List ℕ). get_or ys n 0) schedule in
-    let old = g.W.Write.contents c.args.writer.now.0 in
-    let mid = g.W.Write.contents c.loop-actor.writer.0 in
-    let new = g.W.Write.contents c.play_turn.new.writer.0 in
+    let old = g.W.Write.contents c.args.writer.now.inner in
+    let mid = g.W.Write.contents c.loop-actor.writer.inner in
+    let new = g.W.Write.contents c.play_turn.new.writer.inner in
     record {
       working = told.0;
       setting = played.setting ∙ i.setting;

@@ -8,8 +8,8 @@ use Rattle.lot_system.proofs.playing.play_turns.Given as goal
 -- the turns passed so far are made, and their texts are written
 abbrev pub invariant-loop-actor : goal.invariant-loop-actor
 invariant-loop-actor g l = record {
-  working : l.writer.1 ≡ false;
+  working : l.writer.failed ≡ false;
   setting : l.system.setting ≡ l.initial.system.setting;
   played : HasPlayed l.program (take l.actor-index l.program.schedule) l.system;
-  bytes : Appends (g.W.Write.contents l.initial.writer.0) (g.W.Write.contents l.writer.0) (turn_texts l.program (opening_world l.program) (take l.actor-index l.program.schedule));
+  bytes : Appends (g.W.Write.contents l.initial.writer.inner) (g.W.Write.contents l.writer.inner) (turn_texts l.program (opening_world l.program) (take l.actor-index l.program.schedule));
 }

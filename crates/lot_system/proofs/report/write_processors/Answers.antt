@@ -13,7 +13,7 @@ returns-in_err-write_processor g c =
     rw is (
       told.0,
       told.1,
-      range-stops (g.W.Write.contents c.args.writer.now.0) (g.W.Write.contents c.loop-place.writer.0) (g.W.Write.contents c.write_processor.new.writer.0) (processor_total (turns_made s.setting.program s.history)) 1 c.loop-place.place
+      range-stops (g.W.Write.contents c.args.writer.now.inner) (g.W.Write.contents c.loop-place.writer.inner) (g.W.Write.contents c.write_processor.new.writer.inner) (processor_total (turns_made s.setting.program s.history)) 1 c.loop-place.place
           (world_of s).state.limits.processors (c.loop-place.place + 1) (omega (arith, c.loop-place-test.true, c.processors-place-end.ensures.world)) (omega arith) i.bytes told.2,
     )
 
@@ -24,6 +24,6 @@ loop-place-preserved g c =
     let told = c.in_ok-write_processor.ensures in
     record {
       working = told.0;
-      bytes = range-more (g.W.Write.contents c.args.writer.now.0) (g.W.Write.contents c.loop-place.writer.0) (g.W.Write.contents c.write_processor.new.writer.0) (processor_total (turns_made s.setting.program s.history)) 1 c.loop-place.place
+      bytes = range-more (g.W.Write.contents c.args.writer.now.inner) (g.W.Write.contents c.loop-place.writer.inner) (g.W.Write.contents c.write_processor.new.writer.inner) (processor_total (turns_made s.setting.program s.history)) 1 c.loop-place.place
           (c.loop-place.place + 1) (omega arith) i.bytes told.1;
     }

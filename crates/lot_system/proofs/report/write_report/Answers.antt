@@ -23,16 +23,16 @@ returns-in_err-write_pieces-clause-text g c =
     let s = c.args.system.now in
     let is : c.from_residual.result ≡ Err c.in_err-write_pieces.field-0.0 = search rules in
     let told = c.in_err-write_pieces.ensures in
-    rw is (told.0, told.1, begins-front (g.W.Write.contents c.args.writer.now.0) (g.W.Write.contents c.write_pieces.new.writer.0) (codes "report\n") (threads s ++ (processors s ++ totals s)) told.2)
+    rw is (told.0, told.1, begins-front (g.W.Write.contents c.args.writer.now.inner) (g.W.Write.contents c.write_pieces.new.writer.inner) (codes "report\n") (threads s ++ (processors s ++ totals s)) told.2)
 
 pub returns-in_err-write_threads-clause-text : goal.returns-in_err-write_threads-clause-text
 returns-in_err-write_threads-clause-text g c =
     let s = c.args.system.now in
     let is : c.from_residual-in_err-write_threads.result ≡ Err c.in_err-write_threads.field-0.0 = search rules in
     let told = c.in_err-write_threads.ensures.text in
-    let old = g.W.Write.contents c.args.writer.now.0 in
-    let one = g.W.Write.contents c.write_pieces.new.writer.0 in
-    let new = g.W.Write.contents c.write_threads.new.writer.0 in
+    let old = g.W.Write.contents c.args.writer.now.inner in
+    let one = g.W.Write.contents c.write_pieces.new.writer.inner in
+    let new = g.W.Write.contents c.write_threads.new.writer.inner in
     rw is (told.0, told.1, begins-behind old one new (codes "report\n") (threads s ++ (processors s ++ totals s)) c.in_ok-write_pieces.ensures.1 (begins-front one new (threads s) (processors s ++ totals s) told.2))
 
 pub returns-in_err-write_processors-clause-text : goal.returns-in_err-write_processors-clause-text
@@ -40,10 +40,10 @@ returns-in_err-write_processors-clause-text g c =
     let s = c.args.system.now in
     let is : c.from_residual-in_err-write_processors.result ≡ Err c.in_err-write_processors.field-0.0 = search rules in
     let told = rw c.in_ok-write_threads.ensures.same at c.in_err-write_processors.ensures in
-    let old = g.W.Write.contents c.args.writer.now.0 in
-    let one = g.W.Write.contents c.write_pieces.new.writer.0 in
-    let two = g.W.Write.contents c.write_threads.new.writer.0 in
-    let new = g.W.Write.contents c.write_processors.new.writer.0 in
+    let old = g.W.Write.contents c.args.writer.now.inner in
+    let one = g.W.Write.contents c.write_pieces.new.writer.inner in
+    let two = g.W.Write.contents c.write_threads.new.writer.inner in
+    let new = g.W.Write.contents c.write_processors.new.writer.inner in
     rw is (
       told.0,
       told.1,
@@ -57,12 +57,12 @@ returns-clause-text g c =
     let same = c.in_ok-write_threads.ensures.same in
     let third = rw same at c.in_ok-write_processors.ensures in
     let last = rw same at c.write_total.ensures in
-    let old = g.W.Write.contents c.args.writer.now.0 in
-    let one = g.W.Write.contents c.write_pieces.new.writer.0 in
-    let two = g.W.Write.contents c.write_threads.new.writer.0 in
-    let three = g.W.Write.contents c.write_processors.new.writer.0 in
-    let new = g.W.Write.contents c.write_total.new.writer.0 in
-    let failed = c.write_total.new.writer.1 in
+    let old = g.W.Write.contents c.args.writer.now.inner in
+    let one = g.W.Write.contents c.write_pieces.new.writer.inner in
+    let two = g.W.Write.contents c.write_threads.new.writer.inner in
+    let three = g.W.Write.contents c.write_processors.new.writer.inner in
+    let new = g.W.Write.contents c.write_total.new.writer.inner in
+    let failed = c.write_total.new.writer.failed in
     let result = c.write_total.result in
     writes-behind old one new failed result (codes "report\n") (threads s ++ (processors s ++ totals s)) c.in_ok-write_pieces.ensures.1
     (writes-behind one two new failed result (threads s) (processors s ++ totals s) c.in_ok-write_threads.ensures.text.1 (writes-behind two three new failed result (processors s) (totals s) third.1 last))

@@ -18,7 +18,7 @@ returns-in_err-write_thread-clause-text g c =
     rw is (
       told.0,
       told.1,
-      range-stops (g.W.Write.contents c.args.writer.now.0) (g.W.Write.contents c.loop-place.writer.0) (g.W.Write.contents c.write_thread.new.writer.0) (line c.args.system.now) 1 c.loop-place.place
+      range-stops (g.W.Write.contents c.args.writer.now.inner) (g.W.Write.contents c.loop-place.writer.inner) (g.W.Write.contents c.write_thread.new.writer.inner) (line c.args.system.now) 1 c.loop-place.place
           (length (world_of c.args.system.now).state.records) (c.loop-place.place + 1) (omega (arith, c.loop-place-test.true, c.thread_count-place-end.ensures)) (omega arith) i.bytes told.2,
     )
 
@@ -29,5 +29,5 @@ loop-place-preserved g c =
     record {
       working = told.0;
       system = c.in_ok-write_thread.ensures.same ∙ i.system;
-      bytes = range-more (g.W.Write.contents c.args.writer.now.0) (g.W.Write.contents c.loop-place.writer.0) (g.W.Write.contents c.write_thread.new.writer.0) (line c.args.system.now) 1 c.loop-place.place (c.loop-place.place + 1) (omega arith) i.bytes told.1;
+      bytes = range-more (g.W.Write.contents c.args.writer.now.inner) (g.W.Write.contents c.loop-place.writer.inner) (g.W.Write.contents c.write_thread.new.writer.inner) (line c.args.system.now) 1 c.loop-place.place (c.loop-place.place + 1) (omega arith) i.bytes told.1;
     }

@@ -10,7 +10,7 @@ use Rattle.lot_system.proofs.report.write_threads.Given as goal
 -- the lines of the threads passed so far are written
 abbrev pub invariant-loop-place : goal.invariant-loop-place
 invariant-loop-place g l = record {
-  working : l.writer.1 ≡ false;
+  working : l.writer.failed ≡ false;
   system : l.system ≡ l.initial.system;
-  bytes : Appends (g.W.Write.contents l.initial.writer.0) (g.W.Write.contents l.writer.0) (flat_map (λ n. option_map_or (thread_total n) (thread_row (world_of l.initial.system).state n) []) (range_with_len 1 l.place));
+  bytes : Appends (g.W.Write.contents l.initial.writer.inner) (g.W.Write.contents l.writer.inner) (flat_map (λ n. option_map_or (thread_total n) (thread_row (world_of l.initial.system).state n) []) (range_with_len 1 l.place));
 }

@@ -12,6 +12,6 @@ loop-rest-preserved g c =
       bytes = (
         i.bytes.0 ++ take taken rest,
         rest-split i.bytes.0 rest c.args.bytes.now taken i.bytes.1 c.in-Ok.ensures.bound,
-        appends-both (g.W.Write.contents c.args.writer.now.0) (g.W.Write.contents c.loop-rest.writer.0) (g.W.Write.contents c.write.new.self.0) i.bytes.0 (take taken rest) i.bytes.2 c.in-Ok.ensures.bytes,
+        appends-both (g.W.Write.contents c.args.writer.now.inner) (g.W.Write.contents c.loop-rest.writer.inner) (g.W.Write.contents c.write.new.self.inner) i.bytes.0 (take taken rest) i.bytes.2 c.in-Ok.ensures.bytes,
       );
     }

@@ -5,8 +5,8 @@ use Rattle.lot_system.proofs.writing.write_bytes.Given as goal
 -- what is written and what is left are all the bytes
 abbrev pub invariant-loop-rest : goal.invariant-loop-rest
 invariant-loop-rest g l = record {
-  working : l.writer.1 ≡ false;
-  bytes : (done : List ℕ) × (done ++ l.rest ≡ l.bytes) × Appends (g.W.Write.contents l.initial.writer.0) (g.W.Write.contents l.writer.0) done;
+  working : l.writer.failed ≡ false;
+  bytes : (done : List ℕ) × (done ++ l.rest ≡ l.bytes) × Appends (g.W.Write.contents l.initial.writer.inner) (g.W.Write.contents l.writer.inner) done;
 }
 
 abbrev pub decreases-loop-rest : goal.decreases-loop-rest

@@ -10,6 +10,6 @@ returns-in_err-write_piece g c =
     rw is (
       told.0,
       told.1,
-      begins-piece (g.W.Write.contents c.args.writer.now.0) (g.W.Write.contents c.loop-piece.writer.0) (g.W.Write.contents c.write_piece.new.writer.0) c.args.pieces.now c.loop-piece.piece-index (Text (record { ref_ptr = (0, 0); now = [] }))
+      begins-piece (g.W.Write.contents c.args.writer.now.inner) (g.W.Write.contents c.loop-piece.writer.inner) (g.W.Write.contents c.write_piece.new.writer.inner) c.args.pieces.now c.loop-piece.piece-index (Text (record { ref_ptr = (0, 0); now = [] }))
           c.loop-piece-test.true c.loop-piece.invariant.bytes told.2,
     )

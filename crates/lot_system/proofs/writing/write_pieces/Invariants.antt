@@ -7,6 +7,6 @@ use Rattle.lot_system.proofs.writing.write_pieces.Given as goal
 -- the pieces passed so far are written
 abbrev pub invariant-loop-piece : goal.invariant-loop-piece
 invariant-loop-piece g l = record {
-  working : l.writer.1 ≡ false;
-  bytes : Appends (g.W.Write.contents l.initial.writer.0) (g.W.Write.contents l.writer.0) (flat_map piece_text (take l.piece-index l.pieces));
+  working : l.writer.failed ≡ false;
+  bytes : Appends (g.W.Write.contents l.initial.writer.inner) (g.W.Write.contents l.writer.inner) (flat_map piece_text (take l.piece-index l.pieces));
 }

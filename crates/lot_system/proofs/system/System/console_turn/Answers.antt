@@ -55,7 +55,7 @@ invariant_of-self c =
     command-answer s.program w s.kernel s.contexts.items s.generators.items s.spent i.held c.copied.result _ next c.event-reply.new.self c.event-reply.result c.event-reply.ensures.state c.event-reply.ensures.reply in
     let count = count-console s.history.items in
     let legal : IsLegal s.program s.room (s.history.items ++ 0 ∷ []) = legal-more s.program s.room s.history.items 0 i.legal (omega arith) requires.room (omega (arith, count, i.spent, below)) in
-    rw c.push_reserved.ensures.items (record {
+    rw c.remember.ensures.items (record {
       program = i.program;
       legal = legal;
       held = rw (sysrun-one_more s.program s.history.items 0) held;
@@ -66,7 +66,7 @@ invariant_of-self c =
       each_counted = each-after s.program s.history.items 0 (event.Command c.copied.result) c.event-reply.result answer c.count_turn.new.counts.items (c.count_turn.ensures.exact (turns_made s.program s.history.items) (length s.history.items) (event.Command c.copied.result) i.each_counted);
       total_counted = total-after s.program s.history.items 0 (event.Command c.copied.result) c.event-reply.result answer s.total c.with_turn-self-inside.result i.total_counted c.with_turn-self-inside.ensures.exact (c.with_turn-self-inside.ensures.small (length s.history.items) i.total_counted.small);
       threads = omega (arith, c.follow_command.ensures.room, i.threads);
-      room = omega (arith, c.push_reserved.ensures.capacity, i.room);
+      room = omega (arith, c.remember.ensures.capacity, i.room);
     })
 
 pub returns-clause-answer : goal.returns-clause-answer

@@ -43,7 +43,7 @@ invariant_of-self c =
     c.event_of-event.result c.event_of-event.ensures.event c.event-reply.new.self c.event-reply.result c.event-reply.ensures.state c.event-reply.ensures.reply in
     let count = count-processor s.history.items c.args.actor some in
     let legal : IsLegal s.program s.room (s.history.items ++ c.args.actor ∷ []) = legal-more s.program s.room s.history.items c.args.actor i.legal requires.actor.1 requires.room (omega (arith, count, i.legal.console)) in
-    rw c.push_reserved.ensures.items (record {
+    rw c.remember.ensures.items (record {
       program = i.program;
       legal = legal;
       held = rw (sysrun-one_more s.program s.history.items c.args.actor) held;
@@ -54,7 +54,7 @@ invariant_of-self c =
       each_counted = each-after s.program s.history.items c.args.actor c.event_of-event.result c.event-reply.result answer c.count_turn.new.counts.items (c.count_turn.ensures.exact (turns_made s.program s.history.items) (length s.history.items) c.event_of-event.result i.each_counted);
       total_counted = total-after s.program s.history.items c.args.actor c.event_of-event.result c.event-reply.result answer s.total c.with_turn-self-inside.result i.total_counted c.with_turn-self-inside.ensures.exact (c.with_turn-self-inside.ensures.small (length s.history.items) i.total_counted.small);
       threads = omega (arith, c.follow_turn.ensures.room, i.threads);
-      room = omega (arith, c.push_reserved.ensures.capacity, i.room);
+      room = omega (arith, c.remember.ensures.capacity, i.room);
     })
 
 pub returns-clause-answer : goal.returns-clause-answer

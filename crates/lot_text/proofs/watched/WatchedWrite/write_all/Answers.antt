@@ -15,6 +15,8 @@ loop-rest-preserved g c =
       bytes = λ new h. c.loop-rest.invariant.bytes new (appends-rest _ _ new c.in_ok-taken.taken c.loop-rest.rest.now _ behind c.in_ok-taken.ensures.bytes h);
       begun = λ new count h. c.loop-rest.invariant.begun new (c.in_ok-taken.taken + count) (appends-more _ _ new c.in_ok-taken.taken count c.loop-rest.rest.now _ behind c.in_ok-taken.ensures.bytes h);
       failed = grind (arith, common_steps);
+      shorter = grind (arith, common_steps);
+      flushed = grind (arith, common_steps);
       nothing_after = grind (arith, common_steps);
     }
 

@@ -1,0 +1,36 @@
+//! The texts of faults.
+
+use crate::{PlayFault, TurnFault};
+use std::alloc::Global;
+use std::fmt::Display;
+use std::process::Abort;
+use std::test::Fail;
+
+/// Compares what is printed.
+fn check_text(
+    rt: &impl Abort,
+    alloc: Global,
+    printed: impl Display + Drop,
+    text: &str,
+) -> Result<(), Fail> {
+    let shown = format!(in alloc; "{printed}")?;
+    assert_eq!(rt; shown.as_str(), text);
+    Ok(())
+}
+
+#[test]
+fn turn_faults(rt: HostRuntime) -> Result<(), Fail> {
+    let alloc = rt.alloc();
+    let stale = "the slice isn't that of the actor's work";
+    check_text(&rt, alloc, TurnFault::Stale(None), stale)?;
+    check_text(&rt, alloc, TurnFault::Ended, "no command is left")?;
+    check_text(&rt, alloc, TurnFault::HistoryFull, "the history is full")
+}
+
+#[test]
+fn play_faults(rt: HostRuntime) -> Result<(), Fail> {
+    let alloc = rt.alloc();
+    check_text(&rt, alloc, PlayFault::Memory, "out of memory")?;
+    check_text(&rt, alloc, PlayFault::Read, "the reader has failed")?;
+    check_text(&rt, alloc, PlayFault::Write, "the writer has failed")
+}
