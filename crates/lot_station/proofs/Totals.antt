@@ -6,10 +6,11 @@ use Rattle.lot_machine.specs.Report.{quanta_in, ticks_in, total_of}
 use Rattle.lot_machine.specs.World.{Program, IsLegal}
 use Rattle.lot_system.specs.declared.counts.Counts.{Counts}
 use Rattle.lot_system.specs.declared.turn.Answer.{Answer}
+use Rattle.lot_system.specs.declared.fault.TurnFault.{TurnFault}
 use Rattle.lot_system.specs.Counted.{counted, counted_with}
 use Rattle.lot_script.specs.Slices.{Parts}
 use Rattle.lot_system.specs.Seen.{Setting, Seen, after_turn}
-use Rattle.lot_system.specs.Turns.{Answers, Goes}
+use Rattle.lot_system.specs.Turns.{Answers, Faults, Goes}
 use Rattle.lot_system.proofs.CountFacts.{counted-one_more}
 use Rattle.lot_station.specs.Settings.{AtSome, turns_in}
 
@@ -36,6 +37,14 @@ legal_before program room history actor legal =
       within_room = omega (arith, legal.within_room, length-append history (actor ∷ []));
       console = omega (arith, legal.console, sum_by_push (λ a. cond (a == 0) 1 0) history actor);
     }
+
+-- a fault is one that the system has after the history that it has
+pub faulted_at : (setting : Setting) (old new : Seen) (actor named : ℕ) (given : Option Parts) (fault : TurnFault) → old.setting ≡ setting → actor ≡ named → Faults old actor given fault → new ≡ old
+    → IsLegal new.setting.program new.setting.room new.history → AtSome setting (λ x. Faults x named given fault)
+faulted_at setting old new actor named given fault is same faults stays legal =
+    let before = subst (λ (x : Seen). IsLegal x.setting.program x.setting.room x.history) stays legal in
+    let here : AtSome old.setting (λ x. Faults x actor given fault) = record { history = old.history; legal = before; is_so = faults } in
+    subst (λ a. AtSome setting (λ x. Faults x a given fault)) same (subst (λ s. AtSome s (λ x. Faults x actor given fault)) is here)
 
 -- what a turn answers is so at the system's own history
 pub answered_at : (setting : Setting) (old new : Seen) (actor named : ℕ) (given : Option Parts) (answer : Answer) → old.setting ≡ setting → actor ≡ named → Goes old actor given → new ≡ after_turn old actor → Answers old actor answer

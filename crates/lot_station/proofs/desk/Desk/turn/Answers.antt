@@ -1,5 +1,7 @@
 use Rattle.std.proofs.Common.{rules}
-use Rattle.lot_station.proofs.Totals.{more_quanta, more_ticks, answered_at}
+use Rattle.lot_system.specs.Turns.{Faults}
+use Rattle.lot_station.specs.Settings.{AtSome}
+use Rattle.lot_station.proofs.Totals.{more_quanta, more_ticks, answered_at, faulted_at}
 use Rattle.lot_station.proofs.desk.Desk.turn.Goals as goal
 
 pub add-requires-2 : goal.add-requires-2
@@ -16,3 +18,10 @@ pub returns-clause-answer : goal.returns-clause-answer
 returns-clause-answer g c =
     let ok = c.in_ok-answer.ensures.ok in
     answered_at _ c.args.self.now.system c.turn.new.self c.actor.result c.args.seat.now.actor c.args.slice c.in_ok-answer.answer c.args.self.now.setting (search rules) ok.0 ok.1 ok.2 c.in_ok-answer.ensures.legal
+
+pub returns-in_err-answer-clause-fault : goal.returns-in_err-answer-clause-fault
+returns-in_err-answer-clause-fault g c =
+    let err = c.in_err-answer.ensures.err in
+    let faulted : AtSome g.T.TurnLedger.setting (λ x. Faults x c.args.seat.now.actor c.args.slice c.in_err-answer.field-0.0) =
+    faulted_at _ c.args.self.now.system c.turn.new.self c.actor.result c.args.seat.now.actor c.args.slice c.in_err-answer.field-0.0 c.args.self.now.setting (search rules) err.0 err.1 c.in_err-answer.ensures.legal in
+    search (rules, faulted)
