@@ -155,31 +155,35 @@ fn a_second_ticket_is_shared(rt: HostRuntime) -> Result<(), Fail> {
     Ok(())
 }
 
-// A value follows funding two currencies upstream: 100 of base reach the thread by two currencies, and 60 by the second alone.
-#[test]
-fn an_unfunding_upstream_is_seen(rt: HostRuntime) -> Result<(), Fail> {
-    let mut kernel = Kernel::new(rt.alloc(), largest()?)?;
+/// A thread that 100 of base reach by two currencies, and 60 by the second alone.
+fn upstream(rt: &impl Abort, alloc: Global) -> Result<Kernel, Fail> {
+    let mut kernel = Kernel::new(alloc, largest()?)?;
     assert_eq!(rt; make_currency(&mut kernel, "g")?, Reply::Currency(1));
     assert_eq!(rt; make_currency(&mut kernel, "h")?, Reply::Currency(2));
-    make_link(&rt, &mut kernel, (1, 100), "base", "g")?;
-    make_link(&rt, &mut kernel, (2, 1), "g", "h")?;
-    let made = make_funded(&mut kernel, 1, "h", "a")?;
-    assert_eq!(rt;
-        made,
-        Reply::Funded {
-            ticket: 3,
-            thread: 1
-        }
-    );
-    make_link(&rt, &mut kernel, (4, 60), "base", "h")?;
-    assert_eq!(rt; kernel.event(&Event::Draw(1, 159)), won(1, 159, 160));
-    let expired = Reply::Expired {
-        thread: 1,
-        ticks: 100,
-    };
-    assert_eq!(rt; kernel.event(&Event::Expire(1)), expired);
-    let unfund = Event::Command(Command::Unfund { ticket: 1 });
-    assert_eq!(rt; kernel.event(&unfund), Reply::Done);
-    assert_eq!(rt; kernel.event(&Event::Draw(1, 59)), won(1, 59, 60));
+    make_link(rt, &mut kernel, (1, 100), "base", "g")?;
+    make_link(rt, &mut kernel, (2, 1), "g", "h")?;
+    make_link(rt, &mut kernel, (3, 60), "base", "h")?;
+    make_funded(&mut kernel, 1, "h", "a")?;
+    Ok(kernel)
+}
+
+// A value follows funding two currencies upstream.
+#[test]
+fn an_unfunding_upstream_is_seen(rt: HostRuntime) -> Result<(), Fail> {
+    let mut kernel = upstream(&rt, rt.alloc())?;
+    for (event, reply) in [
+        (Event::Draw(1, 159), won(1, 159, 160)),
+        (
+            Event::Expire(1),
+            Reply::Expired {
+                thread: 1,
+                ticks: 100,
+            },
+        ),
+        (Event::Command(Command::Unfund { ticket: 1 }), Reply::Done),
+        (Event::Draw(1, 59), won(1, 59, 60)),
+    ] {
+        assert_eq!(rt; kernel.event(&event), reply);
+    }
     Ok(())
 }
