@@ -16,7 +16,7 @@ use Rattle.lot_machine.specs.Activity.{is_active, active_amount}
 use Rattle.lot_machine.specs.Facts as facts
 use Rattle.lot_machine.proofs.Tickets.{ticket_in-suc}
 use Rattle.lot_machine.proofs.TicketDepth.{is_active-exact}
-use Rattle.lot_active.specs.declared.edge_places.EdgePlaces.{EdgePlaces}
+use Rattle.lot_active.specs.declared.edge_ends.EdgePlaces.{EdgePlaces}
 use Rattle.lot_active.specs.Activity.{Tells, sum_below, part, amount_from, leads_to, leads_to_passed}
 use Rattle.lot_active.proofs.Sums.{sum-same, part-off}
 use Rattle.lot_graph.specs.declared.layout.Layout.{Layout}

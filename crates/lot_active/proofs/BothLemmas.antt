@@ -13,12 +13,11 @@ use Rattle.lot_machine.proofs.Tickets.{at_number-suc}
 use Rattle.lot_graph.specs.Graphs.{LimitedFunding, IsSound, IsTarget, IsFunding}
 use Rattle.lot_graph.specs.Places.{FitsLimits, layout_of}
 use Rattle.lot_graph.proofs.FieldLemmas.{target-ticket, funding-ticket}
-use Rattle.lot_graph.proofs.HeadLemmas.{edge-back}
-use Rattle.lot_active.specs.declared.edge_places.EdgePlaces.{EdgePlaces}
+use Rattle.lot_active.specs.declared.edge_ends.EdgeEnds.{EdgeEnds}
 use Rattle.lot_active.specs.Activity.{Activity}
-use Rattle.lot_active.specs.Fundings.{AddsEdge, places_of_edge, places_between}
+use Rattle.lot_active.specs.Fundings.{AddsEdge, ends_of_edge, edge_between}
 use Rattle.lot_active.specs.Both.{Both, Agree}
-use Rattle.lot_active.proofs.Calls.{same-places}
+use Rattle.lot_active.proofs.Edits.{same-ends}
 use Rattle.lot_active.proofs.CallEdits.{fund-edge, unfund-edge, issue-kept, thread-kept, currencies-kept}
 
 abbrev pub both : LimitedFunding → Activity → Both
@@ -52,17 +51,16 @@ target-some f target.Unfunded there = absurd there
 target-some f (target.Currency c) there = (Currency c, refl)
 target-some f (target.Thread t) there = (Thread t, refl)
 
-module _ (w now : LimitedFunding) (n : ℕ) (fits : FitsLimits w) where
-  pub fund-places : (to : Target) → target_of w.funding n ≡ Some target.Unfunded → IsTarget w.funding to → now ≡ record w { funding = record w.funding { tickets = with_target w.funding.tickets n to } } → (places : EdgePlaces) × AddsEdge w now (OfTicket n) places
-  fund-places to unfunded there made =
+module _ (w now : LimitedFunding) (n : ℕ) where
+  pub fund-ends : (to : Target) → target_of w.funding n ≡ Some target.Unfunded → IsTarget w.funding to → now ≡ record w { funding = record w.funding { tickets = with_target w.funding.tickets n to } } → (ends : EdgeEnds) × AddsEdge w now (OfTicket n) ends
+  fund-ends to unfunded there made =
       let t = target-ticket w.funding n target.Unfunded unfunded in
       let node = target-some w.funding to there in
-      (places_between (layout_of w) t.0.amount (Currency t.0.issuer) node.0, fund-edge w now n t.0 to node.0 fits t.1 t.2 node.1 made)
+      (edge_between t.0.amount (Currency t.0.issuer) node.0, fund-edge w now n t.0 to node.0 t.1 t.2 node.1 made)
 
-  pub unfund-places : (places : EdgePlaces) → IsFunding w.funding n → places_of_edge (layout_of w) w.funding (OfTicket n) ≡ Some places → now ≡ record w { funding = record w.funding { tickets = with_target w.funding.tickets n target.Unfunded } } → AddsEdge now w (OfTicket n) places
-  unfund-places places funds at made =
+  pub unfund-ends : (ends : EdgeEnds) → IsFunding w.funding n → ends_of_edge w.funding (OfTicket n) ≡ Some ends → now ≡ record w { funding = record w.funding { tickets = with_target w.funding.tickets n target.Unfunded } } → AddsEdge now w (OfTicket n) ends
+  unfund-ends ends funds at made =
       let t = funding-ticket w.funding n funds in
-      let other = places_between (layout_of w) t.0.amount (Currency t.0.issuer) t.1 in
-      let adds : AddsEdge now w (OfTicket n) other = unfund-edge w now n t.0 t.1 fits t.2 t.3 made in
-      let here : places_of_edge (layout_of w) w.funding (OfTicket n) ≡ Some other = ap (places_of_edge (layout_of w) w.funding) (sym (edge-back (layout_of w) (OfTicket n) adds.within)) ∙ adds.adds.here in
-      subst (λ (a : EdgePlaces). AddsEdge now w (OfTicket n) a) (same-places (places_of_edge (layout_of w) w.funding (OfTicket n)) other places here at) adds
+      let other = edge_between t.0.amount (Currency t.0.issuer) t.1 in
+      let adds : AddsEdge now w (OfTicket n) other = unfund-edge w now n t.0 t.1 t.2 t.3 made in
+      subst (λ (e : EdgeEnds). AddsEdge now w (OfTicket n) e) (same-ends (ends_of_edge w.funding (OfTicket n)) other ends adds.here at) adds

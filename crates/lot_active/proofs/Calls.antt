@@ -3,7 +3,7 @@ use Rattle.std.proofs.Common.{◌≡◌, ℕ, zero, suc, ◌+◌, ◌<◌, ◌�
 use Rattle.std.proofs.lemmas.Bool.{cases_eq}
 use Rattle.std.proofs.lemmas.List.{get_or-set_same, get_or-set_other, length-replicate}
 use Rattle.lot_lists.specs.NodeLists.{NodeLists, nodes_of, IsFree, IsListed}
-use Rattle.lot_active.specs.declared.edge_places.EdgePlaces.{EdgePlaces}
+use Rattle.lot_active.specs.declared.edge_ends.EdgePlaces.{EdgePlaces}
 use Rattle.lot_active.specs.Nets.{Net, IsNet, Reaches, HasNoCycle}
 use Rattle.lot_graph.proofs.MirrorLemmas.{contains-nothing}
 use Rattle.lot_active.specs.Activity.{Activity, IsKept, Changes, Adds, sum_below, part, leads_to, leads_to_passed, awake_at, amount_at, is_on}

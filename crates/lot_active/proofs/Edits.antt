@@ -1,5 +1,5 @@
 -- What each change of a funding is to its net: one edge more, one edge less, or nothing.
-use Rattle.std.proofs.Common.{◌≡◌, ℕ, zero, suc, ◌-◌, ◌<◌, ◌≤◌, ◌⊎◌, inl, inr, Bool, true, Option, Some, None, List, [], ◌∷◌, ◌++◌, length, slice_get, slice_set, ap, sym, ◌∙◌, refl, arith, option_map, option_and_then, unwrap_or}
+use Rattle.std.proofs.Common.{◌≡◌, ℕ, zero, suc, ◌-◌, ◌<◌, ◌≤◌, ◌⊎◌, inl, inr, Bool, true, Option, Some, None, List, [], ◌∷◌, ◌++◌, length, slice_get, slice_set, ap, sym, ◌∙◌, refl, subst, arith, option_map, option_and_then, unwrap_or}
 use Rattle.std.proofs.Math.Path.{fun_ext}
 use Rattle.std.specs.Option.{option_flatten}
 use Rattle.std.proofs.lemmas.Bool.{cases_eq}
@@ -14,30 +14,64 @@ use Rattle.lot_machine.specs.declared.funding.Edge.TheVariants.{OfTicket, OfLend
 use Rattle.lot_machine.specs.declared.funding.Lend.{Lend}
 use Rattle.lot_machine.specs.declared.funding.Lend.TheVariants.{Nobody}
 use Rattle.lot_machine.specs.Numbered.{at_number, set_number}
-use Rattle.lot_machine.specs.Funding.{Funding, ticket_at, ticket_in, owner_of, target_node, lend_node, with_target, with_new_ticket, without_ticket, retargeted}
+use Rattle.lot_machine.specs.Funding.{Funding, ticket_at, ticket_in, owner_of, target_node, lend_node, ends_of, with_target, with_new_ticket, without_ticket, retargeted}
 use Rattle.lot_machine.specs.Lends.{IsLive}
-use Rattle.lot_machine.proofs.Tickets.{at_number-suc, flatten-some}
+use Rattle.lot_machine.proofs.Tickets.{at_number-suc, flatten-some, some-injective}
 use Rattle.lot_machine.proofs.Changes.{number-set, number-push}
-use Rattle.lot_active.specs.declared.edge_places.EdgePlaces.{EdgePlaces}
+use Rattle.lot_active.specs.declared.edge_ends.EdgeEnds.{EdgeEnds}
+use Rattle.lot_active.specs.declared.edge_ends.EdgePlaces.{EdgePlaces}
 use Rattle.lot_active.specs.Nets.{Net}
 use Rattle.lot_active.proofs.Lists.{set-same, set-other}
 use Rattle.lot_active.specs.Activity.{Adds, IsAwake}
 use Rattle.lot_graph.specs.declared.layout.Layout.{Layout}
-use Rattle.lot_graph.specs.Places.{IsNodeWithin, node_place, edge_place, edge_at, IsEdgeWithin, node_count, edge_count}
-use Rattle.lot_active.specs.Fundings.{AwakeAre, places_of_edge, net_of}
+use Rattle.lot_graph.specs.Graphs.{LimitedFunding}
+use Rattle.lot_graph.specs.Places.{IsNodeWithin, node_place, edge_place, edge_at, IsEdgeWithin, node_count, edge_count, layout_of, FitsLimits}
+use Rattle.lot_active.specs.Fundings.{AwakeAre, AddsEdge, counted_amount, ends_of_edge, places_of_ends, places_of_edge, edge_between, net_of, graph_net}
 use Rattle.lot_graph.proofs.HeadLemmas.{edge-back, place-back}
+use Rattle.lot_graph.proofs.EndLemmas.{pair}
 
--- ---- places
+-- ---- ends and places
 
--- an edge is there that wasn't, and the others are as they were
-pub adds-by : (l : Layout) (less more : Funding) (edge : Edge) (a : EdgePlaces) → IsEdgeWithin l edge → places_of_edge l less edge ≡ None → places_of_edge l more edge ≡ Some a → ((other : Edge) → ¬ (other ≡ edge) → places_of_edge l more other ≡ places_of_edge l less other) → Adds (net_of l less) (net_of l more) (edge_place l edge) a
-adds-by l less more edge a within none here others = record {
-  nodes = refl;
-  edges = refl;
-  none = ap (places_of_edge l less) (edge-back l edge within) ∙ none;
-  here = ap (places_of_edge l more) (edge-back l edge within) ∙ here;
-  others = λ k off. others (edge_at l k) (λ same. off (sym (place-back l k) ∙ ap (edge_place l) same));
-}
+pub places-mapped : (l : Layout) (f : Funding) (edge : Edge) → places_of_edge l f edge ≡ option_map (places_of_ends l) (ends_of_edge f edge)
+places-mapped l f edge = by (ends_of f edge)
+  where
+    by : (o : Option (Node × Node)) → option_map (λ (ends : Node × Node). let a : EdgePlaces = record { from = node_place l ends.0; to = node_place l ends.1; amount = counted_amount f edge } in a) o
+        ≡ option_map (places_of_ends l) (option_map (λ (ends : Node × Node). let e : EdgeEnds = record { from = ends.0; to = ends.1; amount = counted_amount f edge } in e) o)
+    by None = refl
+    by (Some ends) = refl
+
+-- what is there has its ends
+pub ends-there : (f : Funding) (edge : Edge) (ends : EdgeEnds) → ends_of_edge f edge ≡ Some ends → ends_of f edge ≡ Some (ends.from, ends.to)
+ends-there f edge ends e = by (ends_of f edge) e
+  where
+    by : (o : Option (Node × Node)) → option_map (λ (x : Node × Node). let made : EdgeEnds = record { from = x.0; to = x.1; amount = counted_amount f edge } in made) o ≡ Some ends → o ≡ Some (ends.from, ends.to)
+    by None is = cc
+    by (Some (from, to)) is =
+        let same : record { from = from; to = to; amount = counted_amount f edge } ≡ ends = some-injective (let made : EdgeEnds = record { from = from; to = to; amount = counted_amount f edge } in made) ends is in
+        ap (λ (x : EdgeEnds). Some (pair x.from x.to)) same
+
+pub same-ends : (o : Option EdgeEnds) (a b : EdgeEnds) → o ≡ Some a → o ≡ Some b → a ≡ b
+same-ends o a b is at = some-injective a b (sym is ∙ at)
+
+-- one edge more is one of the net
+pub adds-net : (less more : LimitedFunding) (edge : Edge) (ends : EdgeEnds) → FitsLimits more → AddsEdge less more edge ends → Adds (graph_net less) (graph_net more) (edge_place (layout_of more) edge) (places_of_ends (layout_of more) ends)
+adds-net less more edge ends fits adds =
+    subst (λ (l : Layout). Adds (net_of l less.funding) (graph_net more) (edge_place (layout_of more) edge) (places_of_ends (layout_of more) ends)) adds.layout
+    (record {
+      nodes = refl;
+      edges = refl;
+      none = ap (places_of_edge l less.funding) back ∙ places-mapped l less.funding edge ∙ ap (option_map (places_of_ends l)) adds.none;
+      here = ap (places_of_edge l more.funding) back ∙ places-mapped l more.funding edge ∙ ap (option_map (places_of_ends l)) adds.here;
+      others = λ k off.
+          let apart : ¬ (edge_at l k ≡ edge) = λ same. off (sym (place-back l k) ∙ ap (edge_place l) same) in
+          places-mapped l more.funding (edge_at l k) ∙ ap (option_map (places_of_ends l)) (adds.others (edge_at l k) apart) ∙ sym (places-mapped l less.funding (edge_at l k));
+    })
+  where
+    l : Layout
+    l = layout_of more
+
+    back : edge_at (layout_of more) (edge_place (layout_of more) edge) ≡ edge
+    back = edge-back (layout_of more) edge (fits.edge edge ends.from ends.to (ends-there more.funding edge ends adds.here))
 
 -- ---- what stands at a number
 
@@ -59,46 +93,50 @@ set-else xs n x k some off = by (number-set xs n x k)
     by (inl same) = same
     by (inr (at, is)) = absurd (off (omega (arith, at, some)))
 
--- ---- all_places by what stands at a number
+-- ---- ends by what stands at a number
 
-abbrev pub made : Layout → ℕ → Node × Node → EdgePlaces
-made l amount ends = record { from = node_place l ends.0; to = node_place l ends.1; amount = amount }
+abbrev pub made : ℕ → Node × Node → EdgeEnds
+made amount ends = record { from = ends.0; to = ends.1; amount = amount }
 
-abbrev ticket_places : Layout → Option Ticket → Option EdgePlaces
-ticket_places l o = option_map (λ (ends : Node × Node). made l (unwrap_or (option_map (λ (t : Ticket). t.amount) o) 0) ends) (option_and_then (λ (t : Ticket). option_map (λ to. (Currency t.issuer, to)) (target_node t.target)) o)
+abbrev ticket_ends : Option Ticket → Option EdgeEnds
+ticket_ends o = option_map (λ (ends : Node × Node). made (unwrap_or (option_map (λ (t : Ticket). t.amount) o) 0) ends) (option_and_then (λ (t : Ticket). option_map (λ to. (Currency t.issuer, to)) (target_node t.target)) o)
 
-abbrev lender_places : Layout → ℕ → Option Lend → Option EdgePlaces
-lender_places l t o = option_map (λ (ends : Node × Node). made l 1 ends) (option_and_then (λ (lend : Lend). option_map (λ to. (Thread t, to)) (lend_node lend)) o)
+abbrev lender_ends : ℕ → Option Lend → Option EdgeEnds
+lender_ends t o = option_map (λ (ends : Node × Node). made 1 ends) (option_and_then (λ (lend : Lend). option_map (λ to. (Thread t, to)) (lend_node lend)) o)
 
-abbrev mutex_places : Layout → ℕ → Option (Option ℕ) → Option EdgePlaces
-mutex_places l m o = option_map (λ (ends : Node × Node). made l 1 ends) (option_map (λ (owner : ℕ). (Mutex m, Thread owner)) (option_flatten o))
+abbrev mutex_ends : ℕ → Option (Option ℕ) → Option EdgeEnds
+mutex_ends m o = option_map (λ (ends : Node × Node). made 1 ends) (option_map (λ (owner : ℕ). (Mutex m, Thread owner)) (option_flatten o))
 
-ticket-made : (l : Layout) (t : Ticket) (node : Node) → target_node t.target ≡ Some node → ticket_places l (Some t) ≡ Some (made l t.amount (Currency t.issuer, node))
-ticket-made l t node at = ap (λ o. option_map (λ (ends : Node × Node). made l t.amount ends) (option_map (λ to. let p : Node × Node = (Currency t.issuer, to) in p) o)) at
+ticket-made : (t : Ticket) (node : Node) → target_node t.target ≡ Some node → ticket_ends (Some t) ≡ Some (made t.amount (Currency t.issuer, node))
+ticket-made t node at = ap (λ o. option_map (λ (ends : Node × Node). made t.amount ends) (option_map (λ to. let p : Node × Node = (Currency t.issuer, to) in p) o)) at
 
-ticket-none : (l : Layout) (t : Ticket) → target_node t.target ≡ None → ticket_places l (Some t) ≡ None
-ticket-none l t at = ap (λ o. option_map (λ (ends : Node × Node). made l t.amount ends) (option_map (λ to. let p : Node × Node = (Currency t.issuer, to) in p) o)) at
+ticket-none : (t : Ticket) → target_node t.target ≡ None → ticket_ends (Some t) ≡ None
+ticket-none t at = ap (λ o. option_map (λ (ends : Node × Node). made t.amount ends) (option_map (λ to. let p : Node × Node = (Currency t.issuer, to) in p) o)) at
 
-lender-made : (l : Layout) (t : ℕ) (lend : Lend) (node : Node) → lend_node lend ≡ Some node → lender_places l t (Some lend) ≡ Some (made l 1 (Thread t, node))
-lender-made l t lend node at = ap (λ o. option_map (λ (ends : Node × Node). made l 1 ends) (option_map (λ to. let p : Node × Node = (Thread t, to) in p) o)) at
+lender-made : (t : ℕ) (lend : Lend) (node : Node) → lend_node lend ≡ Some node → lender_ends t (Some lend) ≡ Some (made 1 (Thread t, node))
+lender-made t lend node at = ap (λ o. option_map (λ (ends : Node × Node). made 1 ends) (option_map (λ to. let p : Node × Node = (Thread t, to) in p) o)) at
 
 -- ---- the changes
 
-module _ (l : Layout) (f : Funding) where
-  tickets-else : (n : ℕ) (put : Option Ticket) → 0 < n → (other : Edge) → ¬ (other ≡ OfTicket n) → places_of_edge l (record f { tickets = set_number f.tickets n put }) other ≡ places_of_edge l f other
-  tickets-else n put some (OfTicket k) off = ap (λ o. ticket_places l (option_flatten o)) (set-else f.tickets n put k some (λ same. off (ap OfTicket same)))
+-- one edge more, of two fundings
+abbrev pub HasMore : Funding → Funding → Edge → EdgeEnds → Type 0
+HasMore less more edge ends = (ends_of_edge less edge ≡ None) × (ends_of_edge more edge ≡ Some ends) × ((other : Edge) → ¬ (other ≡ edge) → ends_of_edge more other ≡ ends_of_edge less other)
+
+module _ (f : Funding) where
+  tickets-else : (n : ℕ) (put : Option Ticket) → 0 < n → (other : Edge) → ¬ (other ≡ OfTicket n) → ends_of_edge (record f { tickets = set_number f.tickets n put }) other ≡ ends_of_edge f other
+  tickets-else n put some (OfTicket k) off = ap (λ o. ticket_ends (option_flatten o)) (set-else f.tickets n put k some (λ same. off (ap OfTicket same)))
   tickets-else n put some (OfLender u) off = refl
   tickets-else n put some (OfMutex m) off = refl
 
-  lends-else : (t : ℕ) (lend : Lend) → 0 < t → (other : Edge) → ¬ (other ≡ OfLender t) → places_of_edge l (record f { lends = set_number f.lends t lend }) other ≡ places_of_edge l f other
+  lends-else : (t : ℕ) (lend : Lend) → 0 < t → (other : Edge) → ¬ (other ≡ OfLender t) → ends_of_edge (record f { lends = set_number f.lends t lend }) other ≡ ends_of_edge f other
   lends-else t lend some (OfTicket k) off = refl
-  lends-else t lend some (OfLender u) off = ap (lender_places l u) (set-else f.lends t lend u some (λ same. off (ap OfLender same)))
+  lends-else t lend some (OfLender u) off = ap (lender_ends u) (set-else f.lends t lend u some (λ same. off (ap OfLender same)))
   lends-else t lend some (OfMutex m) off = refl
 
-  owners-else : (m : ℕ) (owner : Option ℕ) → 0 < m → (other : Edge) → ¬ (other ≡ OfMutex m) → places_of_edge l (record f { owners = set_number f.owners m owner }) other ≡ places_of_edge l f other
+  owners-else : (m : ℕ) (owner : Option ℕ) → 0 < m → (other : Edge) → ¬ (other ≡ OfMutex m) → ends_of_edge (record f { owners = set_number f.owners m owner }) other ≡ ends_of_edge f other
   owners-else m owner some (OfTicket k) off = refl
   owners-else m owner some (OfLender u) off = refl
-  owners-else m owner some (OfMutex k) off = ap (mutex_places l k) (set-else f.owners m owner k some (λ same. off (ap OfMutex same)))
+  owners-else m owner some (OfMutex k) off = ap (mutex_ends k) (set-else f.owners m owner k some (λ same. off (ap OfMutex same)))
 
   pub number-low : (n : ℕ) (t : Ticket) → ticket_at f n ≡ Some t → (0 < n) × (n ≤ length f.tickets)
   number-low n t here = there-low f.tickets n (Some t) (flatten-some (at_number f.tickets n) t here)
@@ -108,91 +146,88 @@ module _ (l : Layout) (f : Funding) where
       let low = number-low n t here in
       ap option_flatten (set-there f.tickets n (option_map (retargeted to) (ticket_in f.tickets n)) low.0 low.1) ∙ ap (option_map (retargeted to)) here
 
-  pub fund-adds : (n : ℕ) (t : Ticket) (to : Target) (node : Node) → ticket_at f n ≡ Some t → t.target ≡ target.Unfunded → target_node to ≡ Some node → n ≤ l.tickets
-      → Adds (net_of l f) (net_of l (record f { tickets = with_target f.tickets n to })) (edge_place l (OfTicket n)) (made l t.amount (Currency t.issuer, node))
-  fund-adds n t to node here unfunded at fits =
-      let low = number-low n t here in
-      adds-by l f (record f { tickets = with_target f.tickets n to }) (OfTicket n) (made l t.amount (Currency t.issuer, node)) (low.0, fits) (ap (ticket_places l) here ∙ ticket-none l t (ap target_node unfunded))
-      (ap (ticket_places l) (retargeted-there n t to here) ∙ ticket-made l (retargeted to t) node at) (tickets-else n (option_map (retargeted to) (ticket_in f.tickets n)) low.0)
+  pub fund-adds : (n : ℕ) (t : Ticket) (to : Target) (node : Node) → ticket_at f n ≡ Some t → t.target ≡ target.Unfunded → target_node to ≡ Some node
+      → HasMore f (record f { tickets = with_target f.tickets n to }) (OfTicket n) (edge_between t.amount (Currency t.issuer) node)
+  fund-adds n t to node here unfunded at =
+      let low = number-low n t here in (
+        ap ticket_ends here ∙ ticket-none t (ap target_node unfunded),
+        ap ticket_ends (retargeted-there n t to here) ∙ ticket-made (retargeted to t) node at,
+        tickets-else n (option_map (retargeted to) (ticket_in f.tickets n)) low.0,
+      )
 
-  pub unfund-adds : (n : ℕ) (t : Ticket) (node : Node) → ticket_at f n ≡ Some t → target_node t.target ≡ Some node → n ≤ l.tickets
-      → Adds (net_of l (record f { tickets = with_target f.tickets n target.Unfunded })) (net_of l f) (edge_place l (OfTicket n)) (made l t.amount (Currency t.issuer, node))
-  unfund-adds n t node here at fits =
-      let low = number-low n t here in
-      adds-by l (record f { tickets = with_target f.tickets n target.Unfunded }) f (OfTicket n) (made l t.amount (Currency t.issuer, node)) (low.0, fits)
-      (ap (ticket_places l) (retargeted-there n t target.Unfunded here) ∙ ticket-none l (retargeted target.Unfunded t) refl) (ap (ticket_places l) here ∙ ticket-made l t node at)
-      (λ other off. sym (tickets-else n (option_map (retargeted target.Unfunded) (ticket_in f.tickets n)) low.0 other off))
+  pub unfund-adds : (n : ℕ) (t : Ticket) (node : Node) → ticket_at f n ≡ Some t → target_node t.target ≡ Some node
+      → HasMore (record f { tickets = with_target f.tickets n target.Unfunded }) f (OfTicket n) (edge_between t.amount (Currency t.issuer) node)
+  unfund-adds n t node here at =
+      let low = number-low n t here in (
+        ap ticket_ends (retargeted-there n t target.Unfunded here) ∙ ticket-none (retargeted target.Unfunded t) refl,
+        ap ticket_ends here ∙ ticket-made t node at,
+        λ other off. sym (tickets-else n (option_map (retargeted target.Unfunded) (ticket_in f.tickets n)) low.0 other off),
+      )
 
-  pub lend-adds : (t : ℕ) (lend : Lend) (node : Node) → at_number f.lends t ≡ Some Nobody → lend_node lend ≡ Some node → t ≤ l.threads
-      → Adds (net_of l f) (net_of l (record f { lends = set_number f.lends t lend })) (edge_place l (OfLender t)) (made l 1 (Thread t, node))
-  lend-adds t lend node here at fits =
+  pub lend-adds : (t : ℕ) (lend : Lend) (node : Node) → at_number f.lends t ≡ Some Nobody → lend_node lend ≡ Some node
+      → HasMore f (record f { lends = set_number f.lends t lend }) (OfLender t) (edge_between 1 (Thread t) node)
+  lend-adds t lend node here at =
       let low = there-low f.lends t Nobody here in
-      adds-by l f (record f { lends = set_number f.lends t lend }) (OfLender t) (made l 1 (Thread t, node)) (low.0, fits) (ap (lender_places l t) here) (ap (lender_places l t) (set-there f.lends t lend low.0 low.1) ∙ lender-made l t lend node at)
-      (lends-else t lend low.0)
+      (ap (lender_ends t) here, ap (lender_ends t) (set-there f.lends t lend low.0 low.1) ∙ lender-made t lend node at, lends-else t lend low.0)
 
-  pub unlend-adds : (t : ℕ) (lend : Lend) (node : Node) → at_number f.lends t ≡ Some lend → lend_node lend ≡ Some node → t ≤ l.threads
-      → Adds (net_of l (record f { lends = set_number f.lends t Nobody })) (net_of l f) (edge_place l (OfLender t)) (made l 1 (Thread t, node))
-  unlend-adds t lend node here at fits =
+  pub unlend-adds : (t : ℕ) (lend : Lend) (node : Node) → at_number f.lends t ≡ Some lend → lend_node lend ≡ Some node
+      → HasMore (record f { lends = set_number f.lends t Nobody }) f (OfLender t) (edge_between 1 (Thread t) node)
+  unlend-adds t lend node here at =
       let low = there-low f.lends t lend here in
-      adds-by l (record f { lends = set_number f.lends t Nobody }) f (OfLender t) (made l 1 (Thread t, node)) (low.0, fits) (ap (lender_places l t) (set-there f.lends t Nobody low.0 low.1)) (ap (lender_places l t) here ∙ lender-made l t lend node at)
-      (λ other off. sym (lends-else t Nobody low.0 other off))
+      (ap (lender_ends t) (set-there f.lends t Nobody low.0 low.1), ap (lender_ends t) here ∙ lender-made t lend node at, λ other off. sym (lends-else t Nobody low.0 other off))
 
-  pub own-adds : (m owner : ℕ) → 0 < m → m ≤ length f.owners → owner_of f m ≡ None → m ≤ l.mutexes
-      → Adds (net_of l f) (net_of l (record f { owners = set_number f.owners m (Some owner) })) (edge_place l (OfMutex m)) (made l 1 (Mutex m, Thread owner))
-  own-adds m owner some low free fits =
-      adds-by l f (record f { owners = set_number f.owners m (Some owner) }) (OfMutex m) (made l 1 (Mutex m, Thread owner)) (some, fits) (ap (λ o. mutex_places l m (Some o)) free) (ap (mutex_places l m) (set-there f.owners m (Some owner) some low))
-      (owners-else m (Some owner) some)
+  pub own-adds : (m owner : ℕ) → 0 < m → m ≤ length f.owners → owner_of f m ≡ None
+      → HasMore f (record f { owners = set_number f.owners m (Some owner) }) (OfMutex m) (edge_between 1 (Mutex m) (Thread owner))
+  own-adds m owner some low free = (ap (λ o. mutex_ends m (Some o)) free, ap (mutex_ends m) (set-there f.owners m (Some owner) some low), owners-else m (Some owner) some)
 
-  pub disown-adds : (m owner : ℕ) → 0 < m → m ≤ length f.owners → owner_of f m ≡ Some owner → m ≤ l.mutexes
-      → Adds (net_of l (record f { owners = set_number f.owners m None })) (net_of l f) (edge_place l (OfMutex m)) (made l 1 (Mutex m, Thread owner))
-  disown-adds m owner some low owned fits =
-      adds-by l (record f { owners = set_number f.owners m None }) f (OfMutex m) (made l 1 (Mutex m, Thread owner)) (some, fits) (ap (mutex_places l m) (set-there f.owners m None some low)) (ap (λ o. mutex_places l m (Some o)) owned)
-      (λ other off. sym (owners-else m None some other off))
+  pub disown-adds : (m owner : ℕ) → 0 < m → m ≤ length f.owners → owner_of f m ≡ Some owner
+      → HasMore (record f { owners = set_number f.owners m None }) f (OfMutex m) (edge_between 1 (Mutex m) (Thread owner))
+  disown-adds m owner some low owned = (ap (mutex_ends m) (set-there f.owners m None some low), ap (λ o. mutex_ends m (Some o)) owned, λ other off. sym (owners-else m None some other off))
 
   -- ---- what changes no edge
 
-  same-net : (g : Funding) → ((edge : Edge) → places_of_edge l g edge ≡ places_of_edge l f edge) → net_of l g ≡ net_of l f
-  same-net g same = ap (λ (all_places : ℕ → Option EdgePlaces). let net : Net = record { nodes = node_count l; edges = edge_count l; places = all_places } in net) (fun_ext (λ place. same (edge_at l place)))
+  same-net : (l : Layout) (g : Funding) → ((edge : Edge) → ends_of_edge g edge ≡ ends_of_edge f edge) → net_of l g ≡ net_of l f
+  same-net l g same = ap (λ (all_places : ℕ → Option EdgePlaces). let net : Net = record { nodes = node_count l; edges = edge_count l; places = all_places } in net) (fun_ext (λ place. places-mapped l g (edge_at l place) ∙ ap (option_map (places_of_ends l)) (same (edge_at l place)) ∙ sym (places-mapped l f (edge_at l place))))
 
-  pub issue-same : (amount issuer : ℕ) → net_of l (record f { tickets = with_new_ticket f.tickets amount issuer target.Unfunded }) ≡ net_of l f
-  issue-same amount issuer = same-net (record f { tickets = with_new_ticket f.tickets amount issuer target.Unfunded }) same
+  pub issue-same : (l : Layout) (amount issuer : ℕ) → net_of l (record f { tickets = with_new_ticket f.tickets amount issuer target.Unfunded }) ≡ net_of l f
+  issue-same l amount issuer = same-net l (record f { tickets = with_new_ticket f.tickets amount issuer target.Unfunded }) same
     where
       by : (k : ℕ) → (at_number (with_new_ticket f.tickets amount issuer target.Unfunded) k ≡ at_number f.tickets k)
           ⊎ ((at_number f.tickets k ≡ None) × (at_number (with_new_ticket f.tickets amount issuer target.Unfunded) k ≡ Some (Some (record { amount = amount; issuer = issuer; target = target.Unfunded }))))
-          → ticket_places l (option_flatten (at_number (with_new_ticket f.tickets amount issuer target.Unfunded) k)) ≡ ticket_places l (option_flatten (at_number f.tickets k))
-      by k (inl is) = ap (λ o. ticket_places l (option_flatten o)) is
-      by k (inr (none, is)) = ap (λ o. ticket_places l (option_flatten o)) is ∙ sym (ap (λ o. ticket_places l (option_flatten o)) none)
+          → ticket_ends (option_flatten (at_number (with_new_ticket f.tickets amount issuer target.Unfunded) k)) ≡ ticket_ends (option_flatten (at_number f.tickets k))
+      by k (inl is) = ap (λ o. ticket_ends (option_flatten o)) is
+      by k (inr (none, is)) = ap (λ o. ticket_ends (option_flatten o)) is ∙ sym (ap (λ o. ticket_ends (option_flatten o)) none)
 
-      same : (edge : Edge) → places_of_edge l (record f { tickets = with_new_ticket f.tickets amount issuer target.Unfunded }) edge ≡ places_of_edge l f edge
+      same : (edge : Edge) → ends_of_edge (record f { tickets = with_new_ticket f.tickets amount issuer target.Unfunded }) edge ≡ ends_of_edge f edge
       same (OfTicket k) = by k (number-push f.tickets (Some (record { amount = amount; issuer = issuer; target = target.Unfunded })) k)
       same (OfLender t) = refl
       same (OfMutex m) = refl
 
-  pub destroy-same : (n : ℕ) (t : Ticket) → ticket_at f n ≡ Some t → t.target ≡ target.Unfunded → net_of l (record f { tickets = without_ticket f.tickets n }) ≡ net_of l f
-  destroy-same n t here unfunded = same-net (record f { tickets = without_ticket f.tickets n }) same
+  pub destroy-same : (l : Layout) (n : ℕ) (t : Ticket) → ticket_at f n ≡ Some t → t.target ≡ target.Unfunded → net_of l (record f { tickets = without_ticket f.tickets n }) ≡ net_of l f
+  destroy-same l n t here unfunded = same-net l (record f { tickets = without_ticket f.tickets n }) same
     where
       by : (k : ℕ) → (at_number (set_number f.tickets n None) k ≡ at_number f.tickets k) ⊎ ((k ≡ suc (n - 1)) × (at_number (set_number f.tickets n None) k ≡ Some None))
-          → ticket_places l (option_flatten (at_number (set_number f.tickets n None) k)) ≡ ticket_places l (option_flatten (at_number f.tickets k))
-      by k (inl is) = ap (λ o. ticket_places l (option_flatten o)) is
+          → ticket_ends (option_flatten (at_number (set_number f.tickets n None) k)) ≡ ticket_ends (option_flatten (at_number f.tickets k))
+      by k (inl is) = ap (λ o. ticket_ends (option_flatten o)) is
       by k (inr (at, is)) =
           let low = number-low n t here in
           let k_is : k ≡ n = omega (arith, at, low.0) in
-          ap (λ o. ticket_places l (option_flatten o)) is ∙ sym (ap (λ j. ticket_places l (ticket_at f j)) k_is ∙ ap (ticket_places l) here ∙ ticket-none l t (ap target_node unfunded))
+          ap (λ o. ticket_ends (option_flatten o)) is ∙ sym (ap (λ j. ticket_ends (ticket_at f j)) k_is ∙ ap (ticket_ends) here ∙ ticket-none t (ap target_node unfunded))
 
-      same : (edge : Edge) → places_of_edge l (record f { tickets = without_ticket f.tickets n }) edge ≡ places_of_edge l f edge
+      same : (edge : Edge) → ends_of_edge (record f { tickets = without_ticket f.tickets n }) edge ≡ ends_of_edge f edge
       same (OfTicket k) = by k (number-set f.tickets n None k)
       same (OfLender u) = refl
       same (OfMutex m) = refl
 
-  pub thread-same : net_of l (record f { lends = f.lends ++ Nobody ∷ [] }) ≡ net_of l f
-  thread-same = same-net (record f { lends = f.lends ++ Nobody ∷ [] }) same
+  pub thread-same : (l : Layout) → net_of l (record f { lends = f.lends ++ Nobody ∷ [] }) ≡ net_of l f
+  thread-same l = same-net l (record f { lends = f.lends ++ Nobody ∷ [] }) same
     where
       by : (t : ℕ) → (at_number (f.lends ++ Nobody ∷ []) t ≡ at_number f.lends t) ⊎ ((at_number f.lends t ≡ None) × (at_number (f.lends ++ Nobody ∷ []) t ≡ Some Nobody))
-          → lender_places l t (at_number (f.lends ++ Nobody ∷ []) t) ≡ lender_places l t (at_number f.lends t)
-      by t (inl is) = ap (lender_places l t) is
-      by t (inr (none, is)) = ap (lender_places l t) is ∙ sym (ap (lender_places l t) none)
+          → lender_ends t (at_number (f.lends ++ Nobody ∷ []) t) ≡ lender_ends t (at_number f.lends t)
+      by t (inl is) = ap (lender_ends t) is
+      by t (inr (none, is)) = ap (lender_ends t) is ∙ sym (ap (lender_ends t) none)
 
-      same : (edge : Edge) → places_of_edge l (record f { lends = f.lends ++ Nobody ∷ [] }) edge ≡ places_of_edge l f edge
+      same : (edge : Edge) → ends_of_edge (record f { lends = f.lends ++ Nobody ∷ [] }) edge ≡ ends_of_edge f edge
       same (OfTicket k) = refl
       same (OfLender t) = by t (number-push f.lends Nobody t)
       same (OfMutex m) = refl

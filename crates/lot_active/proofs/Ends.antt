@@ -6,7 +6,7 @@ use Rattle.lot_machine.specs.declared.funding.Edge.{Edge}
 use Rattle.lot_machine.specs.declared.funding.Edge.TheVariants.{OfTicket, OfLender, OfMutex}
 use Rattle.lot_machine.specs.Funding.{Funding, ends_of}
 use Rattle.lot_machine.proofs.Tickets.{some-injective}
-use Rattle.lot_active.specs.declared.edge_places.EdgePlaces.{EdgePlaces}
+use Rattle.lot_active.specs.declared.edge_ends.EdgePlaces.{EdgePlaces}
 use Rattle.lot_active.specs.Nets.{HasEdge, IsNet}
 use Rattle.lot_graph.specs.declared.layout.Layout.{Layout}
 use Rattle.lot_graph.specs.Places.{node_place, IsNodeWithin, edge_place, edge_at, FitsIn}

@@ -5,7 +5,7 @@ use Rattle.std.specs.Bool.{IsTrue}
 use Rattle.std.proofs.lemmas.Bool.{ne_eqb, eqb-true, or_cases, or_left, or_right, lt-ltb, ltb-true}
 use Rattle.std.proofs.lemmas.Option.{get_or_from_slice_get}
 use Rattle.std.proofs.lemmas.Map.Steps.{length-le_from_distinct_below}
-use Rattle.lot_active.specs.declared.edge_places.EdgePlaces.{EdgePlaces}
+use Rattle.lot_active.specs.declared.edge_ends.EdgePlaces.{EdgePlaces}
 use Rattle.lot_active.specs.Nets.{Net, IsNet, HasEdge, IsWay, Reaches, HasNoCycle}
 use Rattle.lot_active.specs.Activity.{IsAwake, IsActive, Tells, Activity, IsKept, part, amount_from, leads_to, leads_to_passed, awake_at, amount_at, is_on}
 use Rattle.lot_active.proofs.Sums.{amount-same, sum-found, sum-some, part-here, part-some}

@@ -12,7 +12,7 @@ use Rattle.lot_graph.proofs.WalkLemmas.{mapped-at}
 use Rattle.lot_machine.proofs.EachOnce.{contains-mapped, mapped-contains}
 use Rattle.lot_graph.proofs.EndLemmas.{pair}
 use Rattle.lot_graph.proofs.MirrorLemmas.{contains-at}
-use Rattle.lot_active.specs.declared.edge_places.EdgePlaces.{EdgePlaces}
+use Rattle.lot_active.specs.declared.edge_ends.EdgePlaces.{EdgePlaces}
 use Rattle.lot_active.specs.Nets.{EntersAt}
 use Rattle.lot_active.specs.Fundings.{places_of_edge, net_of}
 use Rattle.lot_active.proofs.Ends.{places-ends, places-by}

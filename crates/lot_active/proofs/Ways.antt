@@ -20,6 +20,7 @@ use Rattle.lot_active.specs.Activity.{IsAwake, IsActive as IsNodeActive}
 use Rattle.lot_graph.specs.declared.layout.Layout.{Layout}
 use Rattle.lot_graph.specs.Places.{node_place, IsNodeWithin, FitsIn, edge_at}
 use Rattle.lot_active.specs.Fundings.{AwakeAre, net_of}
+use Rattle.lot_active.specs.Changes.{IsActiveNode}
 use Rattle.lot_graph.proofs.SpreadLemmas.{same-list}
 use Rattle.lot_graph.proofs.EndLemmas.{ticket-ends, lender-ends, mutex-ends, ends-ticket, ends-lender, ends-mutex}
 use Rattle.lot_active.proofs.Ends.{ends-places, places-edge, places-ends}
@@ -37,9 +38,7 @@ lends-to f t s lend is at = ap (option_and_then (borrower f)) is ∙ at
 module _ (f : Funding) (live : List Bool) where
   -- what the definitions say of a node
   abbrev pub NodeActive : Node → Type 0
-  NodeActive (Currency c) = (n : ℕ) × (issuer_of f n ≡ Some c) × IsActive f live n
-  NodeActive (Thread t) = IsBacked f live t
-  NodeActive (Mutex m) = (owner : ℕ) × (owner_of f m ≡ Some owner) × IsBacked f live owner
+  NodeActive node = IsActiveNode f live node
 
   pub ticket-active : (n : ℕ) (t : Ticket) (q : Node) → ticket_at f n ≡ Some t → target_node t.target ≡ Some q → NodeActive q → IsActive f live n
   ticket-active n t q is at active = by t.target refl at

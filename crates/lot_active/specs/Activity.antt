@@ -1,6 +1,6 @@
 -- Which nodes and edges are active, from scratch, and what the clauses of `Active` see.
 use Rattle.std.specs.Prelude.{◌≡◌, ℕ, zero, suc, ◌+◌, ◌==◌, ◌↔◌, nat_lt, Bool, true, false, ◌||◌, ◌&&◌, ◌⊎◌, Option, Some, None, List, Contains, IsTrue, length, slice_get, slice_index, slice_index_or, if◌then◌else◌}
-use Rattle.lot_active.specs.declared.edge_places.EdgePlaces.{EdgePlaces}
+use Rattle.lot_active.specs.declared.edge_ends.EdgePlaces.{EdgePlaces}
 use Rattle.lot_active.specs.Nets.{Net, Reaches}
 use Rattle.lot_graph.specs.Graphs.{HasEachOnce}
 

@@ -1,5 +1,5 @@
--- A funding as a net: its nodes and edges by place, and what is kept for it.
-use Rattle.std.specs.Prelude.{◌≡◌, ℕ, Bool, Option, List, option_map, unwrap_or}
+-- What is kept for a graph, and what one edge more is; a funding as a net, its nodes and edges by place.
+use Rattle.std.specs.Prelude.{◌≡◌, ℕ, Bool, Option, Some, None, List, option_map, unwrap_or}
 use Rattle.lot_machine.specs.declared.funding.Node.{Node}
 use Rattle.lot_machine.specs.declared.funding.Node.TheVariants.{Thread}
 use Rattle.lot_machine.specs.declared.funding.Edge.{Edge}
@@ -8,15 +8,24 @@ use Rattle.lot_machine.specs.Funding.{Funding, ends_of, ticket_at}
 use Rattle.lot_machine.specs.Lends.{IsLive}
 use Rattle.lot_graph.specs.declared.layout.Layout.{Layout}
 use Rattle.lot_graph.specs.Graphs.{LimitedFunding, IsSound}
-use Rattle.lot_graph.specs.Places.{node_place, IsNodeWithin, node_count, edge_place, edge_at, IsEdgeWithin, edge_count, layout_of, FitsLimits}
-use Rattle.lot_active.specs.declared.edge_places.EdgePlaces.{EdgePlaces}
+use Rattle.lot_graph.specs.Places.{node_place, IsNodeWithin, node_count, edge_at, edge_count, layout_of, FitsLimits}
+use Rattle.lot_active.specs.declared.edge_ends.EdgeEnds.{EdgeEnds}
+use Rattle.lot_active.specs.declared.edge_ends.EdgePlaces.{EdgePlaces}
 use Rattle.lot_active.specs.Nets.{Net}
-use Rattle.lot_active.specs.Activity.{IsAwake, Activity, IsKept, Adds}
+use Rattle.lot_active.specs.Activity.{IsAwake, Activity, IsKept}
 
 -- a ticket's edge has its amount, another edge 1
 abbrev pub counted_amount : Funding → Edge → ℕ
 counted_amount f (OfTicket n) = unwrap_or (option_map (λ t. t.amount) (ticket_at f n)) 0
 counted_amount f other = 1
+
+-- where an edge leads and its amount, if it is there
+abbrev pub ends_of_edge : Funding → Edge → Option EdgeEnds
+ends_of_edge f edge = option_map (λ ends. record { from = ends.0; to = ends.1; amount = counted_amount f edge }) (ends_of f edge)
+
+-- the same by place
+abbrev pub places_of_ends : Layout → EdgeEnds → EdgePlaces
+places_of_ends l ends = record { from = node_place l ends.from; to = node_place l ends.to; amount = ends.amount }
 
 abbrev pub places_of_edge : Layout → Funding → Edge → Option EdgePlaces
 places_of_edge l f edge = option_map (λ ends. record { from = node_place l ends.0; to = node_place l ends.1; amount = counted_amount f edge }) (ends_of f edge)
@@ -29,9 +38,9 @@ pub record AwakeAre (l : Layout) (live : List Bool) (awake : List Bool) : Type 0
   pub lives : (x : ℕ) → IsAwake awake x → (t : ℕ) × (x ≡ node_place l (Thread t)) × IsNodeWithin l (Thread t) × IsLive live t
   pub wakes : (t : ℕ) → IsNodeWithin l (Thread t) → IsLive live t → IsAwake awake (node_place l (Thread t))
 
--- an edge of the net between two nodes
-abbrev pub places_between : Layout → ℕ → Node → Node → EdgePlaces
-places_between l amount from to = record { from = node_place l from; to = node_place l to; amount = amount }
+-- an edge between two nodes
+abbrev pub edge_between : ℕ → Node → Node → EdgeEnds
+edge_between amount from to = record { from = from; to = to; amount = amount }
 
 -- the net of a graph
 abbrev pub graph_net : LimitedFunding → Net
@@ -45,8 +54,9 @@ pub record IsKeptFor (v : Activity) (w : LimitedFunding) (live : List Bool) : Ty
   pub awake : AwakeAre (layout_of w) live v.awake
   pub kept : IsKept (graph_net w) v
 
--- the second graph has this edge, and the first hasn't; all others lead where they led
-pub record AddsEdge (less more : LimitedFunding) (edge : Edge) (places : EdgePlaces) : Type 0 where
+-- The second graph has this edge, and the first hasn't; all others lead where they led. So one edge more.
+pub record AddsEdge (less more : LimitedFunding) (edge : Edge) (ends : EdgeEnds) : Type 0 where
   pub layout : layout_of more ≡ layout_of less
-  pub within : IsEdgeWithin (layout_of more) edge
-  pub adds : Adds (graph_net less) (graph_net more) (edge_place (layout_of more) edge) places
+  pub none : ends_of_edge less.funding edge ≡ None
+  pub here : ends_of_edge more.funding edge ≡ Some ends
+  pub others : (other : Edge) → ¬ (other ≡ edge) → ends_of_edge more.funding other ≡ ends_of_edge less.funding other

@@ -1,6 +1,6 @@
 -- Nodes and edges with amounts, and the ways along them.
 use Rattle.std.specs.Prelude.{◌≡◌, ℕ, ◌^◌, ◌<◌, Option, Some, List, [], ◌∷◌}
-use Rattle.lot_active.specs.declared.edge_places.EdgePlaces.{EdgePlaces}
+use Rattle.lot_active.specs.declared.edge_ends.EdgePlaces.{EdgePlaces}
 
 -- how many nodes there are, how many edges there may be, and where each edge leads, if it is there
 pub record Net : Type 0 where

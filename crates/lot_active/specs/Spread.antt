@@ -1,7 +1,7 @@
 -- What is true while a change spreads; no public clause cites this file.
 use Rattle.std.specs.Prelude.{◌≡◌, ℕ, ◌==◌, ◌<◌, Bool, true, false, not, Some, List, Contains, if◌then◌else◌}
 use Rattle.lot_lists.specs.NodeLists.{IsFree}
-use Rattle.lot_active.specs.declared.edge_places.EdgePlaces.{EdgePlaces}
+use Rattle.lot_active.specs.declared.edge_ends.EdgePlaces.{EdgePlaces}
 use Rattle.lot_active.specs.Nets.{Net, Reaches}
 use Rattle.lot_active.specs.Activity.{amount_from}
 use Rattle.lot_active.specs.Held.{Held, In, on_at, held_at}

@@ -7,16 +7,16 @@ ghost use Rattle.lot_machine.specs.Lends.{IsLive, IsBacked};
 ghost use Rattle.lot_machine.specs.Activity as machine;
 ghost use Rattle.lot_graph.specs.Graphs.{LimitedFunding, IsSound, IsThread};
 ghost use Rattle.lot_graph.specs.Places.{FitsLimits, layout_of, node_place, node_count};
-ghost use Rattle.lot_active.specs.declared.edge_places.EdgePlaces.{EdgePlaces};
+ghost use Rattle.lot_active.specs.declared.edge_ends.EdgeEnds.{EdgeEnds};
 ghost use Rattle.lot_active.specs.Nets.{Net, IsNet, HasNoCycle};
 ghost use Rattle.lot_active.specs.Activity.{IsKept, Changes, Adds, amount_of, mark_of};
 ghost use Rattle.lot_active.specs.Fundings.{IsKeptFor, AddsEdge, graph_net};
-ghost use Rattle.lot_active.specs.Fundings as fundings;
+ghost use Rattle.lot_active.specs.Changes.{ChangesNodes, switched_nodes, adjusted_nodes};
 
-use crate::edge_places::{EdgePlaces, funded_node, places_of_edge};
+use crate::changed::ChangedNodes;
+use crate::edge_ends::{EdgeEnds, EdgePlaces, ends_of_edge, funded_node};
 use crate::marks::Marks;
 use lot_graph::Graph;
-use lot_lists::Nodes;
 use lot_machine::{Edge, Node};
 use std::alloc::{AllocError, Global};
 use std::marker::Model;
@@ -88,7 +88,7 @@ impl Active {
         requires thread { IsThread graph.now.funding thread }
         requires kept { (live : List Bool) × IsKeptFor self.old graph.now live }
         ensures kept { (live : List Bool) → IsKeptFor self.old graph.now live → thread ≤ length live → IsKeptFor self.new graph.now (set_number live thread true) }
-        ensures changes { Changes (graph_net graph.now) (node_place (layout_of graph.now) (ThreadNode thread)) self.old self.new }
+        ensures changes { (live : List Bool) → IsKeptFor self.old graph.now live → thread ≤ length live → ChangesNodes graph.now live graph.now (set_number live thread true) (ThreadNode thread) self.new }
     {
         let node = place_in(graph, Node::Thread(thread));
         self.wake_node(graph, node);
@@ -99,7 +99,7 @@ impl Active {
         requires thread { IsThread graph.now.funding thread }
         requires kept { (live : List Bool) × IsKeptFor self.old graph.now live }
         ensures kept { (live : List Bool) → IsKeptFor self.old graph.now live → thread ≤ length live → IsKeptFor self.new graph.now (set_number live thread false) }
-        ensures changes { Changes (graph_net graph.now) (node_place (layout_of graph.now) (ThreadNode thread)) self.old self.new }
+        ensures changes { (live : List Bool) → IsKeptFor self.old graph.now live → thread ≤ length live → ChangesNodes graph.now live graph.now (set_number live thread false) (ThreadNode thread) self.new }
     {
         let node = place_in(graph, Node::Thread(thread));
         self.sleep_node(graph, node);
@@ -107,39 +107,47 @@ impl Active {
 
     /// Takes up an edge that was put into the graph.
     pub fn attach(&mut self, graph: &Graph, edge: Edge)
-        requires kept { (before : LimitedFunding) × (places : EdgePlaces) × (live : List Bool) × AddsEdge before graph.now edge places × IsKeptFor self.old before live }
-        ensures kept { (before : LimitedFunding) (places : EdgePlaces) (live : List Bool) → AddsEdge before graph.now edge places → IsKeptFor self.old before live → IsKeptFor self.new graph.now live }
-        ensures changes { (places : EdgePlaces) → fundings.places_of_edge (layout_of graph.now) graph.now.funding edge ≡ Some places → Changes (graph_net graph.now) places.from self.old self.new }
+        requires kept { (before : LimitedFunding) × (ends : EdgeEnds) × (live : List Bool) × AddsEdge before graph.now edge ends × IsKeptFor self.old before live }
+        ensures kept { (before : LimitedFunding) (ends : EdgeEnds) (live : List Bool) → AddsEdge before graph.now edge ends → IsKeptFor self.old before live → IsKeptFor self.new graph.now live }
+        ensures changes { (before : LimitedFunding) (ends : EdgeEnds) (live : List Bool) → AddsEdge before graph.now edge ends → IsKeptFor self.old before live → ChangesNodes before live graph.now live ends.from self.new }
     {
-        let Some(places) = places_of_edge(graph, edge) else {
+        let Some(ends) = ends_of_edge(graph, edge) else {
             unreachable!()
         };
-        self.attach_places(graph, places);
+        self.attach_places(graph, ends.places(graph.layout()));
     }
 
     /// Gives up an edge that was taken out of the graph, by where it led.
-    pub fn detach(&mut self, graph: &Graph, places: EdgePlaces)
+    pub fn detach(&mut self, graph: &Graph, ends: EdgeEnds)
         requires sound { IsSound graph.now.funding }
         requires fits { FitsLimits graph.now }
-        requires kept { (before : LimitedFunding) × (edge : Edge) × (live : List Bool) × AddsEdge graph.now before edge places × IsKeptFor self.old before live }
-        ensures kept { (before : LimitedFunding) (edge : Edge) (live : List Bool) → AddsEdge graph.now before edge places → IsKeptFor self.old before live → IsKeptFor self.new graph.now live }
-        ensures changes { Changes (graph_net graph.now) places.from self.old self.new }
+        requires kept { (before : LimitedFunding) × (edge : Edge) × (live : List Bool) × AddsEdge graph.now before edge ends × IsKeptFor self.old before live }
+        ensures kept { (before : LimitedFunding) (edge : Edge) (live : List Bool) → AddsEdge graph.now before edge ends → IsKeptFor self.old before live → IsKeptFor self.new graph.now live }
+        ensures changes { (before : LimitedFunding) (edge : Edge) (live : List Bool) → AddsEdge graph.now before edge ends → IsKeptFor self.old before live → ChangesNodes before live graph.now live ends.from self.new }
     {
-        self.detach_places(graph, places);
+        self.detach_places(graph, ends.places(graph.layout()));
     }
 
-    /// The places of the nodes that the last call switched on or off.
-    pub fn switched(&self) -> Nodes<'_>
-        ensures nodes { result ≡ self.now.switched }
+    /// The nodes that the last call switched on or off.
+    pub fn switched(&self, graph: &Graph) -> ChangedNodes<'_>
+        requires kept { (live : List Bool) × IsKeptFor self.now graph.now live }
+        ensures nodes { result ≡ switched_nodes graph.now self.now }
     {
-        self.marks.switched()
+        ChangedNodes {
+            places: self.marks.switched(),
+            layout: graph.layout(),
+        }
     }
 
-    /// The places of the nodes of which the last call changed the amount alone.
-    pub fn adjusted(&self) -> Nodes<'_>
-        ensures nodes { result ≡ self.now.adjusted }
+    /// The nodes of which the last call changed the amount alone.
+    pub fn adjusted(&self, graph: &Graph) -> ChangedNodes<'_>
+        requires kept { (live : List Bool) × IsKeptFor self.now graph.now live }
+        ensures nodes { result ≡ adjusted_nodes graph.now self.now }
     {
-        self.marks.adjusted()
+        ChangedNodes {
+            places: self.marks.adjusted(),
+            layout: graph.layout(),
+        }
     }
 
     fn is_on(&self, node: usize) -> bool

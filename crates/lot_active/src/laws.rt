@@ -11,29 +11,28 @@ ghost use Rattle.lot_machine.specs.declared.funding.Lend.{Lend};
 ghost use Rattle.lot_machine.specs.declared.funding.Lend.TheVariants.{Nobody};
 ghost use Rattle.lot_machine.specs.Numbered.{at_number, set_number};
 ghost use Rattle.lot_machine.specs.Funding.{ticket_at, owner_of, target_node, lend_node, with_new_ticket, without_ticket, with_target};
-ghost use Rattle.lot_machine.specs.Lends.{IsBacked};
 ghost use Rattle.lot_machine.specs.Activity.{active_amount};
-ghost use Rattle.lot_graph.specs.Graphs.{LimitedFunding, IsSound, IsThread, IsMutex};
-ghost use Rattle.lot_graph.specs.Places.{FitsLimits, layout_of, node_place};
-ghost use Rattle.lot_active.specs.Nets.{Net};
-ghost use Rattle.lot_active.specs.Activity.{Activity, Changes};
-ghost use Rattle.lot_active.specs.Fundings.{IsKeptFor, AddsEdge, places_between};
+ghost use Rattle.lot_graph.specs.Graphs.{LimitedFunding, IsSound, IsMutex};
+ghost use Rattle.lot_graph.specs.Places.{FitsLimits, layout_of};
+ghost use Rattle.lot_active.specs.Activity.{Activity};
+ghost use Rattle.lot_active.specs.Fundings.{IsKeptFor, AddsEdge, edge_between};
+ghost use Rattle.lot_active.specs.Changes.{ChangesNodes, switched_nodes, adjusted_nodes};
 
 /// A ticket that gets a target, a thread that lends, and a mutex that gets an owner are one edge more; undone, they are
 /// one less.
 pub fn calls_change_one_edge()
-    ensures fund { (w now : LimitedFunding) (n : ℕ) (t : Ticket) (to : Target) (node : Node) → FitsLimits w → ticket_at w.funding n ≡ Some t → t.target ≡ Unfunded → target_node to ≡ Some node
-        → now ≡ record w { funding = record w.funding { tickets = with_target w.funding.tickets n to } } → AddsEdge w now (OfTicket n) (places_between (layout_of w) t.amount (CurrencyNode t.issuer) node) }
-    ensures unfund { (w now : LimitedFunding) (n : ℕ) (t : Ticket) (node : Node) → FitsLimits w → ticket_at w.funding n ≡ Some t → target_node t.target ≡ Some node
-        → now ≡ record w { funding = record w.funding { tickets = with_target w.funding.tickets n Unfunded } } → AddsEdge now w (OfTicket n) (places_between (layout_of w) t.amount (CurrencyNode t.issuer) node) }
-    ensures lend { (w now : LimitedFunding) (t : ℕ) (lend : Lend) (node : Node) → FitsLimits w → at_number w.funding.lends t ≡ Some Nobody → lend_node lend ≡ Some node
-        → now ≡ record w { funding = record w.funding { lends = set_number w.funding.lends t lend } } → AddsEdge w now (OfLender t) (places_between (layout_of w) 1 (ThreadNode t) node) }
-    ensures unlend { (w now : LimitedFunding) (t : ℕ) (lend : Lend) (node : Node) → FitsLimits w → at_number w.funding.lends t ≡ Some lend → lend_node lend ≡ Some node
-        → now ≡ record w { funding = record w.funding { lends = set_number w.funding.lends t Nobody } } → AddsEdge now w (OfLender t) (places_between (layout_of w) 1 (ThreadNode t) node) }
+    ensures fund { (w now : LimitedFunding) (n : ℕ) (t : Ticket) (to : Target) (node : Node) → ticket_at w.funding n ≡ Some t → t.target ≡ Unfunded → target_node to ≡ Some node
+        → now ≡ record w { funding = record w.funding { tickets = with_target w.funding.tickets n to } } → AddsEdge w now (OfTicket n) (edge_between t.amount (CurrencyNode t.issuer) node) }
+    ensures unfund { (w now : LimitedFunding) (n : ℕ) (t : Ticket) (node : Node) → ticket_at w.funding n ≡ Some t → target_node t.target ≡ Some node
+        → now ≡ record w { funding = record w.funding { tickets = with_target w.funding.tickets n Unfunded } } → AddsEdge now w (OfTicket n) (edge_between t.amount (CurrencyNode t.issuer) node) }
+    ensures lend { (w now : LimitedFunding) (t : ℕ) (lend : Lend) (node : Node) → at_number w.funding.lends t ≡ Some Nobody → lend_node lend ≡ Some node
+        → now ≡ record w { funding = record w.funding { lends = set_number w.funding.lends t lend } } → AddsEdge w now (OfLender t) (edge_between 1 (ThreadNode t) node) }
+    ensures unlend { (w now : LimitedFunding) (t : ℕ) (lend : Lend) (node : Node) → at_number w.funding.lends t ≡ Some lend → lend_node lend ≡ Some node
+        → now ≡ record w { funding = record w.funding { lends = set_number w.funding.lends t Nobody } } → AddsEdge now w (OfLender t) (edge_between 1 (ThreadNode t) node) }
     ensures own { (w now : LimitedFunding) (m owner : ℕ) → IsMutex w.funding m → owner_of w.funding m ≡ None
-        → now ≡ record w { funding = record w.funding { owners = set_number w.funding.owners m (Some owner) } } → AddsEdge w now (OfMutex m) (places_between (layout_of w) 1 (MutexNode m) (ThreadNode owner)) }
+        → now ≡ record w { funding = record w.funding { owners = set_number w.funding.owners m (Some owner) } } → AddsEdge w now (OfMutex m) (edge_between 1 (MutexNode m) (ThreadNode owner)) }
     ensures disown { (w now : LimitedFunding) (m owner : ℕ) → IsMutex w.funding m → owner_of w.funding m ≡ Some owner
-        → now ≡ record w { funding = record w.funding { owners = set_number w.funding.owners m None } } → AddsEdge now w (OfMutex m) (places_between (layout_of w) 1 (MutexNode m) (ThreadNode owner)) }
+        → now ≡ record w { funding = record w.funding { owners = set_number w.funding.owners m None } } → AddsEdge now w (OfMutex m) (edge_between 1 (MutexNode m) (ThreadNode owner)) }
 {}
 
 /// A ticket without a target, a thread that isn't live yet and a currency, made or removed, change nothing that is kept.
@@ -48,11 +47,8 @@ pub fn others_keep()
         → now ≡ record w { funding = record w.funding { currencies = currencies } } → IsKeptFor v now live }
 {}
 
-/// A currency stands in one of a call's two lists if and only if its active amount is another than before; a thread stands in
-/// the list of those that were switched if and only if it is backed now and wasn't before, or the other way round.
+/// A currency stands in one of a call's two lists if and only if its active amount is another than before.
 pub fn listed_have_changed()
-    ensures amounts { (g : Net) (seed : ℕ) (old new : Activity) (w now : LimitedFunding) (live after : List Bool) (c : ℕ) → Changes g seed old new → IsKeptFor old w live → IsKeptFor new now after → c ≤ w.currency_limit → c ≤ now.currency_limit
-        → (Contains new.switched c ⊎ Contains new.adjusted c) ↔ (active_amount now.funding after c ≢ active_amount w.funding live c) }
-    ensures threads { (g : Net) (seed : ℕ) (old new : Activity) (w now : LimitedFunding) (live after : List Bool) (t : ℕ) → Changes g seed old new → IsKeptFor old w live → IsKeptFor new now after → layout_of now ≡ layout_of w → IsThread w.funding t → IsThread now.funding t
-        → Contains new.switched (node_place (layout_of w) (ThreadNode t)) ↔ ¬ (IsBacked now.funding after t ↔ IsBacked w.funding live t) }
+    ensures amounts { (begun : Node) (old new : Activity) (before now : LimitedFunding) (live after : List Bool) (c : ℕ) → ChangesNodes before live now after begun new → IsKeptFor old before live → IsKeptFor new now after → layout_of now ≡ layout_of before → c ≤ now.currency_limit
+        → (Contains (switched_nodes now new) (CurrencyNode c) ⊎ Contains (adjusted_nodes now new) (CurrencyNode c)) ↔ (active_amount now.funding after c ≢ active_amount before.funding live c) }
 {}

@@ -6,11 +6,13 @@
 #![tactic(auto)]
 
 mod active;
-mod edge_places;
+mod changed;
+mod edge_ends;
 pub mod laws;
 mod marks;
 #[cfg(test)]
 mod tests;
 
 pub use active::Active;
-pub use edge_places::{EdgePlaces, places_of_edge};
+pub use changed::ChangedNodes;
+pub use edge_ends::{EdgeEnds, ends_of_edge};

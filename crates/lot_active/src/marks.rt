@@ -6,7 +6,7 @@ ghost use Rattle.lot_active.specs.Fundings.{graph_net};
 ghost use Rattle.lot_active.specs.Held.{Held, IsSized, IsQuiet, AllEmpty, Relists, NotesChange, MayMove, moved, Adjusts, SetsAwake, Settles, on_at, held_at};
 ghost use Rattle.lot_active.specs.Spread.{Spreading, Crossing};
 
-use crate::edge_places::places_of_edge;
+use crate::edge_ends::places_of_edge;
 use lot_graph::Graph;
 use lot_lists::{Lists, Nodes};
 use std::alloc::{AllocError, Global};

@@ -73,11 +73,11 @@ impl Kept {
 
     fn unfund(&mut self, rt: &impl Abort, ticket: u32) {
         assert!(rt; self.graph.is_funding(ticket));
-        let Some(places) = places_of_edge(&self.graph, Edge::OfTicket(ticket)) else {
+        let Some(ends) = ends_of_edge(&self.graph, Edge::OfTicket(ticket)) else {
             return;
         };
         self.graph.unfund(ticket);
-        self.active.detach(&self.graph, places);
+        self.active.detach(&self.graph, ends);
     }
 
     fn wake(&mut self, rt: &impl Abort, thread: u32) {

@@ -1,7 +1,12 @@
-use Rattle.std.proofs.Common.{sym}
-use Rattle.lot_graph.specs.Places.{layout_of, edge_place}
-use Rattle.lot_active.specs.Fundings.{graph_net}
+use Rattle.std.proofs.Common.{◌≡◌, ap, sym, ◌∙◌, subst}
+use Rattle.lot_graph.specs.declared.layout.Layout.{Layout}
+use Rattle.lot_graph.specs.Places.{IsNodeWithin, layout_of, edge_place}
+use Rattle.lot_active.specs.declared.edge_ends.EdgePlaces.{EdgePlaces}
+use Rattle.lot_active.specs.Activity.{Adds, Changes}
+use Rattle.lot_active.specs.Fundings.{graph_net, places_of_ends}
+use Rattle.lot_active.proofs.Edits.{adds-net, ends-there}
 use Rattle.lot_active.proofs.Bridge.{graph-net, graph-no_cycle, kept-moves}
+use Rattle.lot_active.proofs.NodeChanges.{changes-nodes}
 use Rattle.lot_active.proofs.active.Active.detach.Goals as goal
 
 pub detach_places-requires-clause-no_cycle : goal.detach_places-requires-clause-no_cycle
@@ -9,9 +14,21 @@ detach_places-requires-clause-no_cycle c = graph-no_cycle c.args.graph.now c.req
 
 pub detach_places-requires-clause-kept : goal.detach_places-requires-clause-kept
 detach_places-requires-clause-kept c =
+    let w = c.args.graph.now in
     let (before, edge, live, added, kept) = c.requires.kept in
-    (graph_net before, edge_place (layout_of before) edge, added.adds, graph-net before kept.fits, kept.kept)
+    let places : places_of_ends (layout_of before) c.args.ends ≡ c.places.result = ap (λ l. places_of_ends l c.args.ends) (added.layout ∙ sym c.layout.ensures.layout) ∙ sym c.places.ensures in
+    (graph_net before, edge_place (layout_of before) edge, subst (Adds (graph_net w) (graph_net before) (edge_place (layout_of before) edge)) places (adds-net w before edge c.args.ends kept.fits added), graph-net before kept.fits, kept.kept)
 
 pub returns-clause-kept : goal.returns-clause-kept
 returns-clause-kept c = λ before edge live added kept.
     kept-moves c.args.self.now c.detach_places.new.self before c.args.graph.now live kept (sym added.layout) c.requires.sound c.requires.fits c.detach_places.ensures.awake c.detach_places.ensures.kept
+
+pub returns-clause-changes : goal.returns-clause-changes
+returns-clause-changes c = λ before edge live added kept.
+    let w = c.args.graph.now in
+    let ends = c.args.ends in
+    let after = kept-moves c.args.self.now c.detach_places.new.self before w live kept (sym added.layout) c.requires.sound c.requires.fits c.detach_places.ensures.awake c.detach_places.ensures.kept in
+    let within = kept.fits.from edge ends.from ends.to (ends-there before.funding edge ends added.here) in
+    let places : c.places.result ≡ places_of_ends (layout_of w) ends = c.places.ensures ∙ ap (λ l. places_of_ends l ends) c.layout.ensures.layout in
+    changes-nodes c.args.self.now c.detach_places.new.self before w live live kept after (sym added.layout) ends.from (subst (λ (l : Layout). IsNodeWithin l ends.from) added.layout within)
+    (subst (λ (a : EdgePlaces). Changes (graph_net w) a.from c.args.self.now c.detach_places.new.self) places c.detach_places.ensures.changes)

@@ -1,0 +1,98 @@
+//! An edge of the graph, by the nodes that it leads from and to.
+ghost use Rattle.std.specs.Prelude.{◌≡◌, option_and_then, option_map};
+ghost use Rattle.lot_machine.specs.Funding as funding;
+ghost use Rattle.lot_graph.specs.Graphs.{IsSound};
+ghost use Rattle.lot_graph.specs.Places.{FitsLimits, layout_of};
+ghost use Rattle.lot_active.specs.Fundings as fundings;
+
+use lot_graph::{Graph, Layout};
+use lot_machine::{Edge, Lend, Node, Target};
+
+/// An edge that is there: where it leads from and to, and its amount, which is that of its ticket, or 1 if it is lent.
+#[derive(Clone, Copy, Debug, PartialEq, Eq)]
+pub struct EdgeEnds {
+    pub from: Node,
+    pub to: Node,
+    pub amount: u32,
+}
+
+/// The same by the places of the nodes.
+#[derive(Clone, Copy)]
+pub(crate) struct EdgePlaces {
+    pub(crate) from: usize,
+    pub(crate) to: usize,
+    pub(crate) amount: u32,
+}
+
+impl EdgeEnds {
+    pub(crate) fn places(self, layout: Layout) -> EdgePlaces
+        ensures { result ≡ fundings.places_of_ends layout self }
+    {
+        EdgePlaces {
+            from: layout.list_of(self.from),
+            to: layout.list_of(self.to),
+            amount: self.amount,
+        }
+    }
+}
+
+/// Where an edge leads, and its amount, if it is there.
+pub fn ends_of_edge(graph: &Graph, edge: Edge) -> Option<EdgeEnds>
+    ensures ends { result ≡ fundings.ends_of_edge graph.now.funding edge }
+    ensures sound { IsSound graph.now.funding }
+    ensures fits { FitsLimits graph.now }
+{
+    let _layout = graph.layout();
+    match edge {
+        Edge::OfTicket(number) => {
+            let ticket = graph.ticket(number)?;
+            Some(EdgeEnds {
+                from: Node::Currency(ticket.issuer),
+                to: funded_node(ticket.target)?,
+                amount: ticket.amount,
+            })
+        }
+        Edge::OfLender(thread) => Some(EdgeEnds {
+            from: Node::Thread(thread),
+            to: lent_node(graph.lend_of(thread)?)?,
+            amount: 1,
+        }),
+        Edge::OfMutex(mutex) => Some(EdgeEnds {
+            from: Node::Mutex(mutex),
+            to: Node::Thread(graph.owner(mutex)?),
+            amount: 1,
+        }),
+    }
+}
+
+/// The same by place.
+pub(crate) fn places_of_edge(graph: &Graph, edge: Edge) -> Option<EdgePlaces>
+    ensures places { result ≡ fundings.places_of_edge (layout_of graph.now) graph.now.funding edge }
+    ensures sound { IsSound graph.now.funding }
+    ensures fits { FitsLimits graph.now }
+{
+    let ends = ends_of_edge(graph, edge)?;
+    Some(ends.places(graph.layout()))
+}
+
+/// The node that is funded, if there is one.
+pub(crate) fn funded_node(target: Target) -> Option<Node>
+    ensures { result ≡ funding.target_node target }
+{
+    match target {
+        Target::Unfunded => None,
+        Target::Currency(currency) => Some(Node::Currency(currency)),
+        Target::Thread(thread) => Some(Node::Thread(thread)),
+    }
+}
+
+/// The node that is lent to, if there is one.
+fn lent_node(lend: Lend) -> Option<Node>
+    ensures { result ≡ funding.lend_node lend }
+{
+    match lend {
+        Lend::Nobody => None,
+        Lend::ToThread(thread) => Some(Node::Thread(thread)),
+        Lend::ToMutex(mutex) => Some(Node::Mutex(mutex)),
+    }
+}
