@@ -1,24 +1,27 @@
 -- A graph and what is kept for it, after a call of the graph.
-use Rattle.std.proofs.Common.{◌≡◌, ℕ, zero, suc, Bool, false, Option, Some, None, List, [], ◌∷◌, ◌++◌, length, ◌+◌, ap, sym, ◌∙◌, refl, subst, length-append}
-use Rattle.std.specs.Option.{OnSome, IfNone}
+use Rattle.std.proofs.Common.{◌≡◌, ℕ, zero, suc, Bool, false, Option, Some, None, List, [], ◌∷◌, ◌++◌, length, ◌+◌, option_and_then, ap, sym, ◌∙◌, refl, subst, ◌-◌, length-append, length-set}
+use Rattle.std.specs.Option.{OnSome, IfNone, IsSome, is_some}
 use Rattle.lot_machine.specs.declared.ticket.Target.{Target}
 use Rattle.lot_machine.specs.declared.ticket.Target.TheVariants as target
 use Rattle.lot_machine.specs.declared.funding.Node.{Node}
-use Rattle.lot_machine.specs.declared.funding.Node.TheVariants.{Currency, Thread}
-use Rattle.lot_machine.specs.declared.funding.Edge.TheVariants.{OfTicket}
-use Rattle.lot_machine.specs.declared.funding.Lend.TheVariants.{Nobody}
-use Rattle.lot_machine.specs.Funding.{Funding, target_of, target_node, with_new_ticket, with_target}
+use Rattle.lot_machine.specs.declared.funding.Node.TheVariants.{Currency, Thread, Mutex}
+use Rattle.lot_machine.specs.declared.funding.Edge.TheVariants.{OfTicket, OfLender, OfMutex}
+use Rattle.lot_machine.specs.declared.funding.Lend.{Lend}
+use Rattle.lot_machine.specs.declared.funding.Lend.TheVariants.{Nobody, ToThread, ToMutex}
+use Rattle.lot_machine.specs.Numbered.{at_number, set_number}
+use Rattle.lot_machine.specs.Funding.{Funding, target_of, target_node, lend_node, with_new_ticket, with_target}
 use Rattle.lot_machine.specs.Lends.{IsLive}
 use Rattle.lot_machine.proofs.Tickets.{at_number-suc}
-use Rattle.lot_graph.specs.Graphs.{LimitedFunding, IsSound, IsTarget, IsFunding}
+use Rattle.lot_graph.specs.Graphs.{LimitedFunding, IsSound, IsMutex, IsTarget, IsFunding, IsLender, IsBorrower}
 use Rattle.lot_graph.specs.Places.{FitsLimits, layout_of}
 use Rattle.lot_graph.proofs.FieldLemmas.{target-ticket, funding-ticket}
+use Rattle.lot_graph.proofs.EndLemmas.{lender-ends, mutex-ends}
 use Rattle.lot_active.specs.declared.edge_ends.EdgeEnds.{EdgeEnds}
 use Rattle.lot_active.specs.Activity.{Activity}
 use Rattle.lot_active.specs.Fundings.{AddsEdge, ends_of_edge, edge_between}
 use Rattle.lot_active.specs.Both.{Both, Agree}
-use Rattle.lot_active.proofs.Edits.{same-ends}
-use Rattle.lot_active.proofs.CallEdits.{fund-edge, unfund-edge, issue-kept, thread-kept, currencies-kept}
+use Rattle.lot_active.proofs.Edits.{same-ends, ends-there}
+use Rattle.lot_active.proofs.CallEdits.{fund-edge, unfund-edge, lend-edge, unlend-edge, disown-edge, issue-kept, thread-kept, currencies-kept}
 
 abbrev pub both : LimitedFunding → Activity → Both
 both w v = record { graph = w; activity = v }
@@ -64,3 +67,51 @@ module _ (w now : LimitedFunding) (n : ℕ) where
       let other = edge_between t.0.amount (Currency t.0.issuer) t.1 in
       let adds : AddsEdge now w (OfTicket n) other = unfund-edge w now n t.0 t.1 t.2 t.3 made in
       subst (λ (e : EdgeEnds). AddsEdge now w (OfTicket n) e) (same-ends (ends_of_edge w.funding (OfTicket n)) other ends adds.here at) adds
+
+-- ---- lends and owners
+
+-- what is lent to is a node
+borrower-some : (f : Funding) (lend : Lend) → IsBorrower f lend → (node : Node) × (lend_node lend ≡ Some node)
+borrower-some f Nobody there = absurd there
+borrower-some f (ToThread s) there = (Thread s, refl)
+borrower-some f (ToMutex m) there = (Mutex m, refl)
+
+lender-lends : (f : Funding) (t : ℕ) → IsLender f t → (lend : Lend) × (node : Node) × (at_number f.lends t ≡ Some lend) × (lend_node lend ≡ Some node)
+lender-lends f t lends = by (at_number f.lends t) refl lends
+  where
+    node-of : (lend : Lend) → at_number f.lends t ≡ Some lend → (o : Option Node) → lend_node lend ≡ o → IsSome o → (l : Lend) × (node : Node) × (at_number f.lends t ≡ Some l) × (lend_node l ≡ Some node)
+    node-of lend at None is some = cc
+    node-of lend at (Some node) is some = (lend, node, at, is)
+
+    by : (o : Option Lend) → at_number f.lends t ≡ o → IsSome (option_and_then lend_node o) → (lend : Lend) × (node : Node) × (at_number f.lends t ≡ Some lend) × (lend_node lend ≡ Some node)
+    by None is some = cc
+    by (Some lend) is some = node-of lend is (lend_node lend) refl some
+
+module _ (w now : LimitedFunding) (n : ℕ) where
+  pub lend-ends : (lend : Lend) → at_number w.funding.lends n ≡ Some Nobody → IsBorrower w.funding lend → now ≡ record w { funding = record w.funding { lends = set_number w.funding.lends n lend } } → (ends : EdgeEnds) × AddsEdge w now (OfLender n) ends
+  lend-ends lend nobody there made = let node = borrower-some w.funding lend there in (edge_between 1 (Thread n) node.0, lend-edge w now n lend node.0 nobody node.1 made)
+
+  pub unlend-ends : (ends : EdgeEnds) → IsLender w.funding n → ends_of_edge w.funding (OfLender n) ≡ Some ends → now ≡ record w { funding = record w.funding { lends = set_number w.funding.lends n Nobody } } → AddsEdge now w (OfLender n) ends
+  unlend-ends ends lends at made =
+      let (lend, node, here, node_is) = lender-lends w.funding n lends in
+      let adds : AddsEdge now w (OfLender n) (edge_between 1 (Thread n) node) = unlend-edge w now n lend node here node_is made in
+      subst (λ (e : EdgeEnds). AddsEdge now w (OfLender n) e) (same-ends (ends_of_edge w.funding (OfLender n)) (edge_between 1 (Thread n) node) ends adds.here at) adds
+
+  pub give-ends : (ends : EdgeEnds) → IsMutex w.funding n → ends_of_edge w.funding (OfMutex n) ≡ Some ends → now ≡ record w { funding = record w.funding { owners = set_number w.funding.owners n None } } → AddsEdge now w (OfMutex n) ends
+  give-ends ends there at made =
+      let (owner, owned, from, to) = mutex-ends w.funding n ends.from ends.to (ends-there w.funding (OfMutex n) ends at) in
+      let adds : AddsEdge now w (OfMutex n) (edge_between 1 (Mutex n) (Thread owner)) = disown-edge w now n owner there owned made in
+      subst (λ (e : EdgeEnds). AddsEdge now w (OfMutex n) e) (same-ends (ends_of_edge w.funding (OfMutex n)) (edge_between 1 (Mutex n) (Thread owner)) ends adds.here at) adds
+
+-- an edge of a lender that is there is one of a thread that lends
+pub ends-lender_is : (f : Funding) (t : ℕ) (ends : EdgeEnds) → ends_of_edge f (OfLender t) ≡ Some ends → IsLender f t
+ends-lender_is f t ends at =
+    let (lend, there, from, to) = lender-ends f t ends.from ends.to (ends-there f (OfLender t) ends at) in
+    ap (λ (o : Option Lend). is_some (option_and_then lend_node o)) there ∙ ap (λ (o : Option Node). is_some o) to
+
+-- a graph that is the same
+pub same-both : (w now : LimitedFunding) (v : Activity) → now ≡ w → Agree (both w v) → Agree (both now v)
+same-both w now v same agree = subst (λ (x : LimitedFunding). Agree (both x v)) (sym same) agree
+
+pub lends-size : (w now : LimitedFunding) (n : ℕ) (lend : Lend) → now ≡ record w { funding = record w.funding { lends = set_number w.funding.lends n lend } } → length now.funding.lends ≡ length w.funding.lends
+lends-size w now n lend made = ap (λ (x : LimitedFunding). length x.funding.lends) made ∙ length-set w.funding.lends (n - 1) lend

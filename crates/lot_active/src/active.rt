@@ -1,5 +1,5 @@
 //! What is active, by the live threads.
-ghost use Rattle.std.specs.Prelude.{◌≡◌, ℕ, ◌<◌, ◌≤◌, ◌↔◌, Bool, List, IfOk, IsTrue, Some, length, replicate, slice_set, false, true};
+ghost use Rattle.std.specs.Prelude.{◌≡◌, ℕ, ◌<◌, ◌≤◌, ◌^◌, ◌↔◌, Bool, List, IfOk, IsTrue, Some, length, replicate, slice_set, false, true};
 ghost use Rattle.lot_machine.specs.declared.funding.Edge.{Edge};
 ghost use Rattle.lot_machine.specs.declared.funding.Node.TheVariants.{Thread as ThreadNode};
 ghost use Rattle.lot_machine.specs.Numbered.{set_number};
@@ -132,6 +132,7 @@ impl Active {
     pub fn switched(&self, graph: &Graph) -> ChangedNodes<'_>
         requires kept { (live : List Bool) × IsKeptFor self.now graph.now live }
         ensures nodes { result ≡ switched_nodes graph.now self.now }
+        ensures count { length result < 2 ^ 32 }
     {
         ChangedNodes {
             places: self.marks.switched(),
@@ -143,6 +144,7 @@ impl Active {
     pub fn adjusted(&self, graph: &Graph) -> ChangedNodes<'_>
         requires kept { (live : List Bool) × IsKeptFor self.now graph.now live }
         ensures nodes { result ≡ adjusted_nodes graph.now self.now }
+        ensures count { length result < 2 ^ 32 }
     {
         ChangedNodes {
             places: self.marks.adjusted(),

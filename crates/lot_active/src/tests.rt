@@ -1,10 +1,10 @@
 //! A caller that holds a graph and its activity together, and worked rows.
 ghost use Rattle.std.specs.Prelude.{◌≡◌, ◌<◌, ◌≤◌, IsTrue};
-ghost use Rattle.lot_graph.specs.Graphs.{IsTarget};
+ghost use Rattle.lot_graph.specs.Graphs.{IsTarget, IsBorrower, LendReaches};
 
 use super::*;
 use lot_graph::Graph;
-use lot_machine::{Edge, Limits, Target};
+use lot_machine::{Edge, Lend, Limits, Node, Target};
 use std::alloc::Global;
 use std::marker::Model;
 use std::process::Abort;
@@ -37,9 +37,31 @@ fn is_target(graph: &Graph, target: Target) -> bool
     }
 }
 
+/// Whether a thread may lend so.
+fn may_lend(graph: &mut Graph, thread: u32, lend: Lend) -> bool
+    requires thread { 0 < thread }
+    requires within { thread ≤ graph.old.thread_limit }
+    ensures borrower { IsTrue result → IsBorrower graph.new.funding lend }
+    ensures apart { IsTrue result → ¬ LendReaches graph.new.funding lend thread }
+    ensures unchanged { graph.new ≡ graph.old }
+{
+    match lend {
+        Lend::Nobody => false,
+        Lend::ToThread(server) => {
+            0 < server
+                && server <= graph.threads()
+                && !graph.reaches(Node::Thread(server), Node::Thread(thread))
+        }
+        Lend::ToMutex(mutex) => {
+            0 < mutex
+                && mutex <= graph.mutexes()
+                && !graph.reaches(Node::Mutex(mutex), Node::Thread(thread))
+        }
+    }
+}
+
 impl Kept {
-    fn new(rt: &impl Abort, alloc: Global) -> Result<Self, Fail> {
-        let limits = Limits::new(64, 16, 16, 4, 4, 4, 4, 1000);
+    fn new(rt: &impl Abort, alloc: Global, limits: Option<Limits>) -> Result<Self, Fail> {
         let limits = limits.expect(rt, "limits are not in bounds");
         let graph = Graph::new(alloc, &limits)?;
         let active = Active::new(alloc, &graph)?;
@@ -80,6 +102,40 @@ impl Kept {
         self.active.detach(&self.graph, ends);
     }
 
+    fn lend(&mut self, rt: &impl Abort, thread: u32, lend: Lend) {
+        assert!(rt; 0 < thread && thread <= self.graph.threads());
+        assert!(rt; matches!(self.graph.lend_of(thread), Some(Lend::Nobody)));
+        assert!(rt; may_lend(&mut self.graph, thread, lend));
+        self.graph.lend(thread, lend);
+        self.active.attach(&self.graph, Edge::OfLender(thread));
+    }
+
+    fn unlend(&mut self, thread: u32) {
+        let Some(ends) = ends_of_edge(&self.graph, Edge::OfLender(thread)) else {
+            return;
+        };
+        self.graph.unlend(thread);
+        self.active.detach(&self.graph, ends);
+    }
+
+    fn take_mutex(&mut self, rt: &impl Abort, mutex: u32, owner: u32) {
+        assert!(rt; 0 < mutex && mutex <= self.graph.mutexes());
+        assert!(rt; 0 < owner && owner <= self.graph.threads());
+        assert!(rt; self.graph.owner(mutex).is_none());
+        assert!(rt; !self.graph.reaches(Node::Thread(owner), Node::Mutex(mutex)));
+        self.graph.take_mutex(mutex, owner);
+        self.active.attach(&self.graph, Edge::OfMutex(mutex));
+    }
+
+    fn give_up_mutex(&mut self, rt: &impl Abort, mutex: u32) {
+        assert!(rt; 0 < mutex && mutex <= self.graph.mutexes());
+        let Some(ends) = ends_of_edge(&self.graph, Edge::OfMutex(mutex)) else {
+            return;
+        };
+        self.graph.give_up_mutex(mutex);
+        self.active.detach(&self.graph, ends);
+    }
+
     fn wake(&mut self, rt: &impl Abort, thread: u32) {
         assert!(rt; 0 < thread && thread <= self.graph.threads());
         self.active.wake(&self.graph, thread);
@@ -94,89 +150,332 @@ impl Kept {
         assert!(rt; self.graph.is_currency(currency));
         self.active.active_amount(currency)
     }
+
+    fn is_backed(&self, rt: &impl Abort, thread: u32) -> bool {
+        assert!(rt; 0 < thread && thread <= self.graph.threads());
+        self.active.is_backed(&self.graph, thread)
+    }
+
+    /// How many nodes the last call switched, and of how many it changed the amount alone.
+    fn changed(&self) -> (usize, usize) {
+        (
+            self.active.switched(&self.graph).count(),
+            self.active.adjusted(&self.graph).count(),
+        )
+    }
+
+    /// A ticket that funds.
+    fn funding(&mut self, rt: &impl Abort, currency: u32, amount: u32, target: Target) {
+        let ticket = self.issue(rt, currency, amount);
+        self.fund(rt, ticket, target);
+    }
+
+    fn play(&mut self, rt: &impl Abort, step: Step) {
+        match step {
+            Step::Funding(currency, amount, target) => self.funding(rt, currency, amount, target),
+            Step::Unfund(ticket) => self.unfund(rt, ticket),
+            Step::Lend(thread, lend) => self.lend(rt, thread, lend),
+            Step::Unlend(thread) => self.unlend(thread),
+            Step::Take(mutex, owner) => self.take_mutex(rt, mutex, owner),
+            Step::GiveUp(mutex) => self.give_up_mutex(rt, mutex),
+            Step::Wake(thread) => self.wake(rt, thread),
+            Step::Sleep(thread) => self.sleep(rt, thread),
+            Step::IsAmount(currency, amount) => assert!(rt; self.amount(rt, currency) == amount),
+            Step::IsBacked(thread, is) => assert!(rt; self.is_backed(rt, thread) == is),
+            Step::IsActive(ticket, is) => {
+                assert!(rt; self.active.is_active(&self.graph, ticket) == is);
+            }
+            Step::Changed(switched, adjusted) => {
+                let changed = self.changed();
+                assert!(rt; changed.0 == switched && changed.1 == adjusted);
+            }
+        }
+    }
 }
 
-/// A ticket that funds.
-fn funding(kept: &mut Kept, rt: &impl Abort, currency: u32, amount: u32, target: Target) -> u32 {
-    let ticket = kept.issue(rt, currency, amount);
-    kept.fund(rt, ticket, target);
-    ticket
+/// A step of a row: a change, or what must be so then.
+#[derive(Clone, Copy)]
+enum Step {
+    Funding(u32, u32, Target),
+    Unfund(u32),
+    Lend(u32, Lend),
+    Unlend(u32),
+    Take(u32, u32),
+    GiveUp(u32),
+    Wake(u32),
+    Sleep(u32),
+    IsAmount(u32, u64),
+    IsBacked(u32, bool),
+    IsActive(u32, bool),
+    Changed(usize, usize),
+}
+
+/// Plays a row after so many threads and currencies were made.
+fn play(
+    rt: &impl Abort,
+    alloc: Global,
+    threads: u32,
+    currencies: u32,
+    steps: &[Step],
+) -> Result<(), Fail> {
+    let limits = Limits::new(64, 16, 16, 4, 4, 4, 4, 1000);
+    let mut kept = Kept::new(rt, alloc, limits)?;
+    for _ in 0..threads {
+        kept.add_thread(rt);
+    }
+    for _ in 0..currencies {
+        kept.make_currency(rt);
+    }
+    for step in steps {
+        kept.play(rt, *step);
+    }
+    Ok(())
 }
 
 #[test]
 fn two_levels_all_blocked_one_wakes(rt: HostRuntime) -> Result<(), Fail> {
-    let mut kept = Kept::new(&rt, rt.alloc())?;
-    kept.add_thread(&rt);
-    kept.add_thread(&rt);
-    let outer = kept.make_currency(&rt);
-    let inner = kept.make_currency(&rt);
-    funding(&mut kept, &rt, 0, 1000, Target::Currency(outer));
-    funding(&mut kept, &rt, outer, 200, Target::Currency(inner));
-    funding(&mut kept, &rt, outer, 300, Target::Thread(1));
-    funding(&mut kept, &rt, inner, 7, Target::Thread(2));
-    assert_eq!(rt; kept.amount(&rt, 0), 0);
-    assert_eq!(rt; kept.amount(&rt, outer), 0);
-    kept.wake(&rt, 2);
-    assert_eq!(rt; kept.amount(&rt, inner), 7);
-    assert_eq!(rt; kept.amount(&rt, outer), 200);
-    assert_eq!(rt; kept.amount(&rt, 0), 1000);
-    kept.wake(&rt, 1);
-    assert_eq!(rt; kept.amount(&rt, outer), 500);
-    assert_eq!(rt; kept.amount(&rt, 0), 1000);
-    kept.sleep(&rt, 2);
-    assert_eq!(rt; kept.amount(&rt, inner), 0);
-    assert_eq!(rt; kept.amount(&rt, outer), 300);
-    kept.sleep(&rt, 1);
-    assert_eq!(rt; kept.amount(&rt, outer), 0);
-    assert_eq!(rt; kept.amount(&rt, 0), 0);
-    Ok(())
+    let steps = [
+        Step::Funding(0, 1000, Target::Currency(1)),
+        Step::Funding(1, 200, Target::Currency(2)),
+        Step::Funding(1, 300, Target::Thread(1)),
+        Step::Funding(2, 7, Target::Thread(2)),
+        Step::IsAmount(0, 0),
+        Step::IsAmount(1, 0),
+        Step::Changed(0, 0),
+        Step::Wake(2),
+        Step::Changed(4, 0),
+        Step::IsAmount(2, 7),
+        Step::IsAmount(1, 200),
+        Step::IsAmount(0, 1000),
+        Step::IsActive(3, false),
+        Step::Wake(1),
+        Step::Changed(1, 1),
+        Step::IsAmount(1, 500),
+        Step::IsAmount(0, 1000),
+        Step::Sleep(2),
+        Step::Changed(2, 1),
+        Step::IsAmount(2, 0),
+        Step::IsAmount(1, 300),
+        Step::Sleep(1),
+        Step::Changed(3, 0),
+        Step::IsAmount(1, 0),
+        Step::IsAmount(0, 0),
+    ];
+    play(&rt, rt.alloc(), 2, 2, &steps)
 }
 
 #[test]
 fn diamond(rt: HostRuntime) -> Result<(), Fail> {
-    let mut kept = Kept::new(&rt, rt.alloc())?;
-    kept.add_thread(&rt);
-    let top = kept.make_currency(&rt);
-    let left = kept.make_currency(&rt);
-    let right = kept.make_currency(&rt);
-    let bottom = kept.make_currency(&rt);
-    funding(&mut kept, &rt, 0, 50, Target::Currency(top));
-    funding(&mut kept, &rt, top, 1, Target::Currency(left));
-    funding(&mut kept, &rt, top, 2, Target::Currency(right));
-    funding(&mut kept, &rt, left, 3, Target::Currency(bottom));
-    let cut = funding(&mut kept, &rt, right, 4, Target::Currency(bottom));
-    funding(&mut kept, &rt, bottom, 5, Target::Thread(1));
-    kept.wake(&rt, 1);
-    assert_eq!(rt; kept.amount(&rt, bottom), 5);
-    assert_eq!(rt; kept.amount(&rt, left), 3);
-    assert_eq!(rt; kept.amount(&rt, right), 4);
-    assert_eq!(rt; kept.amount(&rt, top), 3);
-    assert_eq!(rt; kept.amount(&rt, 0), 50);
-    kept.unfund(&rt, cut);
-    assert_eq!(rt; kept.amount(&rt, right), 0);
-    assert_eq!(rt; kept.amount(&rt, top), 1);
-    assert_eq!(rt; kept.amount(&rt, 0), 50);
-    kept.sleep(&rt, 1);
-    assert_eq!(rt; kept.amount(&rt, top), 0);
-    assert_eq!(rt; kept.amount(&rt, 0), 0);
-    Ok(())
+    let steps = [
+        Step::Funding(0, 50, Target::Currency(1)),
+        Step::Funding(1, 1, Target::Currency(2)),
+        Step::Funding(1, 2, Target::Currency(3)),
+        Step::Funding(2, 3, Target::Currency(4)),
+        Step::Funding(3, 4, Target::Currency(4)),
+        Step::Funding(4, 5, Target::Thread(1)),
+        Step::Wake(1),
+        Step::Changed(6, 0),
+        Step::IsAmount(4, 5),
+        Step::IsAmount(2, 3),
+        Step::IsAmount(3, 4),
+        Step::IsAmount(1, 3),
+        Step::IsAmount(0, 50),
+        Step::Unfund(5),
+        Step::Changed(1, 1),
+        Step::IsAmount(3, 0),
+        Step::IsAmount(1, 1),
+        Step::IsAmount(0, 50),
+        Step::Sleep(1),
+        Step::IsAmount(1, 0),
+        Step::IsAmount(0, 0),
+    ];
+    play(&rt, rt.alloc(), 1, 4, &steps)
 }
 
 #[test]
 fn the_last_goes_and_another_comes(rt: HostRuntime) -> Result<(), Fail> {
-    let mut kept = Kept::new(&rt, rt.alloc())?;
+    let steps = [
+        Step::Wake(1),
+        Step::Funding(0, 60, Target::Currency(1)),
+        Step::Funding(1, 10, Target::Thread(1)),
+        Step::IsAmount(1, 10),
+        Step::IsAmount(0, 60),
+        Step::Unfund(2),
+        Step::Changed(2, 0),
+        Step::IsAmount(1, 0),
+        Step::IsAmount(0, 0),
+        Step::Funding(1, 25, Target::Thread(1)),
+        Step::Changed(2, 0),
+        Step::IsAmount(1, 25),
+        Step::IsAmount(0, 60),
+    ];
+    play(&rt, rt.alloc(), 1, 1, &steps)
+}
+
+/// A ticket that is funded while its target is inactive has no part in any amount until the target wakes.
+#[test]
+fn funded_before_it_wakes(rt: HostRuntime) -> Result<(), Fail> {
+    let steps = [
+        Step::Funding(1, 3, Target::Thread(1)),
+        Step::Wake(2),
+        Step::Funding(0, 8, Target::Currency(1)),
+        Step::Funding(1, 5, Target::Thread(2)),
+        Step::IsAmount(1, 5),
+        Step::IsActive(1, false),
+        Step::Wake(1),
+        Step::Changed(1, 1),
+        Step::IsActive(1, true),
+        Step::IsAmount(1, 8),
+        Step::IsAmount(0, 8),
+    ];
+    play(&rt, rt.alloc(), 2, 1, &steps)
+}
+
+/// Two tickets of one currency fund the same thread: both count.
+#[test]
+fn funded_twice(rt: HostRuntime) -> Result<(), Fail> {
+    let steps = [
+        Step::Funding(0, 9, Target::Currency(1)),
+        Step::Funding(1, 3, Target::Thread(1)),
+        Step::Funding(1, 4, Target::Thread(1)),
+        Step::Wake(1),
+        Step::Changed(3, 0),
+        Step::IsAmount(1, 7),
+        Step::Unfund(2),
+        Step::Changed(0, 1),
+        Step::IsAmount(1, 4),
+        Step::Sleep(1),
+        Step::Changed(3, 0),
+        Step::IsAmount(1, 0),
+    ];
+    play(&rt, rt.alloc(), 1, 1, &steps)
+}
+
+/// A client calls a server: what funds the client stays active while the server runs.
+#[test]
+fn a_call(rt: HostRuntime) -> Result<(), Fail> {
+    let steps = [
+        Step::Funding(0, 10, Target::Thread(2)),
+        Step::Wake(2),
+        Step::Sleep(2),
+        Step::Changed(2, 0),
+        Step::Lend(2, Lend::ToThread(1)),
+        Step::Changed(0, 0),
+        Step::IsBacked(2, false),
+        Step::Wake(1),
+        Step::Changed(3, 0),
+        Step::IsBacked(2, true),
+        Step::IsActive(1, true),
+        Step::IsAmount(0, 10),
+        Step::Unlend(2),
+        Step::Changed(2, 0),
+        Step::IsAmount(0, 0),
+        Step::IsBacked(1, true),
+    ];
+    play(&rt, rt.alloc(), 2, 0, &steps)
+}
+
+/// The owner of a mutex blocks on a call: a thread that waits for the mutex stays backed, by the server.
+#[test]
+fn an_owner_calls(rt: HostRuntime) -> Result<(), Fail> {
+    let steps = [
+        Step::Funding(0, 10, Target::Thread(2)),
+        Step::Take(1, 1),
+        Step::Wake(1),
+        Step::Lend(2, Lend::ToMutex(1)),
+        Step::Changed(2, 0),
+        Step::IsBacked(2, true),
+        Step::Wake(3),
+        Step::Lend(1, Lend::ToThread(3)),
+        Step::Changed(0, 1),
+        Step::Sleep(1),
+        Step::Changed(0, 0),
+        Step::IsBacked(1, true),
+        Step::IsBacked(2, true),
+        Step::IsAmount(0, 10),
+        Step::Sleep(3),
+        Step::Changed(5, 0),
+        Step::IsBacked(2, false),
+        Step::IsAmount(0, 0),
+        Step::GiveUp(1),
+        Step::Wake(3),
+        Step::IsBacked(1, true),
+        Step::IsBacked(2, false),
+    ];
+    play(&rt, rt.alloc(), 3, 0, &steps)
+}
+
+/// Each currency funds the next, and the last one a thread.
+fn chain(rt: &impl Abort, kept: &mut Kept) {
+    for last in 0..4096 {
+        let next = kept.make_currency(rt);
+        kept.funding(rt, last, 2, Target::Currency(next));
+    }
+    kept.add_thread(rt);
+    kept.funding(rt, 4096, 3, Target::Thread(1));
+}
+
+#[test]
+fn chain_of_4096_on_and_off(rt: HostRuntime) -> Result<(), Fail> {
+    let limits = Limits::new(65535, 4096, 4096, 256, 256, 64, 256, 1000);
+    let mut kept = Kept::new(&rt, rt.alloc(), limits)?;
+    chain(&rt, &mut kept);
+    for step in [
+        Step::Wake(1),
+        Step::Changed(4098, 0),
+        Step::IsAmount(0, 2),
+        Step::IsAmount(2048, 2),
+        Step::IsAmount(4096, 3),
+        Step::Sleep(1),
+        Step::Changed(4098, 0),
+        Step::IsAmount(0, 0),
+        Step::IsAmount(4096, 0),
+    ] {
+        kept.play(&rt, step);
+    }
+    Ok(())
+}
+
+/// All tickets that there may be, each of the largest amount, fund one thread.
+#[test]
+fn largest_sizes(rt: HostRuntime) -> Result<(), Fail> {
+    let limits = Limits::new(65535, 4096, 4096, 256, 256, 64, 256, 1000);
+    let mut kept = Kept::new(&rt, rt.alloc(), limits)?;
     kept.add_thread(&rt);
-    kept.wake(&rt, 1);
-    let currency = kept.make_currency(&rt);
-    funding(&mut kept, &rt, 0, 60, Target::Currency(currency));
-    let last = funding(&mut kept, &rt, currency, 10, Target::Thread(1));
-    assert_eq!(rt; kept.amount(&rt, currency), 10);
-    assert_eq!(rt; kept.amount(&rt, 0), 60);
-    kept.unfund(&rt, last);
-    assert_eq!(rt; kept.amount(&rt, currency), 0);
-    assert_eq!(rt; kept.amount(&rt, 0), 0);
-    funding(&mut kept, &rt, currency, 25, Target::Thread(1));
-    assert_eq!(rt; kept.amount(&rt, currency), 25);
-    assert_eq!(rt; kept.amount(&rt, 0), 60);
+    for _ in 0..65535 {
+        kept.funding(&rt, 0, u32::MAX, Target::Thread(1));
+    }
+    for step in [
+        Step::Wake(1),
+        Step::Changed(2, 0),
+        Step::IsAmount(0, 281470681677825),
+        Step::Unfund(65535),
+        Step::Changed(0, 1),
+        Step::IsAmount(0, 281466386710530),
+        Step::Sleep(1),
+        Step::IsAmount(0, 0),
+    ] {
+        kept.play(&rt, step);
+    }
+    Ok(())
+}
+
+#[test]
+fn least_sizes(rt: HostRuntime) -> Result<(), Fail> {
+    let mut kept = Kept::new(&rt, rt.alloc(), Limits::new(1, 1, 1, 0, 0, 1, 0, 1))?;
+    kept.add_thread(&rt);
+    kept.make_currency(&rt);
+    for step in [
+        Step::Funding(0, 1, Target::Thread(1)),
+        Step::Wake(1),
+        Step::Changed(2, 0),
+        Step::IsAmount(0, 1),
+        Step::IsAmount(1, 0),
+        Step::Sleep(1),
+        Step::Changed(2, 0),
+        Step::IsAmount(0, 0),
+    ] {
+        kept.play(&rt, step);
+    }
     Ok(())
 }
