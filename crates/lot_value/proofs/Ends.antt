@@ -1,0 +1,22 @@
+-- The ends of an edge.
+use Rattle.std.proofs.Common.{◌≡◌, Some, option_map, ◌∙◌, sym, ap}
+use Rattle.lot_machine.specs.declared.funding.Node.{Node}
+use Rattle.lot_machine.specs.declared.funding.Edge.{Edge}
+use Rattle.lot_machine.specs.Funding.{Funding, ends_of}
+use Rattle.lot_machine.proofs.Tickets.{some-injective}
+use Rattle.lot_active.specs.declared.edge_ends.EdgeEnds.{EdgeEnds}
+use Rattle.lot_active.specs.Fundings.{ends_of_edge, edge_between, counted_amount}
+
+module _ (f : Funding) (edge : Edge) (from to : Node) (at : ends_of f edge ≡ Some (from, to)) where
+  pub edge-there : ends_of_edge f edge ≡ Some (edge_between (counted_amount f edge) from to)
+  edge-there = ap (option_map (λ (ends : Node × Node). edge_between (counted_amount f edge) ends.0 ends.1)) at
+
+  module _ (ends : EdgeEnds) (is : ends_of_edge f edge ≡ Some ends) where
+    same-ends : edge_between (counted_amount f edge) from to ≡ ends
+    same-ends = some-injective (edge_between (counted_amount f edge) from to) ends (sym edge-there ∙ is)
+
+    pub from-is : ends.from ≡ from
+    from-is = ap (λ (e : EdgeEnds). e.from) (sym same-ends)
+
+    pub to-is : ends.to ≡ to
+    to-is = ap (λ (e : EdgeEnds). e.to) (sym same-ends)

@@ -1,0 +1,27 @@
+-- Sums over the edges into a node, some of which were read.
+use Rattle.std.proofs.Common.{◌≡◌, ℕ, ◌+◌, ◌<◌, ◌≤◌, List, [], ◌∷◌, ◌++◌, length, sum_by, ap, sym, ◌∙◌, refl, subst, arith}
+use Rattle.std.proofs.lemmas.List.Sums.{sum_by-cons, sum_by-append}
+use Rattle.lot_machine.specs.declared.funding.Node.{Node}
+use Rattle.lot_machine.specs.declared.funding.Edge.{Edge}
+use Rattle.lot_machine.specs.Funding.{Funding, edge_count_into}
+use Rattle.lot_machine.specs.Equations.{HasEachOnce, LeadsInto, edges_into}
+use Rattle.lot_machine.proofs.EdgesOnce.{into-sums}
+use Rattle.lot_machine.proofs.EdgeSums.{edges-many}
+use Rattle.lot_value.proofs.Listed.{each-done}
+
+pub length-ones : {A : Type 0} (xs : List A) → sum_by (λ x. 1) xs ≡ length xs
+length-ones [] = refl
+length-ones (x ∷ xs) = omega (arith, sum_by-cons (λ y. 1) x xs, length-ones xs)
+
+module _ (f : Funding) (node : Node) (done left : List Edge) (each : HasEachOnce (done ++ left) (LeadsInto f node)) where
+  -- what was read, and the next one, is part of the whole
+  pub next-sum : (g : Edge → ℕ) (rest : List Edge) (edge : Edge) → left ≡ edge ∷ rest → sum_by g done + g edge ≤ sum_by g (edges_into f node)
+  next-sum g rest edge is =
+      omega (arith, into-sums f node g (done ++ left) each, sum_by-append g done left, ap (sum_by g) is, sum_by-cons g edge rest)
+
+  -- all was read
+  pub all-sum : (g : Edge → ℕ) → left ≡ [] → sum_by g done ≡ sum_by g (edges_into f node)
+  all-sum g none = into-sums f node g done (each-done (LeadsInto f node) done left none each)
+
+  pub all-count : left ≡ [] → length done ≡ edge_count_into f node
+  all-count none = sym (length-ones done) ∙ all-sum (λ edge. 1) none ∙ length-ones (edges_into f node) ∙ edges-many f node

@@ -1,0 +1,68 @@
+-- What the edge of a ticket passes on, by what is kept of its activity.
+use Rattle.std.proofs.Common.{◌≡◌, ◌≢◌, ℕ, ◌*◌, ◌/◌, ◌<◌, ◌≤◌, ◌==◌, ◌↔◌, Bool, true, false, Some, None, Option, List, IsTrue, if◌then◌else◌, option_map, unwrap_or, ap, sym, ◌∙◌, refl, subst, arith}
+use Rattle.std.proofs.lemmas.Bool.{eqb-true, eqb-false, ne_eqb}
+use Rattle.lot_machine.specs.declared.ticket.Ticket.{Ticket}
+use Rattle.lot_machine.specs.declared.funding.Node.{Node}
+use Rattle.lot_machine.specs.declared.funding.Node.TheVariants.{Currency}
+use Rattle.lot_machine.specs.declared.funding.Edge.{Edge}
+use Rattle.lot_machine.specs.declared.funding.Edge.TheVariants.{OfTicket, OfLender, OfMutex}
+use Rattle.lot_machine.specs.Funding.{Funding, ticket_at, ends_of}
+use Rattle.lot_machine.specs.Activity.{IsActive, is_active, active_amount}
+use Rattle.lot_machine.specs.Equations.{ticket_share, share, LeadsInto}
+use Rattle.lot_machine.proofs.Tickets.{some-injective}
+use Rattle.lot_machine.proofs.TicketDepth.{is_active-exact}
+use Rattle.lot_machine.proofs.NodeBounds.{issuer-amount}
+use Rattle.lot_graph.specs.Graphs.{LimitedFunding}
+use Rattle.lot_graph.specs.Places.{FitsLimits}
+use Rattle.lot_graph.proofs.EndLemmas.{ticket-ends}
+use Rattle.lot_active.specs.Activity.{Activity}
+use Rattle.lot_active.specs.Fundings.{IsKeptFor}
+
+same-test : (a b : Bool) → (a ≡ true → b ≡ true) → (b ≡ true → a ≡ true) → a ≡ b
+same-test true true to back = refl
+same-test true false to back = sym (to refl)
+same-test false true to back = back refl
+same-test false false to back = refl
+
+-- the test of a ticket's activity says what is kept
+pub active-is : (v : Activity) (w : LimitedFunding) (live : List Bool) (n : ℕ) (t : Ticket) (b : Bool) → IsKeptFor v w live → ticket_at w.funding n ≡ Some t → IsTrue b ↔ IsActive w.funding live n → is_active w.funding live t ≡ b
+active-is v w live n t b kept at says =
+    let exact = is_active-exact w.funding kept.sound.no_cycle kept.sound.funds_there live n t at in
+    same-test (is_active w.funding live t) b (λ yes. says.1 (exact.0 yes)) (λ yes. exact.1 (says.0 yes))
+
+module _ (unit : ℕ) (f : Funding) (live : List Bool) (worth : Node → ℕ) (n : ℕ) (t : Ticket) (at : ticket_at f n ≡ Some t) where
+  share-is : share unit f live worth (OfTicket n) ≡ ticket_share unit f live worth t
+  share-is = ap (λ (o : Option Ticket). unwrap_or (option_map (ticket_share unit f live worth) o) 0) at
+
+  pub share-off : is_active f live t ≡ false → 0 ≡ share unit f live worth (OfTicket n)
+  share-off off = sym (share-is ∙ rw off refl)
+
+  pub share-base : is_active f live t ≡ true → t.issuer ≡ 0 → t.amount * unit ≡ share unit f live worth (OfTicket n)
+  share-base on base = sym (share-is ∙ by (t.issuer == 0) refl)
+    where
+      by : (b : Bool) → (t.issuer == 0) ≡ b → ticket_share unit f live worth t ≡ t.amount * unit
+      by true e = rw (on, e) refl
+      by false e = absurd (eqb-false t.issuer 0 e base)
+
+  pub share-user : is_active f live t ≡ true → t.issuer ≢ 0 → worth (Currency t.issuer) * t.amount / active_amount f live t.issuer ≡ share unit f live worth (OfTicket n)
+  share-user on user = sym (share-is ∙ by (t.issuer == 0) refl)
+    where
+      by : (b : Bool) → (t.issuer == 0) ≡ b → ticket_share unit f live worth t ≡ worth (Currency t.issuer) * t.amount / active_amount f live t.issuer
+      by true e = absurd (user (eqb-true t.issuer 0 e))
+      by false e = rw (on, e) refl
+
+  pub share-amount : is_active f live t ≡ true → t.amount ≤ active_amount f live t.issuer
+  share-amount = issuer-amount f live n t at
+
+-- a ticket's edge that is there has its ticket
+pub edge-ticket : (f : Funding) (n : ℕ) → (to : Node) × LeadsInto f to (OfTicket n) → (t : Ticket) × (ticket_at f n ≡ Some t) × ((to : Node) × (ends_of f (OfTicket n) ≡ Some (Currency t.issuer, to)))
+edge-ticket f n (to, (from, ends)) =
+    let r = ticket-ends f n from to ends in
+    (r.0, r.1, (to, ends ∙ ap (λ x. Some (x, to)) r.2))
+
+-- its issuer is within the limits
+pub ticket-here : (w : LimitedFunding) (n : ℕ) (t : Ticket) → FitsLimits w → (to : Node) × LeadsInto w.funding to (OfTicket n) → ticket_at w.funding n ≡ Some t → t.issuer ≤ w.currency_limit
+ticket-here w n t fits there at =
+    let (u, here, (to, ends)) = edge-ticket w.funding n there in
+    let same : u ≡ t = some-injective u t (sym here ∙ at) in
+    subst (λ (x : Ticket). x.issuer ≤ w.currency_limit) same (fits.from (OfTicket n) (Currency u.issuer) to ends)

@@ -1,0 +1,14 @@
+use Rattle.std.proofs.Common.{◌≡◌, ◌+◌, length}
+use Rattle.lot_lists.specs.NodeLists.{nodes_of, node_at}
+use Rattle.lot_graph.specs.Places.{node_count, layout_of}
+use Rattle.lot_value.specs.Marking.{IsStaleList}
+use Rattle.lot_value.proofs.Spreading.{IsFollowed}
+use Rattle.lot_value.proofs.marking.mark.Given as goal
+
+-- as many of the places that were listed after the old ones were followed as there were iterations
+abbrev pub invariant-loop : goal.invariant-loop
+invariant-loop l = record {
+  list : IsStaleList l.stale (node_count (layout_of l.graph));
+  is_next : l.next ≡ node_at l.stale 0 (length (nodes_of l.fn.stale 0) + l.counter);
+  followed : IsFollowed (layout_of l.graph) l.graph.funding (nodes_of l.fn.stale 0) l.stale l.fn.node l.counter;
+}

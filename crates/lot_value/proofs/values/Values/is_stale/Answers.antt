@@ -1,0 +1,20 @@
+use Rattle.std.proofs.Common.{◌≡◌, ◌∙◌, ◌↔◌, Contains, IsTrue, List, map, ap, sym, subst}
+use Rattle.std.specs.Option.{IsSome}
+use Rattle.lot_lists.specs.NodeLists.{nodes_of}
+use Rattle.lot_machine.specs.declared.funding.Node.{Node}
+use Rattle.lot_graph.specs.Places.{node_of, node_count, node_place, IsNodeWithin}
+use Rattle.lot_value.specs.Caches.{Known, IsStale}
+use Rattle.lot_value.proofs.Listed.{list-within}
+use Rattle.lot_value.proofs.Mapped.{place-mapped}
+use Rattle.lot_value.proofs.Spreading.{list-test}
+use Rattle.lot_value.proofs.values.Values.is_stale.Goals as goal
+
+pub returns : goal.returns
+returns c =
+    let l = c.self.inside.layout in
+    let ps = nodes_of c.self.inside.stale 0 in
+    let node = c.args.node in
+    let within : IsNodeWithin l node = subst (λ (k : Known). IsNodeWithin k.layout node) (sym c.self.view_is) c.requires.node in
+    let test = list-test c.self.inside.stale c.list_of.result c.list_of-2.result c.self.invariant.0.one c.list_of-2.ensures.found c.list_of-2.ensures.free in
+    let mapped = place-mapped l ps node within (list-within c.self.inside.stale (node_count l) c.self.invariant.0) in
+    rw (c.is_some.ensures, ← c.self.view_is) (λ yes. mapped.0 (subst (Contains ps) c.list_of.ensures (test.0 yes)), λ stale. test.1 (subst (Contains ps) (sym c.list_of.ensures) (mapped.1 stale)))

@@ -1,0 +1,16 @@
+use Rattle.std.proofs.Common.{◌≡◌, ◌+◌, ℕ, Bool, List, length}
+use Rattle.lot_active.specs.Fundings.{IsKeptFor}
+use Rattle.lot_value.specs.Counts.{counted_up}
+use Rattle.lot_value.specs.Caches.{IsRight, IsSmall, edges_into_all}
+use Rattle.lot_value.proofs.values.Values.settle.Given as goal
+
+-- what was counted, and with the edges into the nodes that are stale yet it is all of them
+abbrev pub invariant-loop : goal.invariant-loop
+invariant-loop l = record {
+  unit : l.self.unit ≡ l.fn.self.unit;
+  right : (live : List Bool) → IsKeptFor l.active l.graph live → IsRight l.graph live l.fn.self → IsRight l.graph live l.self;
+  counted : (count : ℕ) × (l.meter ≡ record l.fn.meter { ticket_reads = counted_up l.fn.meter.ticket_reads count }) × (count + edges_into_all l.graph.funding l.self.stale ≡ edges_into_all l.graph.funding l.fn.self.stale);
+}
+
+abbrev pub decreases-loop : goal.decreases-loop
+decreases-loop l = length l.self.stale

@@ -1,0 +1,78 @@
+-- What is kept of the values of nodes, and when it is right.
+use Rattle.std.specs.Prelude.{◌≡◌, ℕ, ◌+◌, ◌*◌, ◌^◌, ◌<◌, Bool, List, [], ◌∷◌, Contains, length, slice_get, slice_index, sum_by, Some}
+use Rattle.lot_machine.specs.declared.funding.Node.{Node}
+use Rattle.lot_machine.specs.Funding.{Funding, IsEdge, edge_count_into}
+use Rattle.lot_machine.specs.Activity.{active_amount}
+use Rattle.lot_machine.specs.Equations.{HasEquation, shares_into}
+use Rattle.lot_graph.specs.declared.layout.Layout.{Layout}
+use Rattle.lot_graph.specs.Graphs.{LimitedFunding, IsNodeOf}
+use Rattle.lot_graph.specs.Places.{node_place, node_count, layout_of}
+
+-- how much one of base is worth, where nodes stand, the value that is kept of each node, and the stale nodes
+pub record Known : Type 0 where
+  pub unit : ℕ
+  pub layout : Layout
+  pub values : List ℕ
+  pub stale : List Node
+
+abbrev pub IsStale : Known → Node → Type 0
+IsStale c node = Contains c.stale node
+
+-- no node stands twice among the stale ones
+abbrev pub IsOnce : Known → Type 0
+IsOnce c = (node : Node) (place other : ℕ) → slice_get c.stale place ≡ Some node → slice_get c.stale other ≡ Some node → place ≡ other
+
+-- what these values say that a node is worth
+abbrev pub kept_worth : Layout → List ℕ → Node → ℕ
+kept_worth l values node = slice_index values (node_place l node)
+
+-- the value that is kept of a node
+abbrev pub value_in : Known → Node → ℕ
+value_in c node = kept_worth c.layout c.values node
+
+-- What is known is right for a graph and the live threads but at these nodes: each other node that isn't stale has only
+-- sources that aren't either, and its value is what the edges into it pass on of their values (4.4).
+pub record IsRightBut (w : LimitedFunding) (live : List Bool) (c : Known) (pending : List Node) : Type 0 where
+  pub layout : c.layout ≡ layout_of w
+  pub places : length c.values ≡ node_count c.layout
+  -- edges lead to threads that are there, and never to base; and no other node gets stale
+  pub ends : (from to : Node) → IsEdge w.funding from to → HasEquation w.funding to
+  pub stale : (node : Node) → IsStale c node → HasEquation w.funding node
+  pub sources : (from to : Node) → IsEdge w.funding from to → ¬ IsStale c to → ¬ Contains pending to → ¬ IsStale c from
+  pub values : (node : Node) → IsNodeOf w node → ¬ IsStale c node → ¬ Contains pending node → value_in c node ≡ shares_into c.unit w.funding live (value_in c) node
+
+-- what is known is right for a graph and the live threads
+abbrev pub IsRight : LimitedFunding → List Bool → Known → Type 0
+IsRight w live c = IsRightBut w live c []
+
+-- base's active tickets are worth less than 2 ^ 64, so each node is
+abbrev pub IsSmall : ℕ → LimitedFunding → List Bool → Type 0
+IsSmall unit w live = active_amount w.funding live 0 * unit < 2 ^ 64
+
+-- how many edges lead into these nodes
+abbrev pub edges_into_all : Funding → List Node → ℕ
+edges_into_all f nodes = sum_by (edge_count_into f) nodes
+
+-- one stale node is settled: it alone isn't stale then, and no other value changes
+pub record Settles (old new : Known) (node : Node) : Type 0 where
+  pub unit : new.unit ≡ old.unit
+  pub layout : new.layout ≡ old.layout
+  pub was : IsStale old node
+  pub done : ¬ IsStale new node
+  pub fewer : length new.stale + 1 ≡ length old.stale
+  pub each : (other : Node) → IsStale new other → IsStale old other
+  pub others : (other : Node) → ¬ (other ≡ node) → IsStale old other → IsStale new other
+  pub sums : (f : Node → ℕ) → sum_by f new.stale + f node ≡ sum_by f old.stale
+  pub values : (place : ℕ) → ¬ (place ≡ node_place old.layout node) → slice_index new.values place ≡ slice_index old.values place
+
+-- A node has the same equation in both: it has no other sources in the second, and the same sum whatever they are worth.
+pub record HasSameEquation (unit : ℕ) (before : Funding) (live_before : List Bool) (after : Funding) (live_after : List Bool) (node : Node) : Type 0 where
+  pub sources : (from : Node) → IsEdge after from node → IsEdge before from node
+  pub sums : (worth : Node → ℕ) → shares_into unit after live_after worth node ≡ shares_into unit before live_before worth node
+
+-- the nodes have the same places, and only these have other equations
+pub record DiffersAt (unit : ℕ) (before : LimitedFunding) (live_before : List Bool) (after : LimitedFunding) (live_after : List Bool) (changed : List Node) : Type 0 where
+  pub layout : layout_of after ≡ layout_of before
+  pub ends : (from to : Node) → IsEdge after.funding from to → HasEquation after.funding to
+  pub there : (node : Node) → HasEquation before.funding node → HasEquation after.funding node
+  pub same : (node : Node) → ¬ Contains changed node → HasSameEquation unit before.funding live_before after.funding live_after node

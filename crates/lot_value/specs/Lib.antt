@@ -1,0 +1,5 @@
+-- Values that are kept, in the order to read.
+pub mod Counts
+pub mod Caches
+pub mod Marking
+pub mod Sources

@@ -1,0 +1,14 @@
+//! What currencies, threads and mutexes are worth (4.4), kept for each of them, and computed again only if it is stale.
+//!
+//! `Values::touch` makes a node and all that lies downstream of it stale. `Values::settle` computes the values of the stale
+//! nodes again, in an order along the edges, so that each edge into a stale node is read once, and counts these readings.
+//! Only `Values::new` takes memory.
+#![tactic(auto)]
+
+mod marking;
+mod meter;
+mod settling;
+mod values;
+
+pub use meter::Meter;
+pub use values::Values;

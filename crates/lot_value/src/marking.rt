@@ -1,0 +1,68 @@
+//! How a node gets stale, with all that lies downstream of it.
+ghost use Rattle.std.specs.Prelude.{◌≡◌, ◌<◌, Contains};
+ghost use Rattle.lot_lists.specs.NodeLists.{nodes_of};
+ghost use Rattle.lot_graph.specs.Graphs.{IsNodeOf};
+ghost use Rattle.lot_graph.specs.Places as places;
+ghost use Rattle.lot_graph.specs.Places.{FitsLimits, layout_of};
+ghost use Rattle.lot_value.specs.Marking.{IsStaleList, LeadsToPlace, Spreads, Marks};
+
+use lot_active::ends_of_edge;
+use lot_graph::Graph;
+use lot_lists::Lists;
+use lot_machine::Node;
+
+// The only list of the stale nodes.
+pub(crate) const STALE: usize = 0;
+
+/// Lists a node, and all that it reaches over nodes that aren't listed, at the back.
+pub(crate) fn mark(graph: &Graph, stale: &mut Lists, node: Node)
+    requires list { IsStaleList stale.old (places.node_count (layout_of graph.now)) }
+    requires node { IsNodeOf graph.now node }
+    ensures list { IsStaleList stale.new (places.node_count (layout_of graph.now)) }
+    ensures marks { Marks (layout_of graph.now) graph.now.funding (nodes_of stale.old 0) (nodes_of stale.new 0) node }
+    ensures fits { FitsLimits graph.now }
+{
+    let layout = graph.layout();
+    let place = layout.list_of(node);
+    if stale.list_of(place).is_some() {
+        return;
+    }
+    stale.push_back(STALE, place);
+    let mut next = Some(place);
+    // As many iterations as there are nodes: each follows the next one that was listed.
+    for _ in 0..layout.node_count() {
+        let Some(from) = next else {
+            return;
+        };
+        add_targets(graph, stale, layout.node_of(from));
+        next = stale.next(from);
+    }
+}
+
+/// Lists the nodes that edges lead to from a node, if they aren't listed.
+fn add_targets(graph: &Graph, stale: &mut Lists, from: Node)
+    requires list { IsStaleList stale.old (places.node_count (layout_of graph.now)) }
+    requires node { IsNodeOf graph.now from }
+    ensures list { IsStaleList stale.new (places.node_count (layout_of graph.now)) }
+    ensures spreads { Spreads stale.old stale.new (LeadsToPlace (layout_of graph.now) graph.now.funding from) }
+{
+    let layout = graph.layout();
+    for edge in graph.edges_out_of(from) {
+        let Some(ends) = ends_of_edge(graph, edge) else {
+            unreachable!()
+        };
+        add(stale, layout.list_of(ends.to));
+    }
+}
+
+/// Lists a node at the back, if it isn't listed.
+fn add(stale: &mut Lists, place: usize)
+    requires list { IsStaleList stale.old stale.old.nodes }
+    requires place { place < stale.old.nodes }
+    ensures list { IsStaleList stale.new stale.old.nodes }
+    ensures spreads { Spreads stale.old stale.new (λ x. x ≡ place) }
+{
+    if stale.list_of(place).is_none() {
+        stale.push_back(STALE, place);
+    }
+}

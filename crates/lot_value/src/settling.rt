@@ -1,0 +1,105 @@
+//! How one stale node gets its value.
+ghost use Rattle.std.specs.Prelude.{◌≡◌, ◌^◌, ◌<◌, ℕ, Bool, List, Contains, Some, length};
+ghost use Rattle.std.specs.Bool.{OnTrue, OnFalse};
+ghost use Rattle.lot_lists.specs.NodeLists.{nodes_of};
+ghost use Rattle.lot_machine.specs.declared.funding.Node.{Node as ANode};
+ghost use Rattle.lot_machine.specs.declared.funding.Edge.TheVariants.{OfTicket as OfTicketEdge};
+ghost use Rattle.lot_machine.specs.Funding.{IsEdge, edge_count_into};
+ghost use Rattle.lot_machine.specs.Equations.{LeadsInto, share, shares_into};
+ghost use Rattle.lot_graph.specs.Graphs.{IsNodeOf};
+ghost use Rattle.lot_graph.specs.Places as places;
+ghost use Rattle.lot_graph.specs.Places.{layout_of, node_place};
+ghost use Rattle.lot_active.specs.Fundings.{IsKeptFor};
+ghost use Rattle.lot_value.specs.Counts.{counted_up};
+ghost use Rattle.lot_value.specs.Caches.{kept_worth};
+ghost use Rattle.lot_value.specs.Marking.{IsStaleList, IsReordered, LeadsFromPlace, last_of};
+ghost use Rattle.lot_value.specs.Sources.{AreSources};
+
+use crate::marking::STALE;
+use crate::meter::Meter;
+use lot_active::{Active, ends_of_edge};
+use lot_graph::Graph;
+use lot_lists::Lists;
+use lot_machine::{Edge, Node};
+
+/// What shares are read from: the graph, what is active in it, and the values that are kept.
+#[derive(Clone, Copy)]
+pub(crate) struct Sources<'a> {
+    pub(crate) graph: &'a Graph,
+    pub(crate) active: &'a Active,
+    pub(crate) values: &'a [u64],
+    pub(crate) unit: u32,
+}
+
+/// Moves the stale sources of a node to the back of the list. Answers whether there are any.
+pub(crate) fn raise_sources(graph: &Graph, stale: &mut Lists, node: Node) -> bool
+    requires list { IsStaleList stale.old (places.node_count (layout_of graph.now)) }
+    requires node { IsNodeOf graph.now node }
+    ensures list { IsStaleList stale.new (places.node_count (layout_of graph.now)) }
+    ensures reordered { IsReordered (nodes_of stale.old 0) (nodes_of stale.new 0) }
+    ensures raised { OnTrue result ((place : ℕ) × (last_of stale.new ≡ Some place) × LeadsFromPlace (layout_of graph.now) graph.now.funding place node) }
+    ensures none { OnFalse result ((stale.new ≡ stale.old) × ((from : ANode) → IsEdge graph.now.funding from node → ¬ Contains (nodes_of stale.old 0) (node_place (layout_of graph.now) from))) }
+{
+    let layout = graph.layout();
+    let mut raised = false;
+    for edge in graph.edges_into(node) {
+        let Some(ends) = ends_of_edge(graph, edge) else {
+            unreachable!()
+        };
+        let source = layout.list_of(ends.from);
+        if stale.list_of(source).is_some() {
+            stale.move_to(source, STALE);
+            raised = true;
+        }
+    }
+    raised
+}
+
+/// What the edges into a node pass on together, each of them read once.
+pub(crate) fn read_value(sources: Sources, node: Node, meter: &mut Meter) -> u64
+    requires node { IsNodeOf sources.graph.now node }
+    requires sources { (live : List Bool) × AreSources sources live × (shares_into sources.unit sources.graph.now.funding live (kept_worth (layout_of sources.graph.now) sources.values.now) node < 2 ^ 64) }
+    ensures value { (live : List Bool) → AreSources sources.entry live → result ≡ shares_into sources.entry.unit sources.entry.graph.now.funding live (kept_worth (layout_of sources.entry.graph.now) sources.entry.values.now) node }
+    ensures counted { meter.new ≡ record meter.old { ticket_reads = counted_up meter.old.ticket_reads (edge_count_into sources.entry.graph.now.funding node) } }
+{
+    let mut total = 0;
+    for edge in sources.graph.edges_into(node) {
+        total += read_share(sources, edge, meter);
+    }
+    total
+}
+
+/// The share that an edge passes on, counted. Edges are read for values in no other way.
+pub(crate) fn read_share(sources: Sources, edge: Edge, meter: &mut Meter) -> u64
+    requires edge { (to : ANode) × LeadsInto sources.graph.now.funding to edge }
+    requires sources { (live : List Bool) × AreSources sources live × (share sources.unit sources.graph.now.funding live (kept_worth (layout_of sources.graph.now) sources.values.now) edge < 2 ^ 64) }
+    ensures value { (live : List Bool) → AreSources sources.entry live → result ≡ share sources.entry.unit sources.entry.graph.now.funding live (kept_worth (layout_of sources.entry.graph.now) sources.entry.values.now) edge }
+    ensures counted { meter.new ≡ record meter.old { ticket_reads = counted_up meter.old.ticket_reads 1 } }
+{
+    meter.count_read();
+    let layout = sources.graph.layout();
+    match edge {
+        Edge::OfTicket(ticket) => ticket_share(sources, ticket),
+        Edge::OfLender(thread) => sources.values[layout.list_of(Node::Thread(thread))],
+        Edge::OfMutex(mutex) => sources.values[layout.list_of(Node::Mutex(mutex))],
+    }
+}
+
+/// The share of a ticket that funds something.
+fn ticket_share(sources: Sources, number: u32) -> u64
+    requires edge { (to : ANode) × LeadsInto sources.graph.now.funding to (OfTicketEdge number) }
+    requires sources { (live : List Bool) × AreSources sources live × (share sources.unit sources.graph.now.funding live (kept_worth (layout_of sources.graph.now) sources.values.now) (OfTicketEdge number) < 2 ^ 64) }
+    ensures { (live : List Bool) → AreSources sources.entry live → result ≡ share sources.entry.unit sources.entry.graph.now.funding live (kept_worth (layout_of sources.entry.graph.now) sources.entry.values.now) (OfTicketEdge number) }
+{
+    let Some(ticket) = sources.graph.ticket(number) else {
+        return 0;
+    };
+    if !sources.active.is_active(sources.graph, number) {
+        return 0;
+    }
+    if ticket.issuer == 0 {
+        return u64::from(ticket.amount) * u64::from(sources.unit);
+    }
+    let whole = u128::from(sources.values[ticket.issuer as usize]) * u128::from(ticket.amount);
+    (whole / u128::from(sources.active.active_amount(ticket.issuer))) as u64
+}

@@ -1,0 +1,135 @@
+//! Values that are kept, and those that are stale.
+ghost use Rattle.std.specs.Prelude.{◌≡◌, ◌⊎◌, ◌↔◌, ℕ, Bool, List, [], ◌∷◌, Contains, IfOk, IfSome, IfNone, IsTrue, replicate};
+ghost use Rattle.lot_machine.specs.declared.funding.Node.{Node as ANode};
+ghost use Rattle.lot_machine.specs.declared.funding.Edge.TheVariants.{OfTicket as OfTicketEdge};
+ghost use Rattle.lot_machine.specs.Funding.{IsEdge, edge_count_into};
+ghost use Rattle.lot_machine.specs.Equations.{HasEquation, Reaches};
+ghost use Rattle.lot_machine.specs.Value.{node_value};
+ghost use Rattle.lot_graph.specs.Graphs.{LimitedFunding, IsSound, IsNodeOf};
+ghost use Rattle.lot_graph.specs.Places as places;
+ghost use Rattle.lot_graph.specs.Places.{FitsLimits, IsNodeWithin, layout_of};
+ghost use Rattle.lot_active.specs.Fundings.{IsKeptFor};
+ghost use Rattle.lot_value.specs.Counts.{counted_up};
+ghost use Rattle.lot_value.specs.Caches.{IsStale, IsOnce, IsRight, IsRightBut, IsSmall, Settles, edges_into_all, value_in};
+
+use crate::marking::{STALE, mark};
+use crate::meter::Meter;
+use crate::settling::{Sources, raise_sources, read_value};
+use lot_active::Active;
+use lot_graph::{Graph, Layout};
+use lot_lists::Lists;
+use lot_machine::Node;
+use std::alloc::{AllocError, Global};
+use std::marker::Model;
+
+/// What each currency, thread and mutex is worth, in units of base, as far as it is known: a value for each, and which values are stale.
+#[derive(Drop)]
+pub struct Values {
+    values: Vec<u64>,
+    // One list, of the places of the stale nodes.
+    stale: Lists,
+    layout: Layout,
+    unit: u32,
+}
+
+impl Model for Values {
+    ghost use Rattle.std.specs.Prelude.{◌≡◌, length, map};
+    ghost use Rattle.lot_lists.specs.NodeLists.{nodes_of};
+    ghost use Rattle.lot_graph.specs.Places.{node_count, node_of};
+    ghost use Rattle.lot_value.specs.Caches.{Known};
+    ghost use Rattle.lot_value.specs.Marking.{IsStaleList};
+
+    ghost Value = { Known };
+
+    ghost view = { λ s. record { unit = s.unit; layout = s.layout; values = s.values.items; stale = map (node_of s.layout) (nodes_of s.stale 0) } };
+
+    ghost invariant = { λ s. IsStaleList s.stale (node_count s.layout) × (length s.values.items ≡ node_count s.layout) };
+}
+
+impl Values {
+    /// All nodes that a graph may have, worth nothing, and none of them stale.
+    pub fn new(alloc: Global, graph: &Graph, unit: u32) -> Result<Self, AllocError>
+        ensures { IfOk result (λ made. made ≡ record { unit = unit; layout = layout_of graph.now; values = replicate (places.node_count (layout_of graph.now)) 0; stale = [] }) }
+    {
+        let layout = graph.layout();
+        let nodes = layout.node_count();
+        Ok(Values {
+            values: vec![in alloc; 0; nodes]?,
+            stale: Lists::new(alloc, 1, nodes)?,
+            layout,
+            unit,
+        })
+    }
+
+    /// Whether a node is stale.
+    pub fn is_stale(&self, node: Node) -> bool
+        requires node { IsNodeWithin self.now.layout node }
+        ensures { IsTrue result ↔ IsStale self.now node }
+    {
+        self.stale.list_of(self.layout.list_of(node)).is_some()
+    }
+
+    /// The value that is kept of a node: what the node is worth (4.4), if it isn't stale.
+    pub fn value_of(&self, node: Node) -> u64
+        requires node { IsNodeWithin self.now.layout node }
+        ensures value { result ≡ value_in self.now node }
+        ensures worth { ¬ IsStale self.now node → (w : LimitedFunding) (live : List Bool) → IsSound w.funding → FitsLimits w → IsRight w live self.now → HasEquation w.funding node → result ≡ node_value self.now.unit w.funding live node }
+    {
+        self.values[self.layout.list_of(node)]
+    }
+
+    /// Makes a node and all that it reaches stale. It reads each edge from a node that gets stale once, and nothing for a value.
+    ///
+    /// After a change of the graph, or of who is live, the caller touches each node whose equation has changed.
+    pub fn touch(&mut self, graph: &Graph, node: Node)
+        requires layout { self.old.layout ≡ layout_of graph.now }
+        requires node { IsNodeOf graph.now node }
+        ensures right { (live : List Bool) (others : List ANode) → HasEquation graph.now.funding node → IsRightBut graph.now live self.old (node ∷ others) → IsRightBut graph.now live self.new others }
+        ensures kept { (x : ANode) → IsStale self.old x → IsStale self.new x }
+        ensures only { (x : ANode) → IsStale self.new x → IsStale self.old x ⊎ Reaches graph.now.funding node x }
+        ensures exact { (live : List Bool) → HasEquation graph.now.funding node → IsRightBut graph.now live self.old (node ∷ []) → (x : ANode) → IsStale self.new x ↔ (IsStale self.old x ⊎ Reaches graph.now.funding node x) }
+        ensures others { self.new ≡ record self.old { stale = self.new.stale } }
+    {
+        mark(graph, &mut self.stale, node);
+    }
+
+    /// Computes the values of all stale nodes again, in an order along the edges. Counts each edge into a node that was stale once.
+    pub fn settle(&mut self, graph: &Graph, active: &Active, meter: &mut Meter)
+        requires right { (live : List Bool) × IsKeptFor active.now graph.now live × IsSmall self.old.unit graph.now live × IsRight graph.now live self.old }
+        ensures settled { self.new.stale ≡ [] }
+        ensures right { (live : List Bool) → IsKeptFor active.now graph.now live → IsRight graph.now live self.old → IsRight graph.now live self.new }
+        ensures once { IsOnce self.old }
+        ensures counted { meter.new ≡ record meter.old { ticket_reads = counted_up meter.old.ticket_reads (edges_into_all graph.now.funding self.old.stale) } }
+    {
+        // What every cache keeps is known here: no node is listed twice.
+        let _ = &self.stale;
+        while self.settle_next(graph, active, meter).is_some() {}
+    }
+
+    /// Computes the value of one stale node again, whose sources aren't stale, and answers it; `None` if none is stale. Counts each
+    /// edge into the node.
+    pub fn settle_next(&mut self, graph: &Graph, active: &Active, meter: &mut Meter) -> Option<Node>
+        requires right { (live : List Bool) × IsKeptFor active.now graph.now live × IsSmall self.old.unit graph.now live × IsRight graph.now live self.old }
+        ensures right { (live : List Bool) → IsKeptFor active.now graph.now live → IsRight graph.now live self.old → IsRight graph.now live self.new }
+        ensures node { IfSome result (HasEquation graph.now.funding) }
+        ensures settles { IfSome result (Settles self.old self.new) }
+        ensures counted { IfSome result (λ node. meter.new ≡ record meter.old { ticket_reads = counted_up meter.old.ticket_reads (edge_count_into graph.now.funding node) }) }
+        ensures none { IfNone result ((self.old.stale ≡ []) × (self.new ≡ self.old) × (meter.new ≡ meter.old)) }
+    {
+        while let Some(place) = self.stale.last(STALE) {
+            let node = self.layout.node_of(place);
+            if !raise_sources(graph, &mut self.stale, node) {
+                let sources = Sources {
+                    graph,
+                    active,
+                    values: &self.values,
+                    unit: self.unit,
+                };
+                self.values[place] = read_value(sources, node, meter);
+                self.stale.remove(place);
+                return Some(node);
+            }
+        }
+        None
+    }
+}
