@@ -1,5 +1,5 @@
 -- Lists that are mapped.
-use Rattle.std.proofs.Common.{◌≡◌, ◌↔◌, ℕ, suc, ◌+◌, ◌<◌, List, [], ◌∷◌, Contains, length, map, sum_by, ap, sym, ◌∙◌, refl, subst, arith}
+use Rattle.std.proofs.Common.{◌≡◌, ◌↔◌, ℕ, suc, ◌<◌, List, [], ◌∷◌, Contains, length, map, sum_by, ap, sym, ◌∙◌, refl, subst, arith}
 use Rattle.std.proofs.lemmas.List.Sums.{sum_by-cons}
 use Rattle.lot_machine.proofs.EachOnce.{contains-mapped, mapped-contains}
 use Rattle.lot_machine.specs.declared.funding.Node.{Node}

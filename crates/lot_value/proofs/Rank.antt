@@ -1,6 +1,6 @@
 -- A rank of nodes that rises along each edge, computed from the graph alone.
-use Rattle.std.proofs.Common.{◌≡◌, ℕ, zero, suc, ◌+◌, ◌<◌, ◌≤◌, Option, Some, List, [], ◌∷◌, Contains, length, map, get_or, sum_by, option_map, unwrap_or, ap, sym, ◌∙◌, refl, arith}
-use Rattle.std.proofs.lemmas.List.Sums.{sum_by-cons, get_or-le-sum_by}
+use Rattle.std.proofs.Common.{◌≡◌, ℕ, zero, suc, ◌+◌, ◌<◌, ◌≤◌, Some, List, [], ◌∷◌, Contains, length, map, sum_by, option_map, unwrap_or, ap, sym, ◌∙◌, refl, arith}
+use Rattle.std.proofs.lemmas.List.Sums.{sum_by-cons}
 use Rattle.lot_machine.specs.declared.funding.Node.{Node}
 use Rattle.lot_machine.specs.declared.funding.Node.TheVariants.{Currency}
 use Rattle.lot_machine.specs.declared.funding.Edge.{Edge}

@@ -1,11 +1,11 @@
 -- What is right of values that are kept: what they are worth, and what is right after a touch.
-use Rattle.std.proofs.Common.{◌≡◌, ◌≢◌, ℕ, zero, ◌*◌, ◌<◌, ◌≤◌, ◌^◌, ◌⊎◌, inl, inr, Bool, Some, List, [], ◌∷◌, Contains, length, map, ap, sym, ◌∙◌, refl, subst, arith}
+use Rattle.std.proofs.Common.{◌≡◌, ◌≢◌, ℕ, ◌<◌, ◌^◌, ◌⊎◌, inl, inr, Bool, Some, List, [], ◌∷◌, ◌++◌, Contains, length, map, ap, sym, ◌∙◌, refl, subst, arith}
+use Rattle.std.proofs.lemmas.List.Elements.{Contains-append_left, Contains-append_right}
 use Rattle.lot_machine.specs.declared.funding.Node.{Node}
 use Rattle.lot_machine.specs.declared.funding.Node.TheVariants.{Currency, Thread, Mutex}
 use Rattle.lot_machine.specs.declared.funding.Edge.{Edge}
 use Rattle.lot_machine.specs.declared.funding.Edge.TheVariants.{OfTicket, OfLender, OfMutex}
 use Rattle.lot_machine.specs.Funding.{Funding, IsEdge, ends_of}
-use Rattle.lot_machine.specs.Activity.{active_amount}
 use Rattle.lot_machine.specs.Value.{node_value}
 use Rattle.lot_machine.specs.Equations.{HasEquation, shares_into, Reaches, IsWay}
 use Rattle.lot_machine.proofs.EachOnce.{contains-nothing, contains-mapped, mapped-contains}
@@ -17,10 +17,10 @@ use Rattle.lot_graph.specs.declared.layout.Layout.{Layout}
 use Rattle.lot_graph.specs.Graphs.{LimitedFunding, IsSound, IsNodeOf}
 use Rattle.lot_graph.specs.Places.{node_place, node_of, node_count, IsNodeWithin, FitsIn, FitsLimits, layout_of}
 use Rattle.lot_graph.proofs.SpreadLemmas.{node-back}
-use Rattle.lot_value.specs.Caches.{Known, IsStale, IsRight, IsRightBut, IsSmall, kept_worth, value_in}
+use Rattle.lot_value.specs.Caches.{Known, IsStale, IsRight, IsRightBut, DiffersAt, IsSmall, value_in}
 use Rattle.lot_value.specs.Marking.{LeadsToPlace, Marks, MarksNodes}
 use Rattle.lot_value.proofs.Listed.{contains-cases}
-use Rattle.lot_value.proofs.Nodes.{node-number, contains-or, within-node}
+use Rattle.lot_value.proofs.Nodes.{node-number, contains-or, node-within, within-node}
 
 -- ---- nodes that have an equation
 
@@ -129,3 +129,25 @@ module _ (w : LimitedFunding) (live : List Bool) (old new : Known) (node : Node)
       by : IsStale old x ⊎ Reaches w.funding node x → IsStale new x
       by (inl stale) = marks.kept x stale
       by (inr (way, is)) = closed (touch-right [] right) node way x marks.marked is
+
+-- ---- after a change
+
+-- what is right is right for another graph but where equations have changed
+pub pending-more : (before after : LimitedFunding) (live now : List Bool) (c : Known) (pending changed : List Node) → IsRightBut before live c pending → DiffersAt c.unit before live after now changed → IsRightBut after now c (changed ++ pending)
+pending-more before after live now c pending changed right differs = record {
+  layout = right.layout ∙ sym differs.layout;
+  places = right.places;
+  ends = differs.ends;
+  stale = λ node is. differs.there node (right.stale node is);
+  sources = λ from to edge is off. right.sources from to ((differs.same to (not_changed to off)).sources from edge) is (not_pending to off);
+  values = λ node within is off. right.values node (in_before node within) is (not_pending node off) ∙ sym ((differs.same node (not_changed node off)).sums (value_in c));
+}
+  where
+    not_changed : (x : Node) → ¬ Contains (changed ++ pending) x → ¬ Contains changed x
+    not_changed x off d = off (Contains-append_left changed pending x d)
+
+    not_pending : (x : Node) → ¬ Contains (changed ++ pending) x → ¬ Contains pending x
+    not_pending x off d = off (Contains-append_right changed pending x d)
+
+    in_before : (x : Node) → IsNodeOf after x → IsNodeOf before x
+    in_before x within = within-node before x (subst (λ (l : Layout). IsNodeWithin l x) differs.layout (node-within after x within))

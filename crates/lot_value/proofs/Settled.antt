@@ -1,5 +1,5 @@
 -- The next node to settle, and what is right when it is.
-use Rattle.std.proofs.Common.{◌≡◌, ℕ, zero, suc, ◌+◌, ◌-◌, ◌<◌, ◌⊎◌, inl, inr, Bool, true, false, Option, Some, None, List, [], ◌∷◌, Contains, length, map, slice_get, slice_index, set, get_or, sum_by, ap, sym, ◌∙◌, refl, subst, arith, length-set}
+use Rattle.std.proofs.Common.{◌≡◌, ℕ, zero, suc, ◌+◌, ◌-◌, ◌<◌, ◌⊎◌, inl, inr, Bool, true, Option, Some, None, List, [], ◌∷◌, Contains, length, map, slice_get, slice_index, set, sum_by, ap, sym, ◌∙◌, refl, subst, arith, length-set}
 use Rattle.std.specs.List.{remove}
 use Rattle.std.specs.Option.{IfSome, is_some}
 use Rattle.std.proofs.lemmas.Grind.{get_or-set_at}
@@ -12,7 +12,7 @@ use Rattle.lot_machine.specs.Equations.{shares_into}
 use Rattle.lot_machine.proofs.EachOnce.{contains-nothing, contains-mapped, mapped-contains, contains-at, left-before, still-left}
 use Rattle.lot_machine.proofs.NodeShares.{same-shares}
 use Rattle.lot_graph.specs.declared.layout.Layout.{Layout}
-use Rattle.lot_graph.specs.Graphs.{LimitedFunding, IsSound, IsNodeOf}
+use Rattle.lot_graph.specs.Graphs.{LimitedFunding, IsNodeOf}
 use Rattle.lot_graph.specs.Places.{node_place, node_of, node_count, IsNodeWithin, FitsIn, FitsLimits, layout_of}
 use Rattle.lot_graph.proofs.WalkLemmas.{mapped-at}
 use Rattle.lot_graph.proofs.SpreadLemmas.{same-list, node-back, list-back}

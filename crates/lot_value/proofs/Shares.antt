@@ -1,11 +1,10 @@
 -- What the edge of a ticket passes on, by what is kept of its activity.
-use Rattle.std.proofs.Common.{◌≡◌, ◌≢◌, ℕ, ◌*◌, ◌/◌, ◌<◌, ◌≤◌, ◌==◌, ◌↔◌, Bool, true, false, Some, None, Option, List, IsTrue, if◌then◌else◌, option_map, unwrap_or, ap, sym, ◌∙◌, refl, subst, arith}
-use Rattle.std.proofs.lemmas.Bool.{eqb-true, eqb-false, ne_eqb}
+use Rattle.std.proofs.Common.{◌≡◌, ◌≢◌, ℕ, ◌*◌, ◌/◌, ◌≤◌, ◌==◌, ◌↔◌, Bool, true, false, Some, Option, List, IsTrue, option_map, unwrap_or, ap, sym, ◌∙◌, refl, subst}
+use Rattle.std.proofs.lemmas.Bool.{eqb-true, eqb-false}
 use Rattle.lot_machine.specs.declared.ticket.Ticket.{Ticket}
 use Rattle.lot_machine.specs.declared.funding.Node.{Node}
 use Rattle.lot_machine.specs.declared.funding.Node.TheVariants.{Currency}
-use Rattle.lot_machine.specs.declared.funding.Edge.{Edge}
-use Rattle.lot_machine.specs.declared.funding.Edge.TheVariants.{OfTicket, OfLender, OfMutex}
+use Rattle.lot_machine.specs.declared.funding.Edge.TheVariants.{OfTicket}
 use Rattle.lot_machine.specs.Funding.{Funding, ticket_at, ends_of}
 use Rattle.lot_machine.specs.Activity.{IsActive, is_active, active_amount}
 use Rattle.lot_machine.specs.Equations.{ticket_share, share, LeadsInto}

@@ -6,7 +6,7 @@ use Rattle.std.proofs.lemmas.List.Elements.{Contains-append_left, Contains-appen
 use Rattle.std.proofs.lemmas.Option.{slice_get_within, slice_get-get_or}
 use Rattle.lot_lists.specs.NodeLists.{NodeLists, nodes_of, node_at, IsFree, IsConsistent, with_pushed}
 use Rattle.lot_machine.specs.declared.funding.Node.{Node}
-use Rattle.lot_machine.specs.Funding.{Funding, IsEdge, ends_of}
+use Rattle.lot_machine.specs.Funding.{Funding, ends_of}
 use Rattle.lot_machine.specs.declared.funding.Edge.{Edge}
 use Rattle.lot_machine.specs.Equations.{Reaches, HasEachOnce}
 use Rattle.lot_machine.proofs.Tickets.{some-injective}

@@ -1,5 +1,5 @@
 -- What is kept of the values of nodes, and when it is right.
-use Rattle.std.specs.Prelude.{◌≡◌, ℕ, ◌+◌, ◌*◌, ◌^◌, ◌<◌, Bool, List, [], ◌∷◌, Contains, length, slice_get, slice_index, sum_by, Some}
+use Rattle.std.specs.Prelude.{◌≡◌, ℕ, ◌+◌, ◌*◌, ◌^◌, ◌<◌, Bool, List, [], Contains, length, slice_get, slice_index, sum_by, Some}
 use Rattle.lot_machine.specs.declared.funding.Node.{Node}
 use Rattle.lot_machine.specs.Funding.{Funding, IsEdge, edge_count_into}
 use Rattle.lot_machine.specs.Activity.{active_amount}

@@ -1,12 +1,12 @@
 -- How the list of stale nodes changes within calls; no public clause cites this file.
-use Rattle.std.specs.Prelude.{◌≡◌, ◌⊎◌, ℕ, ◌-◌, ◌<◌, Bool, true, false, Option, Some, Contains, List, length, sum_by, slice_index}
+use Rattle.std.specs.Prelude.{◌≡◌, ◌⊎◌, ℕ, ◌-◌, Bool, true, false, Option, Some, Contains, List, length, sum_by}
 use Rattle.lot_lists.specs.NodeLists.{NodeLists, nodes_of, node_at, IsConsistent}
 use Rattle.lot_machine.specs.declared.funding.Node.{Node}
 use Rattle.lot_machine.specs.declared.funding.Edge.{Edge}
 use Rattle.lot_machine.specs.Funding.{Funding, IsEdge, ends_of}
 use Rattle.lot_machine.specs.Equations.{Reaches}
 use Rattle.lot_graph.specs.declared.layout.Layout.{Layout}
-use Rattle.lot_graph.specs.Places.{node_place, node_of, node_count}
+use Rattle.lot_graph.specs.Places.{node_place, node_of}
 
 -- one list over the places of all nodes
 pub record IsStaleList (v : NodeLists) (count : ℕ) : Type 0 where

@@ -5,9 +5,12 @@
 //! Only `Values::new` takes memory.
 #![tactic(auto)]
 
+pub mod laws;
 mod marking;
 mod meter;
 mod settling;
+#[cfg(test)]
+mod tests;
 mod values;
 
 pub use meter::Meter;

@@ -1,4 +1,4 @@
-use Rattle.std.proofs.Common.{◌≡◌, ◌∙◌, ◌+◌, ◌<◌, Some, ap, sym, arith, length, subst, Contains}
+use Rattle.std.proofs.Common.{◌∙◌, ◌+◌, ◌<◌, Some, ap, sym, arith, length, subst, Contains}
 use Rattle.lot_lists.specs.NodeLists.{nodes_of, node_at, IsFree, with_pushed}
 use Rattle.lot_machine.proofs.EachOnce.{contains-at}
 use Rattle.lot_machine.specs.declared.funding.Node.{Node}

@@ -1,4 +1,4 @@
-use Rattle.std.proofs.Common.{◌≡◌, ◌∙◌, List, arith, ap, sym, subst, Contains, Some}
+use Rattle.std.proofs.Common.{◌∙◌, List, arith, ap, sym, subst, Contains, Some}
 use Rattle.lot_lists.specs.NodeLists.{nodes_of, with_pushed, with_removed}
 use Rattle.lot_machine.specs.declared.funding.Edge.{Edge}
 use Rattle.lot_machine.specs.Equations.{HasEachOnce, LeadsInto}

@@ -1,4 +1,4 @@
-use Rattle.std.proofs.Common.{◌≡◌, ◌∙◌, ap, sym}
+use Rattle.std.proofs.Common.{◌∙◌, ap, sym}
 use Rattle.lot_machine.specs.Equations.{share}
 use Rattle.lot_graph.specs.Places.{layout_of}
 use Rattle.lot_value.specs.Caches.{kept_worth}

@@ -9,7 +9,7 @@ use Rattle.lot_value.specs.declared.meter.Meter.{Meter}
 use Rattle.lot_value.specs.Counts.{counted_up}
 use Rattle.lot_value.proofs.Counting.{counted-more}
 use Rattle.lot_value.proofs.Reading.{next-sum, all-sum, all-count}
-use Rattle.lot_value.proofs.Listed.{each-next, each-here, each-done}
+use Rattle.lot_value.proofs.Listed.{each-next, each-here}
 use Rattle.lot_value.proofs.settling.read_value.Goals as goal
 
 pub loop-edge-init : goal.loop-edge-init

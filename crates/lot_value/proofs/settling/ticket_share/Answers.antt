@@ -1,11 +1,10 @@
-use Rattle.std.proofs.Common.{◌≡◌, ◌∙◌, ◌<◌, ◌*◌, ◌/◌, ◌^◌, ap₂, sym, arith, ℕ, Bool, List}
-use Rattle.lot_machine.specs.declared.funding.Node.TheVariants.{Currency}
+use Rattle.std.proofs.Common.{◌≡◌, ◌∙◌, ◌*◌, ◌/◌, ap₂, sym, arith, ℕ, Bool, List}
 use Rattle.lot_machine.specs.declared.funding.Edge.TheVariants.{OfTicket}
 use Rattle.lot_machine.specs.Equations.{share}
 use Rattle.lot_graph.specs.Places.{layout_of}
 use Rattle.lot_value.specs.Sources.{AreSources}
 use Rattle.lot_value.specs.Caches.{kept_worth}
-use Rattle.lot_value.proofs.Shares.{active-is, share-off, share-base, share-user, share-amount, edge-ticket, ticket-here}
+use Rattle.lot_value.proofs.Shares.{active-is, share-off, share-base, share-user, share-amount, ticket-here}
 use Rattle.lot_value.proofs.settling.ticket_share.Goals as goal
 
 pub returns-then-not-is_active : goal.returns-then-not-is_active

@@ -1,9 +1,7 @@
-use Rattle.std.proofs.Common.{◌≡◌, ◌∙◌, ◌↔◌, Contains, IsTrue, List, map, ap, sym, subst}
-use Rattle.std.specs.Option.{IsSome}
+use Rattle.std.proofs.Common.{Contains, sym, subst}
 use Rattle.lot_lists.specs.NodeLists.{nodes_of}
-use Rattle.lot_machine.specs.declared.funding.Node.{Node}
-use Rattle.lot_graph.specs.Places.{node_of, node_count, node_place, IsNodeWithin}
-use Rattle.lot_value.specs.Caches.{Known, IsStale}
+use Rattle.lot_graph.specs.Places.{node_count, IsNodeWithin}
+use Rattle.lot_value.specs.Caches.{Known}
 use Rattle.lot_value.proofs.Listed.{list-within}
 use Rattle.lot_value.proofs.Mapped.{place-mapped}
 use Rattle.lot_value.proofs.Spreading.{list-test}

@@ -1,5 +1,5 @@
-use Rattle.std.proofs.Common.{◌≡◌, ◌∙◌}
-use Rattle.lot_value.proofs.Settled.{settle-more, settled-unit, settled-shorter, once-mapped}
+use Rattle.std.proofs.Common.{◌∙◌}
+use Rattle.lot_value.proofs.Settled.{settle-more, settled-unit, once-mapped}
 use Rattle.lot_value.proofs.values.Values.settle.Goals as goal
 
 pub loop-preserved : goal.loop-preserved

@@ -1,18 +1,18 @@
-use Rattle.std.proofs.Common.{◌≡◌, ◌∙◌, ◌<◌, ◌-◌, ◌^◌, ◌*◌, ℕ, Bool, List, Some, Contains, length, map, slice_set, ap, sym, subst, refl, arith}
+use Rattle.std.proofs.Common.{◌≡◌, ◌∙◌, ◌<◌, ◌-◌, ◌^◌, ◌*◌, ℕ, List, Contains, length, map, slice_set, ap, sym, subst, refl, arith}
 use Rattle.std.proofs.lemmas.Bool.{OnFalse_at, OnTrue_at}
 use Rattle.lot_lists.specs.NodeLists.{NodeLists, nodes_of, node_at, with_removed}
 use Rattle.lot_machine.specs.declared.funding.Node.{Node}
 use Rattle.lot_machine.specs.Activity.{active_amount}
-use Rattle.lot_machine.specs.Equations.{HasEquation, shares_into}
+use Rattle.lot_machine.specs.Equations.{HasEquation}
 use Rattle.lot_machine.proofs.EachOnce.{contains-at, mapped-contains}
 use Rattle.lot_graph.specs.declared.layout.Layout.{Layout}
-use Rattle.lot_graph.specs.Places.{node_of, node_place, node_count, IsNodeWithin, FitsIn, layout_of}
+use Rattle.lot_graph.specs.Places.{node_of, node_count, IsNodeWithin, FitsIn, layout_of}
 use Rattle.lot_graph.proofs.SpreadLemmas.{list-back}
-use Rattle.lot_value.specs.Caches.{Known, IsRight, Settles, kept_worth, value_in}
+use Rattle.lot_value.specs.Caches.{Known, IsRight, Settles}
 use Rattle.lot_value.specs.Sources.{AreSources}
 use Rattle.lot_value.specs.Marking.{IsStaleList, IsReordered, LeadsFromPlace}
 use Rattle.lot_value.proofs.Listed.{listed-low, reordered-then, reordered-same}
-use Rattle.lot_value.proofs.Mapped.{reordered-mapped, mapped-empty}
+use Rattle.lot_value.proofs.Mapped.{reordered-mapped}
 use Rattle.lot_value.proofs.Nodes.{within-node}
 use Rattle.lot_value.proofs.Rightness.{sources-small}
 use Rattle.lot_value.proofs.Settled.{rank-falls, reordered-right, settle-right, settle-settles, source-fresh, nothing-stale, known-same, fresh-at, shares-at}

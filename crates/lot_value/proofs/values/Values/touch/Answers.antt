@@ -1,10 +1,9 @@
-use Rattle.std.proofs.Common.{◌≡◌, ◌∙◌, List, map, ap, sym, subst, refl}
+use Rattle.std.proofs.Common.{◌∙◌, map, ap, sym, subst, refl}
 use Rattle.lot_lists.specs.NodeLists.{nodes_of}
-use Rattle.lot_machine.specs.declared.funding.Node.{Node}
 use Rattle.lot_graph.specs.declared.layout.Layout.{Layout}
-use Rattle.lot_graph.specs.Places.{node_of, IsNodeWithin, layout_of}
+use Rattle.lot_graph.specs.Places.{node_of, layout_of}
 use Rattle.lot_value.specs.Caches.{Known}
-use Rattle.lot_value.specs.Marking.{Marks, MarksNodes}
+use Rattle.lot_value.specs.Marking.{MarksNodes}
 use Rattle.lot_value.proofs.Nodes.{node-within}
 use Rattle.lot_value.proofs.Rightness.{marks-nodes, touch-right, touch-exact}
 use Rattle.lot_value.proofs.values.Values.touch.Goals as goal

@@ -1,7 +1,7 @@
-use Rattle.std.proofs.Common.{◌≡◌, ◌∙◌, ◌<◌, ap, sym, subst, arith, length, slice_index}
+use Rattle.std.proofs.Common.{◌∙◌, ◌<◌, ap, sym, subst, arith, length, slice_index}
 use Rattle.std.proofs.lemmas.List.{get_or_read}
 use Rattle.lot_graph.specs.declared.layout.Layout.{Layout}
-use Rattle.lot_graph.specs.Places.{node_place, node_count, IsNodeWithin}
+use Rattle.lot_graph.specs.Places.{IsNodeWithin}
 use Rattle.lot_graph.proofs.SpreadLemmas.{list-low}
 use Rattle.lot_value.specs.Caches.{Known, value_in}
 use Rattle.lot_value.proofs.Rightness.{right-worth}
