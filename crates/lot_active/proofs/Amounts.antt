@@ -122,7 +122,7 @@ module _ (l : Layout) (f : Funding) (live awake : List Bool) (fits : FitsIn l f)
   piece : ℕ → ℕ
   piece i = part (places_of_edge l f (edge_at l i)) (leads_to (net_of l f) test i) c
 
-  -- behind the tickets nothing leaves the currency
+  -- after the tickets nothing leaves the currency
   past : (i : ℕ) → length f.tickets ≤ i → piece i ≡ 0
   unfolding piece
   past i high = by (places_of_edge l f (edge_at l i)) refl
@@ -148,7 +148,7 @@ module _ (l : Layout) (f : Funding) (live awake : List Bool) (fits : FitsIn l f)
       by None is = refl
       by (Some a) is = part-off a (leads_to (net_of l f) test i) c (ends-none a is)
 
-  -- a ticket is marked where it is active
+  -- a ticket is marked if and only if it is active
   marked : (n : ℕ) (t : Ticket) (to : Node) → ticket_at f n ≡ Some t → target_node t.target ≡ Some to → test (node_place l to) ≡ is_active f live t
   marked n t to here at =
       let within = fits.to (OfTicket n) (Currency t.issuer) to (ends-ticket f n t to here at) in

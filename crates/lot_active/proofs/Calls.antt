@@ -176,7 +176,7 @@ module _ (less more : Net) (e : ℕ) (a : EdgePlaces) (adds : Adds less more e a
   other-places : (k : ℕ) (b : EdgePlaces) → ¬ (k ≡ e) → less.places k ≡ Some b → more.places k ≡ Some b
   other-places k b off is = adds.others k off ∙ is
 
-  -- where the node that it leads to isn't active, nothing changes
+  -- if the node that it leads to isn't active, nothing changes
   pub attach-none : IsLocal less h.awake h.amounts → on_at h a.to ≡ false → Spreading more a.from true h h
   attach-none local off = record {
     published = on_at h;

@@ -232,7 +232,7 @@ module _ (f : Funding) where
       same (OfLender t) = by t (number-push f.lends Nobody t)
       same (OfMutex m) = refl
 
--- ---- a thread that gets live, or ends to be
+-- ---- a thread that becomes live, or is live no more
 
 pub live-awake : (l : Layout) (live awake : List Bool) (t : ℕ) (b : Bool) → AwakeAre l live awake → IsNodeWithin l (Thread t) → t ≤ length live → node_place l (Thread t) < length awake
     → AwakeAre l (set_number live t b) (slice_set awake (node_place l (Thread t)) b)

@@ -102,7 +102,7 @@ push-relists v w n to low free is = record {
         by (inl before) = before
         by (inr same) = absurd (apart (sym same))
 
--- the same, where it was in another before
+-- the same, if it was in another before
 pub move-relists : (v u w : NodeLists) (n to : ℕ) → to < length v.lists → length u.lists ≡ length v.lists → IsConsistent v → IsListed v n → ((list place : ℕ) → node_at v list place ≡ Some n → u ≡ with_removed v list place) → IsFree u n → w ≡ with_pushed u to n → Relists v w n to
 move-relists v u w n to low lists consistent listed is free pushed = record {
   here = second.here;

@@ -1,4 +1,4 @@
--- Marks and amounts that agree at each node are the definitions', where the graph has no cycle.
+-- Marks and amounts that agree at each node are the definitions', if the graph has no cycle.
 use Rattle.std.proofs.Common.{◌≡◌, ℕ, zero, suc, ◌<◌, ◌≤◌, eqb, nat_lt, Bool, true, false, ◌⊎◌, inl, inr, Some, List, [], ◌∷◌, length, ◌↔◌, ap, sym, ◌∙◌, refl, subst, arith}
 use Rattle.std.specs.List.{IsDistinct, AllByRecursion, list_any}
 use Rattle.std.specs.Bool.{IsTrue}
@@ -10,7 +10,7 @@ use Rattle.lot_active.specs.Nets.{Net, IsNet, HasEdge, IsWay, Reaches, HasNoCycl
 use Rattle.lot_active.specs.Activity.{IsAwake, IsActive, Tells, Activity, IsKept, part, amount_from, leads_to, leads_to_passed, awake_at, amount_at, is_on}
 use Rattle.lot_active.proofs.Sums.{amount-same, sum-found, sum-some, part-here, part-some}
 
--- ---- ways
+-- ---- paths
 
 pub way-then : (g : Net) (from : ℕ) (way : List ℕ) (mid to : ℕ) → IsWay g from way mid → Reaches g mid to → Reaches g from to
 way-then g from [] mid to same more = subst (λ x. Reaches g x to) (sym same) more
@@ -22,7 +22,7 @@ reaches-then g from mid to (way, is) more = way-then g from way mid to is more
 pub places-reaches : (g : Net) (from to : ℕ) → HasEdge g from to → Reaches g from to
 places-reaches g from to places = (to ∷ [], (places, refl))
 
--- a way of one edge or more
+-- a path of one edge or more
 abbrev GoesOn : Net → ℕ → ℕ → Type 0
 GoesOn g from to = (next : ℕ) × HasEdge g from next × Reaches g next to
 
@@ -34,7 +34,7 @@ module _ (g : Net) (net : IsNet g) (no_cycle : HasNoCycle g) where
   later x v [] u step way = tt
   later x v (w ∷ rest) u step (places, others) = (ne_eqb x w (differs x w (step w places)), later x w rest u (λ z more. let on = step w places in (on.0, on.1, reaches-then g on.0 w z on.2 (places-reaches g w z more))) others)
 
-  -- no node comes twice on a way
+  -- no node comes twice on a path
   way-distinct : (v : ℕ) (way : List ℕ) (u : ℕ) → IsWay g v way u → IsDistinct eqb way
   unfolding IsDistinct
   way-distinct v [] u way = tt
@@ -48,7 +48,7 @@ module _ (g : Net) (net : IsNet g) (no_cycle : HasNoCycle g) where
       by next (inl same) = let at = eqb-true q w same in omega (arith, net.to e a is, at, to)
       by next (inr more) = next more
 
-  -- so no way is longer than there are nodes
+  -- so no path is longer than there are nodes
   pub way-short : (v : ℕ) (way : List ℕ) (u : ℕ) → IsWay g v way u → length way ≤ g.nodes
   way-short v way u is = length-le_from_distinct_below way g.nodes (way-distinct v way u is) (way-within v way u is)
 
@@ -93,7 +93,7 @@ module _ (g : Net) (net : IsNet g) (awake : List Bool) (amounts : List ℕ) (loc
       let p = part-some (g.places r.0) (leads_to g (is_on awake amounts) r.0) n r.2 in
       (p.0.to, (r.0, p.0, p.1, p.3, refl), sym (ap (leads_to_passed (is_on awake amounts)) p.1) ∙ p.2)
 
-  -- from a marked node a way leads to an awake one, or ways as long as one likes start
+  -- from a marked node a path leads to an awake one, or paths as long as one likes start
   on-way : (k n : ℕ) → is_on awake amounts n ≡ true → IsActive g awake n ⊎ ((way : List ℕ) × (m : ℕ) × IsWay g n way m × (length way ≡ k))
   on-way zero n on = inr ([], n, refl, refl)
   on-way (suc k) n on = by (λ next is. on-way k next is) (or_cases (awake_at awake n) (nat_lt 0 (amount_at amounts n)) on)

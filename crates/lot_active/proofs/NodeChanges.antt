@@ -86,7 +86,7 @@ module _ (l : Layout) (f : Funding) (live awake : List Bool) (fits : FitsIn l f)
   no-piece edge place gone =
       ap (λ (o : Option EdgePlaces). part o (leads_to_passed test o) place) (ap (option_map (λ (x : Node × Node). let made : EdgePlaces = record { from = node_place l x.0; to = node_place l x.1; amount = counted_amount f edge } in made)) gone)
 
-  -- where only this edge can leave the node, the sum is what it gives
+  -- if only this edge can leave the node, the sum is what it gives
   one-edge : (edge : Edge) (from : Node) → IsNodeWithin l from → IsEdgeWithin l edge → ((other : Edge) (to : Node) → ends_of f other ≡ Some (from, to) → other ≡ edge)
       → amount_from (net_of l f) (leads_to (net_of l f) test) (node_place l from) ≡ piece_at edge (node_place l from)
   unfolding piece_at
@@ -177,7 +177,7 @@ module _ (v : Activity) (w : LimitedFunding) (live : List Bool) (kept : IsKeptFo
   kept-node_amount (Mutex m) within =
       let (test, tells, is) = kept.kept.amounts (node_place (layout_of w) (Mutex m)) in is ∙ own-amount (layout_of w) w.funding live v.awake kept.fits kept.awake kept.sound.no_cycle test tells m within
 
-  -- behind the last place nothing is held
+  -- after the last place nothing is held
   pub past-amount : (place : ℕ) → node_count (layout_of w) ≤ place → amount_of v place ≡ 0
   past-amount place high = get_or_past v.amounts place 0 (let size = kept.kept.amounts_length in omega (arith, size, high))
 
@@ -207,7 +207,7 @@ module _ (l : Layout) (xs : List ℕ) (IsSo : ℕ → Type 0) (Good : Node → T
         each_once.once a.0 place other a.1 (b.1 ∙ ap Some same);
   }
 
--- a way of the net is a path of edges
+-- a path of the net is a path of edges
 pub way-reaches : (l : Layout) (f : Funding) → FitsIn l f → (a b : Node) (x : ℕ) (way : List ℕ) (y : ℕ) → IsNodeWithin l a → IsNodeWithin l b → x ≡ node_place l a → y ≡ node_place l b → IsWay (net_of l f) x way y → Reaches f a b
 way-reaches l f fits a b x [] y in_a in_b x_is y_is same = ([], same-list l a b in_a in_b (sym x_is ∙ same ∙ y_is))
 way-reaches l f fits a b x (next ∷ rest) y in_a in_b x_is y_is (places, others) =
@@ -248,7 +248,7 @@ module _ (old new : Activity) (before now : LimitedFunding) (live after : List B
   was-past : (place : ℕ) → node_count (layout_of now) ≤ place → (mark_of old place ≡ false) × (amount_of old place ≡ 0)
   was-past place = subst (λ (l : Layout). node_count l ≤ place → (mark_of old place ≡ false) × (amount_of old place ≡ 0)) (sym layout) (λ high. (past-mark old before live was place high, past-amount old before live was place high))
 
-  -- the marks differ where the node was switched
+  -- the marks differ if and only if the node was switched
   pub switched-node : (node : Node) → IsNodeWithin (layout_of now) node → ¬ (mark_of new (node_place (layout_of now) node) ≡ mark_of old (node_place (layout_of now) node)) → SwitchesNode before.funding live now.funding after node
   switched-node node within = either-way (mark_of new (node_place (layout_of now) node)) (mark_of old (node_place (layout_of now) node)) (kept-node new now after is node within) (was-node node within)
 

@@ -35,7 +35,7 @@ moved-on : (on : Bool) (x y z : ℕ) → HasMoved on x y → HasMoved on y z →
 moved-on true x y z a b = omega (arith, a, b)
 moved-on false x y z a b = omega (arith, a, b)
 
--- a mark only ever moves one way
+-- a mark only ever moves in one direction
 one-way : (on w : Bool) (x y : ℕ) → HasMoved on x y → ¬ ((w || nat_lt 0 x) ≡ (w || nat_lt 0 y)) → ((w || nat_lt 0 x) ≡ not on) × ((w || nat_lt 0 y) ≡ on)
 one-way on true x y way off = absurd (off refl)
 one-way true false x y way off = elim (cases_lt 0 x) [
@@ -69,7 +69,7 @@ module _ (old new : Held) (n amount : ℕ) (on : Bool) (adjusts : Adjusts old ne
     moves : HasMoved on (held_at old n) (held_at new n)
     moves = subst (HasMoved on (held_at old n)) (sym (adjust-here low)) (moved-strictly on (held_at old n) amount some may)
 
-    -- where the mark changes
+    -- the mark changes
     change : ¬ (on_at old n ≡ on_at new n) → (on_at old n ≡ not on) × (on_at new n ≡ on)
     change off =
         let same : on_at new n ≡ (awake_at old.awake n || nat_lt 0 (held_at new n)) = ap (λ (w : List Bool). awake_at w n || nat_lt 0 (held_at new n)) adjusts.awake in

@@ -10,7 +10,7 @@ use Rattle.lot_graph.specs.Graphs.{HasEachOnce}
 abbrev pub IsAwake : List Bool → ℕ → Type 0
 IsAwake awake n = slice_get awake n ≡ Some true
 
--- A chain of edges, perhaps empty, leads from the node to one that is awake. An edge is active where the node is that it
+-- A chain of edges, perhaps empty, leads from the node to one that is awake. An edge is active if the node is that it
 -- leads to.
 abbrev pub IsActive : Net → List Bool → ℕ → Type 0
 IsActive g awake n = (m : ℕ) × Reaches g n m × IsAwake awake m
@@ -20,7 +20,7 @@ abbrev pub sum_below : ℕ → (ℕ → ℕ) → ℕ
 sum_below zero f = 0
 sum_below (suc m) f = sum_below m f + f m
 
--- what an edge gives to the amount of a node, if it is there and counted: its own where it leaves the node
+-- what an edge gives to the amount of a node, if it is there and counted: its own if it leaves the node
 abbrev pub part : Option EdgePlaces → Bool → ℕ → ℕ
 part None counted n = 0
 part (Some a) counted n = if counted && (a.from == n) then a.amount else 0
@@ -88,7 +88,7 @@ IsSwitched old new n = ¬ (mark_of new n ≡ mark_of old n)
 abbrev pub IsAdjusted : Activity → Activity → ℕ → Type 0
 IsAdjusted old new n = ¬ (amount_of new n ≡ amount_of old n) × (mark_of new n ≡ mark_of old n)
 
--- The lists have just the nodes of which the mark or the amount changed, each once, and a way leads from each to the seed.
+-- The lists have just the nodes of which the mark or the amount changed, each once, and a path leads from each to the seed.
 pub record Changes (g : Net) (seed : ℕ) (old new : Activity) : Type 0 where
   pub switched : HasEachOnce new.switched (IsSwitched old new)
   pub adjusted : HasEachOnce new.adjusted (IsAdjusted old new)

@@ -1,4 +1,4 @@
--- Nodes and edges with amounts, and the ways along them.
+-- Nodes and edges with amounts, and the paths along them.
 use Rattle.std.specs.Prelude.{◌≡◌, ℕ, ◌^◌, ◌<◌, Option, Some, List, [], ◌∷◌}
 use Rattle.lot_active.specs.declared.edge_ends.EdgePlaces.{EdgePlaces}
 
@@ -26,11 +26,11 @@ abbrev pub IsWay : Net → ℕ → List ℕ → ℕ → Type 0
 IsWay g from [] to = from ≡ to
 IsWay g from (next ∷ rest) to = HasEdge g from next × IsWay g next rest to
 
--- a way, perhaps empty, leads from one node to the other
+-- a path, perhaps empty, leads from one node to the other
 abbrev pub Reaches : Net → ℕ → ℕ → Type 0
 Reaches g from to = (way : List ℕ) × IsWay g from way to
 
--- no edge leads to where a way leads back to its start
+-- no edge leads to a node from which a path leads back to the edge's start
 abbrev pub HasNoCycle : Net → Type 0
 HasNoCycle g = (from to : ℕ) → HasEdge g from to → ¬ Reaches g to from
 

@@ -37,7 +37,7 @@ pub record Spreading (g : Net) (seed : ℕ) (on : Bool) (was now : Held) : Type 
   pub adds_up : AddsUp g now counted
   pub follows : (e : ℕ) (a : EdgePlaces) → g.places e ≡ Some a → counted e ≡ published a.to
 
--- on the way over the edges into node x, of which some are done
+-- while the edges into node x are gone over, of which some are done
 pub record Crossing (g : Net) (seed : ℕ) (on : Bool) (was now : Held) (x : ℕ) (done : List ℕ) : Type 0 where
   pub published : ℕ → Bool
   pub counted : ℕ → Bool

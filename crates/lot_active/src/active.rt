@@ -42,7 +42,7 @@ impl Model for Active {
 }
 
 impl Active {
-    /// What is kept for a graph where no thread is live.
+    /// What is kept for a graph in which no thread is live.
     pub fn new(alloc: Global, graph: &Graph) -> Result<Self, AllocError>
         ensures kept { IfOk result (λ made. (live : List Bool) → ((t : ℕ) → ¬ IsLive live t) → IsKeptFor made graph.now live) }
     {
@@ -83,7 +83,7 @@ impl Active {
         self.amount(currency as usize)
     }
 
-    /// A thread gets live.
+    /// A thread becomes live.
     pub fn wake(&mut self, graph: &Graph, thread: u32)
         requires thread { IsThread graph.now.funding thread }
         requires kept { (live : List Bool) × IsKeptFor self.old graph.now live }

@@ -1,7 +1,7 @@
 //! Which tickets and threads are active, and each currency's active amount, kept up to date (4.4).
 //!
-//! A node of the graph is active where a way of edges, perhaps empty, leads from it to a live thread, and an edge where
-//! the node is that it leads to. A change is passed on along the edges into a node, node by node, from a worklist of
+//! A node of the graph is active if a path of edges, perhaps empty, leads from it to a live thread, and an edge is if the
+//! node is that it leads to. A change is passed on along the edges into a node, node by node, from a worklist of
 //! linked lists. So no call but `new` takes memory, and each reads the edges into a node once at most.
 #![tactic(auto)]
 

@@ -1,8 +1,7 @@
-use Rattle.std.proofs.Common.{◌≡◌, ℕ, ◌<◌, ◌^◌, length, sym, subst, ◌∙◌, ap}
+use Rattle.std.proofs.Common.{◌<◌, ◌^◌, length, sym, subst, ◌∙◌, ap}
 use Rattle.std.proofs.lemmas.List.{append-nil}
 use Rattle.lot_machine.specs.declared.funding.Node.{Node}
 use Rattle.lot_machine.specs.declared.funding.Node.TheVariants.{Currency}
-use Rattle.lot_machine.specs.declared.funding.Edge.{Edge}
 use Rattle.lot_graph.specs.Graphs.{LimitedFunding, HasEachOnce, LeadsOutOf}
 use Rattle.lot_graph.specs.Places.{FitsLimits}
 use Rattle.lot_graph.specs.Walks.{funding_edges, own_edges}
