@@ -1,5 +1,5 @@
 -- The ends of an edge.
-use Rattle.std.proofs.Common.{◌≡◌, Some, option_map, ◌∙◌, sym, ap}
+use Rattle.std.proofs.Common.{◌≡◌, Option, Some, None, option_map, ◌∙◌, refl, sym, ap}
 use Rattle.lot_machine.specs.declared.funding.Node.{Node}
 use Rattle.lot_machine.specs.declared.funding.Edge.{Edge}
 use Rattle.lot_machine.specs.Funding.{Funding, ends_of}
@@ -20,3 +20,13 @@ module _ (f : Funding) (edge : Edge) (from to : Node) (at : ends_of f edge ≡ S
 
     pub to-is : ends.to ≡ to
     to-is = ap (λ (e : EdgeEnds). e.to) (sym same-ends)
+
+-- an edge that leads so by its ends is there
+pub there-edge : (f : Funding) (edge : Edge) (ends : EdgeEnds) → ends_of_edge f edge ≡ Some ends → ends_of f edge ≡ Some (ends.from, ends.to)
+there-edge f edge ends is = by (ends_of f edge) refl is
+  where
+    by : (o : Option (Node × Node)) → ends_of f edge ≡ o → option_map (λ (e : Node × Node). edge_between (counted_amount f edge) e.0 e.1) o ≡ Some ends → ends_of f edge ≡ Some (ends.from, ends.to)
+    by None at e = cc
+    by (Some (from, to)) at e =
+        let same = some-injective (edge_between (counted_amount f edge) from to) ends e in
+        at ∙ ap (λ (x : EdgeEnds). Some (x.from, x.to)) same

@@ -9,5 +9,6 @@ pub mod Raising
 pub mod Shares
 pub mod Reading
 pub mod Rightness
+pub mod Differing
 pub mod Rank
 pub mod Settled

@@ -17,7 +17,7 @@ use Rattle.lot_graph.proofs.EndLemmas.{ticket-ends}
 use Rattle.lot_active.specs.Activity.{Activity}
 use Rattle.lot_active.specs.Fundings.{IsKeptFor}
 
-same-test : (a b : Bool) → (a ≡ true → b ≡ true) → (b ≡ true → a ≡ true) → a ≡ b
+pub same-test : (a b : Bool) → (a ≡ true → b ≡ true) → (b ≡ true → a ≡ true) → a ≡ b
 same-test true true to back = refl
 same-test true false to back = sym (to refl)
 same-test false true to back = back refl

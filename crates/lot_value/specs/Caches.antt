@@ -1,12 +1,16 @@
 -- What is kept of the values of nodes, and when it is right.
-use Rattle.std.specs.Prelude.{◌≡◌, ℕ, ◌+◌, ◌*◌, ◌^◌, ◌<◌, Bool, List, [], Contains, length, slice_get, slice_index, sum_by, Some}
+use Rattle.std.specs.Prelude.{◌≡◌, ◌≢◌, ◌⊎◌, ◌↔◌, ℕ, ◌+◌, ◌*◌, ◌^◌, ◌<◌, Bool, List, [], Contains, length, slice_get, slice_index, sum_by, Some}
 use Rattle.lot_machine.specs.declared.funding.Node.{Node}
-use Rattle.lot_machine.specs.Funding.{Funding, IsEdge, edge_count_into}
-use Rattle.lot_machine.specs.Activity.{active_amount}
+use Rattle.lot_machine.specs.declared.funding.Node.TheVariants.{Currency}
+use Rattle.lot_machine.specs.declared.funding.Edge.{Edge}
+use Rattle.lot_machine.specs.declared.funding.Edge.TheVariants.{OfTicket}
+use Rattle.lot_machine.specs.Funding.{Funding, ends_of, IsEdge, edge_count_into}
+use Rattle.lot_machine.specs.Activity.{IsActive, active_amount}
 use Rattle.lot_machine.specs.Equations.{HasEquation, shares_into}
 use Rattle.lot_graph.specs.declared.layout.Layout.{Layout}
 use Rattle.lot_graph.specs.Graphs.{LimitedFunding, IsNodeOf}
 use Rattle.lot_graph.specs.Places.{node_place, node_count, layout_of}
+use Rattle.lot_active.specs.Fundings.{ends_of_edge}
 
 -- how much one of base is worth, where nodes stand, the value that is kept of each node, and the stale nodes
 pub record Known : Type 0 where
@@ -76,3 +80,10 @@ pub record DiffersAt (unit : ℕ) (before : LimitedFunding) (live_before : List 
   pub ends : (from to : Node) → IsEdge after.funding from to → HasEquation after.funding to
   pub there : (node : Node) → HasEquation before.funding node → HasEquation after.funding node
   pub same : (node : Node) → ¬ Contains changed node → HasSameEquation unit before.funding live_before after.funding live_after node
+
+-- A change is covered by these nodes if each edge that it changed leads to one of them, before and after, and so does each
+-- ticket that it made active or not, and each ticket of a user currency whose active amount it changed.
+pub record CoversChange (before : Funding) (live : List Bool) (after : Funding) (now : List Bool) (changed : List Node) : Type 0 where
+  pub edges : (edge : Edge) → (ends_of_edge after edge ≡ ends_of_edge before edge) ⊎ ((from to : Node) → (ends_of before edge ≡ Some (from, to)) ⊎ (ends_of after edge ≡ Some (from, to)) → Contains changed to)
+  pub marks : (n : ℕ) (from to : Node) → ends_of after (OfTicket n) ≡ Some (from, to) → (IsActive before live n ↔ IsActive after now n) ⊎ Contains changed to
+  pub amounts : (c : ℕ) (to : Node) → c ≢ 0 → IsEdge after (Currency c) to → (active_amount after now c ≡ active_amount before live c) ⊎ Contains changed to

@@ -1,0 +1,97 @@
+-- Which equations a change leaves.
+use Rattle.std.proofs.Common.{◌≡◌, ◌≢◌, ℕ, ◌+◌, ◌*◌, ◌/◌, ◌⊎◌, ◌↔◌, inl, inr, Bool, true, false, Option, Some, None, List, Contains, option_map, unwrap_or, ap, sym, ◌∙◌, refl, subst}
+use Rattle.std.proofs.lemmas.Bool.{cases_eq}
+use Rattle.lot_machine.specs.declared.ticket.Ticket.{Ticket}
+use Rattle.lot_machine.specs.declared.funding.Node.{Node}
+use Rattle.lot_machine.specs.declared.funding.Node.TheVariants.{Currency}
+use Rattle.lot_machine.specs.declared.funding.Edge.{Edge}
+use Rattle.lot_machine.specs.declared.funding.Edge.TheVariants.{OfTicket, OfLender, OfMutex}
+use Rattle.lot_machine.specs.Funding.{Funding, ticket_at, ends_of, IsEdge}
+use Rattle.lot_machine.specs.Activity.{IsActive, is_active, active_amount}
+use Rattle.lot_machine.specs.Equations.{LeadsInto, share}
+use Rattle.lot_machine.proofs.Tickets.{some-injective}
+use Rattle.lot_machine.proofs.TicketDepth.{is_active-exact}
+use Rattle.lot_machine.proofs.EdgesOnce.{kept-shares}
+use Rattle.lot_graph.specs.Graphs.{IsSound}
+use Rattle.lot_graph.proofs.EndLemmas.{ticket-ends}
+use Rattle.lot_active.specs.declared.edge_ends.EdgeEnds.{EdgeEnds}
+use Rattle.lot_active.specs.Fundings.{ends_of_edge, edge_between, counted_amount}
+use Rattle.lot_value.specs.Caches.{CoversChange, HasSameEquation}
+use Rattle.lot_value.proofs.Ends.{edge-there, there-edge}
+use Rattle.lot_value.proofs.Nodes.{node-number}
+use Rattle.lot_value.proofs.Shares.{same-test, share-off, share-base, share-user}
+
+module _ (unit : ℕ) (f g : Funding) (live now : List Bool) (changed : List Node) (sound : IsSound f) (sound_now : IsSound g) (covers : CoversChange f live g now changed) (node : Node) (off : ¬ Contains changed node) where
+  -- an edge that leads into the node in one of the fundings is the same in the other
+  same-ends : (edge : Edge) (from : Node) → (ends_of f edge ≡ Some (from, node)) ⊎ (ends_of g edge ≡ Some (from, node)) → ends_of_edge g edge ≡ ends_of_edge f edge
+  same-ends edge from at = by (covers.edges edge)
+    where
+      by : (ends_of_edge g edge ≡ ends_of_edge f edge) ⊎ ((a b : Node) → (ends_of f edge ≡ Some (a, b)) ⊎ (ends_of g edge ≡ Some (a, b)) → Contains changed b) → ends_of_edge g edge ≡ ends_of_edge f edge
+      by (inl same) = same
+      by (inr all) = absurd (off (all from node at))
+
+  to-after : (edge : Edge) (from : Node) → ends_of f edge ≡ Some (from, node) → ends_of g edge ≡ Some (from, node)
+  to-after edge from at = there-edge g edge (edge_between (counted_amount f edge) from node) (same-ends edge from (inl at) ∙ edge-there f edge from node at)
+
+  to-before : (edge : Edge) (from : Node) → ends_of g edge ≡ Some (from, node) → ends_of f edge ≡ Some (from, node)
+  to-before edge from at = there-edge f edge (edge_between (counted_amount g edge) from node) (sym (same-ends edge from (inr at)) ∙ edge-there g edge from node at)
+
+  -- a ticket's edge passes on as much
+  module _ (worth : Node → ℕ) (n : ℕ) (from : Node) (ends : ends_of f (OfTicket n) ≡ Some (from, node)) where
+    module _ (t u : Ticket) (at : ticket_at f n ≡ Some t) (at_now : ticket_at g n ≡ Some u) (issuer : t.issuer ≡ u.issuer) (amount : t.amount ≡ u.amount) (from_is : from ≡ Currency u.issuer) where
+      same-active : is_active f live t ≡ is_active g now u
+      same-active = by (covers.marks n from node (to-after (OfTicket n) from ends))
+        where
+          by : (IsActive f live n ↔ IsActive g now n) ⊎ Contains changed node → is_active f live t ≡ is_active g now u
+          by (inl iff) =
+              let before = is_active-exact f sound.no_cycle sound.funds_there live n t at in
+              let after = is_active-exact g sound_now.no_cycle sound_now.funds_there now n u at_now in
+              same-test (is_active f live t) (is_active g now u) (λ yes. after.1 (iff.0 (before.0 yes))) (λ yes. before.1 (iff.1 (after.0 yes)))
+          by (inr c) = absurd (off c)
+
+      same-amount : u.issuer ≢ 0 → active_amount g now u.issuer ≡ active_amount f live u.issuer
+      same-amount user = by (covers.amounts u.issuer node user (OfTicket n, to-after (OfTicket n) from ends ∙ ap (λ x. Some (x, node)) from_is))
+        where
+          by : (active_amount g now u.issuer ≡ active_amount f live u.issuer) ⊎ Contains changed node → active_amount g now u.issuer ≡ active_amount f live u.issuer
+          by (inl same) = same
+          by (inr c) = absurd (off c)
+
+      same-share : share unit f live worth (OfTicket n) ≡ share unit g now worth (OfTicket n)
+      same-share = by (is_active f live t) refl (cases_eq t.issuer 0)
+        where
+          by : (b : Bool) → is_active f live t ≡ b → (t.issuer ≡ 0) ⊎ (¬ (t.issuer ≡ 0)) → share unit f live worth (OfTicket n) ≡ share unit g now worth (OfTicket n)
+          by false is which = sym (share-off unit f live worth n t at is) ∙ share-off unit g now worth n u at_now (sym same-active ∙ is)
+          by true is (inl base) =
+              sym (share-base unit f live worth n t at is base) ∙ ap (λ a. a * unit) amount ∙ share-base unit g now worth n u at_now (sym same-active ∙ is) (sym issuer ∙ base)
+          by true is (inr user) =
+              let user_now : u.issuer ≢ 0 = λ base. user (issuer ∙ base) in
+              sym (share-user unit f live worth n t at is user)
+              ∙ ap (λ c. worth (Currency c) * t.amount / active_amount f live c) issuer
+              ∙ ap (λ a. worth (Currency u.issuer) * a / active_amount f live u.issuer) amount
+              ∙ ap (λ a. worth (Currency u.issuer) * u.amount / a) (sym (same-amount user_now))
+              ∙ share-user unit g now worth n u at_now (sym same-active ∙ is) user_now
+
+    ticket-share : share unit f live worth (OfTicket n) ≡ share unit g now worth (OfTicket n)
+    ticket-share =
+        let (t, at, t_from, t_to) = ticket-ends f n from node ends in
+        let (u, at_now, u_from, u_to) = ticket-ends g n from node (to-after (OfTicket n) from ends) in
+        let issuer : t.issuer ≡ u.issuer = ap node-number (sym t_from ∙ u_from) in
+        let both : edge_between (counted_amount g (OfTicket n)) from node ≡ edge_between (counted_amount f (OfTicket n)) from node =
+            some-injective (edge_between (counted_amount g (OfTicket n)) from node) (edge_between (counted_amount f (OfTicket n)) from node)
+            (sym (edge-there g (OfTicket n) from node (to-after (OfTicket n) from ends)) ∙ same-ends (OfTicket n) from (inl ends) ∙ edge-there f (OfTicket n) from node ends) in
+        let t_amount : counted_amount f (OfTicket n) ≡ t.amount = ap (λ (o : Option Ticket). unwrap_or (option_map (λ x. x.amount) o) 0) at in
+        let u_amount : counted_amount g (OfTicket n) ≡ u.amount = ap (λ (o : Option Ticket). unwrap_or (option_map (λ x. x.amount) o) 0) at_now in
+        let amount : t.amount ≡ u.amount = sym t_amount ∙ ap (λ (e : EdgeEnds). e.amount) (sym both) ∙ u_amount in
+        same-share t u at at_now issuer amount u_from
+
+  same-shares : (worth : Node → ℕ) (edge : Edge) → LeadsInto f node edge → share unit f live worth edge ≡ share unit g now worth edge
+  same-shares worth (OfTicket n) (from, ends) = ticket-share worth n from ends
+  same-shares worth (OfLender s) into = refl
+  same-shares worth (OfMutex m) into = refl
+
+  -- a node that isn't among those that cover the change has the equation that it had
+  pub same-equation : HasSameEquation unit f live g now node
+  same-equation = record {
+    sources = λ from edge. (edge.0, to-before edge.0 from edge.1);
+    sums = λ worth. sym (kept-shares unit f g live now worth node (λ edge. (λ into. (into.0, to-after edge into.0 into.1), λ into. (into.0, to-before edge into.0 into.1))) (same-shares worth));
+  }
