@@ -13,7 +13,7 @@ use Rattle.lot_machine.specs.Funding.{Funding, target_of, target_node, lend_node
 use Rattle.lot_machine.specs.Lends.{IsLive}
 use Rattle.lot_machine.proofs.Tickets.{at_number-suc}
 use Rattle.lot_graph.specs.Graphs.{LimitedFunding, IsSound, IsMutex, IsTarget, IsFunding, IsLender, IsBorrower}
-use Rattle.lot_graph.specs.Places.{FitsLimits, layout_of}
+use Rattle.lot_graph.specs.Places.{FitsLimits}
 use Rattle.lot_graph.proofs.FieldLemmas.{target-ticket, funding-ticket}
 use Rattle.lot_graph.proofs.EndLemmas.{lender-ends, mutex-ends}
 use Rattle.lot_active.specs.declared.edge_ends.EdgeEnds.{EdgeEnds}

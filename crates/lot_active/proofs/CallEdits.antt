@@ -1,6 +1,5 @@
 -- What the calls of a graph are to what is kept for it.
-use Rattle.std.proofs.Common.{◌≡◌, ◌≢◌, ℕ, ◌≤◌, ◌-◌, ◌⊎◌, inl, inr, ◌↔◌, Bool, true, false, IsTrue, Option, Some, None, List, [], ◌∷◌, ◌++◌, Contains, ap, sym, ◌∙◌, refl, subst, arith, length-set}
-use Rattle.std.proofs.lemmas.Bool.{cases_eq}
+use Rattle.std.proofs.Common.{◌≡◌, ℕ, ◌-◌, ◌⊎◌, inl, inr, Bool, true, false, Option, Some, None, List, [], ◌∷◌, ◌++◌, ap, sym, ◌∙◌, refl, subst, length-set}
 use Rattle.lot_machine.specs.declared.ticket.Ticket.{Ticket}
 use Rattle.lot_machine.specs.declared.ticket.Target.{Target}
 use Rattle.lot_machine.specs.declared.ticket.Target.TheVariants as target
@@ -12,19 +11,16 @@ use Rattle.lot_machine.specs.declared.funding.Lend.{Lend}
 use Rattle.lot_machine.specs.declared.funding.Lend.TheVariants.{Nobody}
 use Rattle.lot_machine.specs.Numbered.{at_number, set_number}
 use Rattle.lot_machine.specs.Funding.{ticket_at, owner_of, target_node, lend_node, with_new_ticket, without_ticket, with_target}
-use Rattle.lot_machine.specs.Lends.{IsLive, IsBacked}
-use Rattle.lot_machine.specs.Activity.{active_amount}
+use Rattle.lot_machine.specs.Lends.{IsLive}
 use Rattle.lot_machine.proofs.Changes.{number-push}
 use Rattle.lot_graph.specs.declared.layout.Layout.{Layout}
-use Rattle.lot_graph.specs.Graphs.{LimitedFunding, IsSound, IsThread, IsMutex}
-use Rattle.lot_graph.specs.Places.{node_place, layout_of, FitsLimits}
+use Rattle.lot_graph.specs.Graphs.{LimitedFunding, IsSound, IsMutex}
+use Rattle.lot_graph.specs.Places.{layout_of, FitsLimits}
 use Rattle.lot_active.specs.declared.edge_ends.EdgeEnds.{EdgeEnds}
 use Rattle.lot_active.specs.Nets.{Net}
-use Rattle.lot_active.specs.Activity.{Activity, IsKept, Adds, Changes, awake_at, amount_of, mark_of}
-use Rattle.lot_active.proofs.Local.{awake-is}
+use Rattle.lot_active.specs.Activity.{Activity, IsKept}
 use Rattle.lot_active.specs.Fundings.{AwakeAre, IsKeptFor, AddsEdge, graph_net, edge_between}
 use Rattle.lot_active.proofs.Edits.{HasMore, fund-adds, unfund-adds, lend-adds, unlend-adds, own-adds, disown-adds, issue-same, destroy-same, thread-same}
-use Rattle.lot_active.proofs.Bridge.{kept-amount, kept-thread}
 
 -- ---- one edge
 

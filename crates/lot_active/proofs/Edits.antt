@@ -25,7 +25,7 @@ use Rattle.lot_active.proofs.Lists.{set-same, set-other}
 use Rattle.lot_active.specs.Activity.{Adds, IsAwake}
 use Rattle.lot_graph.specs.declared.layout.Layout.{Layout}
 use Rattle.lot_graph.specs.Graphs.{LimitedFunding}
-use Rattle.lot_graph.specs.Places.{IsNodeWithin, node_place, edge_place, edge_at, IsEdgeWithin, node_count, edge_count, layout_of, FitsLimits}
+use Rattle.lot_graph.specs.Places.{IsNodeWithin, node_place, edge_place, edge_at, node_count, edge_count, layout_of, FitsLimits}
 use Rattle.lot_active.specs.Fundings.{AwakeAre, AddsEdge, counted_amount, ends_of_edge, places_of_ends, places_of_edge, edge_between, net_of, graph_net}
 use Rattle.lot_graph.proofs.HeadLemmas.{edge-back, place-back}
 use Rattle.lot_graph.proofs.EndLemmas.{pair}

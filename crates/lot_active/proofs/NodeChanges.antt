@@ -1,5 +1,5 @@
 -- What a call changed, by nodes.
-use Rattle.std.proofs.Common.{◌≡◌, ◌≢◌, ℕ, zero, suc, ◌+◌, ◌<◌, ◌≤◌, nat_lt, ◌↔◌, ◌⊎◌, inl, inr, Bool, true, false, ◌||◌, cond, IsTrue, Option, Some, None, List, [], ◌∷◌, Contains, length, map, slice_get, ap, ap₂, sym, ◌∙◌, refl, subst, arith, option_map, option_and_then}
+use Rattle.std.proofs.Common.{◌≡◌, ◌≢◌, ℕ, zero, suc, ◌+◌, ◌<◌, ◌≤◌, nat_lt, ◌↔◌, ◌⊎◌, inl, inr, Bool, true, false, ◌||◌, cond, IsTrue, Option, Some, None, List, [], ◌∷◌, Contains, map, ap, ap₂, sym, ◌∙◌, refl, subst, arith, option_map, option_and_then}
 use Rattle.std.proofs.lemmas.Bool.{cases_lt}
 use Rattle.std.proofs.lemmas.List.{get_or_past}
 use Rattle.lot_machine.specs.declared.funding.Node.{Node}
@@ -10,7 +10,7 @@ use Rattle.lot_machine.specs.declared.funding.Lend.{Lend}
 use Rattle.lot_machine.specs.declared.funding.Lend.TheVariants.{Nobody, ToThread, ToMutex}
 use Rattle.lot_machine.specs.Numbered.{at_number, option_any}
 use Rattle.lot_machine.specs.Funding.{Funding, owner_of, lend_node, ends_of}
-use Rattle.lot_machine.specs.Lends.{borrower, borrower_of, IsBacked, is_backed}
+use Rattle.lot_machine.specs.Lends.{borrower, is_backed}
 use Rattle.lot_machine.specs.Activity.{active_amount}
 use Rattle.lot_machine.specs.Facts as facts
 use Rattle.lot_machine.proofs.LendDepth.{is_backed-exact}
@@ -25,7 +25,7 @@ use Rattle.lot_graph.proofs.EndLemmas.{ticket-ends, lender-ends, mutex-ends, end
 use Rattle.lot_graph.proofs.WalkLemmas.{mapped-at}
 use Rattle.lot_active.specs.declared.edge_ends.EdgePlaces.{EdgePlaces}
 use Rattle.lot_active.specs.Nets.{IsWay}
-use Rattle.lot_active.specs.Activity.{Activity, Tells, Changes, sum_below, part, amount_from, leads_to, leads_to_passed, awake_at, amount_at, amount_of, mark_of, is_on}
+use Rattle.lot_active.specs.Activity.{Activity, Tells, Changes, sum_below, part, amount_from, leads_to, leads_to_passed, awake_at, amount_of, mark_of}
 use Rattle.lot_active.specs.Fundings.{AwakeAre, IsKeptFor, counted_amount, places_of_edge, net_of, graph_net}
 use Rattle.lot_active.specs.Changes.{IsActiveNode, node_amount, SwitchesNode, AdjustsNode, switched_nodes, adjusted_nodes, ChangesNodes}
 use Rattle.lot_active.proofs.Local.{awake-is}

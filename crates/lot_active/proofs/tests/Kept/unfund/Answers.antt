@@ -1,4 +1,4 @@
-use Rattle.std.proofs.Common.{◌≡◌, Some, length, ap, sym, ◌∙◌, rules}
+use Rattle.std.proofs.Common.{length, ap, sym, ◌∙◌, rules}
 use Rattle.lot_machine.specs.declared.funding.Edge.TheVariants.{OfTicket}
 use Rattle.lot_graph.specs.Graphs.{LimitedFunding, IsFunding}
 use Rattle.lot_active.proofs.BothLemmas.{unfund-ends}
