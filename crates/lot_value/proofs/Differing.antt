@@ -1,5 +1,5 @@
 -- Which equations a change leaves.
-use Rattle.std.proofs.Common.{◌≡◌, ◌≢◌, ℕ, ◌+◌, ◌*◌, ◌/◌, ◌⊎◌, ◌↔◌, inl, inr, Bool, true, false, Option, Some, None, List, Contains, option_map, unwrap_or, ap, sym, ◌∙◌, refl, subst}
+use Rattle.std.proofs.Common.{◌≡◌, ◌≢◌, ℕ, ◌+◌, ◌*◌, ◌/◌, ◌⊎◌, ◌↔◌, inl, inr, IsTrue, Bool, true, false, Option, Some, None, List, Contains, option_map, unwrap_or, ap, sym, ◌∙◌, refl, subst}
 use Rattle.std.proofs.lemmas.Bool.{cases_eq}
 use Rattle.lot_machine.specs.declared.ticket.Ticket.{Ticket}
 use Rattle.lot_machine.specs.declared.funding.Node.{Node}
@@ -8,17 +8,24 @@ use Rattle.lot_machine.specs.declared.funding.Edge.{Edge}
 use Rattle.lot_machine.specs.declared.funding.Edge.TheVariants.{OfTicket, OfLender, OfMutex}
 use Rattle.lot_machine.specs.Funding.{Funding, ticket_at, ends_of, IsEdge}
 use Rattle.lot_machine.specs.Activity.{IsActive, is_active, active_amount}
-use Rattle.lot_machine.specs.Equations.{LeadsInto, share}
+use Rattle.lot_machine.specs.Equations.{HasEquation, LeadsInto, share}
 use Rattle.lot_machine.proofs.Tickets.{some-injective}
 use Rattle.lot_machine.proofs.TicketDepth.{is_active-exact}
 use Rattle.lot_machine.proofs.EdgesOnce.{kept-shares}
-use Rattle.lot_graph.specs.Graphs.{IsSound}
+use Rattle.lot_graph.specs.declared.layout.Layout.{Layout}
+use Rattle.lot_graph.specs.Graphs.{LimitedFunding, IsSound, IsNodeOf}
+use Rattle.lot_graph.specs.Places.{node_place, IsNodeWithin, layout_of}
 use Rattle.lot_graph.proofs.EndLemmas.{ticket-ends}
 use Rattle.lot_active.specs.declared.edge_ends.EdgeEnds.{EdgeEnds}
-use Rattle.lot_active.specs.Fundings.{ends_of_edge, edge_between, counted_amount}
-use Rattle.lot_value.specs.Caches.{CoversChange, HasSameEquation}
+use Rattle.lot_active.specs.Activity.{Activity, mark_of}
+use Rattle.lot_active.specs.Changes.{IsActiveNode, ChangesNodes, switched_nodes, adjusted_nodes}
+use Rattle.lot_active.specs.Fundings.{IsKeptFor, ends_of_edge, edge_between, counted_amount}
+use Rattle.lot_active.proofs.NodeChanges.{kept-node}
+use Rattle.lot_active.proofs.Ways.{ticket-active, active-ticket}
+use Rattle.lot_value.specs.Caches.{CoversChange, TouchesListed, HasSameEquation}
 use Rattle.lot_value.proofs.Ends.{edge-there, there-edge}
-use Rattle.lot_value.proofs.Nodes.{node-number}
+use Rattle.lot_value.proofs.Nodes.{node-number, contains-or, node-within, within-node}
+use Rattle.lot_value.proofs.Rightness.{has-not-base}
 use Rattle.lot_value.proofs.Shares.{same-test, share-off, share-base, share-user}
 
 module _ (unit : ℕ) (f g : Funding) (live now : List Bool) (changed : List Node) (sound : IsSound f) (sound_now : IsSound g) (covers : CoversChange f live g now changed) (node : Node) (off : ¬ Contains changed node) where
@@ -77,8 +84,8 @@ module _ (unit : ℕ) (f g : Funding) (live now : List Bool) (changed : List Nod
         let (u, at_now, u_from, u_to) = ticket-ends g n from node (to-after (OfTicket n) from ends) in
         let issuer : t.issuer ≡ u.issuer = ap node-number (sym t_from ∙ u_from) in
         let both : edge_between (counted_amount g (OfTicket n)) from node ≡ edge_between (counted_amount f (OfTicket n)) from node =
-            some-injective (edge_between (counted_amount g (OfTicket n)) from node) (edge_between (counted_amount f (OfTicket n)) from node)
-            (sym (edge-there g (OfTicket n) from node (to-after (OfTicket n) from ends)) ∙ same-ends (OfTicket n) from (inl ends) ∙ edge-there f (OfTicket n) from node ends) in
+        some-injective (edge_between (counted_amount g (OfTicket n)) from node) (edge_between (counted_amount f (OfTicket n)) from node)
+        (sym (edge-there g (OfTicket n) from node (to-after (OfTicket n) from ends)) ∙ same-ends (OfTicket n) from (inl ends) ∙ edge-there f (OfTicket n) from node ends) in
         let t_amount : counted_amount f (OfTicket n) ≡ t.amount = ap (λ (o : Option Ticket). unwrap_or (option_map (λ x. x.amount) o) 0) at in
         let u_amount : counted_amount g (OfTicket n) ≡ u.amount = ap (λ (o : Option Ticket). unwrap_or (option_map (λ x. x.amount) o) 0) at_now in
         let amount : t.amount ≡ u.amount = sym t_amount ∙ ap (λ (e : EdgeEnds). e.amount) (sym both) ∙ u_amount in
@@ -95,3 +102,58 @@ module _ (unit : ℕ) (f g : Funding) (live now : List Bool) (changed : List Nod
     sources = λ from edge. (edge.0, to-before edge.0 from edge.1);
     sums = λ worth. sym (kept-shares unit f g live now worth node (λ edge. (λ into. (into.0, to-after edge into.0 into.1), λ into. (into.0, to-before edge into.0 into.1))) (same-shares worth));
   }
+
+-- ---- what the activity lists covers the change
+
+module _ (old new : Activity) (before after : LimitedFunding) (live now : List Bool) (begun : Node) (changed : List Node) (layout : layout_of after ≡ layout_of before) (was : IsKeptFor old before live) (is : IsKeptFor new after now) (changes : ChangesNodes before live after now begun new)
+    (has : (from to : Node) → IsEdge after.funding from to → HasEquation after.funding to) (touches : TouchesListed after new changed)
+    (edges : (edge : Edge) → (ends_of_edge after.funding edge ≡ ends_of_edge before.funding edge) ⊎ ((from to : Node) → (ends_of before.funding edge ≡ Some (from, to)) ⊎ (ends_of after.funding edge ≡ Some (from, to)) → Contains changed to)) where
+  -- a node that isn't listed as switched is active if and only if it was
+  same-node : (node : Node) → IsNodeOf after node → ¬ Contains (switched_nodes after new) node → IsActiveNode before.funding live node ↔ IsActiveNode after.funding now node
+  same-node node here none =
+      let within = node-within after node here in
+      let within_before = subst (λ (l : Layout). IsNodeWithin l node) layout within in
+      by (mark_of old (node_place (layout_of before) node)) (mark_of new (node_place (layout_of after) node)) (kept-node old before live was node within_before) (kept-node new after now is node within)
+    where
+      by : (a b : Bool) → IsTrue a ↔ IsActiveNode before.funding live node → IsTrue b ↔ IsActiveNode after.funding now node → IsActiveNode before.funding live node ↔ IsActiveNode after.funding now node
+      by true true first second = (λ _. second.0 refl, λ _. first.0 refl)
+      by false false first second = (λ on. let no : false ≡ true = first.1 on in cc, λ on. let no : false ≡ true = second.1 on in cc)
+      by true false first second = absurd (none (changes.switched.all node (here, inr (first.0 refl, λ on. let no : false ≡ true = second.1 on in cc))))
+      by false true first second = absurd (none (changes.switched.all node (here, inl (second.0 refl, λ on. let no : false ≡ true = first.1 on in cc))))
+
+  marks : (n : ℕ) (from to : Node) → ends_of after.funding (OfTicket n) ≡ Some (from, to) → (IsActive before.funding live n ↔ IsActive after.funding now n) ⊎ Contains changed to
+  marks n from to at = by (contains-or (switched_nodes after new) to) (edges (OfTicket n))
+    where
+      same : ends_of_edge after.funding (OfTicket n) ≡ ends_of_edge before.funding (OfTicket n) → ¬ Contains (switched_nodes after new) to → IsActive before.funding live n ↔ IsActive after.funding now n
+      same alike none =
+          let at_before = there-edge before.funding (OfTicket n) (edge_between (counted_amount after.funding (OfTicket n)) from to) (sym alike ∙ edge-there after.funding (OfTicket n) from to at) in
+          let (t, t_at, t_from, t_to) = ticket-ends before.funding n from to at_before in
+          let (u, u_at, u_from, u_to) = ticket-ends after.funding n from to at in
+          let iff = same-node to (within-node after to (is.fits.to (OfTicket n) from to at)) none in (
+            λ on. ticket-active after.funding now n u to u_at u_to (iff.0 (active-ticket before.funding live n t to t_at t_to on)),
+            λ on. ticket-active before.funding live n t to t_at t_to (iff.1 (active-ticket after.funding now n u to u_at u_to on)),
+          )
+
+      by : Contains (switched_nodes after new) to ⊎ (¬ Contains (switched_nodes after new) to)
+          → (ends_of_edge after.funding (OfTicket n) ≡ ends_of_edge before.funding (OfTicket n)) ⊎ ((a b : Node) → (ends_of before.funding (OfTicket n) ≡ Some (a, b)) ⊎ (ends_of after.funding (OfTicket n) ≡ Some (a, b)) → Contains changed b)
+          → (IsActive before.funding live n ↔ IsActive after.funding now n) ⊎ Contains changed to
+      by (inl c) which = inr (touches.switched to c (has-not-base after.funding to (has from to (OfTicket n, at))))
+      by (inr none) (inl alike) = inl (same alike none)
+      by (inr none) (inr all) = inr (all from to (inr at))
+
+  amounts : (c : ℕ) (to : Node) → c ≢ 0 → IsEdge after.funding (Currency c) to → (active_amount after.funding now c ≡ active_amount before.funding live c) ⊎ Contains changed to
+  amounts c to user edge = by (contains-or (switched_nodes after new) (Currency c)) (contains-or (adjusted_nodes after new) (Currency c)) (cases_eq (active_amount after.funding now c) (active_amount before.funding live c))
+    where
+      by : Contains (switched_nodes after new) (Currency c) ⊎ (¬ Contains (switched_nodes after new) (Currency c)) → Contains (adjusted_nodes after new) (Currency c) ⊎ (¬ Contains (adjusted_nodes after new) (Currency c))
+          → (active_amount after.funding now c ≡ active_amount before.funding live c) ⊎ (¬ (active_amount after.funding now c ≡ active_amount before.funding live c))
+          → (active_amount after.funding now c ≡ active_amount before.funding live c) ⊎ Contains changed to
+      by (inl d) other which = inr (touches.targets c to user (inl d) edge)
+      by (inr none) (inl d) which = inr (touches.targets c to user (inr d) edge)
+      by (inr none) (inr neither) (inl same) = inl same
+      by (inr none) (inr neither) (inr differs) =
+          let here : IsNodeOf after (Currency c) = is.fits.from edge.0 (Currency c) to edge.1 in
+          let iff = same-node (Currency c) here none in
+          absurd (neither (changes.adjusted.all (Currency c) (here, (differs, (iff.1, iff.0)))))
+
+  pub covers-change : CoversChange before.funding live after.funding now changed
+  covers-change = record { edges = edges; marks = marks; amounts = amounts }

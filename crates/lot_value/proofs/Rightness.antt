@@ -33,7 +33,7 @@ source-has f from to (edge, is) differs = by edge is
     by (OfLender s) at = let r = ends-are f (OfLender s) from to at in subst (HasEquation f) (sym r.2) (number-within f.lends s r.0 r.1)
     by (OfMutex m) at = let r = ends-are f (OfMutex m) from to at in subst (HasEquation f) (sym r.2) tt
 
-has-not-base : (f : Funding) (node : Node) → HasEquation f node → node ≢ Currency 0
+pub has-not-base : (f : Funding) (node : Node) → HasEquation f node → node ≢ Currency 0
 has-not-base f (Currency c) user same = user (ap node-number same)
 has-not-base f (Thread t) there same = cc
 has-not-base f (Mutex m) there same = cc

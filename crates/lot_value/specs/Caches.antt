@@ -10,6 +10,8 @@ use Rattle.lot_machine.specs.Equations.{HasEquation, shares_into}
 use Rattle.lot_graph.specs.declared.layout.Layout.{Layout}
 use Rattle.lot_graph.specs.Graphs.{LimitedFunding, IsNodeOf}
 use Rattle.lot_graph.specs.Places.{node_place, node_count, layout_of}
+use Rattle.lot_active.specs.Activity.{Activity}
+use Rattle.lot_active.specs.Changes.{switched_nodes, adjusted_nodes}
 use Rattle.lot_active.specs.Fundings.{ends_of_edge}
 
 -- how much one of base is worth, where nodes stand, the value that is kept of each node, and the stale nodes
@@ -87,3 +89,9 @@ pub record CoversChange (before : Funding) (live : List Bool) (after : Funding) 
   pub edges : (edge : Edge) → (ends_of_edge after edge ≡ ends_of_edge before edge) ⊎ ((from to : Node) → (ends_of before edge ≡ Some (from, to)) ⊎ (ends_of after edge ≡ Some (from, to)) → Contains changed to)
   pub marks : (n : ℕ) (from to : Node) → ends_of after (OfTicket n) ≡ Some (from, to) → (IsActive before live n ↔ IsActive after now n) ⊎ Contains changed to
   pub amounts : (c : ℕ) (to : Node) → c ≢ 0 → IsEdge after (Currency c) to → (active_amount after now c ≡ active_amount before live c) ⊎ Contains changed to
+
+-- Among these nodes is each one but base that a call switched, and each one that a ticket of a user currency funds whose active
+-- amount the call changed.
+pub record TouchesListed (w : LimitedFunding) (v : Activity) (changed : List Node) : Type 0 where
+  pub switched : (node : Node) → Contains (switched_nodes w v) node → node ≢ Currency 0 → Contains changed node
+  pub targets : (c : ℕ) (to : Node) → c ≢ 0 → Contains (switched_nodes w v) (Currency c) ⊎ Contains (adjusted_nodes w v) (Currency c) → IsEdge w.funding (Currency c) to → Contains changed to
