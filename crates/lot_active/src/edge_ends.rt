@@ -42,6 +42,7 @@ pub fn ends_of_edge(graph: &Graph, edge: Edge) -> Option<EdgeEnds>
     ensures sound { IsSound graph.now.funding }
     ensures fits { FitsLimits graph.now }
 {
+    // Not every call below says that the graph is sound and fits its limits; this one does.
     let _layout = graph.layout();
     match edge {
         Edge::OfTicket(number) => {
