@@ -1,6 +1,7 @@
 //! The lines of turns.
 ghost use Rattle.std.specs.Prelude.{◌≡◌, ◌≤◌, ◌+◌, ◌++◌, codes, false, length};
 ghost use Rattle.std.specs.Fmt.{decimal};
+ghost use Rattle.lot_machine.specs.Texts as texts;
 ghost use Rattle.lot_machine.specs.Texts.{delivered_text, drawn_text, ends_text, newline, plain_text, refused, trap_text, trap_text_of};
 ghost use Rattle.lot_print.specs.Writing.{Writes};
 
@@ -9,7 +10,7 @@ use crate::line::Line;
 use crate::refused::{
     push_refused, refusal_code, refusal_name, trap_refusal_code, trap_refusal_name,
 };
-use lot_machine::{Action, Event, Outcome, Reply};
+use lot_machine::{Action, Event, Outcome, Refusal, Reply};
 use lot_text::Watched;
 use std::io::Write;
 
@@ -78,11 +79,17 @@ fn push_reply(line: &mut Line, event: &Event, reply: Reply)
             push_ran(line, thread, ticks);
             push_trap_of(line, event, outcome, ends);
         }
-        Reply::Refused(why) => {
-            push_refused(line, refusal_code(why), refusal_name(why));
-            line.push_text("\n");
-        }
+        Reply::Refused(why) => push_refusal(line, why),
     }
+}
+
+/// Puts why the event was refused, and the line's end.
+fn push_refusal(line: &mut Line, why: Refusal)
+    requires { length line.old ≤ 11 }
+    ensures { line.new ≡ line.old ++ (refused (texts.refusal_code why) (texts.refusal_name why) ++ newline) }
+{
+    push_refused(line, refusal_code(why), refusal_name(why));
+    line.push_text("\n");
 }
 
 /// Puts the word and the number of what was made, and the line's end.
