@@ -1,10 +1,6 @@
-use Rattle.std.proofs.Common.{◌≡◌, Err, length, refl, rules, ap, ◌∙◌, subst}
-use Rattle.lot_machine.specs.Report.{turns_made, whole_total}
-use Rattle.lot_print.specs.Totals.{total_line}
-use Rattle.lot_print.specs.Writing.{Begins}
+use Rattle.std.proofs.Common.{◌≡◌, Err, refl, rules, ap}
 use Rattle.lot_system.specs.declared.counts.Counts.{Counts}
 use Rattle.lot_system.specs.declared.fault.PlayFault.TheVariants.{Write}
-use Rattle.lot_system.specs.Seen.{world_of}
 use Rattle.lot_system.proofs.report.write_total.Goals as goal
 
 pub returns-in_err-write_whole_total : goal.returns-in_err-write_whole_total
