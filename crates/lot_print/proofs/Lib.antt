@@ -4,3 +4,4 @@ pub mod PlainLemmas
 pub mod ReadBack
 pub mod RunLemmas
 pub mod RunsBack
+pub mod WritingFacts

@@ -1,3 +1,4 @@
 pub mod Listings
 pub mod Readback
 pub mod Totals
+pub mod Writing

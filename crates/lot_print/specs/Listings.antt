@@ -15,6 +15,6 @@ listing_line Threads rows = codes "lsthr " ++ (decimal rows ++ newline)
 abbrev pub target_text : Option (List ℕ) → List ℕ
 target_text target = unwrap_or target (codes "-")
 
--- the end of a thread's line: the draws it has won and the ticks it has used
+-- the end of a line: the draws that were won and the ticks that were used
 abbrev pub used_text : ℕ → ℕ → List ℕ
 used_text quanta ticks = codes " quanta " ++ (decimal quanta ++ (codes " ticks " ++ (decimal ticks ++ newline)))

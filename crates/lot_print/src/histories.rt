@@ -1,72 +1,56 @@
-//! What is printed of histories.
-ghost use Rattle.std.specs.Prelude.{Some};
-ghost use Rattle.std.specs.List.{flat_map};
-ghost use Rattle.lot_machine.specs.Report.{actor_text, history_lines, schedule_line, schedule_lines};
+//! The lines of histories.
+ghost use Rattle.std.specs.Prelude.{◌≡◌, ◌≤◌, false, length};
+ghost use Rattle.lot_machine.specs.Report as reports;
+ghost use Rattle.lot_print.specs.Writing.{Writes};
 
-use crate::runs::RunsLines;
-use std::fmt;
+use crate::WriteFault;
+use crate::line::Line;
+use crate::runs::write_runs;
+use lot_text::Watched;
+use std::io::Write;
 
-/// The history of a run, as lines that an input of this unit may have, which give it back: `schedule` lines where the unit
-/// is 1, and else `runs` lines.
-#[derive(Clone, Copy, Debug)]
-pub struct HistoryLines<'a> {
-    pub unit: u32,
-    pub history: &'a [u8],
-}
-
-impl fmt::Display for HistoryLines<'_> {
-    ghost output = { λ x. Some (history_lines x.unit x.history.now) };
-
-    fn fmt<W: fmt::Write>(&self, f: &mut fmt::Formatter<W>) -> fmt::Result {
-        if self.unit == 1 {
-            write!(f, "{}", ScheduleLines(self.history))
-        } else {
-            write!(f, "{}", RunsLines(self.history))
-        }
+/// Writes the history of a run as lines that an input of this unit may have, which give it back: `schedule` lines if the
+/// unit is 1, and else `runs` lines.
+pub fn write_history<W: Write>(
+    writer: &mut Watched<W>,
+    unit: u32,
+    history: &[u8],
+) -> Result<(), WriteFault>
+    requires { writer.old.failed ≡ false }
+    ensures { Writes (W.contents writer.old.inner) (W.contents writer.new.inner) writer.new.failed result (reports.history_lines unit history.now) }
+{
+    if unit == 1 {
+        write_schedule(writer, history)
+    } else {
+        write_runs(writer, history)
     }
 }
 
-/// A history as lines `schedule A1 A2 ..` of 64 actors each, the last with the 1 to 64 that remain.
-#[derive(Clone, Copy, Debug)]
-pub struct ScheduleLines<'a>(pub &'a [u8]);
-
-impl fmt::Display for ScheduleLines<'_> {
-    ghost output = { λ x. Some (schedule_lines x.0.now) };
-
-    fn fmt<W: fmt::Write>(&self, f: &mut fmt::Formatter<W>) -> fmt::Result {
-        let mut rest = self.0;
-        while !rest.is_empty() {
-            let len = rest.len().min(64);
-            write!(f, "{}", ScheduleLine(&rest[..len]))?;
-            rest = &rest[len..];
-        }
-        Ok(())
+/// Writes the history in `schedule` lines of 64 actors each, the last with those that remain.
+fn write_schedule<W: Write>(writer: &mut Watched<W>, history: &[u8]) -> Result<(), WriteFault>
+    requires { writer.old.failed ≡ false }
+    ensures { Writes (W.contents writer.old.inner) (W.contents writer.new.inner) writer.new.failed result (reports.schedule_lines history.now) }
+{
+    let mut rest = history;
+    while !rest.is_empty() {
+        let len = rest.len().min(64);
+        write_schedule_line(writer, &rest[..len])?;
+        rest = &rest[len..];
     }
+    Ok(())
 }
 
-/// One such line.
-#[derive(Clone, Copy, Debug)]
-struct ScheduleLine<'a>(&'a [u8]);
-
-impl fmt::Display for ScheduleLine<'_> {
-    ghost output = { λ x. Some (schedule_line x.0.now) };
-
-    fn fmt<W: fmt::Write>(&self, f: &mut fmt::Formatter<W>) -> fmt::Result {
-        write!(f, "schedule{}\n", ActorTexts(self.0))
+/// Writes a line of these actors.
+fn write_schedule_line<W: Write>(writer: &mut Watched<W>, actors: &[u8]) -> Result<(), WriteFault>
+    requires working { writer.old.failed ≡ false }
+    requires few { length actors.now ≤ 64 }
+    ensures { Writes (W.contents writer.old.inner) (W.contents writer.new.inner) writer.new.failed result (reports.schedule_line actors.now) }
+{
+    let mut line = Line::new();
+    line.push_text("schedule");
+    for actor in actors {
+        line.push_field(" ", *actor);
     }
-}
-
-/// The actors of a line.
-#[derive(Clone, Copy, Debug)]
-struct ActorTexts<'a>(&'a [u8]);
-
-impl fmt::Display for ActorTexts<'_> {
-    ghost output = { λ x. Some (flat_map actor_text x.0.now) };
-
-    fn fmt<W: fmt::Write>(&self, f: &mut fmt::Formatter<W>) -> fmt::Result {
-        for actor in self.0 {
-            write!(f, " {actor}")?;
-        }
-        Ok(())
-    }
+    line.push_text("\n");
+    line.write_to(writer)
 }

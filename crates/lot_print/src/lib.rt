@@ -1,26 +1,27 @@
-//! Outputs: what is printed of replies, listings, totals, histories and refused inputs. Each type here is one text, and its
-//! `Display` writes exactly that, in pieces, without memory of its own.
+//! Outputs: what is printed of replies, listings, totals, histories and refused inputs. Each function writes one text to a
+//! writer that is watched, or a beginning of it if the writer fails, and takes no memory.
 #![tactic(auto)]
 
+mod fault;
 mod histories;
 mod laws;
-mod name;
+mod line;
 mod refused;
 mod replies;
 mod rows;
 mod runs;
 mod totals;
 
-pub use histories::{HistoryLines, ScheduleLines};
+pub use fault::WriteFault;
+pub use histories::write_history;
 pub use laws::histories_are_read_back;
-pub use refused::{
-    EndedLine, FaultLine, RefusalText, TrapRefusalText, input_refusal_code, input_refusal_name,
-    refusal_code, refusal_name, trap_refusal_code, trap_refusal_name,
+pub use refused::write_fault;
+pub use replies::{write_ended, write_reply};
+pub use rows::{write_currency, write_listing_line, write_thread, write_ticket};
+pub use totals::{
+    ProcessorTotal, WholeTotal, write_processor_total, write_report_line, write_thread_total,
+    write_whole_total,
 };
-pub use replies::{ReplyLine, TrapText};
-pub use rows::{CurrencyLine, ListingLine, ThreadLine, TicketLine};
-pub use runs::{RunsLines, behind_line, first_run};
-pub use totals::{ProcessorTotal, ThreadTotal, WholeTotal};
 
 #[cfg(test)]
 mod tests;

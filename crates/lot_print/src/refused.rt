@@ -1,68 +1,62 @@
 //! What is printed of refusals.
-ghost use Rattle.std.specs.Prelude.{◌≡◌, ◌++◌, Some, codes};
+ghost use Rattle.std.specs.Prelude.{◌≡◌, ◌≤◌, ◌+◌, ◌++◌, codes, false, length};
+ghost use Rattle.std.specs.Fmt.{decimal};
 ghost use Rattle.lot_machine.specs.Texts.{newline, refused, refusal_code as code_of, refusal_name as name_of, trap_refusal_code as trap_code_of, trap_refusal_name as trap_name_of, input_refusal_code as input_code_of, input_refusal_name as input_name_of, fault_line};
+ghost use Rattle.lot_print.specs.Writing.{Writes};
 
+use crate::WriteFault;
+use crate::line::Line;
 use lot_machine::{InputFault, InputRefusal, Refusal, TrapRefusal};
-use std::fmt;
+use lot_text::Watched;
+use std::io::Write;
 
-/// A refusal of a command or an event, as `refused CODE NAME`.
-#[derive(Clone, Copy, Debug)]
-pub struct RefusalText(pub Refusal);
-
-impl fmt::Display for RefusalText {
-    ghost output = { λ x. Some (refused (code_of x.0) (name_of x.0)) };
-
-    fn fmt<W: fmt::Write>(&self, f: &mut fmt::Formatter<W>) -> fmt::Result {
-        let code = refusal_code(self.0);
-        let name = refusal_name(self.0);
-        write!(f, "refused {code} {name}")
-    }
+/// Writes the one line of a refused input.
+pub fn write_fault<W: Write>(writer: &mut Watched<W>, fault: InputFault) -> Result<(), WriteFault>
+    requires { writer.old.failed ≡ false }
+    ensures { Writes (W.contents writer.old.inner) (W.contents writer.new.inner) writer.new.failed result (fault_line fault) }
+{
+    let mut line = Line::new();
+    line.push_field("refused line ", fault.line);
+    push_reason(&mut line, fault.refusal);
+    line.write_to(writer)
 }
 
-/// A refusal of a trap, as `refused CODE NAME`.
-#[derive(Clone, Copy, Debug)]
-pub struct TrapRefusalText(pub TrapRefusal);
-
-impl fmt::Display for TrapRefusalText {
-    ghost output = { λ x. Some (refused (trap_code_of x.0) (trap_name_of x.0)) };
-
-    fn fmt<W: fmt::Write>(&self, f: &mut fmt::Formatter<W>) -> fmt::Result {
-        let code = trap_refusal_code(self.0);
-        let name = trap_refusal_name(self.0);
-        write!(f, "refused {code} {name}")
-    }
+/// Puts why an input is refused, and the line's end.
+fn push_reason(line: &mut Line, refusal: InputRefusal)
+    requires { length line.old ≤ 46 }
+    ensures { line.new ≡ line.old ++ (codes " " ++ (decimal (input_code_of refusal) ++ (codes " " ++ (input_name_of refusal ++ newline)))) }
+{
+    push_code(
+        line,
+        " ",
+        input_refusal_code(refusal),
+        input_refusal_name(refusal),
+    );
+    line.push_text("\n");
 }
 
-/// The line of a turn of the console without a command.
-#[derive(Clone, Copy, Debug)]
-pub struct EndedLine;
-
-impl fmt::Display for EndedLine {
-    ghost output = { λ _. Some (refused 41 (codes "Ended") ++ newline) };
-
-    fn fmt<W: fmt::Write>(&self, f: &mut fmt::Formatter<W>) -> fmt::Result {
-        let code = 41u32;
-        write!(f, "refused {code} Ended\n")
-    }
+/// Puts a refusal: its code and its name.
+pub(crate) fn push_refused(line: &mut Line, code: u32, name: &str)
+    requires { (length line.old ≤ 46) × (length name.now ≤ 14) }
+    ensures text { line.new ≡ line.old ++ refused code name.now }
+    ensures len { length line.new ≤ 79 }
+{
+    push_code(line, "refused ", code, name);
 }
 
-/// The one line of a refused input.
-#[derive(Clone, Copy, Debug)]
-pub struct FaultLine(pub InputFault);
-
-impl fmt::Display for FaultLine {
-    ghost output = { λ x. Some (fault_line x.0) };
-
-    fn fmt<W: fmt::Write>(&self, f: &mut fmt::Formatter<W>) -> fmt::Result {
-        let line = self.0.line;
-        let code = input_refusal_code(self.0.refusal);
-        let name = input_refusal_name(self.0.refusal);
-        write!(f, "refused line {line} {code} {name}\n")
-    }
+/// Puts a text, and then the code and the name of a refusal.
+fn push_code(line: &mut Line, text: &str, code: u32, name: &str)
+    requires { (length line.old ≤ 46) × (length text.now ≤ 8) × (length name.now ≤ 14) }
+    ensures text { line.new ≡ line.old ++ (text.now ++ (decimal code ++ (codes " " ++ name.now))) }
+    ensures len { length line.new ≤ 79 }
+{
+    line.push_field(text, code);
+    line.push_text(" ");
+    line.push_text(name);
 }
 
 /// The code that is printed of a refused command or event.
-pub fn refusal_code(refusal: Refusal) -> u32
+pub(crate) fn refusal_code(refusal: Refusal) -> u32
     ensures { result ≡ code_of refusal }
 {
     match refusal {
@@ -88,8 +82,9 @@ pub fn refusal_code(refusal: Refusal) -> u32
 }
 
 /// The name that is printed of a refused command or event.
-pub fn refusal_name(refusal: Refusal) -> &'static str
-    ensures { result.now ≡ name_of refusal }
+pub(crate) fn refusal_name(refusal: Refusal) -> &'static str
+    ensures name { result.now ≡ name_of refusal }
+    ensures short { length result.now ≤ 14 }
 {
     match refusal {
         Refusal::BadName => "BadName",
@@ -114,7 +109,7 @@ pub fn refusal_name(refusal: Refusal) -> &'static str
 }
 
 /// The code that is printed of a refused trap.
-pub fn trap_refusal_code(refusal: TrapRefusal) -> u32
+pub(crate) fn trap_refusal_code(refusal: TrapRefusal) -> u32
     ensures { result ≡ trap_code_of refusal }
 {
     match refusal {
@@ -128,8 +123,9 @@ pub fn trap_refusal_code(refusal: TrapRefusal) -> u32
 }
 
 /// The name that is printed of a refused trap.
-pub fn trap_refusal_name(refusal: TrapRefusal) -> &'static str
-    ensures { result.now ≡ trap_name_of refusal }
+pub(crate) fn trap_refusal_name(refusal: TrapRefusal) -> &'static str
+    ensures name { result.now ≡ trap_name_of refusal }
+    ensures short { length result.now ≤ 14 }
 {
     match refusal {
         TrapRefusal::NoPort => "NoPort",
@@ -142,7 +138,7 @@ pub fn trap_refusal_name(refusal: TrapRefusal) -> &'static str
 }
 
 /// The code that is printed of a refused input.
-pub fn input_refusal_code(refusal: InputRefusal) -> u32
+pub(crate) fn input_refusal_code(refusal: InputRefusal) -> u32
     ensures { result ≡ input_code_of refusal }
 {
     match refusal {
@@ -158,8 +154,9 @@ pub fn input_refusal_code(refusal: InputRefusal) -> u32
 }
 
 /// The name that is printed of a refused input.
-pub fn input_refusal_name(refusal: InputRefusal) -> &'static str
-    ensures { result.now ≡ input_name_of refusal }
+pub(crate) fn input_refusal_name(refusal: InputRefusal) -> &'static str
+    ensures name { result.now ≡ input_name_of refusal }
+    ensures short { length result.now ≤ 14 }
 {
     match refusal {
         InputRefusal::BadHeader => "BadHeader",

@@ -1,158 +1,200 @@
-//! What is printed of replies.
-ghost use Rattle.std.specs.Prelude.{Some};
-ghost use Rattle.lot_machine.specs.Texts.{trap_text, trap_text_of, drawn_text, delivered_text, ends_text, plain_text};
+//! The lines of turns.
+ghost use Rattle.std.specs.Prelude.{◌≡◌, ◌≤◌, ◌+◌, ◌++◌, codes, false, length};
+ghost use Rattle.std.specs.Fmt.{decimal};
+ghost use Rattle.lot_machine.specs.Texts as texts;
+ghost use Rattle.lot_machine.specs.Texts.{delivered_text, drawn_text, ends_text, newline, plain_text, refused, trap_text, trap_text_of};
+ghost use Rattle.lot_print.specs.Writing.{Writes};
 
-use crate::refused::{RefusalText, TrapRefusalText};
-use lot_machine::{Action, Event, Outcome, Reply};
-use std::fmt;
+use crate::WriteFault;
+use crate::line::Line;
+use crate::refused::{
+    push_refused, refusal_code, refusal_name, trap_refusal_code, trap_refusal_name,
+};
+use lot_machine::{Action, Event, Outcome, Refusal, Reply};
+use lot_text::Watched;
+use std::io::Write;
 
-/// What a trap came to. An outcome that the action never has is no text.
-#[derive(Clone, Copy, Debug)]
-pub struct TrapText {
-    pub action: Action,
-    pub outcome: Outcome,
+/// Writes the line of an actor's turn: the reply to this event, which asks for no listing.
+pub fn write_reply<W: Write>(
+    writer: &mut Watched<W>,
+    actor: u32,
+    event: &Event,
+    reply: Reply,
+) -> Result<(), WriteFault>
+    requires { writer.old.failed ≡ false }
+    ensures { Writes (W.contents writer.old.inner) (W.contents writer.new.inner) writer.new.failed result (decimal actor ++ (codes " " ++ plain_text event.now reply)) }
+{
+    let mut line = Line::new();
+    line.push_number(actor);
+    line.push_text(" ");
+    push_reply(&mut line, event, reply);
+    line.write_to(writer)
 }
 
-impl fmt::Display for TrapText {
-    ghost output = { λ x. Some (trap_text x.action x.outcome) };
+/// Writes the line of a turn of the console without a command.
+pub fn write_ended<W: Write>(writer: &mut Watched<W>, actor: u32) -> Result<(), WriteFault>
+    requires { writer.old.failed ≡ false }
+    ensures { Writes (W.contents writer.old.inner) (W.contents writer.new.inner) writer.new.failed result (decimal actor ++ (codes " " ++ (refused 41 (codes "Ended") ++ newline))) }
+{
+    let mut line = Line::new();
+    line.push_number(actor);
+    line.push_text(" ");
+    push_refused(&mut line, 41, "Ended");
+    line.push_text("\n");
+    line.write_to(writer)
+}
 
-    fn fmt<W: fmt::Write>(&self, f: &mut fmt::Formatter<W>) -> fmt::Result {
-        match (self.action, self.outcome) {
-            (_, Outcome::Refused(why)) => write!(f, "{}", TrapRefusalText(why)),
-            (Action::Yield, Outcome::Yielded) => write!(f, "yield"),
-            (Action::Call(port, _), Outcome::ServedBy(server)) => {
-                write!(f, "call {port} served by {server}")
-            }
-            (Action::Call(port, _), Outcome::Queued) => write!(f, "call {port} queued"),
-            (Action::Receive(port), Outcome::Received { client, number }) => {
-                write!(f, "receive {port} client {client} got {number}")
-            }
-            (Action::Receive(port), Outcome::Waits) => write!(f, "receive {port} waits"),
-            (Action::Reply(_), Outcome::Replied(client)) => write!(f, "reply client {client}"),
-            (Action::Lock(mutex), Outcome::Locked) => write!(f, "lock {mutex} taken"),
-            (Action::Lock(mutex), Outcome::Waits) => write!(f, "lock {mutex} waits"),
-            (Action::Unlock(mutex, _), Outcome::Freed) => write!(f, "unlock {mutex} free"),
-            (Action::Unlock(mutex, _), Outcome::Passed { to, draw }) => {
-                write!(f, "unlock {mutex} to {to}{}", DrawnText(draw))
-            }
-            (Action::Exit, Outcome::Exited) => write!(f, "exit"),
-            _ => Ok(()),
+/// Puts the reply to the event, and the line's end.
+fn push_reply(line: &mut Line, event: &Event, reply: Reply)
+    requires { length line.old ≤ 11 }
+    ensures { line.new ≡ line.old ++ plain_text event.now reply }
+{
+    match reply {
+        Reply::Ticket(n) => push_made(line, "ticket ", n),
+        Reply::Currency(n) => push_made(line, "currency ", n),
+        Reply::Thread(n) => push_made(line, "thread ", n),
+        Reply::Funded { ticket, thread } => {
+            line.push_field("funded ", ticket);
+            push_made(line, " ", thread);
         }
-    }
-}
-
-/// Who has the mutex now: by a lottery, or as the one that had waited longest.
-#[derive(Clone, Copy, Debug)]
-struct DrawnText(Option<(u64, u64)>);
-
-impl fmt::Display for DrawnText {
-    ghost output = { λ x. Some (drawn_text x.0) };
-
-    fn fmt<W: fmt::Write>(&self, f: &mut fmt::Formatter<W>) -> fmt::Result {
-        match self.0 {
-            None => write!(f, " oldest"),
-            Some((number, total)) => write!(f, " draw {number} of {total}"),
+        Reply::Done => line.push_text("done\n"),
+        Reply::List(_) => (),
+        Reply::Winner {
+            thread,
+            number,
+            total,
+            delivered,
+        } => push_winner(line, thread, (number, total), delivered),
+        Reply::Idle => line.push_text("idle\n"),
+        Reply::Expired { thread, ticks } => {
+            push_ran(line, thread, ticks);
+            line.push_text(" expire\n");
         }
-    }
-}
-
-/// The trap that the event was, and what it came to.
-#[derive(Debug, Drop)]
-struct TrapOf<'a> {
-    event: &'a Event,
-    outcome: Outcome,
-}
-
-impl fmt::Display for TrapOf<'_> {
-    ghost output = { λ x. Some (trap_text_of x.event.now x.outcome) };
-
-    fn fmt<W: fmt::Write>(&self, f: &mut fmt::Formatter<W>) -> fmt::Result {
-        let outcome = self.outcome;
-        match self.event {
-            Event::Trap(_, _, action) => {
-                let action = *action;
-                write!(f, "{}", TrapText { action, outcome })
-            }
-            _ => Ok(()),
+        Reply::Trapped {
+            thread,
+            ticks,
+            outcome,
+            ends,
+        } => {
+            push_ran(line, thread, ticks);
+            push_trap_of(line, event, outcome, ends);
         }
+        Reply::Refused(why) => push_refusal(line, why),
     }
 }
 
-/// The number that was delivered to a winner, if any.
-#[derive(Clone, Copy, Debug)]
-struct DeliveredText(Option<u32>);
+/// Puts why the event was refused, and the line's end.
+fn push_refusal(line: &mut Line, why: Refusal)
+    requires { length line.old ≤ 11 }
+    ensures { line.new ≡ line.old ++ (refused (texts.refusal_code why) (texts.refusal_name why) ++ newline) }
+{
+    push_refused(line, refusal_code(why), refusal_name(why));
+    line.push_text("\n");
+}
 
-impl fmt::Display for DeliveredText {
-    ghost output = { λ x. Some (delivered_text x.0) };
+/// Puts the word and the number of what was made, and the line's end.
+fn push_made(line: &mut Line, word: &str, number: u32)
+    requires { (length line.old ≤ 50) × (length word.now ≤ 9) }
+    ensures { line.new ≡ line.old ++ (word.now ++ (decimal number ++ newline)) }
+{
+    line.push_field(word, number);
+    line.push_text("\n");
+}
 
-    fn fmt<W: fmt::Write>(&self, f: &mut fmt::Formatter<W>) -> fmt::Result {
-        match self.0 {
-            None => Ok(()),
-            Some(number) => write!(f, " got {number}"),
+/// Puts the draw that this thread won with this number of this total, and the line's end.
+fn push_winner(line: &mut Line, thread: u32, drawn: (u128, u128), delivered: Option<u32>)
+    requires { length line.old ≤ 11 }
+    ensures { line.new ≡ line.old ++ (codes "draw " ++ (decimal drawn.0 ++ (codes " of " ++ (decimal drawn.1 ++ (codes " thread " ++ (decimal thread ++ (delivered_text delivered ++ newline))))))) }
+{
+    let (number, total) = drawn;
+    line.push_field("draw ", number);
+    line.push_field(" of ", total);
+    line.push_field(" thread ", thread);
+    if let Some(received) = delivered {
+        line.push_field(" got ", received);
+    }
+    line.push_text("\n");
+}
+
+/// Puts the thread that ran, and for how many ticks.
+fn push_ran(line: &mut Line, thread: u32, ticks: u32)
+    requires { length line.old ≤ 11 }
+    ensures text { line.new ≡ line.old ++ (codes "thread " ++ (decimal thread ++ (codes " ticks " ++ decimal ticks))) }
+    ensures len { length line.new ≤ 45 }
+{
+    line.push_field("thread ", thread);
+    line.push_field(" ticks ", ticks);
+}
+
+/// Puts what the trap that the event was came to, whether the quantum was used up, and the line's end.
+fn push_trap_of(line: &mut Line, event: &Event, outcome: Outcome, ends: bool)
+    requires { length line.old ≤ 45 }
+    ensures { line.new ≡ line.old ++ (codes " " ++ (trap_text_of event.now outcome ++ (ends_text ends ++ newline))) }
+{
+    line.push_text(" ");
+    if let Event::Trap(_, _, action) = event {
+        push_trap(line, *action, outcome);
+    }
+    line.push_text(if ends { " ends\n" } else { "\n" });
+}
+
+/// Puts what a trap came to. An outcome that the action never has is no text.
+fn push_trap(line: &mut Line, action: Action, outcome: Outcome)
+    requires { length line.old ≤ 46 }
+    ensures text { line.new ≡ line.old ++ trap_text action outcome }
+    ensures len { length line.new ≤ 150 }
+{
+    match (action, outcome) {
+        (_, Outcome::Refused(why)) => {
+            push_refused(line, trap_refusal_code(why), trap_refusal_name(why));
         }
+        (Action::Yield, Outcome::Yielded) => line.push_text("yield"),
+        (Action::Call(port, _), Outcome::ServedBy(server)) => {
+            line.push_field("call ", port);
+            line.push_field(" served by ", server);
+        }
+        (Action::Call(port, _), Outcome::Queued) => push_state(line, "call ", port, " queued"),
+        (Action::Receive(port), Outcome::Received { client, number }) => {
+            line.push_field("receive ", port);
+            line.push_field(" client ", client);
+            line.push_field(" got ", number);
+        }
+        (Action::Receive(port), Outcome::Waits) => push_state(line, "receive ", port, " waits"),
+        (Action::Reply(_), Outcome::Replied(client)) => line.push_field("reply client ", client),
+        (Action::Lock(mutex), Outcome::Locked) => push_state(line, "lock ", mutex, " taken"),
+        (Action::Lock(mutex), Outcome::Waits) => push_state(line, "lock ", mutex, " waits"),
+        (Action::Unlock(mutex, _), Outcome::Freed) => push_state(line, "unlock ", mutex, " free"),
+        (Action::Unlock(mutex, _), Outcome::Passed { to, draw }) => {
+            line.push_field("unlock ", mutex);
+            line.push_field(" to ", to);
+            push_drawn(line, draw);
+        }
+        (Action::Exit, Outcome::Exited) => line.push_text("exit"),
+        _ => (),
     }
 }
 
-/// Whether the quantum was used up.
-#[derive(Clone, Copy, Debug)]
-struct EndsText(bool);
-
-impl fmt::Display for EndsText {
-    ghost output = { λ x. Some (ends_text x.0) };
-
-    fn fmt<W: fmt::Write>(&self, f: &mut fmt::Formatter<W>) -> fmt::Result {
-        if self.0 { write!(f, " ends") } else { Ok(()) }
-    }
+/// Puts the port or mutex of a trap, and what the trap came to there.
+fn push_state(line: &mut Line, word: &str, number: u32, state: &str)
+    requires { (length line.old ≤ 46) × (length word.now ≤ 8) × (length state.now ≤ 7) }
+    ensures text { line.new ≡ line.old ++ (word.now ++ (decimal number ++ state.now)) }
+    ensures len { length line.new ≤ 71 }
+{
+    line.push_field(word, number);
+    line.push_text(state);
 }
 
-/// The line of a reply to an event, with its end, where the reply asks for no listing; of one that does it is no text.
-#[derive(Debug, Drop)]
-pub struct ReplyLine<'a> {
-    pub event: &'a Event,
-    pub reply: Reply,
-}
-
-impl fmt::Display for ReplyLine<'_> {
-    ghost output = { λ x. Some (plain_text x.event.now x.reply) };
-
-    fn fmt<W: fmt::Write>(&self, f: &mut fmt::Formatter<W>) -> fmt::Result {
-        match self.reply {
-            Reply::Ticket(n) => write!(f, "ticket {n}\n"),
-            Reply::Currency(n) => write!(f, "currency {n}\n"),
-            Reply::Thread(n) => write!(f, "thread {n}\n"),
-            Reply::Funded { ticket, thread } => write!(f, "funded {ticket} {thread}\n"),
-            Reply::Done => write!(f, "done\n"),
-            Reply::List(_) => Ok(()),
-            Reply::Winner {
-                thread,
-                number,
-                total,
-                delivered,
-            } => {
-                write!(
-                    f,
-                    "draw {number} of {total} thread {thread}{}\n",
-                    DeliveredText(delivered)
-                )
-            }
-            Reply::Idle => write!(f, "idle\n"),
-            Reply::Expired { thread, ticks } => write!(f, "thread {thread} ticks {ticks} expire\n"),
-            Reply::Trapped {
-                thread,
-                ticks,
-                outcome,
-                ends,
-            } => {
-                let event = self.event;
-                let trap = TrapOf { event, outcome };
-                write!(
-                    f,
-                    "thread {thread} ticks {ticks} {}{}\n",
-                    trap,
-                    EndsText(ends)
-                )
-            }
-            Reply::Refused(why) => write!(f, "{}\n", RefusalText(why)),
+/// Puts how the mutex was passed on: by a lottery, or to the one that had waited longest.
+fn push_drawn(line: &mut Line, drawn: Option<(u64, u64)>)
+    requires { length line.old ≤ 90 }
+    ensures text { line.new ≡ line.old ++ drawn_text drawn }
+    ensures len { length line.new ≤ 150 }
+{
+    match drawn {
+        None => line.push_text(" oldest"),
+        Some((number, total)) => {
+            line.push_field(" draw ", number);
+            line.push_field(" of ", total);
         }
     }
 }

@@ -1,177 +1,181 @@
 //! What is printed of listings.
-ghost use Rattle.std.specs.Prelude.{◌≡◌, ◌/◌, Some};
+ghost use Rattle.std.specs.Prelude.{◌≡◌, ◌≤◌, ◌+◌, ◌/◌, ◌++◌, codes, false, length};
+ghost use Rattle.std.specs.Fmt.{decimal};
 ghost use Rattle.lot_machine.specs.Texts.{activity_text, currency_line, shown_value, status_text, thread_line, ticket_line};
 ghost use Rattle.lot_print.specs.Listings.{listing_line, target_text, used_text};
+ghost use Rattle.lot_print.specs.Writing.{Writes};
 
-use crate::name::NameText;
+use crate::WriteFault;
+use crate::line::Line;
 use lot_machine::{CurrencyRow, Kind, Limits, Name, Status, ThreadRow, TicketRow};
-use std::fmt;
+use lot_text::Watched;
+use std::io::Write;
 
-/// The first line of a listing: what it is of, and how many rows follow.
-#[derive(Clone, Copy, Debug)]
-pub struct ListingLine {
-    pub kind: Kind,
-    pub rows: u32,
+/// Writes the line of an actor's turn that asked for a listing: what it is of, and how many rows follow.
+pub fn write_listing_line<W: Write>(
+    writer: &mut Watched<W>,
+    actor: u32,
+    kind: Kind,
+    rows: u32,
+) -> Result<(), WriteFault>
+    requires { writer.old.failed ≡ false }
+    ensures { Writes (W.contents writer.old.inner) (W.contents writer.new.inner) writer.new.failed result (decimal actor ++ (codes " " ++ listing_line kind rows)) }
+{
+    let mut line = Line::new();
+    line.push_number(actor);
+    match kind {
+        Kind::Tickets => line.push_field(" lstkt ", rows),
+        Kind::Currencies => line.push_field(" lscur ", rows),
+        Kind::Threads => line.push_field(" lsthr ", rows),
+    }
+    line.push_text("\n");
+    line.write_to(writer)
 }
 
-impl fmt::Display for ListingLine {
-    ghost output = { λ x. Some (listing_line x.kind x.rows) };
+/// Writes a ticket's line in a listing of a kernel with these limits.
+pub fn write_ticket<W: Write>(
+    writer: &mut Watched<W>,
+    limits: Limits,
+    number: u32,
+    row: &TicketRow,
+) -> Result<(), WriteFault>
+    requires { writer.old.failed ≡ false }
+    ensures { Writes (W.contents writer.old.inner) (W.contents writer.new.inner) writer.new.failed result (ticket_line limits.unit number row.now) }
+{
+    ticket_text(limits, number, row).write_to(writer)
+}
 
-    fn fmt<W: fmt::Write>(&self, f: &mut fmt::Formatter<W>) -> fmt::Result {
-        let rows = self.rows;
-        match self.kind {
-            Kind::Tickets => write!(f, "lstkt {rows}\n"),
-            Kind::Currencies => write!(f, "lscur {rows}\n"),
-            Kind::Threads => write!(f, "lsthr {rows}\n"),
+/// A ticket's line.
+fn ticket_text(limits: Limits, number: u32, row: &TicketRow) -> Line
+    ensures { result ≡ ticket_line limits.unit number row.now }
+{
+    let mut line = Line::new();
+    line.push_field("ticket ", number);
+    line.push_field(" amount ", row.amount);
+    line.push_text(" in ");
+    line.push_bytes(row.issuer.as_bytes());
+    line.push_text(" funds ");
+    push_target(&mut line, &row.target);
+    push_activity(&mut line, row.is_active);
+    line.push_field(" value ", shown(limits, row.value));
+    line.push_text("\n");
+    line
+}
+
+/// Puts what a ticket funds; `-` if it funds nothing.
+fn push_target(line: &mut Line, target: &Option<Name>)
+    requires { length line.old ≤ 200 }
+    ensures text { line.new ≡ line.old ++ target_text target.now }
+    ensures len { length line.new ≤ length line.old + 16 }
+{
+    match target {
+        Some(name) => line.push_bytes(name.as_bytes()),
+        None => line.push_text("-"),
+    }
+}
+
+/// Puts whether a ticket is active.
+fn push_activity(line: &mut Line, is_active: bool)
+    requires { length line.old ≤ 200 }
+    ensures text { line.new ≡ line.old ++ activity_text is_active }
+    ensures len { length line.new ≤ length line.old + 9 }
+{
+    line.push_text(if is_active { " active" } else { " inactive" });
+}
+
+/// Writes a currency's line in a listing of a kernel with these limits; base is currency 0.
+pub fn write_currency<W: Write>(
+    writer: &mut Watched<W>,
+    limits: Limits,
+    number: u32,
+    row: &CurrencyRow,
+) -> Result<(), WriteFault>
+    requires { writer.old.failed ≡ false }
+    ensures { Writes (W.contents writer.old.inner) (W.contents writer.new.inner) writer.new.failed result (currency_line limits.unit number row.now) }
+{
+    currency_text(limits, number, row).write_to(writer)
+}
+
+/// A currency's line.
+fn currency_text(limits: Limits, number: u32, row: &CurrencyRow) -> Line
+    ensures { result ≡ currency_line limits.unit number row.now }
+{
+    let mut line = Line::new();
+    push_named(&mut line, "currency ", number, &row.name);
+    line.push_field(" backing ", row.backing);
+    line.push_field(" issued ", row.issued);
+    line.push_field(" active ", row.active_amount);
+    line.push_field(" value ", shown_of_currency(limits, number, row.value));
+    line.push_text("\n");
+    line
+}
+
+/// Writes a thread's line in a listing of a kernel with these limits.
+pub fn write_thread<W: Write>(
+    writer: &mut Watched<W>,
+    limits: Limits,
+    number: u32,
+    row: &ThreadRow,
+) -> Result<(), WriteFault>
+    requires { writer.old.failed ≡ false }
+    ensures { Writes (W.contents writer.old.inner) (W.contents writer.new.inner) writer.new.failed result (thread_line limits.unit number row.now) }
+{
+    thread_text(limits, number, row).write_to(writer)
+}
+
+/// A thread's line.
+fn thread_text(limits: Limits, number: u32, row: &ThreadRow) -> Line
+    ensures { result ≡ thread_line limits.unit number row.now }
+{
+    let mut line = Line::new();
+    push_named(&mut line, "thread ", number, &row.name);
+    line.push_text(" ");
+    push_status(&mut line, row.status);
+    line.push_field(" value ", shown(limits, row.value));
+    line.push_field(" weight ", shown_weight(limits, row.weight));
+    push_used(&mut line, row.quanta, row.ticks);
+    line
+}
+
+/// Puts what a thread is doing.
+fn push_status(line: &mut Line, status: Status)
+    requires { length line.old ≤ 50 }
+    ensures text { line.new ≡ line.old ++ status_text status }
+    ensures len { length line.new ≤ length line.old + 34 }
+{
+    match status {
+        Status::Ready => line.push_text("ready"),
+        Status::Running { processor, used } => {
+            line.push_field("running ", processor);
+            line.push_field(" used ", used);
         }
+        Status::Receiving(port) => line.push_field("receiving ", port),
+        Status::Queued(port) => line.push_field("queued ", port),
+        Status::Served(server) => line.push_field("served ", server),
+        Status::Waiting(mutex) => line.push_field("waiting ", mutex),
+        Status::Dead => line.push_text("dead"),
     }
 }
 
-/// A ticket's line in a listing of a kernel with these limits. A name that is no text can't be printed, and is an error.
-#[derive(Debug, Drop)]
-pub struct TicketLine<'a> {
-    pub limits: Limits,
-    pub number: u32,
-    pub row: &'a TicketRow,
+/// Puts a word, a number and its name.
+pub(crate) fn push_named(line: &mut Line, word: &str, number: u32, name: &Name)
+    requires { (length line.old ≤ 20) × (length word.now ≤ 9) }
+    ensures text { line.new ≡ line.old ++ (word.now ++ (decimal number ++ (codes " " ++ name.now))) }
+    ensures len { length line.new ≤ length line.old + 36 }
+{
+    line.push_field(word, number);
+    line.push_text(" ");
+    line.push_bytes(name.as_bytes());
 }
 
-impl fmt::Display for TicketLine<'_> {
-    ghost output = { λ x. Some (ticket_line x.limits.unit x.number x.row.now) };
-
-    fn fmt<W: fmt::Write>(&self, f: &mut fmt::Formatter<W>) -> fmt::Result {
-        let number = self.number;
-        let amount = self.row.amount;
-        let issuer = NameText(&self.row.issuer);
-        let target = TargetText(&self.row.target);
-        let activity = ActivityText(self.row.is_active);
-        let value = shown(self.limits, self.row.value);
-        write!(
-            f,
-            "ticket {number} amount {amount} in {issuer} funds {target}{activity} value {value}\n"
-        )
-    }
-}
-
-/// What a ticket funds; `-` where it funds nothing.
-#[derive(Debug, Drop)]
-struct TargetText<'a>(&'a Option<Name>);
-
-impl fmt::Display for TargetText<'_> {
-    ghost output = { λ x. Some (target_text x.0.now) };
-
-    fn fmt<W: fmt::Write>(&self, f: &mut fmt::Formatter<W>) -> fmt::Result {
-        match self.0 {
-            Some(name) => write!(f, "{}", NameText(name)),
-            None => write!(f, "-"),
-        }
-    }
-}
-
-/// Whether a ticket is active.
-#[derive(Clone, Copy, Debug)]
-struct ActivityText(bool);
-
-impl fmt::Display for ActivityText {
-    ghost output = { λ x. Some (activity_text x.0) };
-
-    fn fmt<W: fmt::Write>(&self, f: &mut fmt::Formatter<W>) -> fmt::Result {
-        if self.0 {
-            write!(f, " active")
-        } else {
-            write!(f, " inactive")
-        }
-    }
-}
-
-/// A currency's line in a listing of a kernel with these limits; base is currency 0. A name that is no text can't be
-/// printed, and is an error.
-#[derive(Debug, Drop)]
-pub struct CurrencyLine<'a> {
-    pub limits: Limits,
-    pub number: u32,
-    pub row: &'a CurrencyRow,
-}
-
-impl fmt::Display for CurrencyLine<'_> {
-    ghost output = { λ x. Some (currency_line x.limits.unit x.number x.row.now) };
-
-    fn fmt<W: fmt::Write>(&self, f: &mut fmt::Formatter<W>) -> fmt::Result {
-        let number = self.number;
-        let name = NameText(&self.row.name);
-        let backing = self.row.backing;
-        let issued = self.row.issued;
-        let active = self.row.active_amount;
-        let value = shown_of_currency(self.limits, number, self.row.value);
-        write!(
-            f,
-            "currency {number} {name} backing {backing} issued {issued} active {active} value {value}\n"
-        )
-    }
-}
-
-/// A thread's line in a listing of a kernel with these limits. A name that is no text can't be printed, and is an error.
-#[derive(Debug, Drop)]
-pub struct ThreadLine<'a> {
-    pub limits: Limits,
-    pub number: u32,
-    pub row: &'a ThreadRow,
-}
-
-impl fmt::Display for ThreadLine<'_> {
-    ghost output = { λ x. Some (thread_line x.limits.unit x.number x.row.now) };
-
-    fn fmt<W: fmt::Write>(&self, f: &mut fmt::Formatter<W>) -> fmt::Result {
-        let number = self.number;
-        let name = NameText(&self.row.name);
-        let status = StatusText(self.row.status);
-        let value = shown(self.limits, self.row.value);
-        let weight = shown_weight(self.limits, self.row.weight);
-        let used = UsedText {
-            quanta: self.row.quanta,
-            ticks: self.row.ticks,
-        };
-        write!(
-            f,
-            "thread {number} {name} {status} value {value} weight {weight}{used}"
-        )
-    }
-}
-
-/// The end of a thread's line: the draws it has won and the ticks it has used.
-#[derive(Clone, Copy, Debug)]
-struct UsedText {
-    quanta: u64,
-    ticks: u64,
-}
-
-impl fmt::Display for UsedText {
-    ghost output = { λ x. Some (used_text x.quanta x.ticks) };
-
-    fn fmt<W: fmt::Write>(&self, f: &mut fmt::Formatter<W>) -> fmt::Result {
-        let quanta = self.quanta;
-        let ticks = self.ticks;
-        write!(f, " quanta {quanta} ticks {ticks}\n")
-    }
-}
-
-/// What a thread is doing.
-#[derive(Clone, Copy, Debug)]
-struct StatusText(Status);
-
-impl fmt::Display for StatusText {
-    ghost output = { λ x. Some (status_text x.0) };
-
-    fn fmt<W: fmt::Write>(&self, f: &mut fmt::Formatter<W>) -> fmt::Result {
-        match self.0 {
-            Status::Ready => write!(f, "ready"),
-            Status::Running { processor, used } => write!(f, "running {processor} used {used}"),
-            Status::Receiving(port) => write!(f, "receiving {port}"),
-            Status::Queued(port) => write!(f, "queued {port}"),
-            Status::Served(server) => write!(f, "served {server}"),
-            Status::Waiting(mutex) => write!(f, "waiting {mutex}"),
-            Status::Dead => write!(f, "dead"),
-        }
-    }
+/// Puts the end of a line: draws that were won, and ticks that were used.
+pub(crate) fn push_used(line: &mut Line, quanta: u64, ticks: u64)
+    requires { length line.old ≤ 200 }
+    ensures { line.new ≡ line.old ++ used_text quanta ticks }
+{
+    line.push_field(" quanta ", quanta);
+    line.push_field(" ticks ", ticks);
+    line.push_text("\n");
 }
 
 /// A value as it is shown: in whole base units, rounded down.

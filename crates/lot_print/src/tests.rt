@@ -1,9 +1,21 @@
+ghost use Rattle.std.specs.Prelude.{◌≡◌, false};
+
+use crate::runs::{after_line, first_run};
 use crate::*;
 use lot_machine::{
     Action, CurrencyRow, Event, InputFault, InputRefusal, Kind, Limits, Name, Outcome, Refusal,
     Reply, Status, ThreadRow, TicketRow, TrapRefusal,
 };
+use lot_text::Watched;
+use std::process::Abort;
 use std::test::Fail;
+
+/// Checks what was written, by a call that answered this.
+fn check(rt: &impl Abort, writer: Watched<Vec<u8>>, ended: Result<(), WriteFault>, wanted: &str) {
+    assert_eq!(rt; ended, Ok(()));
+    let written = writer.into_inner();
+    assert_eq!(rt; written.as_slice(), wanted.as_bytes());
+}
 
 /// A reply to an event that isn't a trap.
 fn plain(reply: Reply) -> (Event, Reply) {
@@ -22,19 +34,19 @@ fn trap(action: Action, outcome: Outcome, ends: bool) -> (Event, Reply) {
 }
 
 #[test]
-fn prints_replies(rt: HostRuntime) -> Result<(), Fail> {
+fn prints_replies(rt: HostRuntime) {
     for ((event, reply), wanted) in [
-        (plain(Reply::Ticket(1)), "ticket 1\n"),
-        (plain(Reply::Currency(2)), "currency 2\n"),
-        (plain(Reply::Thread(1)), "thread 1\n"),
+        (plain(Reply::Ticket(1)), "1 ticket 1\n"),
+        (plain(Reply::Currency(2)), "1 currency 2\n"),
+        (plain(Reply::Thread(1)), "1 thread 1\n"),
         (
             plain(Reply::Funded {
                 ticket: 8,
                 thread: 3,
             }),
-            "funded 8 3\n",
+            "1 funded 8 3\n",
         ),
-        (plain(Reply::Done), "done\n"),
+        (plain(Reply::Done), "1 done\n"),
         (
             plain(Reply::Winner {
                 thread: 1,
@@ -42,7 +54,7 @@ fn prints_replies(rt: HostRuntime) -> Result<(), Fail> {
                 total: 15,
                 delivered: None,
             }),
-            "draw 9 of 15 thread 1\n",
+            "1 draw 9 of 15 thread 1\n",
         ),
         (
             plain(Reply::Winner {
@@ -51,28 +63,28 @@ fn prints_replies(rt: HostRuntime) -> Result<(), Fail> {
                 total: 100,
                 delivered: Some(41),
             }),
-            "draw 5 of 100 thread 1 got 41\n",
+            "1 draw 5 of 100 thread 1 got 41\n",
         ),
-        (plain(Reply::Idle), "idle\n"),
+        (plain(Reply::Idle), "1 idle\n"),
         (
             plain(Reply::Expired {
                 thread: 1,
                 ticks: 100,
             }),
-            "thread 1 ticks 100 expire\n",
+            "1 thread 1 ticks 100 expire\n",
         ),
-        (plain(Reply::Refused(Refusal::Full)), "refused 13 Full\n"),
+        (plain(Reply::Refused(Refusal::Full)), "1 refused 13 Full\n"),
         (
             trap(Action::Yield, Outcome::Yielded, false),
-            "thread 1 ticks 2 yield\n",
+            "1 thread 1 ticks 2 yield\n",
         ),
         (
             trap(Action::Call(3, 41), Outcome::ServedBy(4), false),
-            "thread 1 ticks 2 call 3 served by 4\n",
+            "1 thread 1 ticks 2 call 3 served by 4\n",
         ),
         (
             trap(Action::Call(3, 41), Outcome::Queued, false),
-            "thread 1 ticks 2 call 3 queued\n",
+            "1 thread 1 ticks 2 call 3 queued\n",
         ),
         (
             trap(
@@ -83,27 +95,27 @@ fn prints_replies(rt: HostRuntime) -> Result<(), Fail> {
                 },
                 false,
             ),
-            "thread 1 ticks 2 receive 3 client 5 got 41\n",
+            "1 thread 1 ticks 2 receive 3 client 5 got 41\n",
         ),
         (
             trap(Action::Receive(3), Outcome::Waits, false),
-            "thread 1 ticks 2 receive 3 waits\n",
+            "1 thread 1 ticks 2 receive 3 waits\n",
         ),
         (
             trap(Action::Reply(42), Outcome::Replied(5), false),
-            "thread 1 ticks 2 reply client 5\n",
+            "1 thread 1 ticks 2 reply client 5\n",
         ),
         (
             trap(Action::Lock(4), Outcome::Locked, true),
-            "thread 1 ticks 2 lock 4 taken ends\n",
+            "1 thread 1 ticks 2 lock 4 taken ends\n",
         ),
         (
             trap(Action::Lock(4), Outcome::Waits, false),
-            "thread 1 ticks 2 lock 4 waits\n",
+            "1 thread 1 ticks 2 lock 4 waits\n",
         ),
         (
             trap(Action::Unlock(4, 99), Outcome::Freed, false),
-            "thread 1 ticks 2 unlock 4 free\n",
+            "1 thread 1 ticks 2 unlock 4 free\n",
         ),
         (
             trap(
@@ -114,7 +126,7 @@ fn prints_replies(rt: HostRuntime) -> Result<(), Fail> {
                 },
                 false,
             ),
-            "thread 1 ticks 2 unlock 4 to 6 draw 99 of 400\n",
+            "1 thread 1 ticks 2 unlock 4 to 6 draw 99 of 400\n",
         ),
         (
             trap(
@@ -122,11 +134,11 @@ fn prints_replies(rt: HostRuntime) -> Result<(), Fail> {
                 Outcome::Passed { to: 6, draw: None },
                 false,
             ),
-            "thread 1 ticks 2 unlock 4 to 6 oldest\n",
+            "1 thread 1 ticks 2 unlock 4 to 6 oldest\n",
         ),
         (
             trap(Action::Exit, Outcome::Exited, false),
-            "thread 1 ticks 2 exit\n",
+            "1 thread 1 ticks 2 exit\n",
         ),
         (
             trap(
@@ -134,65 +146,81 @@ fn prints_replies(rt: HostRuntime) -> Result<(), Fail> {
                 Outcome::Refused(TrapRefusal::LockCycle),
                 true,
             ),
-            "thread 1 ticks 2 refused 36 LockCycle ends\n",
+            "1 thread 1 ticks 2 refused 36 LockCycle ends\n",
         ),
     ] {
-        let line = ReplyLine {
-            event: &event,
-            reply,
-        };
-        let text = format!(in rt.alloc(); "{line}")?;
-        assert_eq!(rt; text.as_str(), wanted);
+        let mut writer = Watched::new(Vec::new(rt.alloc()));
+        let ended = write_reply(&mut writer, 1, &event, reply);
+        check(&rt, writer, ended, wanted);
     }
-    Ok(())
 }
 
 #[test]
-fn prints_refusals(rt: HostRuntime) -> Result<(), Fail> {
+fn prints_refusals(rt: HostRuntime) {
     for (refusal, wanted) in [
-        (Refusal::BadName, "refused 1 BadName"),
-        (Refusal::NameTaken, "refused 2 NameTaken"),
-        (Refusal::NoCurrency, "refused 3 NoCurrency"),
-        (Refusal::NoTicket, "refused 4 NoTicket"),
-        (Refusal::NoTarget, "refused 5 NoTarget"),
-        (Refusal::BadAmount, "refused 6 BadAmount"),
-        (Refusal::InUse, "refused 7 InUse"),
-        (Refusal::Funding, "refused 8 Funding"),
-        (Refusal::NotFunding, "refused 9 NotFunding"),
-        (Refusal::Cycle, "refused 10 Cycle"),
-        (Refusal::BaseFixed, "refused 11 BaseFixed"),
-        (Refusal::DeadThread, "refused 12 DeadThread"),
-        (Refusal::Full, "refused 13 Full"),
-        (Refusal::NoScript, "refused 14 NoScript"),
-        (Refusal::BadProcessor, "refused 20 BadProcessor"),
-        (Refusal::Busy, "refused 21 Busy"),
-        (Refusal::NotRunning, "refused 22 NotRunning"),
-        (Refusal::BadTicks, "refused 23 BadTicks"),
+        (Refusal::BadName, "2 refused 1 BadName\n"),
+        (Refusal::NameTaken, "2 refused 2 NameTaken\n"),
+        (Refusal::NoCurrency, "2 refused 3 NoCurrency\n"),
+        (Refusal::NoTicket, "2 refused 4 NoTicket\n"),
+        (Refusal::NoTarget, "2 refused 5 NoTarget\n"),
+        (Refusal::BadAmount, "2 refused 6 BadAmount\n"),
+        (Refusal::InUse, "2 refused 7 InUse\n"),
+        (Refusal::Funding, "2 refused 8 Funding\n"),
+        (Refusal::NotFunding, "2 refused 9 NotFunding\n"),
+        (Refusal::Cycle, "2 refused 10 Cycle\n"),
+        (Refusal::BaseFixed, "2 refused 11 BaseFixed\n"),
+        (Refusal::DeadThread, "2 refused 12 DeadThread\n"),
+        (Refusal::Full, "2 refused 13 Full\n"),
+        (Refusal::NoScript, "2 refused 14 NoScript\n"),
+        (Refusal::BadProcessor, "2 refused 20 BadProcessor\n"),
+        (Refusal::Busy, "2 refused 21 Busy\n"),
+        (Refusal::NotRunning, "2 refused 22 NotRunning\n"),
+        (Refusal::BadTicks, "2 refused 23 BadTicks\n"),
     ] {
-        let text = format!(in rt.alloc(); "{}", RefusalText(refusal))?;
-        assert_eq!(rt; text.as_str(), wanted);
+        let (event, reply) = plain(Reply::Refused(refusal));
+        let mut writer = Watched::new(Vec::new(rt.alloc()));
+        let ended = write_reply(&mut writer, 2, &event, reply);
+        check(&rt, writer, ended, wanted);
     }
-    Ok(())
 }
 
 #[test]
-fn prints_trap_refusals(rt: HostRuntime) -> Result<(), Fail> {
+fn prints_trap_refusals(rt: HostRuntime) {
     for (refusal, wanted) in [
-        (TrapRefusal::NoPort, "refused 30 NoPort"),
-        (TrapRefusal::NothingToReply, "refused 32 NothingToReply"),
-        (TrapRefusal::NoMutex, "refused 33 NoMutex"),
-        (TrapRefusal::NotOwner, "refused 34 NotOwner"),
-        (TrapRefusal::AlreadyOwner, "refused 35 AlreadyOwner"),
-        (TrapRefusal::LockCycle, "refused 36 LockCycle"),
+        (
+            TrapRefusal::NoPort,
+            "1 thread 1 ticks 2 refused 30 NoPort\n",
+        ),
+        (
+            TrapRefusal::NothingToReply,
+            "1 thread 1 ticks 2 refused 32 NothingToReply\n",
+        ),
+        (
+            TrapRefusal::NoMutex,
+            "1 thread 1 ticks 2 refused 33 NoMutex\n",
+        ),
+        (
+            TrapRefusal::NotOwner,
+            "1 thread 1 ticks 2 refused 34 NotOwner\n",
+        ),
+        (
+            TrapRefusal::AlreadyOwner,
+            "1 thread 1 ticks 2 refused 35 AlreadyOwner\n",
+        ),
+        (
+            TrapRefusal::LockCycle,
+            "1 thread 1 ticks 2 refused 36 LockCycle\n",
+        ),
     ] {
-        let text = format!(in rt.alloc(); "{}", TrapRefusalText(refusal))?;
-        assert_eq!(rt; text.as_str(), wanted);
+        let (event, reply) = trap(Action::Yield, Outcome::Refused(refusal), false);
+        let mut writer = Watched::new(Vec::new(rt.alloc()));
+        let ended = write_reply(&mut writer, 1, &event, reply);
+        check(&rt, writer, ended, wanted);
     }
-    Ok(())
 }
 
 #[test]
-fn prints_faults(rt: HostRuntime) -> Result<(), Fail> {
+fn prints_faults(rt: HostRuntime) {
     for (line, refusal, wanted) in [
         (1, InputRefusal::BadHeader, "refused line 1 50 BadHeader\n"),
         (2, InputRefusal::BadLine, "refused line 2 51 BadLine\n"),
@@ -211,11 +239,32 @@ fn prints_faults(rt: HostRuntime) -> Result<(), Fail> {
         (2, InputRefusal::TooLong, "refused line 2 56 TooLong\n"),
         (2, InputRefusal::BadActor, "refused line 2 57 BadActor\n"),
     ] {
-        let fault = FaultLine(InputFault { line, refusal });
-        let text = format!(in rt.alloc(); "{fault}")?;
-        assert_eq!(rt; text.as_str(), wanted);
+        let mut writer = Watched::new(Vec::new(rt.alloc()));
+        let ended = write_fault(&mut writer, InputFault { line, refusal });
+        check(&rt, writer, ended, wanted);
     }
-    Ok(())
+}
+
+#[test]
+fn prints_ended(rt: HostRuntime) {
+    let mut writer = Watched::new(Vec::new(rt.alloc()));
+    let ended = write_ended(&mut writer, 0);
+    check(&rt, writer, ended, "0 refused 41 Ended\n");
+}
+
+/// Writes a report of one thread and one processor.
+fn write_small_report(
+    writer: &mut Watched<Vec<u8>>,
+    thread: &ThreadRow,
+    processor: ProcessorTotal,
+    total: WholeTotal,
+) -> Result<(), WriteFault>
+    requires { writer.old.failed ≡ false }
+{
+    write_report_line(writer)?;
+    write_thread_total(writer, 1, thread)?;
+    write_processor_total(writer, processor)?;
+    write_whole_total(writer, total)
 }
 
 #[test]
@@ -239,16 +288,11 @@ fn prints_totals(rt: HostRuntime) -> Result<(), Fail> {
         quanta: 3,
         ticks: 300,
     };
-    let text = format!(in rt.alloc();
-        "{}{processor}{total}{EndedLine}",
-        ThreadTotal {
-            number: 1,
-            row: &row
-        }
-    )?;
+    let mut writer = Watched::new(Vec::new(rt.alloc()));
+    let ended = write_small_report(&mut writer, &row, processor, total);
     let wanted =
-        "thread 1 a quanta 2 ticks 200\nprocessor 1 quanta 3 idle 0 ticks 300\ntotal turns 12 quanta 3 ticks 300\nrefused 41 Ended\n";
-    assert_eq!(rt; text.as_str(), wanted);
+        "report\nthread 1 a quanta 2 ticks 200\nprocessor 1 quanta 3 idle 0 ticks 300\ntotal turns 12 quanta 3 ticks 300\n";
+    check(&rt, writer, ended, wanted);
     Ok(())
 }
 
@@ -287,15 +331,9 @@ fn prints_tickets(rt: HostRuntime) -> Result<(), Fail> {
             value: 1000,
         };
         let limits = limits(unit).ok_or("limits")?;
-        let text = format!(in rt.alloc();
-            "{}",
-            TicketLine {
-                limits,
-                number: 1,
-                row: &row
-            }
-        )?;
-        assert_eq!(rt; text.as_str(), wanted);
+        let mut writer = Watched::new(Vec::new(rt.alloc()));
+        let ended = write_ticket(&mut writer, limits, 1, &row);
+        check(&rt, writer, ended, wanted);
     }
     Ok(())
 }
@@ -327,15 +365,9 @@ fn prints_currencies(rt: HostRuntime) -> Result<(), Fail> {
             value: 3000,
         };
         let limits = limits(unit).ok_or("limits")?;
-        let text = format!(in rt.alloc();
-            "{}",
-            CurrencyLine {
-                limits,
-                number,
-                row: &row
-            }
-        )?;
-        assert_eq!(rt; text.as_str(), wanted);
+        let mut writer = Watched::new(Vec::new(rt.alloc()));
+        let ended = write_currency(&mut writer, limits, number, &row);
+        check(&rt, writer, ended, wanted);
     }
     Ok(())
 }
@@ -366,37 +398,31 @@ fn prints_threads(rt: HostRuntime) -> Result<(), Fail> {
             ticks: 6,
         };
         let limits = limits(1).ok_or("limits")?;
-        let text = format!(in rt.alloc();
-            "{}",
-            ThreadLine {
-                limits,
-                number: 1,
-                row: &row
-            }
-        )?;
+        let mut writer = Watched::new(Vec::new(rt.alloc()));
+        let ended = write_thread(&mut writer, limits, 1, &row);
         let wanted = format!(in rt.alloc();
             "thread 1 thread2 {wanted} value 400 weight 40000 quanta 5 ticks 6\n"
         )?;
-        assert_eq!(rt; text.as_str(), wanted.as_str());
+        check(&rt, writer, ended, wanted.as_str());
     }
     Ok(())
 }
 
 #[test]
-fn prints_listing_lines(rt: HostRuntime) -> Result<(), Fail> {
+fn prints_listing_lines(rt: HostRuntime) {
     for (kind, wanted) in [
-        (Kind::Tickets, "lstkt 8\n"),
-        (Kind::Currencies, "lscur 8\n"),
-        (Kind::Threads, "lsthr 8\n"),
+        (Kind::Tickets, "0 lstkt 8\n"),
+        (Kind::Currencies, "0 lscur 8\n"),
+        (Kind::Threads, "0 lsthr 8\n"),
     ] {
-        let text = format!(in rt.alloc(); "{}", ListingLine { kind, rows: 8 })?;
-        assert_eq!(rt; text.as_str(), wanted);
+        let mut writer = Watched::new(Vec::new(rt.alloc()));
+        let ended = write_listing_line(&mut writer, 0, kind, 8);
+        check(&rt, writer, ended, wanted);
     }
-    Ok(())
 }
 
 #[test]
-fn prints_histories(rt: HostRuntime) -> Result<(), Fail> {
+fn prints_histories(rt: HostRuntime) {
     let mut long = [1; 66];
     long[65] = 0;
     let long_line =
@@ -418,8 +444,23 @@ fn prints_histories(rt: HostRuntime) -> Result<(), Fail> {
         (256, long.as_slice(), "runs 1 65 0 1\n"),
         (256, mixed.as_slice(), mixed_line),
     ] {
-        let text = format!(in rt.alloc(); "{}", HistoryLines { unit, history })?;
-        assert_eq!(rt; text.as_str(), wanted);
+        let mut writer = Watched::new(Vec::new(rt.alloc()));
+        let ended = write_history(&mut writer, unit, history);
+        check(&rt, writer, ended, wanted);
     }
+}
+
+#[test]
+fn runs_of_histories(rt: HostRuntime) -> Result<(), Fail> {
+    let none: &[u8] = &[];
+    assert_eq!(rt; first_run(none), None);
+    assert_eq!(rt; first_run(&[2, 2, 2, 0, 2]), Some((2, 3)));
+    assert_eq!(rt; after_line(&[1, 1, 0]), none);
+    let mut history = Vec::new(rt.alloc());
+    for run in 0..33u8 {
+        history.push(run)?;
+        history.push(run)?;
+    }
+    assert_eq!(rt; after_line(&history), [32, 32].as_slice());
     Ok(())
 }

@@ -1,33 +1,17 @@
 //! What is printed of totals.
-ghost use Rattle.std.specs.Prelude.{Some};
+ghost use Rattle.std.specs.Prelude.{◌≡◌, codes, false};
 ghost use Rattle.lot_machine.specs.Report.{thread_total};
 ghost use Rattle.lot_print.specs.Totals.{processor_line, total_line};
+ghost use Rattle.lot_print.specs.Writing.{Writes};
 
-use crate::name::NameText;
+use crate::WriteFault;
+use crate::line::{Line, write_bytes};
+use crate::rows::{push_named, push_used};
 use lot_machine::ThreadRow;
-use std::fmt;
+use lot_text::Watched;
+use std::io::Write;
 
-/// A thread's line of the report: its name, the draws it has won and the ticks it has used. A name that is no text can't be
-/// printed, and is an error.
-#[derive(Debug, Drop)]
-pub struct ThreadTotal<'a> {
-    pub number: u32,
-    pub row: &'a ThreadRow,
-}
-
-impl fmt::Display for ThreadTotal<'_> {
-    ghost output = { λ x. Some (thread_total x.number x.row.now) };
-
-    fn fmt<W: fmt::Write>(&self, f: &mut fmt::Formatter<W>) -> fmt::Result {
-        let number = self.number;
-        let name = NameText(&self.row.name);
-        let quanta = self.row.quanta;
-        let ticks = self.row.ticks;
-        write!(f, "thread {number} {name} quanta {quanta} ticks {ticks}\n")
-    }
-}
-
-/// A processor's line of the report: the draws that somebody won there, the others, and the ticks used there.
+/// What the report has of a processor: the draws that somebody won there, the others, and the ticks used there.
 #[derive(Clone, Copy, Debug)]
 pub struct ProcessorTotal {
     pub processor: u32,
@@ -36,22 +20,7 @@ pub struct ProcessorTotal {
     pub ticks: u64,
 }
 
-impl fmt::Display for ProcessorTotal {
-    ghost output = { λ x. Some (processor_line x.processor x.quanta x.idles x.ticks) };
-
-    fn fmt<W: fmt::Write>(&self, f: &mut fmt::Formatter<W>) -> fmt::Result {
-        let processor = self.processor;
-        let quanta = self.quanta;
-        let idles = self.idles;
-        let ticks = self.ticks;
-        write!(
-            f,
-            "processor {processor} quanta {quanta} idle {idles} ticks {ticks}\n"
-        )
-    }
-}
-
-/// The last line of the report: how many turns were made, and what was counted in all of them.
+/// What the report has at its end: how many turns were made, and what was counted in all of them.
 #[derive(Clone, Copy, Debug)]
 pub struct WholeTotal {
     pub turns: u64,
@@ -59,13 +28,56 @@ pub struct WholeTotal {
     pub ticks: u64,
 }
 
-impl fmt::Display for WholeTotal {
-    ghost output = { λ x. Some (total_line x.turns x.quanta x.ticks) };
+/// Writes the first line of the report.
+pub fn write_report_line<W: Write>(writer: &mut Watched<W>) -> Result<(), WriteFault>
+    requires { writer.old.failed ≡ false }
+    ensures { Writes (W.contents writer.old.inner) (W.contents writer.new.inner) writer.new.failed result (codes "report\n") }
+{
+    write_bytes(writer, b"report\n")
+}
 
-    fn fmt<W: fmt::Write>(&self, f: &mut fmt::Formatter<W>) -> fmt::Result {
-        let turns = self.turns;
-        let quanta = self.quanta;
-        let ticks = self.ticks;
-        write!(f, "total turns {turns} quanta {quanta} ticks {ticks}\n")
-    }
+/// Writes a thread's line of the report: its name, the draws it has won and the ticks it has used.
+pub fn write_thread_total<W: Write>(
+    writer: &mut Watched<W>,
+    number: u32,
+    row: &ThreadRow,
+) -> Result<(), WriteFault>
+    requires { writer.old.failed ≡ false }
+    ensures { Writes (W.contents writer.old.inner) (W.contents writer.new.inner) writer.new.failed result (thread_total number row.now) }
+{
+    let mut line = Line::new();
+    push_named(&mut line, "thread ", number, &row.name);
+    push_used(&mut line, row.quanta, row.ticks);
+    line.write_to(writer)
+}
+
+/// Writes a processor's line of the report.
+pub fn write_processor_total<W: Write>(
+    writer: &mut Watched<W>,
+    total: ProcessorTotal,
+) -> Result<(), WriteFault>
+    requires { writer.old.failed ≡ false }
+    ensures { Writes (W.contents writer.old.inner) (W.contents writer.new.inner) writer.new.failed result (processor_line total.processor total.quanta total.idles total.ticks) }
+{
+    let mut line = Line::new();
+    line.push_field("processor ", total.processor);
+    line.push_field(" quanta ", total.quanta);
+    line.push_field(" idle ", total.idles);
+    line.push_field(" ticks ", total.ticks);
+    line.push_text("\n");
+    line.write_to(writer)
+}
+
+/// Writes the last line of the report.
+pub fn write_whole_total<W: Write>(
+    writer: &mut Watched<W>,
+    total: WholeTotal,
+) -> Result<(), WriteFault>
+    requires { writer.old.failed ≡ false }
+    ensures { Writes (W.contents writer.old.inner) (W.contents writer.new.inner) writer.new.failed result (total_line total.turns total.quanta total.ticks) }
+{
+    let mut line = Line::new();
+    line.push_field("total turns ", total.turns);
+    push_used(&mut line, total.quanta, total.ticks);
+    line.write_to(writer)
 }

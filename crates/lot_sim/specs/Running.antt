@@ -11,7 +11,7 @@ use Rattle.lot_system.specs.declared.playing.Played.{Played}
 use Rattle.lot_system.specs.declared.playing.Played.TheVariants.{Done, Refused}
 use Rattle.lot_system.specs.declared.fault.PlayFault.TheVariants.{Write}
 use Rattle.lot_system.specs.Reading.{HasRead}
-use Rattle.lot_system.specs.Writing.{Begins}
+use Rattle.lot_print.specs.Writing.{Begins}
 use Rattle.lot_sim.specs.declared.run.RunStop.{RunStop}
 use Rattle.lot_sim.specs.declared.run.RunStop.TheVariants.{Play}
 

@@ -651,7 +651,7 @@ fn failing_writers(rt: HostRuntime) -> Result<(), Fail> {
             (call.as_str(), CALL_AND_REPLY_PLAYED),
         ] {
             let unmade = first_unmade_write(&rt, alloc, row, kind);
-            assert!(rt; 50 < unmade, "{unmade}");
+            assert!(rt; 17 < unmade, "{unmade}");
         }
     }
     Ok(())

@@ -14,7 +14,8 @@ use Rattle.lot_machine.specs.State.{State}
 use Rattle.lot_machine.specs.Rows.{row_of_thread}
 use Rattle.lot_machine.specs.Texts.{newline, listing_text}
 use Rattle.lot_machine.proofs.Tickets.{at_number-suc}
-use Rattle.lot_system.specs.Listing.{word_of, first_number, given_count, is_there, row_line, rows_among}
+use Rattle.lot_print.specs.Listings.{listing_line}
+use Rattle.lot_system.specs.Listing.{first_number, given_count, is_there, row_line, rows_among}
 
 numbers-push : (a k : ℕ) → range_with_len a (suc k) ≡ range_with_len a k ++ (a + k) ∷ []
 numbers-push a zero = let e : a + 0 ≡ a = omega arith in ap (λ n. n ∷ []) (sym e)
@@ -53,25 +54,28 @@ thread-there s i below = from (slice_get_cases s.records i).1
     from (inl (r, within, is, there)) = ap (λ o. is_some (option_map (row_of_thread s (1 + i)) o)) (number ∙ is)
     from (inr (past, none)) = absurd (omega (arith, past, below))
 
+-- with what a listing begins
+abbrev word_of : Kind → List ℕ
+word_of Tickets = codes "lstkt "
+word_of Currencies = codes "lscur "
+word_of Threads = codes "lsthr "
+
 -- a listing is its first line and those of its rows
-pub listing-is : (s : State) (kind : Kind)
+listing-is : (s : State) (kind : Kind)
     → listing_text s kind ≡ word_of kind ++ (decimal (rows_among s kind (given_count s kind)) ++ (newline ++ flat_map (row_line s kind) (range_with_len (first_number kind) (given_count s kind))))
 listing-is s Tickets = refl
 listing-is s Currencies = refl
 listing-is s Threads = rw (passing-all (is_there s Threads) 1 (length s.records) (thread-there s)) refl
 
--- its first line behind the actor
-abbrev pub first_line : ℕ → List ℕ → ℕ → List ℕ
-first_line actor word rows = decimal actor ++ (codes " " ++ (word ++ (decimal rows ++ newline)))
+line-is : (kind : Kind) (n : ℕ) (lines : List ℕ) → listing_line kind n ++ lines ≡ word_of kind ++ (decimal n ++ (newline ++ lines))
+line-is Tickets n lines = ap (λ xs. codes "lstkt " ++ xs) (append_assoc (decimal n) newline lines)
+line-is Currencies n lines = ap (λ xs. codes "lscur " ++ xs) (append_assoc (decimal n) newline lines)
+line-is Threads n lines = ap (λ xs. codes "lsthr " ++ xs) (append_assoc (decimal n) newline lines)
 
-pub listed-behind : (s : State) (kind : Kind) (actor from rows counted : ℕ) (word : List ℕ) → from ≡ actor → word ≡ word_of kind → counted ≡ rows → rows ≡ rows_among s kind (given_count s kind)
-    → first_line from word counted ++ flat_map (row_line s kind) (range_with_len (first_number kind) (given_count s kind)) ≡ decimal actor ++ (codes " " ++ listing_text s kind)
-listed-behind s kind actor from rows counted word who named same count =
+-- the same behind the actor
+pub listed-behind : (s : State) (kind : Kind) (actor rows : ℕ) → rows ≡ rows_among s kind (given_count s kind)
+    → (decimal actor ++ (codes " " ++ listing_line kind rows)) ++ flat_map (row_line s kind) (range_with_len (first_number kind) (given_count s kind)) ≡ decimal actor ++ (codes " " ++ listing_text s kind)
+listed-behind s kind actor rows count =
     let lines = flat_map (row_line s kind) (range_with_len (first_number kind) (given_count s kind)) in
-    let exact : counted ≡ rows_among s kind (given_count s kind) = same ∙ count in
-    append_assoc (decimal from) (codes " " ++ (word ++ (decimal counted ++ newline))) lines ∙ ap (λ xs. decimal from ++ (codes " " ++ xs)) (append_assoc word (decimal counted ++ newline) lines)
-    ∙ ap (λ xs. decimal from ++ (codes " " ++ (word ++ xs))) (append_assoc (decimal counted) newline lines)
-    ∙ ap (λ n. decimal n ++ (codes " " ++ (word ++ (decimal counted ++ (newline ++ lines))))) who
-    ∙ ap (λ xs. decimal actor ++ (codes " " ++ (xs ++ (decimal counted ++ (newline ++ lines))))) named
-    ∙ ap (λ n. decimal actor ++ (codes " " ++ (word_of kind ++ (decimal n ++ (newline ++ lines))))) exact
-    ∙ ap (λ xs. decimal actor ++ (codes " " ++ xs)) (sym (listing-is s kind))
+    append_assoc (decimal actor) (codes " " ++ listing_line kind rows) lines
+    ∙ ap (λ xs. decimal actor ++ (codes " " ++ xs)) (line-is kind rows lines ∙ ap (λ n. word_of kind ++ (decimal n ++ (newline ++ lines))) count ∙ sym (listing-is s kind))

@@ -12,9 +12,9 @@ use Rattle.lot_machine.specs.World.{Program, World, Answer, Turn, opening_world,
 use Rattle.lot_machine.specs.World.Answer.{Answered}
 use Rattle.lot_system.specs.Playing.{HasPlayed, IsPlayed, turn_in}
 use Rattle.lot_system.specs.Seen.{Seen, Setting, world_of, after_turn}
-use Rattle.lot_system.specs.Writing.{Begins}
+use Rattle.lot_print.specs.Writing.{Begins}
 use Rattle.lot_system.proofs.Runs.{sysrun-one_more, past-more}
-use Rattle.lot_system.proofs.WritingFacts.{appends-both, begins-front, begins-behind}
+use Rattle.lot_print.proofs.WritingFacts.{appends-both, begins-front, begins-behind}
 
 -- ---- a turn that goes
 

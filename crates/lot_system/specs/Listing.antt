@@ -1,5 +1,5 @@
 -- What a listing has for each number.
-use Rattle.std.specs.Prelude.{ℕ, Bool, List, [], length, filter, is_some, codes}
+use Rattle.std.specs.Prelude.{ℕ, Bool, List, [], length, filter, is_some}
 use Rattle.std.specs.List.{range_with_len}
 use Rattle.std.specs.Option.{option_map_or}
 use Rattle.lot_machine.specs.declared.command.Kind.{Kind}
@@ -7,12 +7,6 @@ use Rattle.lot_machine.specs.declared.command.Kind.TheVariants.{Tickets, Currenc
 use Rattle.lot_machine.specs.State.{State}
 use Rattle.lot_machine.specs.Rows.{ticket_row, currency_row, thread_row}
 use Rattle.lot_machine.specs.Texts.{ticket_line, currency_line, thread_line}
-
--- with what its first line begins
-abbrev pub word_of : Kind → List ℕ
-word_of Tickets = codes "lstkt "
-word_of Currencies = codes "lscur "
-word_of Threads = codes "lsthr "
 
 -- the first number of the kind
 abbrev pub first_number : Kind → ℕ

@@ -9,7 +9,7 @@ use Rattle.lot_system.specs.declared.playing.Played.TheVariants.{Done, Refused}
 use Rattle.lot_system.specs.declared.fault.PlayFault.{PlayFault}
 use Rattle.lot_system.specs.declared.fault.PlayFault.TheVariants.{Memory, Read, Write}
 use Rattle.lot_system.specs.Reading.{HasRead}
-use Rattle.lot_system.specs.Writing.{Begins}
+use Rattle.lot_print.specs.Writing.{Begins}
 
 -- what comes of an input: it is refused exactly where its bytes are
 abbrev pub came_of : Result Program InputFault → Played

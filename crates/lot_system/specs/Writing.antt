@@ -1,22 +1,9 @@
 -- What is written.
-use Rattle.std.specs.Prelude.{◌≡◌, ℕ, Bool, true, false, Option, Result, Ok, Err, List, ◌++◌}
-use Rattle.std.specs.Fmt.{decimal}
+use Rattle.std.specs.Prelude.{◌≡◌, ℕ, Bool, true, false, Option, Result, Ok, Err, List}
 use Rattle.std.specs.Io.KnownBytes.{Appends}
+use Rattle.lot_print.specs.Writing.{Begins}
 use Rattle.lot_system.specs.declared.fault.PlayFault.{PlayFault}
 use Rattle.lot_system.specs.declared.fault.PlayFault.TheVariants.{Memory, Read, Write}
-use Rattle.lot_system.specs.declared.writing.Piece.{Piece}
-use Rattle.lot_system.specs.declared.writing.Piece.TheVariants.{Text, Number, Wide, Bytes}
-
--- a piece of what is written
-abbrev pub piece_text : Piece → List ℕ
-piece_text (Text text) = text.now
-piece_text (Number n) = decimal n
-piece_text (Wide n) = decimal n
-piece_text (Bytes bytes) = bytes.now
-
--- some beginning of the text was written
-abbrev pub Begins : Option (List ℕ) → Option (List ℕ) → List ℕ → Type 0
-Begins old new text = (written left : List ℕ) × (text ≡ written ++ left) × Appends old new written
 
 -- On Ok the text was written, and the writer hasn't failed. Else it has failed, and a beginning of the text was written.
 abbrev pub Writes : {U : Type 0} → Option (List ℕ) → Option (List ℕ) → Bool → Result U PlayFault → List ℕ → Type 0

@@ -1,6 +1,9 @@
 //! Why a turn or a run isn't made.
+ghost use Rattle.std.specs.Prelude.{◌≡◌};
+ghost use Rattle.lot_system.specs.declared.fault.PlayFault.TheVariants as play_fault;
 
 use crate::turn::Work;
+use lot_print::WriteFault;
 use thiserror::Error;
 
 /// Why a turn isn't made. It then changes nothing.
@@ -29,4 +32,12 @@ pub enum PlayFault {
     /// The writer has failed, and what was written is a beginning of the output.
     #[error("the writer has failed")]
     Write,
+}
+
+impl From<WriteFault> for PlayFault {
+    ghost from_gives = { λ _ fault. fault ≡ play_fault.Write };
+
+    fn from(_: WriteFault) -> Self {
+        PlayFault::Write
+    }
 }

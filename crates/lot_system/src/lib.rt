@@ -9,7 +9,6 @@ mod fault;
 mod generators;
 mod input;
 pub mod laws;
-mod lines;
 mod listing;
 mod playing;
 mod report;

@@ -1,5 +1,5 @@
-//! Listings (4.7).
-ghost use Rattle.std.specs.Prelude.{◌≡◌, ◌≤◌, ◌++◌, [], codes, false, unwrap_or};
+//! Listings.
+ghost use Rattle.std.specs.Prelude.{◌≡◌, ◌≤◌, ◌++◌, [], codes, false};
 ghost use Rattle.std.specs.Fmt.{decimal};
 ghost use Rattle.std.specs.Option.{option_map_or};
 ghost use Rattle.std.specs.List.{flat_map, range_with_len};
@@ -7,12 +7,12 @@ ghost use Rattle.lot_machine.specs.Texts as texts;
 ghost use Rattle.lot_machine.specs.Rows as rows;
 ghost use Rattle.lot_system.specs.Seen.{world_of};
 ghost use Rattle.lot_system.specs.Listing as listing;
-ghost use Rattle.lot_system.specs.Listing.{given_count, is_there, row_line, rows_among, word_of};
-ghost use Rattle.lot_system.specs.Writing.{Writes, piece_text};
+ghost use Rattle.lot_system.specs.Listing.{given_count, is_there, row_line, rows_among};
+ghost use Rattle.lot_system.specs.Writing.{Writes};
 
-use crate::writing::{Piece, write_around, write_pieces};
 use crate::{PlayFault, System};
-use lot_machine::{Kind, Name, Status};
+use lot_machine::Kind;
+use lot_print::{write_currency, write_listing_line, write_thread, write_ticket};
 use lot_text::Watched;
 use std::io::Write;
 
@@ -29,28 +29,8 @@ pub(crate) fn write_listing<W: Write>(
     ensures text { Writes (W.contents writer.old.inner) (W.contents writer.new.inner) writer.new.failed result (decimal actor ++ (codes " " ++ texts.listing_text (world_of system.old).state kind)) }
 {
     let rows = count_rows(system, kind);
-    write_pieces(
-        writer,
-        &[
-            Piece::Number(u64::from(actor)),
-            Piece::Text(" "),
-            Piece::Text(listing_word(kind)),
-            Piece::Number(u64::from(rows)),
-            Piece::Text("\n"),
-        ],
-    )?;
+    write_listing_line(writer, actor, kind, rows)?;
     write_rows(system, kind, writer)
-}
-
-/// With what the first line of a listing begins.
-fn listing_word(kind: Kind) -> &'static str
-    ensures { result.now ≡ word_of kind }
-{
-    match kind {
-        Kind::Tickets => "lstkt ",
-        Kind::Currencies => "lscur ",
-        Kind::Threads => "lsthr ",
-    }
 }
 
 /// How many rows the listing has.
@@ -119,13 +99,14 @@ fn write_row<W: Write>(
     ensures text { Writes (W.contents writer.old.inner) (W.contents writer.new.inner) writer.new.failed result (row_line (world_of system.old).state kind number) }
 {
     match kind {
-        Kind::Tickets => write_ticket(system, number, writer),
-        Kind::Currencies => write_currency(system, number, writer),
-        Kind::Threads => write_thread(system, number, writer),
+        Kind::Tickets => write_ticket_row(system, number, writer),
+        Kind::Currencies => write_currency_row(system, number, writer),
+        Kind::Threads => write_thread_row(system, number, writer),
     }
 }
 
-fn write_ticket<W: Write>(
+/// Writes the line of the ticket with this number, if there is one.
+fn write_ticket_row<W: Write>(
     system: &mut System,
     number: u32,
     writer: &mut Watched<W>,
@@ -134,48 +115,15 @@ fn write_ticket<W: Write>(
     ensures same { system.new ≡ system.old }
     ensures text { Writes (W.contents writer.old.inner) (W.contents writer.new.inner) writer.new.failed result (option_map_or (texts.ticket_line (world_of system.old).state.limits.unit number) (rows.ticket_row (world_of system.old).state number) []) }
 {
-    let unit = u64::from(system.limits().unit);
-    match system.ticket_row(number) {
-        Some(row) => write_around(
-            writer,
-            &[
-                Piece::Text("ticket "),
-                Piece::Number(u64::from(number)),
-                Piece::Text(" amount "),
-                Piece::Number(u64::from(row.amount)),
-                Piece::Text(" in "),
-                Piece::Bytes(row.issuer.as_bytes()),
-            ],
-            &[Piece::Text(" funds "), target_piece(&row.target)],
-            &[
-                activity_piece(row.is_active),
-                Piece::Text(" value "),
-                Piece::Number(row.value / unit),
-                Piece::Text("\n"),
-            ],
-        ),
-        None => write_pieces(writer, &[]),
+    let limits = system.limits();
+    if let Some(row) = system.ticket_row(number) {
+        write_ticket(writer, limits, number, &row)?;
     }
+    Ok(())
 }
 
-/// Whether a ticket is active.
-fn activity_piece(is_active: bool) -> Piece<'static>
-    ensures { piece_text result ≡ texts.activity_text is_active }
-{
-    Piece::Text(if is_active { " active" } else { " inactive" })
-}
-
-/// What a ticket funds; `-` where it funds nothing.
-fn target_piece(target: &Option<Name>) -> Piece<'_>
-    ensures { piece_text result ≡ unwrap_or target.now (codes "-") }
-{
-    match target {
-        Some(name) => Piece::Bytes(name.as_bytes()),
-        None => Piece::Text("-"),
-    }
-}
-
-fn write_currency<W: Write>(
+/// Writes the line of the currency with this number, if there is one.
+fn write_currency_row<W: Write>(
     system: &mut System,
     number: u32,
     writer: &mut Watched<W>,
@@ -184,36 +132,15 @@ fn write_currency<W: Write>(
     ensures same { system.new ≡ system.old }
     ensures text { Writes (W.contents writer.old.inner) (W.contents writer.new.inner) writer.new.failed result (option_map_or (texts.currency_line (world_of system.old).state.limits.unit number) (rows.currency_row (world_of system.old).state number) []) }
 {
-    // Base is shown as worth its active amount.
-    let unit = if number == 0 {
-        1
-    } else {
-        u64::from(system.limits().unit)
-    };
-    match system.currency_row(number) {
-        Some(row) => write_pieces(
-            writer,
-            &[
-                Piece::Text("currency "),
-                Piece::Number(u64::from(number)),
-                Piece::Text(" "),
-                Piece::Bytes(row.name.as_bytes()),
-                Piece::Text(" backing "),
-                Piece::Number(u64::from(row.backing)),
-                Piece::Text(" issued "),
-                Piece::Number(u64::from(row.issued)),
-                Piece::Text(" active "),
-                Piece::Number(row.active_amount),
-                Piece::Text(" value "),
-                Piece::Number(row.value / unit),
-                Piece::Text("\n"),
-            ],
-        ),
-        None => write_pieces(writer, &[]),
+    let limits = system.limits();
+    if let Some(row) = system.currency_row(number) {
+        write_currency(writer, limits, number, &row)?;
     }
+    Ok(())
 }
 
-fn write_thread<W: Write>(
+/// Writes the line of the thread with this number, if there is one.
+fn write_thread_row<W: Write>(
     system: &mut System,
     number: u32,
     writer: &mut Watched<W>,
@@ -222,66 +149,9 @@ fn write_thread<W: Write>(
     ensures same { system.new ≡ system.old }
     ensures text { Writes (W.contents writer.old.inner) (W.contents writer.new.inner) writer.new.failed result (option_map_or (texts.thread_line (world_of system.old).state.limits.unit number) (rows.thread_row (world_of system.old).state number) []) }
 {
-    let unit = system.limits().unit;
-    match system.thread_row(number) {
-        Some(row) => write_around(
-            writer,
-            &[
-                Piece::Text("thread "),
-                Piece::Number(u64::from(number)),
-                Piece::Text(" "),
-                Piece::Bytes(row.name.as_bytes()),
-                Piece::Text(" "),
-            ],
-            &status_pieces(row.status),
-            &[
-                Piece::Text(" value "),
-                Piece::Number(row.value / u64::from(unit)),
-                Piece::Text(" weight "),
-                Piece::Wide(row.weight / u128::from(unit)),
-                Piece::Text(" quanta "),
-                Piece::Number(row.quanta),
-                Piece::Text(" ticks "),
-                Piece::Number(row.ticks),
-                Piece::Text("\n"),
-            ],
-        ),
-        None => write_pieces(writer, &[]),
+    let limits = system.limits();
+    if let Some(row) = system.thread_row(number) {
+        write_thread(writer, limits, number, &row)?;
     }
-}
-
-/// What a thread is doing.
-fn status_pieces(status: Status) -> [Piece<'static>; 4]
-    ensures { flat_map piece_text result ≡ texts.status_text status }
-{
-    match status {
-        Status::Ready => with_number("ready", None),
-        Status::Running { processor, used } => [
-            Piece::Text("running "),
-            Piece::Number(u64::from(processor)),
-            Piece::Text(" used "),
-            Piece::Number(u64::from(used)),
-        ],
-        Status::Receiving(port) => with_number("receiving ", Some(port)),
-        Status::Queued(port) => with_number("queued ", Some(port)),
-        Status::Served(server) => with_number("served ", Some(server)),
-        Status::Waiting(mutex) => with_number("waiting ", Some(mutex)),
-        Status::Dead => with_number("dead", None),
-    }
-}
-
-/// A word, and a number behind it, if there is one.
-fn with_number(word: &'static str, number: Option<u32>) -> [Piece<'static>; 4]
-    ensures { flat_map piece_text result ≡ word.now ++ option_map_or decimal number [] }
-{
-    let end = Piece::Text("");
-    match number {
-        Some(number) => [
-            Piece::Text(word),
-            Piece::Number(u64::from(number)),
-            end,
-            end,
-        ],
-        None => [Piece::Text(word), end, end, end],
-    }
+    Ok(())
 }

@@ -17,13 +17,13 @@ ghost use Rattle.lot_system.specs.Seen.{world_of};
 ghost use Rattle.lot_system.specs.Turns.{IsFresh};
 ghost use Rattle.lot_system.specs.Writing.{IsFaultOf, Writes};
 
-use crate::lines::{write_ended, write_fault, write_turn};
 use crate::listing::write_listing;
 use crate::report::write_report;
 use crate::slices::slice_of;
 use crate::writing::flush;
 use crate::{PlayFault, System, TurnFault, read_input};
 use lot_machine::{Event, InputFault, Reply};
+use lot_print::{write_ended, write_fault, write_reply};
 use lot_script::Slice;
 use lot_text::{ParseFault, Program, Watched, parse};
 use std::alloc::Global;
@@ -152,7 +152,7 @@ fn play_turn<W: Write>(
     let slice = slice_in(system, program, actor);
     match system.turn(actor, slice) {
         Ok(answer) => write_answer(system, actor, &answer.event, answer.reply, writer),
-        Err(TurnFault::Ended) => write_ended(writer, actor),
+        Err(TurnFault::Ended) => Ok(write_ended(writer, actor)?),
         Err(TurnFault::Stale(_)) => unreachable!(),
         Err(TurnFault::HistoryFull) => unreachable!(),
     }
@@ -183,6 +183,6 @@ fn write_answer<W: Write>(
 {
     match reply {
         Reply::List(kind) => write_listing(system, actor, kind, writer),
-        reply => write_turn(writer, actor, event, reply),
+        reply => Ok(write_reply(writer, actor, event, reply)?),
     }
 }

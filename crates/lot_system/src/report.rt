@@ -10,8 +10,11 @@ ghost use Rattle.lot_machine.specs.Texts.{lines_for};
 ghost use Rattle.lot_system.specs.Seen.{world_of};
 ghost use Rattle.lot_system.specs.Writing.{Writes};
 
-use crate::writing::{Piece, write_pieces};
 use crate::{PlayFault, System};
+use lot_print::{
+    ProcessorTotal, WholeTotal, write_processor_total, write_report_line, write_thread_total,
+    write_whole_total,
+};
 use lot_text::Watched;
 use std::io::Write;
 
@@ -37,23 +40,10 @@ fn write_thread<W: Write>(
     ensures same { system.new ≡ system.old }
     ensures text { Writes (W.contents writer.old.inner) (W.contents writer.new.inner) writer.new.failed result (option_map_or (reports.thread_total number) (thread_row (world_of system.old).state number) []) }
 {
-    match system.thread_row(number) {
-        Some(row) => write_pieces(
-            writer,
-            &[
-                Piece::Text("thread "),
-                Piece::Number(u64::from(number)),
-                Piece::Text(" "),
-                Piece::Bytes(row.name.as_bytes()),
-                Piece::Text(" quanta "),
-                Piece::Number(row.quanta),
-                Piece::Text(" ticks "),
-                Piece::Number(row.ticks),
-                Piece::Text("\n"),
-            ],
-        ),
-        None => write_pieces(writer, &[]),
+    if let Some(row) = system.thread_row(number) {
+        write_thread_total(writer, number, &row)?;
     }
+    Ok(())
 }
 
 /// Writes each processor's line.
@@ -78,20 +68,14 @@ fn write_processor<W: Write>(
     ensures { Writes (W.contents writer.old.inner) (W.contents writer.new.inner) writer.new.failed result (reports.processor_total (turns_made system.now.setting.program system.now.history) processor) }
 {
     let counts = system.counts(processor);
-    write_pieces(
-        writer,
-        &[
-            Piece::Text("processor "),
-            Piece::Number(u64::from(processor)),
-            Piece::Text(" quanta "),
-            Piece::Number(counts.quanta),
-            Piece::Text(" idle "),
-            Piece::Number(counts.idles),
-            Piece::Text(" ticks "),
-            Piece::Number(counts.ticks),
-            Piece::Text("\n"),
-        ],
-    )
+    let total = ProcessorTotal {
+        processor,
+        quanta: counts.quanta,
+        idles: counts.idles,
+        ticks: counts.ticks,
+    };
+    write_processor_total(writer, total)?;
+    Ok(())
 }
 
 /// Writes the totals of all actors.
@@ -99,19 +83,14 @@ fn write_total<W: Write>(system: &System, writer: &mut Watched<W>) -> Result<(),
     requires { writer.old.failed ≡ false }
     ensures { Writes (W.contents writer.old.inner) (W.contents writer.new.inner) writer.new.failed result (reports.whole_total (length (world_of system.now).history) (turns_made system.now.setting.program system.now.history)) }
 {
-    let total = system.total();
-    write_pieces(
-        writer,
-        &[
-            Piece::Text("total turns "),
-            Piece::Number(system.turn_count()),
-            Piece::Text(" quanta "),
-            Piece::Number(total.quanta),
-            Piece::Text(" ticks "),
-            Piece::Number(total.ticks),
-            Piece::Text("\n"),
-        ],
-    )
+    let counts = system.total();
+    let total = WholeTotal {
+        turns: system.turn_count(),
+        quanta: counts.quanta,
+        ticks: counts.ticks,
+    };
+    write_whole_total(writer, total)?;
+    Ok(())
 }
 
 /// Writes the report: a line for each thread, a line for each processor, and the totals.
@@ -123,7 +102,7 @@ pub(crate) fn write_report<W: Write>(
     ensures same { system.new ≡ system.old }
     ensures text { Writes (W.contents writer.old.inner) (W.contents writer.new.inner) writer.new.failed result (reports.report system.old.setting.program system.old.history) }
 {
-    write_pieces(writer, &[Piece::Text("report\n")])?;
+    write_report_line(writer)?;
     write_threads(system, writer)?;
     write_processors(system, writer)?;
     write_total(system, writer)

@@ -4,7 +4,6 @@ use super::{SPINNER, make_turns, program_of};
 use crate::{PlayFault, System, write_end};
 use lot_kernel::Kernel;
 use lot_machine::{Command, Event, Limits, Name, Reply};
-use lot_print::{behind_line, first_run};
 use lot_text::Watched;
 use std::alloc::Global;
 use std::io;
@@ -101,7 +100,7 @@ fn check_end(
     make_turns(&mut system, &program, actors)?;
     for kind in [Some(ErrorKind::Other), Some(ErrorKind::Interrupted), None] {
         let unmade = first_unmade_call(rt, alloc, &mut system, text, kind);
-        assert!(rt; 10 < unmade, "{unmade}");
+        assert!(rt; 3 < unmade, "{unmade}");
     }
     Ok(())
 }
@@ -169,21 +168,6 @@ processor 1 quanta 0 idle 0 ticks 0
 total turns 0 quanta 0 ticks 0
 ",
     )
-}
-
-#[test]
-fn runs_of_histories(rt: HostRuntime) -> Result<(), Fail> {
-    let none: &[u8] = &[];
-    assert_eq!(rt; first_run(none), None);
-    assert_eq!(rt; first_run(&[2, 2, 2, 0, 2]), Some((2, 3)));
-    assert_eq!(rt; behind_line(&[1, 1, 0]), none);
-    let mut history = Vec::new(rt.alloc());
-    for run in 0..33u8 {
-        history.push(run)?;
-        history.push(run)?;
-    }
-    assert_eq!(rt; behind_line(&history), [32, 32].as_slice());
-    Ok(())
 }
 
 // Numbers are given for good: what was removed keeps its own.

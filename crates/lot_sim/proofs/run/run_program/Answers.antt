@@ -5,7 +5,7 @@ use Rattle.lot_machine.specs.Output.{end_text}
 use Rattle.lot_machine.specs.World.{Program}
 use Rattle.lot_system.specs.declared.fault.PlayFault.{PlayFault}
 use Rattle.lot_system.specs.Seen.{Setting}
-use Rattle.lot_system.specs.Writing.{Begins}
+use Rattle.lot_print.specs.Writing.{Begins}
 use Rattle.lot_sim.specs.declared.run.RunStop.TheVariants.{Play}
 use Rattle.lot_sim.specs.Running.{Runs}
 use Rattle.lot_sim.proofs.run.run_program.Goals as goal

@@ -1,10 +1,17 @@
--- The history's lines are written behind the report.
-use Rattle.std.proofs.Common.{◌≡◌, ℕ, List, Err, rules, ◌∙◌, ap, subst}
+-- The history's lines are written after the report.
+use Rattle.std.proofs.Common.{◌≡◌, ℕ, List, Err, refl, rules, ◌∙◌, ap, subst}
+use Rattle.std.specs.Io.KnownBytes.{Appends}
 use Rattle.lot_machine.specs.Report.{report, history_lines}
 use Rattle.lot_system.specs.Seen.{Seen}
-use Rattle.lot_system.specs.Writing.{Writes}
-use Rattle.lot_system.proofs.WritingFacts.{begins-front, writes-behind}
+use Rattle.lot_system.specs.declared.fault.PlayFault.TheVariants.{Write}
+use Rattle.lot_print.specs.Writing.{Begins}
+use Rattle.lot_print.proofs.WritingFacts.{appends-both, begins-front, begins-behind}
 use Rattle.lot_system.proofs.ending.write_texts.Goals as goal
+
+lines-are : (s now : Seen) (unit : ℕ) (history : List ℕ) → now ≡ s → unit ≡ now.setting.program.limits.unit → history ≡ now.history → history_lines unit history ≡ history_lines s.setting.program.limits.unit s.history
+lines-are s now unit history same of_unit of_history =
+    ap (λ u. history_lines u history) (of_unit ∙ ap (λ (x : Seen). x.setting.program.limits.unit) same)
+    ∙ ap (λ (xs : List ℕ). history_lines s.setting.program.limits.unit xs) (of_history ∙ ap (λ (x : Seen). x.history) same)
 
 pub returns-in_err-write_report-clause-text : goal.returns-in_err-write_report-clause-text
 returns-in_err-write_report-clause-text g c =
@@ -17,17 +24,27 @@ returns-in_err-write_report-clause-text g c =
       begins-front (g.W.Write.contents c.args.writer.now.inner) (g.W.Write.contents c.write_report.new.writer.inner) (report s.setting.program s.history) (history_lines s.setting.program.limits.unit s.history) told.2,
     )
 
+pub returns-in_err-write_history-clause-text : goal.returns-in_err-write_history-clause-text
+returns-in_err-write_history-clause-text g c =
+    let s = c.args.system.now in
+    let is : c.from_residual-in_err-write_history.result ≡ Err Write = search rules in
+    let told = c.in_err-write_history.ensures in
+    let mid = g.W.Write.contents c.write_report.new.writer.inner in
+    let new = g.W.Write.contents c.write_history.new.writer.inner in
+    let lines = lines-are s c.write_report.new.system c.unit.result c.history.result.now c.in_ok-write_report.ensures.same c.unit.ensures c.history.ensures.items in
+    rw is (
+      refl,
+      told.0,
+      begins-behind (g.W.Write.contents c.args.writer.now.inner) mid new (report s.setting.program s.history) (history_lines s.setting.program.limits.unit s.history) c.in_ok-write_report.ensures.text.1
+          (subst (Begins mid new) lines told.1),
+    )
+
 pub returns-clause-text : goal.returns-clause-text
 returns-clause-text g c =
     let s = c.args.system.now in
-    let same = c.in_ok-write_report.ensures.same in
     let old = g.W.Write.contents c.args.writer.now.inner in
     let mid = g.W.Write.contents c.write_report.new.writer.inner in
     let new = g.W.Write.contents c.write_history.new.writer.inner in
-    let failed = c.write_history.new.writer.failed in
-    let result = c.write_history.result in
-    let unit = c.unit.ensures ∙ ap (λ (x : Seen). x.setting.program.limits.unit) same in
-    let history = c.history.ensures.items ∙ ap (λ (x : Seen). x.history) same in
-    let lines = ap (λ u. history_lines u c.history.result.now) unit ∙ ap (λ (xs : List ℕ). history_lines s.setting.program.limits.unit xs) history in
-    writes-behind old mid new failed result (report s.setting.program s.history) (history_lines s.setting.program.limits.unit s.history) c.in_ok-write_report.ensures.text.1
-    (subst (Writes mid new failed result) lines c.write_history.ensures)
+    let told = c.in_ok-write_history.ensures in
+    let lines = lines-are s c.write_report.new.system c.unit.result c.history.result.now c.in_ok-write_report.ensures.same c.unit.ensures c.history.ensures.items in
+    (told.0, appends-both old mid new (report s.setting.program s.history) (history_lines s.setting.program.limits.unit s.history) c.in_ok-write_report.ensures.text.1 (subst (Appends mid new) lines told.1))

@@ -1,25 +1,31 @@
--- The rows' lines are written behind the first.
-use Rattle.std.proofs.Common.{◌≡◌, Err, rules, subst}
+-- The rows' lines are written after the first.
+use Rattle.std.proofs.Common.{◌≡◌, ◌++◌, codes, Err, refl, rules, subst}
+use Rattle.std.specs.Fmt.{decimal}
 use Rattle.std.specs.List.{flat_map, range_with_len}
+use Rattle.lot_print.specs.Listings.{listing_line}
+use Rattle.lot_print.specs.Writing.{Begins}
+use Rattle.lot_print.proofs.WritingFacts.{begins-front}
+use Rattle.lot_system.specs.declared.fault.PlayFault.TheVariants.{Write}
 use Rattle.lot_system.specs.Listing.{first_number, given_count, row_line}
 use Rattle.lot_system.specs.Seen.{world_of}
-use Rattle.lot_system.specs.Writing.{Begins, Writes}
-use Rattle.lot_system.proofs.ListingFacts.{first_line, listed-behind}
-use Rattle.lot_system.proofs.WritingFacts.{begins-front, writes-behind}
+use Rattle.lot_system.specs.Writing.{Writes}
+use Rattle.lot_system.proofs.ListingFacts.{listed-behind}
+use Rattle.lot_system.proofs.WritingFacts.{writes-behind}
 use Rattle.lot_system.proofs.listing.write_listing.Goals as goal
 
-pub returns-in_err-write_pieces-clause-text : goal.returns-in_err-write_pieces-clause-text
-returns-in_err-write_pieces-clause-text g c =
-    let is : c.from_residual.result ≡ Err c.in_err-write_pieces.field-0.0 = search rules in
-    let told = c.in_err-write_pieces.ensures in
+pub returns-in_err-write_listing_line-clause-text : goal.returns-in_err-write_listing_line-clause-text
+returns-in_err-write_listing_line-clause-text g c =
+    let is : c.from_residual.result ≡ Err Write = search rules in
+    let told = c.in_err-write_listing_line.ensures in
     let s = (world_of c.args.system.now).state in
     let kind = c.args.kind in
     let old = g.W.Write.contents c.args.writer.now.inner in
-    let new = g.W.Write.contents c.write_pieces.new.writer.inner in
-    let first = first_line c.from.result c.listing_word.result.now c.from-2.result in
+    let new = g.W.Write.contents c.write_listing_line.new.writer.inner in
+    let rows = c.count_rows-rows.result in
+    let first = decimal c.args.actor ++ (codes " " ++ listing_line kind rows) in
     let lines = flat_map (row_line s kind) (range_with_len (first_number kind) (given_count s kind)) in
-    let behind = listed-behind s kind c.args.actor c.from.result c.count_rows-rows.result c.from-2.result c.listing_word.result.now c.from.ensures c.listing_word.ensures c.from-2.ensures c.count_rows-rows.ensures.count in
-    rw is (told.0, told.1, subst (Begins old new) behind (begins-front old new first lines told.2))
+    let behind = listed-behind s kind c.args.actor rows c.count_rows-rows.ensures.count in
+    rw is (refl, told.0, subst (Begins old new) behind (begins-front old new first lines told.1))
 
 pub returns-clause-text : goal.returns-clause-text
 returns-clause-text g c =
@@ -27,9 +33,10 @@ returns-clause-text g c =
     let kind = c.args.kind in
     let told = rw c.count_rows-rows.ensures.same at c.write_rows.ensures.text in
     let old = g.W.Write.contents c.args.writer.now.inner in
-    let mid = g.W.Write.contents c.write_pieces.new.writer.inner in
+    let mid = g.W.Write.contents c.write_listing_line.new.writer.inner in
     let new = g.W.Write.contents c.write_rows.new.writer.inner in
-    let first = first_line c.from.result c.listing_word.result.now c.from-2.result in
+    let rows = c.count_rows-rows.result in
+    let first = decimal c.args.actor ++ (codes " " ++ listing_line kind rows) in
     let lines = flat_map (row_line s kind) (range_with_len (first_number kind) (given_count s kind)) in
-    let behind = listed-behind s kind c.args.actor c.from.result c.count_rows-rows.result c.from-2.result c.listing_word.result.now c.from.ensures c.listing_word.ensures c.from-2.ensures c.count_rows-rows.ensures.count in
-    subst (Writes old new c.write_rows.new.writer.failed c.write_rows.result) behind (writes-behind old mid new c.write_rows.new.writer.failed c.write_rows.result first lines c.in_ok-write_pieces.ensures.1 told)
+    let behind = listed-behind s kind c.args.actor rows c.count_rows-rows.ensures.count in
+    subst (Writes old new c.write_rows.new.writer.failed c.write_rows.result) behind (writes-behind old mid new c.write_rows.new.writer.failed c.write_rows.result first lines c.in_ok-write_listing_line.ensures.1 told)

@@ -3,9 +3,11 @@ use Rattle.std.proofs.Common.{◌≡◌, ℕ, List, Err, rules, subst}
 use Rattle.lot_machine.specs.Output.{turn_texts}
 use Rattle.lot_machine.specs.Report.{report}
 use Rattle.lot_machine.specs.World.{Program, opening_world, sysrun}
-use Rattle.lot_system.specs.Writing.{Begins, Writes}
+use Rattle.lot_print.specs.Writing.{Begins}
+use Rattle.lot_system.specs.Writing.{Writes}
 use Rattle.lot_system.proofs.PlayingFacts.{report-is}
-use Rattle.lot_system.proofs.WritingFacts.{begins-front, begins-behind, writes-behind, writes-flushed}
+use Rattle.lot_print.proofs.WritingFacts.{begins-front, begins-behind}
+use Rattle.lot_system.proofs.WritingFacts.{writes-behind, writes-flushed}
 use Rattle.lot_system.proofs.playing.play_schedule.Goals as goal
 
 abbrev texts : Program → List ℕ

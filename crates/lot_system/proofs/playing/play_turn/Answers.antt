@@ -1,8 +1,11 @@
 -- A turn that goes is one turn more, and its text is that of its answer in the world after it.
-use Rattle.std.proofs.Common.{◌≡◌, ◌++◌, codes, sym, ◌∙◌, ap, subst}
+use Rattle.std.proofs.Common.{◌≡◌, ◌++◌, codes, Err, refl, rules, sym, ◌∙◌, ap, subst}
 use Rattle.std.specs.Fmt.{decimal}
-use Rattle.lot_machine.specs.Texts.{reply_text}
-use Rattle.lot_system.specs.Playing.{IsPlayed}
+use Rattle.lot_machine.specs.Output.{turn_text}
+use Rattle.lot_machine.specs.Texts.{newline, refused, reply_text}
+use Rattle.lot_print.specs.Writing.{Begins}
+use Rattle.lot_system.specs.declared.fault.PlayFault.TheVariants.{Write}
+use Rattle.lot_system.specs.Playing.{IsPlayed, turn_in}
 use Rattle.lot_system.specs.Seen.{Seen, world_of, after_turn}
 use Rattle.lot_system.specs.Writing.{Writes}
 use Rattle.lot_system.proofs.PlayingFacts.{played-after, text-after}
@@ -25,3 +28,10 @@ returns-in-Ok-clause-text g c =
     let told = c.in-Ok.ensures.ok in
     let text = ap (λ (x : Seen). decimal actor ++ (codes " " ++ reply_text (world_of x).state answer.event answer.reply)) told.1 ∙ text-after old actor answer.event answer.reply told.2.turn in
     subst (Writes (g.W.Write.contents c.args.writer.now.inner) (g.W.Write.contents c.write_answer.new.writer.inner) c.write_answer.new.writer.failed c.write_answer.result) text c.write_answer.ensures.text
+
+pub returns-in_err-write_ended-in-Err-Ended-clause-text : goal.returns-in_err-write_ended-in-Err-Ended-clause-text
+returns-in_err-write_ended-in-Err-Ended-clause-text g c =
+    let is : c.from_residual.result ≡ Err Write = search rules in
+    let told = c.in_err-write_ended-in-Err-Ended.ensures in
+    let text : decimal c.args.actor ++ (codes " " ++ (refused 41 (codes "Ended") ++ newline)) ≡ turn_text c.args.actor (turn_in c.args.system.now c.args.actor) = search rules in
+    rw is (refl, told.0, subst (Begins (g.W.Write.contents c.args.writer.now.inner) (g.W.Write.contents c.write_ended.new.writer.inner)) text told.1)

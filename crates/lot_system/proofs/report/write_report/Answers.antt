@@ -1,12 +1,14 @@
 -- Each part is written behind those before it.
-use Rattle.std.proofs.Common.{◌≡◌, ◌++◌, ℕ, List, length, codes, Err, rules}
+use Rattle.std.proofs.Common.{◌≡◌, ◌++◌, ℕ, List, length, codes, Err, refl, rules}
 use Rattle.std.specs.List.{flat_map, range_with_len}
 use Rattle.lot_machine.specs.Numbered.{numbers}
 use Rattle.lot_machine.specs.Report.{thread_total, processor_total, whole_total, turns_made}
 use Rattle.lot_machine.specs.Rows.{thread_row}
 use Rattle.lot_machine.specs.Texts.{lines_for}
+use Rattle.lot_system.specs.declared.fault.PlayFault.TheVariants.{Write}
 use Rattle.lot_system.specs.Seen.{Seen, world_of}
-use Rattle.lot_system.proofs.WritingFacts.{begins-front, begins-behind, writes-behind}
+use Rattle.lot_print.proofs.WritingFacts.{begins-front, begins-behind}
+use Rattle.lot_system.proofs.WritingFacts.{writes-behind}
 use Rattle.lot_system.proofs.report.write_report.Goals as goal
 
 abbrev threads : Seen → List ℕ
@@ -18,12 +20,12 @@ processors s = flat_map (processor_total (turns_made s.setting.program s.history
 abbrev totals : Seen → List ℕ
 totals s = whole_total (length (world_of s).history) (turns_made s.setting.program s.history)
 
-pub returns-in_err-write_pieces-clause-text : goal.returns-in_err-write_pieces-clause-text
-returns-in_err-write_pieces-clause-text g c =
+pub returns-in_err-write_report_line-clause-text : goal.returns-in_err-write_report_line-clause-text
+returns-in_err-write_report_line-clause-text g c =
     let s = c.args.system.now in
-    let is : c.from_residual.result ≡ Err c.in_err-write_pieces.field-0.0 = search rules in
-    let told = c.in_err-write_pieces.ensures in
-    rw is (told.0, told.1, begins-front (g.W.Write.contents c.args.writer.now.inner) (g.W.Write.contents c.write_pieces.new.writer.inner) (codes "report\n") (threads s ++ (processors s ++ totals s)) told.2)
+    let is : c.from_residual.result ≡ Err Write = search rules in
+    let told = c.in_err-write_report_line.ensures in
+    rw is (refl, told.0, begins-front (g.W.Write.contents c.args.writer.now.inner) (g.W.Write.contents c.write_report_line.new.writer.inner) (codes "report\n") (threads s ++ (processors s ++ totals s)) told.1)
 
 pub returns-in_err-write_threads-clause-text : goal.returns-in_err-write_threads-clause-text
 returns-in_err-write_threads-clause-text g c =
@@ -31,9 +33,9 @@ returns-in_err-write_threads-clause-text g c =
     let is : c.from_residual-in_err-write_threads.result ≡ Err c.in_err-write_threads.field-0.0 = search rules in
     let told = c.in_err-write_threads.ensures.text in
     let old = g.W.Write.contents c.args.writer.now.inner in
-    let one = g.W.Write.contents c.write_pieces.new.writer.inner in
+    let one = g.W.Write.contents c.write_report_line.new.writer.inner in
     let new = g.W.Write.contents c.write_threads.new.writer.inner in
-    rw is (told.0, told.1, begins-behind old one new (codes "report\n") (threads s ++ (processors s ++ totals s)) c.in_ok-write_pieces.ensures.1 (begins-front one new (threads s) (processors s ++ totals s) told.2))
+    rw is (told.0, told.1, begins-behind old one new (codes "report\n") (threads s ++ (processors s ++ totals s)) c.in_ok-write_report_line.ensures.1 (begins-front one new (threads s) (processors s ++ totals s) told.2))
 
 pub returns-in_err-write_processors-clause-text : goal.returns-in_err-write_processors-clause-text
 returns-in_err-write_processors-clause-text g c =
@@ -41,13 +43,13 @@ returns-in_err-write_processors-clause-text g c =
     let is : c.from_residual-in_err-write_processors.result ≡ Err c.in_err-write_processors.field-0.0 = search rules in
     let told = rw c.in_ok-write_threads.ensures.same at c.in_err-write_processors.ensures in
     let old = g.W.Write.contents c.args.writer.now.inner in
-    let one = g.W.Write.contents c.write_pieces.new.writer.inner in
+    let one = g.W.Write.contents c.write_report_line.new.writer.inner in
     let two = g.W.Write.contents c.write_threads.new.writer.inner in
     let new = g.W.Write.contents c.write_processors.new.writer.inner in
     rw is (
       told.0,
       told.1,
-      begins-behind old one new (codes "report\n") (threads s ++ (processors s ++ totals s)) c.in_ok-write_pieces.ensures.1
+      begins-behind old one new (codes "report\n") (threads s ++ (processors s ++ totals s)) c.in_ok-write_report_line.ensures.1
           (begins-behind one two new (threads s) (processors s ++ totals s) c.in_ok-write_threads.ensures.text.1 (begins-front two new (processors s) (totals s) told.2)),
     )
 
@@ -58,11 +60,11 @@ returns-clause-text g c =
     let third = rw same at c.in_ok-write_processors.ensures in
     let last = rw same at c.write_total.ensures in
     let old = g.W.Write.contents c.args.writer.now.inner in
-    let one = g.W.Write.contents c.write_pieces.new.writer.inner in
+    let one = g.W.Write.contents c.write_report_line.new.writer.inner in
     let two = g.W.Write.contents c.write_threads.new.writer.inner in
     let three = g.W.Write.contents c.write_processors.new.writer.inner in
     let new = g.W.Write.contents c.write_total.new.writer.inner in
     let failed = c.write_total.new.writer.failed in
     let result = c.write_total.result in
-    writes-behind old one new failed result (codes "report\n") (threads s ++ (processors s ++ totals s)) c.in_ok-write_pieces.ensures.1
+    writes-behind old one new failed result (codes "report\n") (threads s ++ (processors s ++ totals s)) c.in_ok-write_report_line.ensures.1
     (writes-behind one two new failed result (threads s) (processors s ++ totals s) c.in_ok-write_threads.ensures.text.1 (writes-behind two three new failed result (processors s) (totals s) third.1 last))

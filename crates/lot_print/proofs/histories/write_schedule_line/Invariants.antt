@@ -1,0 +1,11 @@
+use Rattle.std.proofs.Common.{◌≡◌, ◌≤◌, ◌+◌, ◌*◌, ◌++◌, codes, length, take}
+use Rattle.std.specs.List.{flat_map}
+use Rattle.lot_machine.specs.Report.{actor_text}
+use Rattle.lot_print.proofs.histories.write_schedule_line.Given as goal
+
+-- the actors passed so far are in the line
+abbrev pub invariant-loop-actor : goal.invariant-loop-actor
+invariant-loop-actor g l = record {
+  text : l.line ≡ codes "schedule" ++ flat_map actor_text (take l.actor-index l.actors);
+  len : length l.line ≤ 8 + l.actor-index * 4;
+}

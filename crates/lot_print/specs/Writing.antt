@@ -1,0 +1,13 @@
+-- What is written.
+use Rattle.std.specs.Prelude.{◌≡◌, ℕ, Bool, true, false, Option, Result, Ok, Err, List, ◌++◌}
+use Rattle.std.specs.Io.KnownBytes.{Appends}
+use Rattle.lot_print.specs.declared.fault.WriteFault.{WriteFault}
+
+-- some beginning of the text was written
+abbrev pub Begins : Option (List ℕ) → Option (List ℕ) → List ℕ → Type 0
+Begins old new text = (written left : List ℕ) × (text ≡ written ++ left) × Appends old new written
+
+-- On Ok the text was written, and the writer hasn't failed. Else it has failed, and a beginning of the text was written.
+abbrev pub Writes : {U : Type 0} → Option (List ℕ) → Option (List ℕ) → Bool → Result U WriteFault → List ℕ → Type 0
+Writes old new failed (Ok done) text = (failed ≡ false) × Appends old new text
+Writes old new failed (Err fault) text = (failed ≡ true) × Begins old new text
