@@ -1,5 +1,5 @@
 -- Which equations a change leaves.
-use Rattle.std.proofs.Common.{◌≡◌, ◌≢◌, ℕ, ◌+◌, ◌*◌, ◌/◌, ◌⊎◌, ◌↔◌, inl, inr, IsTrue, Bool, true, false, Option, Some, None, List, Contains, option_map, unwrap_or, ap, sym, ◌∙◌, refl, subst}
+use Rattle.std.proofs.Common.{◌≡◌, ◌≢◌, ℕ, ◌*◌, ◌/◌, ◌⊎◌, ◌↔◌, inl, inr, IsTrue, Bool, true, false, Option, Some, List, Contains, option_map, unwrap_or, ap, sym, ◌∙◌, refl, subst}
 use Rattle.std.proofs.lemmas.Bool.{cases_eq}
 use Rattle.lot_machine.specs.declared.ticket.Ticket.{Ticket}
 use Rattle.lot_machine.specs.declared.funding.Node.{Node}
