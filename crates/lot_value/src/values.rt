@@ -85,6 +85,7 @@ impl Values {
         requires layout { self.old.layout ≡ layout_of graph.now }
         requires node { IsNodeOf graph.now node }
         ensures right { (live : List Bool) (others : List ANode) → HasEquation graph.now.funding node → IsRightBut graph.now live self.old (node ∷ others) → IsRightBut graph.now live self.new others }
+        ensures marked { IsStale self.new node }
         ensures kept { (x : ANode) → IsStale self.old x → IsStale self.new x }
         ensures only { (x : ANode) → IsStale self.new x → IsStale self.old x ⊎ Reaches graph.now.funding node x }
         ensures exact { (live : List Bool) → HasEquation graph.now.funding node → IsRightBut graph.now live self.old (node ∷ []) → (x : ANode) → IsStale self.new x ↔ (IsStale self.old x ⊎ Reaches graph.now.funding node x) }
@@ -97,6 +98,7 @@ impl Values {
     pub fn settle(&mut self, graph: &Graph, active: &Active, meter: &mut Meter)
         requires right { (live : List Bool) × IsKeptFor active.now graph.now live × IsSmall self.old.unit graph.now live × IsRight graph.now live self.old }
         ensures settled { self.new.stale ≡ [] }
+        ensures unit { self.new.unit ≡ self.old.unit }
         ensures right { (live : List Bool) → IsKeptFor active.now graph.now live → IsRight graph.now live self.old → IsRight graph.now live self.new }
         ensures once { IsOnce self.old }
         ensures counted { meter.new ≡ record meter.old { ticket_reads = counted_up meter.old.ticket_reads (edges_into_all graph.now.funding self.old.stale) } }
