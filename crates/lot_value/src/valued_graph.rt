@@ -1,20 +1,20 @@
 //! A funding graph with what is active in it and what everything is worth, kept together.
-ghost use Rattle.std.specs.Prelude.{◌≡◌, ◌+◌, ◌<◌, ◌≤◌, ◌↔◌, ◌++◌, ◌∷◌, Bool, true, false, List, [], Some, IfOk, IfNone, IsErr, OnOk, OnErr, OnSome, length};
+ghost use Rattle.std.specs.Prelude.{◌≡◌, ◌+◌, ◌<◌, ◌≤◌, ◌↔◌, ◌++◌, ◌∷◌, Bool, true, false, List, [], Some, IfOk, IfSome, IfNone, IsErr, OnOk, OnErr, OnSome, length};
 ghost use Rattle.std.specs.Option.{SomeIff};
 ghost use Rattle.lot_machine.specs.declared.funding.Node.{Node as ANode};
 ghost use Rattle.lot_machine.specs.declared.funding.Node.TheVariants.{Thread as ThreadNode};
 ghost use Rattle.lot_machine.specs.declared.ticket.Target.TheVariants.{Unfunded};
 ghost use Rattle.lot_machine.specs.Numbered.{set_number};
-ghost use Rattle.lot_machine.specs.Funding.{target_of, with_target, with_new_ticket};
+ghost use Rattle.lot_machine.specs.Funding.{target_of, with_target, with_new_ticket, edge_count_into};
 ghost use Rattle.lot_machine.specs.declared.funding.Lend.TheVariants.{Nobody};
 ghost use Rattle.lot_machine.specs.Equations.{HasEquation};
 ghost use Rattle.lot_machine.specs.Value.{node_value};
 ghost use Rattle.lot_graph.specs.Graphs.{IsThread, IsCurrency, IsTarget, IsCycle, IsFunding, opening_funding};
-ghost use Rattle.lot_graph.specs.Places.{IsNodeWithin};
+ghost use Rattle.lot_graph.specs.Places.{IsNodeWithin, layout_of};
 ghost use Rattle.lot_active.specs.Changes.{ChangesNodes};
 ghost use Rattle.lot_active.specs.Fundings.{IsKeptFor};
 ghost use Rattle.lot_value.specs.Counts.{counted_up};
-ghost use Rattle.lot_value.specs.Caches.{IsStale, IsOnce, edges_into_all};
+ghost use Rattle.lot_value.specs.Caches.{IsStale, IsOnce, Settles, edges_into_all, value_in};
 ghost use Rattle.lot_value.specs.Valued.{MakesStale};
 
 use crate::edges::{attach, detach};
@@ -161,6 +161,21 @@ impl ValuedGraph {
         ensures counted { meter.new ≡ record meter.old { ticket_reads = counted_up meter.old.ticket_reads (edges_into_all self.old.now.funding self.old.known.stale) } }
     {
         self.values.settle(&self.graph, &self.active, meter);
+    }
+
+    /// Computes the value of one stale node again and answers it; `None` if none is stale. Counts each edge into the node.
+    pub fn settle_next(&mut self, meter: &mut Meter) -> Option<Node>
+        ensures now { self.new.now ≡ self.old.now }
+        ensures live { self.new.live ≡ self.old.live }
+        ensures layout { self.new.known.layout ≡ layout_of self.new.now }
+        ensures worth { (node : ANode) → IsNodeWithin self.new.known.layout node → ¬ IsStale self.new.known node → HasEquation self.new.now.funding node → value_in self.new.known node ≡ node_value self.new.known.unit self.new.now.funding self.new.live node }
+        ensures node { IfSome result (HasEquation self.old.now.funding) }
+        ensures within { IfSome result (IsNodeWithin self.old.known.layout) }
+        ensures settles { IfSome result (Settles self.old.known self.new.known) }
+        ensures counted { IfSome result (λ node. meter.new ≡ record meter.old { ticket_reads = counted_up meter.old.ticket_reads (edge_count_into self.old.now.funding node) }) }
+        ensures none { IfNone result ((self.old.known.stale ≡ []) × (self.new ≡ self.old) × (meter.new ≡ meter.old)) }
+    {
+        self.values.settle_next(&self.graph, &self.active, meter)
     }
 }
 

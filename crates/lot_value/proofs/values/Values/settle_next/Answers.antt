@@ -171,3 +171,10 @@ returns-clause-none c =
     let empty = nothing-stale i.layout c.args.self.now.stale i.stale c.last.result inv.reordered c.last.ensures c.in_default.is in
     let new : Known = record { unit = i.unit; layout = i.layout; values = i.values.items; stale = map (node_of i.layout) (nodes_of i.stale 0) } in
     (empty.0, known-same new c.args.self.now inv.unit inv.layout inv.values (ap (map (node_of i.layout)) empty.1 ∙ sym empty.0), inv.meter)
+
+pub returns-then-not-raise_sources-clause-within : goal.returns-then-not-raise_sources-clause-within
+returns-then-not-raise_sources-clause-within c =
+    let i = c.loop-place.self-inside in
+    let low = listed-low i.stale (node_count i.layout) _ c.in-Some.place c.loop-place.invariant.list (sym c.last.ensures ∙ c.in-Some.is) in
+    let within = subst (λ (l : Layout). IsNodeWithin l (node_of i.layout c.in-Some.place)) c.loop-place.invariant.layout (list-back i.layout c.in-Some.place low).1 in
+    subst (IsNodeWithin c.args.self.now.layout) (sym c.node_of-node.ensures) within

@@ -1,0 +1,39 @@
+use Rattle.std.proofs.Common.{◌≡◌, List, [], Option, Some, None, IfSome, IfNone, ap, subst, sym}
+use Rattle.lot_machine.specs.declared.funding.Node.{Node}
+use Rattle.lot_machine.specs.Bounds.{IsUnit}
+use Rattle.lot_graph.specs.declared.layout.Layout.{Layout}
+use Rattle.lot_graph.specs.Places.{IsNodeWithin}
+use Rattle.lot_value.specs.Caches.{Known, Settles}
+use Rattle.lot_value.specs.declared.meter.Meter.{Meter}
+use Rattle.lot_value.specs.Valued.{live_of}
+use Rattle.lot_value.proofs.Following.{stays-small}
+use Rattle.lot_value.proofs.Rightness.{right-worth}
+use Rattle.lot_value.proofs.valued_graph.ValuedGraph.settle_next.Goals as goal
+
+unit-stays : (old new : Known) (before after : Meter) (o : Option Node) → IfSome o (Settles old new) → IfNone o ((old.stale ≡ []) × (new ≡ old) × (after ≡ before)) → new.unit ≡ old.unit
+unit-stays old new before after (Some node) settles none = settles.unit
+unit-stays old new before after None settles none = ap (λ (k : Known). k.unit) none.1
+
+pub settle_next-requires : goal.settle_next-requires
+settle_next-requires c =
+    let w = c.self.inside.graph in
+    let inv = c.self.invariant in
+    let live = live_of w c.self.inside.active in
+    record { right = (live, inv.kept, stays-small c.self.inside.values.unit w live inv.kept.fits inv.tickets inv.unit, inv.right) }
+
+pub invariant_of-self : goal.invariant_of-self
+invariant_of-self c =
+    let inv = c.self.invariant in record {
+      kept = inv.kept;
+      right = c.settle_next.ensures.right (live_of c.self.inside.graph c.self.inside.active) inv.kept inv.right;
+      tickets = inv.tickets;
+      unit = subst IsUnit (sym (unit-stays c.self.inside.values c.settle_next.new.self c.args.meter.now c.settle_next.new.meter c.settle_next.result c.settle_next.ensures.settles c.settle_next.ensures.none)) inv.unit;
+    }
+
+pub returns-clause-worth : goal.returns-clause-worth
+returns-clause-worth c node within fresh has =
+    let w = c.self.inside.graph in
+    let inv = c.self.invariant in
+    let live = live_of w c.self.inside.active in
+    let right = c.settle_next.ensures.right live inv.kept inv.right in
+    right-worth w live c.settle_next.new.self inv.kept.sound inv.kept.fits right node fresh (subst (λ (l : Layout). IsNodeWithin l node) right.layout within) has
