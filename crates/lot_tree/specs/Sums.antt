@@ -15,4 +15,4 @@ pub record IsSumTree (ws sums : List ℕ) (total : ℕ) : Type 0 where
   pub same_length : length sums ≡ length ws
   pub partial : (level : ℕ) → ArePartialSumsAt ws sums level
   pub whole : total ≡ sum ws
-  pub limited : total < 2 ^ 68
+  pub limited : total < 2 ^ 112

@@ -65,10 +65,10 @@ impl SumTree {
     }
 
     /// Puts the weight `w` at the place `i`, which is less than the number of places. The sum of
-    /// the weights has to stay below 2^68.
+    /// the weights has to stay below 2^112.
     pub fn set(&mut self, i: usize, w: u128)
         requires within { i < length self.old }
-        requires limited { sum (slice_set self.old i w) < 2 ^ 68 }
+        requires limited { sum (slice_set self.old i w) < 2 ^ 112 }
         ensures { self.new ≡ slice_set self.old i w }
     {
         let old = self.get(i);
@@ -77,10 +77,10 @@ impl SumTree {
         self.total = self.total - old + w;
     }
 
-    /// The sum of the weights, which is below 2^68.
+    /// The sum of the weights, which is below 2^112.
     pub fn total(&self) -> u128
         ensures value { result ≡ sum self.now }
-        ensures limited { result < 2 ^ 68 }
+        ensures limited { result < 2 ^ 112 }
     {
         self.total
     }

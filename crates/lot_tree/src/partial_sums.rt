@@ -50,7 +50,7 @@ impl PartialSums {
     pub(crate) fn follow(&mut self, weights: &[u128], i: usize, w: u128)
         requires within { i < length weights.now }
         requires same_length { length self.old ≡ length weights.now }
-        requires limited { sum (slice_set weights.now i w) < 2 ^ 68 }
+        requires limited { sum (slice_set weights.now i w) < 2 ^ 112 }
         requires partial { (level : ℕ) → ArePartialSumsAt weights.now self.old level }
         ensures same_length { length self.new ≡ length self.old }
         ensures partial { (level : ℕ) → ArePartialSumsAt (slice_set weights.now i w) self.new level }
@@ -72,7 +72,7 @@ pub(crate) fn binary_digits(n: usize) -> u32
 fn set_partial_sums(sums: &mut [u128], weights: &[u128], i: usize, w: u128)
     requires within { i < length weights.now }
     requires same_length { length sums.old ≡ length weights.now }
-    requires limited { sum (slice_set weights.now i w) < 2 ^ 68 }
+    requires limited { sum (slice_set weights.now i w) < 2 ^ 112 }
     requires partial { (level : ℕ) → ArePartialSumsAt weights.now sums.old level }
     ensures partial { (level : ℕ) → ArePartialSumsAt (slice_set weights.now i w) sums.new level }
 {

@@ -3,7 +3,7 @@ use std::process::Abort;
 use std::test::Fail;
 
 /// Half of the limit of a total.
-const HALF_LIMIT: u128 = 1 << 67;
+const HALF_LIMIT: u128 = 1 << 111;
 
 /// Puts the weight `w` at the place `i`, after the tests that `set` leaves to its caller.
 fn put(rt: &impl Abort, tree: &mut SumTree, i: usize, w: u128) {
