@@ -1,0 +1,3 @@
+-- Lemmas, in the order in which they stand on each other.
+pub mod Lotteries
+pub mod Weighing

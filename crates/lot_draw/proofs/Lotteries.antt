@@ -1,0 +1,87 @@
+-- Who weighs nothing can be left out of a lottery.
+use Rattle.std.proofs.Common.{◌≡◌, ℕ, zero, suc, ◌+◌, ◌%◌, ◌<◌, ◌≤◌, ◌==◌, nat_lt, Bool, true, false, cond, Option, Some, None, List, [], ◌∷◌, length, map, filter, sum, get_or, add_comm, ap, sym, ◌∙◌, refl, arith}
+use Rattle.std.proofs.lemmas.Bool.{ltb-true, ltb-false, eqb-true}
+use Rattle.std.proofs.lemmas.List.FromFn.{get_or-range_with_len}
+use Rattle.std.proofs.lemmas.List.Sums.{sum_by-cons}
+use Rattle.lot_machine.specs.declared.drawn.Drawn.{Drawn}
+use Rattle.lot_machine.specs.Numbered.{numbers}
+use Rattle.lot_machine.specs.Lottery.{first_above, running_sums, winner}
+use Rattle.lot_draw.specs.declared.competing.Winner.{Winner}
+use Rattle.lot_draw.specs.Competing.{winner_among}
+
+module _ (competes : ℕ → Bool) (weight : ℕ → ℕ) (idle : (t : ℕ) → competes t ≡ false → weight t ≡ 0) where
+  -- the total is the same
+  same-total : (ts : List ℕ) → sum (map weight (filter competes ts)) ≡ sum (map weight ts)
+  same-total [] = refl
+  same-total (t ∷ ts) = by (competes t) refl (same-total ts)
+    where
+      by : (b : Bool) → competes t ≡ b → sum (map weight (filter competes ts)) ≡ sum (map weight ts) → sum (map weight (cond b (t ∷ filter competes ts) (filter competes ts))) ≡ sum (map weight (t ∷ ts))
+      by true e same = omega (arith, same, sum_by-cons (λ x. x) (weight t) (map weight (filter competes ts)), sum_by-cons (λ x. x) (weight t) (map weight ts))
+      by false e same = omega (arith, same, idle t e, sum_by-cons (λ x. x) (weight t) (map weight ts))
+
+  -- where so much stands before, the same one is drawn
+  abbrev IsSame : List ℕ → ℕ → ℕ → Type 0
+  IsSame ts before number =
+      get_or ts (first_above number (running_sums before (map weight ts))) 0 ≡ get_or (filter competes ts) (first_above number (running_sums before (map weight (filter competes ts)))) 0
+
+  same-thread : (ts : List ℕ) (before number : ℕ) → before ≤ number → IsSame ts before number
+  same-thread [] before number low = refl
+  same-thread (t ∷ ts) before number low = by (competes t) refl (λ below. same-thread ts (before + weight t) number below)
+    where
+      among : (b : Bool) → nat_lt number (before + weight t) ≡ b → (before + weight t ≤ number → IsSame ts (before + weight t) number)
+          → get_or (t ∷ ts) (cond b 0 (suc (first_above number (running_sums (before + weight t) (map weight ts))))) 0
+            ≡ get_or (t ∷ filter competes ts) (cond b 0 (suc (first_above number (running_sums (before + weight t) (map weight (filter competes ts)))))) 0
+      among true e next = refl
+      among false e next = next (ltb-false number (before + weight t) e)
+
+      passed : weight t ≡ 0 → (b : Bool) → nat_lt number (before + weight t) ≡ b → (before + weight t ≤ number → IsSame ts (before + weight t) number)
+          → get_or (t ∷ ts) (cond b 0 (suc (first_above number (running_sums (before + weight t) (map weight ts))))) 0
+            ≡ get_or (filter competes ts) (first_above number (running_sums before (map weight (filter competes ts)))) 0
+      passed nothing true e next = absurd (omega (arith, ltb-true number (before + weight t) e))
+      passed nothing false e next =
+          let same : before + weight t ≡ before = omega arith in
+          next (omega arith) ∙ ap (λ b. get_or (filter competes ts) (first_above number (running_sums b (map weight (filter competes ts)))) 0) same
+
+      by : (b : Bool) → competes t ≡ b → (before + weight t ≤ number → IsSame ts (before + weight t) number)
+          → get_or (t ∷ ts) (cond (nat_lt number (before + weight t)) 0 (suc (first_above number (running_sums (before + weight t) (map weight ts))))) 0
+            ≡ get_or (cond b (t ∷ filter competes ts) (filter competes ts)) (first_above number (running_sums before (map weight (cond b (t ∷ filter competes ts) (filter competes ts))))) 0
+      by true e next = among (nat_lt number (before + weight t)) refl next
+      by false e next = passed (idle t e) (nat_lt number (before + weight t)) refl next
+
+  -- a lottery with this total
+  abbrev with-total : List ℕ → ℕ → ℕ → Bool → Option Winner
+  with-total ts d total b = winner_among ts (cond b None (Some (record { place = first_above (d % total) (running_sums 0 (map weight ts)); number = d % total; total = total })))
+
+  -- so the winner is the same
+  pub same-winner : (ts : List ℕ) (d : ℕ) → winner_among ts (winner (map weight ts) d) ≡ winner_among (filter competes ts) (winner (map weight (filter competes ts)) d)
+  same-winner ts d = among (sum (map weight ts)) (sum (map weight ts) == 0) ∙ ap (λ total. with-total (filter competes ts) d total (total == 0)) (sym (same-total ts))
+    where
+      among : (total : ℕ) (b : Bool) → with-total ts d total b ≡ with-total (filter competes ts) d total b
+      among total true = refl
+      among total false = ap (λ t. Some (record { thread = t; number = d % total; total = total })) (same-thread ts 0 (d % total) (omega arith))
+
+-- ---- the lottery over all places
+
+-- who stands at the place that is drawn among all threads
+pub drawn-is : {A : Type 0} (xs : List A) (ws : List ℕ) (d place number total : ℕ) → total ≡ sum ws → 0 < total → number ≡ d % total → place ≡ first_above number (running_sums 0 ws) → place < length xs
+    → Some (record { thread = place + 1; number = number; total = total }) ≡ winner_among (numbers xs) (winner ws d)
+drawn-is xs ws d place number total is_total some is_number is_place low = by (sum ws == 0) refl
+  where
+    drawn : number ≡ d % sum ws
+    drawn = is_number ∙ ap (λ n. d % n) is_total
+
+    at : place ≡ first_above (d % sum ws) (running_sums 0 ws)
+    at = is_place ∙ ap (λ n. first_above n (running_sums 0 ws)) drawn
+
+    thread : place + 1 ≡ get_or (numbers xs) (first_above (d % sum ws) (running_sums 0 ws)) 0
+    thread = sym (ap (λ n. get_or (numbers xs) n 0) (sym at) ∙ get_or-range_with_len 1 (length xs) place 0 low ∙ add_comm 1 place)
+
+    won : ℕ → ℕ → ℕ → Option Winner
+    won t n all = Some (record { thread = t; number = n; total = all })
+
+    by : (b : Bool) → (sum ws == 0) ≡ b
+        → Some (record { thread = place + 1; number = number; total = total }) ≡ winner_among (numbers xs) (cond b None (Some (record { place = first_above (d % sum ws) (running_sums 0 ws); number = d % sum ws; total = sum ws })))
+    by true e = absurd (omega (arith, eqb-true (sum ws) 0 e, is_total))
+    by false e =
+        let t = get_or (numbers xs) (first_above (d % sum ws) (running_sums 0 ws)) 0 in
+        ap (λ k. won k number total) thread ∙ ap (λ n. won t n total) drawn ∙ ap (won t (d % sum ws)) is_total

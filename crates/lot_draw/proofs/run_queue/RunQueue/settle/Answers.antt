@@ -1,0 +1,30 @@
+use Rattle.std.proofs.Common.{◌≡◌, ◌∙◌, Some, true, ap, length, refl, subst, sym}
+use Rattle.lot_machine.specs.Funding.{edge_count_into}
+use Rattle.lot_graph.specs.declared.layout.Layout.{Layout}
+use Rattle.lot_graph.specs.Graphs.{LimitedFunding}
+use Rattle.lot_value.specs.Counts.{counted_up}
+use Rattle.lot_value.proofs.Settled.{settle-more}
+use Rattle.lot_draw.specs.Queued.{Queued, AreWeights}
+use Rattle.lot_draw.proofs.Weighing.{weights-settled}
+use Rattle.lot_draw.proofs.run_queue.RunQueue.settle.Goals as goal
+
+pub loop-node-preserved : goal.loop-node-preserved
+loop-node-preserved c =
+    let inv = c.loop-node.invariant in
+    let step = c.in-Some.ensures in
+    let old = c.loop-node.self in
+    let new = c.list_node.new.self in
+    let was = c.loop-node.graph in
+    let now = c.settle_next.new.self in
+    let node = c.in-Some.node in
+    let threads : was.known.layout.threads ≡ c.args.graph.now.now.thread_limit = ap (λ (l : Layout). l.threads) (sym step.settles.layout ∙ step.layout) ∙ ap (λ (w : LimitedFunding). w.thread_limit) (step.now ∙ inv.now) in
+    let places : length old.competitors ≡ was.known.layout.threads = ap (λ (q : Queued). length q.competitors) inv.queue ∙ c.requires.places ∙ sym threads in
+    let weights = weights-settled old new.changed was.known now.known node places step.within step.settles c.list_node.ensures.kept c.list_node.ensures.listed inv.weights in
+    let counted = subst (λ (w : LimitedFunding). c.settle_next.new.meter ≡ record c.loop-node.meter { ticket_reads = counted_up c.loop-node.meter.ticket_reads (edge_count_into w.funding node) }) inv.now step.counted in record {
+      queue = c.list_node.ensures.others ∙ ap (λ (q : Queued). record q { changed = new.changed }) inv.queue;
+      weights = subst (λ (q : Queued). AreWeights q now.known) (sym c.list_node.ensures.others) weights;
+      now = step.now ∙ inv.now;
+      live = step.live ∙ inv.live;
+      unit = step.settles.unit ∙ inv.unit;
+      counted = settle-more c.args.graph.now.now.funding c.args.meter.now c.loop-node.meter c.settle_next.new.meter c.args.graph.now.known.stale was.known now.known (Some node) true refl refl step.settles counted inv.counted;
+    }

@@ -1,0 +1,19 @@
+use Rattle.std.proofs.Common.{◌≡◌, ◌+◌, ℕ, length}
+use Rattle.lot_value.specs.Counts.{counted_up}
+use Rattle.lot_value.specs.Caches.{edges_into_all}
+use Rattle.lot_draw.specs.Queued.{AreWeights}
+use Rattle.lot_draw.proofs.run_queue.RunQueue.settle.Given as goal
+
+-- what was counted, and with the edges into the nodes that are stale yet it is all of them
+abbrev pub invariant-loop-node : goal.invariant-loop-node
+invariant-loop-node l = record {
+  queue : l.self ≡ record l.fn.self { changed = l.self.changed };
+  weights : AreWeights l.self l.graph.known;
+  now : l.graph.now ≡ l.fn.graph.now;
+  live : l.graph.live ≡ l.fn.graph.live;
+  unit : l.graph.known.unit ≡ l.fn.graph.known.unit;
+  counted : (count : ℕ) × (l.meter ≡ record l.fn.meter { ticket_reads = counted_up l.fn.meter.ticket_reads count }) × (count + edges_into_all l.fn.graph.now.funding l.graph.known.stale ≡ edges_into_all l.fn.graph.now.funding l.fn.graph.known.stale);
+}
+
+abbrev pub decreases-loop-node : goal.decreases-loop-node
+decreases-loop-node l = length l.graph.known.stale

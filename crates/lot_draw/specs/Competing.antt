@@ -1,0 +1,40 @@
+-- Who competes in draws, with what, and who wins one.
+use Rattle.std.specs.Prelude.{ℕ, ◌<◌, Option, Some, None, IfSome, is_some, List, map, filter, slice_index}
+use Rattle.std.specs.Option.{option_flatten}
+use Rattle.lot_machine.specs.declared.drawn.Drawn.{Drawn}
+use Rattle.lot_machine.specs.Numbered.{at_number, numbers}
+use Rattle.lot_machine.specs.Lottery.{weight, winner}
+use Rattle.lot_draw.specs.declared.competing.Competitor.{Competitor}
+use Rattle.lot_draw.specs.declared.competing.Winner.{Winner}
+
+-- what the thread with this number competes with, if it does
+abbrev pub competitor_at : List (Option Competitor) → ℕ → Option Competitor
+competitor_at competitors t = option_flatten (at_number competitors t)
+
+-- the threads that compete, by rising number
+abbrev pub competing_threads : List (Option Competitor) → List ℕ
+competing_threads competitors = filter (λ t. is_some (competitor_at competitors t)) (numbers competitors)
+
+-- the ticks of a compensation are 1 or more
+abbrev pub HasTicks : Option Competitor → Type 0
+HasTicks None = Unit {0}
+HasTicks (Some c) = IfSome c.compensation (λ used. 0 < used)
+
+-- what this value weighs with what a thread competes with: nothing if it doesn't compete
+abbrev pub weight_with : ℕ → ℕ → Option Competitor → ℕ
+weight_with value quantum None = 0
+weight_with value quantum (Some c) = weight value c.compensation quantum
+
+-- what the thread with this number weighs, where threads are worth so
+abbrev pub weight_among : ℕ → List (Option Competitor) → (ℕ → ℕ) → ℕ → ℕ
+weight_among quantum competitors worth t = weight_with (worth t) quantum (competitor_at competitors t)
+
+-- who won among these threads
+abbrev pub winner_among : List ℕ → Option Drawn → Option Winner
+winner_among threads None = None
+winner_among threads (Some w) = Some (record { thread = slice_index threads w.place; number = w.number; total = w.total })
+
+-- A draw: the lottery over the weights of the threads that compete, by rising number, where threads are worth so (4.2).
+abbrev pub drawn_among : ℕ → List (Option Competitor) → (ℕ → ℕ) → ℕ → Option Winner
+drawn_among quantum competitors worth d =
+    winner_among (competing_threads competitors) (winner (map (weight_among quantum competitors worth) (competing_threads competitors)) d)

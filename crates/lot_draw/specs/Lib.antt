@@ -1,0 +1,2 @@
+pub mod Competing
+pub mod Queued

@@ -1,0 +1,62 @@
+-- What the clauses of `RunQueue` see.
+use Rattle.std.specs.Prelude.{◌≡◌, ℕ, ◌-◌, ◌^◌, ◌<◌, ◌≤◌, Option, Some, List, [], All, Contains, length, slice_index}
+use Rattle.lot_lists.specs.NodeLists.{NodeLists}
+use Rattle.lot_machine.specs.declared.funding.Node.TheVariants.{Thread}
+use Rattle.lot_machine.specs.Value.{thread_value}
+use Rattle.lot_graph.specs.Graphs.{IsThread}
+use Rattle.lot_graph.specs.Places.{layout_of}
+use Rattle.lot_value.specs.Caches.{Known, IsStale, value_in}
+use Rattle.lot_value.specs.Valued.{Valued}
+use Rattle.lot_value.specs.Marking.{IsStaleList as IsOneList}
+use Rattle.lot_draw.specs.declared.competing.Competitor.{Competitor}
+use Rattle.lot_draw.specs.Competing.{HasTicks, weight_among, competitor_at}
+
+-- How many ticks a quantum has; for each thread that there may be, what it competes with, if it does, and its weight in the
+-- tree; and the places of the threads whose weight may have to change, thread 1 at place 0.
+pub record Queued : Type 0 where
+  pub quantum : ℕ
+  pub competitors : List (Option Competitor)
+  pub weights : List ℕ
+  pub changed : List ℕ
+
+-- the weight of the thread may have to change
+abbrev pub IsChanged : Queued → ℕ → Type 0
+IsChanged q t = Contains q.changed (t - 1)
+
+-- the thread is one of those that there may be
+abbrev pub IsPlaced : Queued → ℕ → Type 0
+IsPlaced q t = (0 < t) × (t ≤ length q.competitors)
+
+-- what the thread weighs, where threads are worth so: nothing if it doesn't compete
+abbrev pub weight_of : Queued → (ℕ → ℕ) → ℕ → ℕ
+weight_of q worth t = weight_among q.quantum q.competitors worth t
+
+-- Each thread that is neither stale nor changed has its weight in the tree: by the value that is kept of it if it competes,
+-- and else 0.
+abbrev pub AreWeights : Queued → Known → Type 0
+AreWeights q c =
+    (t : ℕ) → IsPlaced q t → ¬ IsStale c (Thread t) → ¬ IsChanged q t → slice_index q.weights (t - 1) ≡ weight_of q (λ u. value_in c (Thread u)) t
+
+-- only threads that are there compete, and there is a place for each that there may be
+pub record CompetesIn (competitors : List (Option Competitor)) (v : Valued) : Type 0 where
+  pub places : length competitors ≡ v.now.thread_limit
+  pub there : (t : ℕ) (c : Competitor) → competitor_at competitors t ≡ Some c → IsThread v.now.funding t
+
+-- what is kept of each thread that is there and isn't stale is what it is worth
+abbrev pub HasWorths : Valued → Type 0
+HasWorths v =
+    (t : ℕ) → IsThread v.now.funding t → t ≤ v.known.layout.threads → ¬ IsStale v.known (Thread t) → value_in v.known (Thread t) ≡ thread_value v.known.unit v.now.funding v.live t
+
+-- weights can be set from what is kept: all of it is right
+pub record IsSettled (v : Valued) : Type 0 where
+  pub layout : v.known.layout ≡ layout_of v.now
+  pub stale : v.known.stale ≡ []
+  pub worths : HasWorths v
+
+-- what a queue's fields hold; no public clause cites this
+pub record IsQueue (weights : List ℕ) (changed : NodeLists) (competitors : List (Option Competitor)) : Type 0 where
+  pub places : length weights ≡ length competitors
+  pub list : IsOneList changed (length competitors)
+  pub few : length competitors ≤ 65535
+  pub light : All (λ w. w < 2 ^ 96) weights
+  pub ticks : All HasTicks competitors

@@ -1,0 +1,212 @@
+//! The threads that compete for a processor, with their weights in a tree of partial sums.
+ghost use Rattle.std.specs.Prelude.{◌≡◌, ◌⊎◌, ◌↔◌, ℕ, ◌-◌, ◌+◌, ◌<◌, ◌^◌, [], Contains, IfOk, IfSome, MatchOption, length, replicate, slice_get, slice_set};
+ghost use Rattle.std.specs.List.{remove};
+ghost use Rattle.lot_machine.specs.declared.funding.Node.TheVariants.{Thread as ThreadNode};
+ghost use Rattle.lot_machine.specs.Numbered.{numbers, set_number};
+ghost use Rattle.lot_machine.specs.Value.{thread_value};
+ghost use Rattle.lot_machine.specs.Lottery as lottery;
+ghost use Rattle.lot_graph.specs.Graphs.{IsThread};
+ghost use Rattle.lot_tree.specs.Visits.{CountsReads};
+ghost use Rattle.lot_value.specs.Counts.{counted_up};
+ghost use Rattle.lot_value.specs.Caches.{Known, edges_into_all, value_in};
+ghost use Rattle.lot_draw.specs.Competing.{HasTicks, weight_with, weight_among, winner_among, drawn_among};
+ghost use Rattle.lot_draw.specs.Queued.{AreWeights, CompetesIn, IsChanged, IsPlaced, IsSettled};
+
+use crate::competing::{Competitor, Winner};
+use crate::lottery::weight;
+use lot_lists::Lists;
+use lot_machine::{Limits, Node};
+use lot_tree::SumTree;
+use lot_value::{Meter, ValuedGraph};
+use std::alloc::{AllocError, Global};
+use std::marker::Model;
+
+// The only list of the changed threads.
+const CHANGED: usize = 0;
+
+/// What each thread competes with, if it does, and the weights of those that compete.
+///
+/// Only a draw writes to the tree of weights. A thread whose weight may have to change before the next draw is listed.
+#[derive(Drop)]
+pub struct RunQueue {
+    tree: SumTree,
+    changed: Lists,
+    competitors: Vec<Option<Competitor>>,
+    quantum: u32,
+}
+
+impl Model for RunQueue {
+    ghost use Rattle.lot_lists.specs.NodeLists.{nodes_of};
+    ghost use Rattle.lot_draw.specs.Queued.{Queued, IsQueue};
+
+    ghost Value = { Queued };
+
+    ghost view = { λ s. record { quantum = s.quantum; competitors = s.competitors.items; weights = s.tree; changed = nodes_of s.changed 0 } };
+
+    ghost invariant = { λ s. IsQueue s.tree s.changed s.competitors.items };
+}
+
+impl RunQueue {
+    /// Nobody competes.
+    pub fn new(alloc: Global, limits: &Limits) -> Result<Self, AllocError>
+        ensures queue { IfOk result (λ made. made ≡ record { quantum = limits.now.quantum; competitors = replicate limits.now.threads None; weights = replicate limits.now.threads 0; changed = [] }) }
+        ensures weights { IfOk result (λ made. (c : Known) → AreWeights made c) }
+    {
+        let threads = limits.threads as usize;
+        Ok(RunQueue {
+            tree: SumTree::new(alloc, threads)?,
+            changed: Lists::new(alloc, 1, threads)?,
+            competitors: vec![in alloc; None; threads]?,
+            quantum: limits.quantum,
+        })
+    }
+
+    /// Says what a thread competes with from now on, or that it doesn't compete. Its weight is set at the next draw.
+    pub fn set_competitor(&mut self, thread: u32, competitor: Option<Competitor>)
+        requires thread { IsPlaced self.old thread }
+        requires ticks { HasTicks competitor }
+        ensures set { self.new ≡ record self.old { competitors = set_number self.old.competitors thread competitor; changed = self.new.changed } }
+        ensures listed { (place : ℕ) → Contains self.new.changed place ↔ (Contains self.old.changed place ⊎ (place ≡ thread - 1)) }
+        ensures weights { (c : Known) → AreWeights self.old c → AreWeights self.new c }
+    {
+        let place = thread as usize - 1;
+        self.competitors[place] = competitor;
+        self.list(place);
+    }
+
+    /// Computes the values of all stale nodes again, as `ValuedGraph::settle` does. The weights of the threads among them are set
+    /// at the next draw.
+    pub fn settle(&mut self, graph: &mut ValuedGraph, meter: &mut Meter)
+        requires places { length self.old.competitors ≡ graph.old.now.thread_limit }
+        requires weights { AreWeights self.old graph.old.known }
+        ensures queue { self.new ≡ record self.old { changed = self.new.changed } }
+        ensures weights { AreWeights self.new graph.new.known }
+        ensures now { graph.new.now ≡ graph.old.now }
+        ensures live { graph.new.live ≡ graph.old.live }
+        ensures unit { graph.new.known.unit ≡ graph.old.known.unit }
+        ensures settled { IsSettled graph.new }
+        ensures counted { meter.new ≡ record meter.old { ticket_reads = counted_up meter.old.ticket_reads (edges_into_all graph.old.now.funding graph.old.known.stale) } }
+    {
+        while let Some(node) = graph.settle_next(meter) {
+            self.list_node(node);
+        }
+    }
+
+    /// Holds a draw with the number `d` (2, 4.2) among the threads that compete: `None` where their weights sum to 0.
+    ///
+    /// Settles what is stale, sets the weights that may have changed, and visits the tree once.
+    pub fn draw(&mut self, graph: &mut ValuedGraph, d: u64, meter: &mut Meter) -> Option<Winner>
+        requires competes { CompetesIn self.old.competitors graph.old }
+        requires weights { AreWeights self.old graph.old.known }
+        ensures winner { result ≡ drawn_among self.old.quantum self.old.competitors (thread_value graph.old.known.unit graph.old.now.funding graph.old.live) d }
+        ensures queue { self.new ≡ record self.old { weights = self.new.weights; changed = [] } }
+        ensures weights { AreWeights self.new graph.new.known }
+        ensures now { graph.new.now ≡ graph.old.now }
+        ensures live { graph.new.live ≡ graph.old.live }
+        ensures unit { graph.new.known.unit ≡ graph.old.known.unit }
+        ensures settled { IsSettled graph.new }
+        ensures reads { meter.new.ticket_reads ≡ counted_up meter.old.ticket_reads (edges_into_all graph.old.now.funding graph.old.known.stale) }
+        ensures visits { MatchOption result (meter.new.tree_visits ≡ meter.old.tree_visits) (λ w. CountsReads (length self.old.competitors) meter.old.tree_visits meter.new.tree_visits) }
+    {
+        self.settle(graph, meter);
+        self.weigh_changed(graph);
+        self.hold_lottery(d, meter)
+    }
+
+    /// Lists the thread at a place, if it isn't listed.
+    fn list(&mut self, place: usize)
+        requires place { place < length self.old.competitors }
+        ensures others { self.new ≡ record self.old { changed = self.new.changed } }
+        ensures listed { (x : ℕ) → Contains self.new.changed x ↔ (Contains self.old.changed x ⊎ (x ≡ place)) }
+    {
+        if self.changed.list_of(place).is_none() {
+            self.changed.push_back(CHANGED, place);
+        }
+    }
+
+    /// Lists a node, if it is a thread.
+    fn list_node(&mut self, node: Node)
+        requires place { (t : ℕ) → node ≡ ThreadNode t → IsPlaced self.old t }
+        ensures others { self.new ≡ record self.old { changed = self.new.changed } }
+        ensures kept { (x : ℕ) → Contains self.old.changed x → Contains self.new.changed x }
+        ensures listed { (t : ℕ) → node ≡ ThreadNode t → IsChanged self.new t }
+    {
+        if let Node::Thread(thread) = node {
+            self.list(thread as usize - 1);
+        }
+    }
+
+    /// Sets the weights of the listed threads.
+    fn weigh_changed(&mut self, graph: &ValuedGraph)
+        requires competes { CompetesIn self.old.competitors graph.now }
+        requires settled { IsSettled graph.now }
+        requires weights { AreWeights self.old graph.now.known }
+        ensures queue { self.new ≡ record self.old { weights = self.new.weights; changed = [] } }
+        ensures weights { AreWeights self.new graph.now.known }
+        ensures places { length self.new.weights ≡ length self.new.competitors }
+    {
+        while let Some(place) = self.first_changed() {
+            self.weigh(graph, place);
+        }
+    }
+
+    /// The place of the listed thread at the front, if one is listed.
+    fn first_changed(&self) -> Option<usize>
+        ensures first { result ≡ slice_get self.now.changed 0 }
+        ensures place { IfSome result (λ place. place < length self.now.competitors) }
+        ensures places { length self.now.weights ≡ length self.now.competitors }
+    {
+        self.changed.first(CHANGED)
+    }
+
+    /// Sets the weight of the listed thread at the front, and takes it from the list.
+    fn weigh(&mut self, graph: &ValuedGraph, place: usize)
+        requires first { slice_get self.old.changed 0 ≡ Some place }
+        requires place { place < length self.old.competitors }
+        requires competes { CompetesIn self.old.competitors graph.now }
+        requires settled { IsSettled graph.now }
+        ensures changed { self.new.changed ≡ remove self.old.changed 0 }
+        ensures weight { self.new.weights ≡ slice_set self.old.weights place (weight_among self.old.quantum self.old.competitors (λ t. value_in graph.now.known (ThreadNode t)) (place + 1)) }
+        ensures others { self.new ≡ record self.old { weights = self.new.weights; changed = self.new.changed } }
+    {
+        let weight = weight_at(graph, place, self.competitors[place], self.quantum);
+        self.tree.set(place, weight);
+        self.changed.remove(place);
+    }
+
+    /// Holds the lottery over the weights in the tree.
+    fn hold_lottery(&self, d: u64, meter: &mut Meter) -> Option<Winner>
+        ensures winner { result ≡ winner_among (numbers self.now.competitors) (lottery.winner self.now.weights d) }
+        ensures reads { meter.new.ticket_reads ≡ meter.old.ticket_reads }
+        ensures visits { MatchOption result (meter.new.tree_visits ≡ meter.old.tree_visits) (λ w. CountsReads (length self.now.competitors) meter.old.tree_visits meter.new.tree_visits) }
+    {
+        let total = self.tree.total();
+        if total == 0 {
+            return None;
+        }
+        let number = u128::from(d) % total;
+        let place = self.tree.find(number, &mut meter.tree_visits);
+        Some(Winner {
+            thread: place as u32 + 1,
+            number,
+            total,
+        })
+    }
+}
+
+/// What the thread at a place weighs, by the value that is kept of it and what it competes with, if it does.
+fn weight_at(graph: &ValuedGraph, place: usize, competitor: Option<Competitor>, quantum: u32) -> u128
+    requires ticks { HasTicks competitor }
+    requires place { place < graph.now.now.thread_limit }
+    requires there { IfSome competitor (λ c. IsThread graph.now.now.funding (place + 1)) }
+    requires settled { IsSettled graph.now }
+    requires few { place < 65535 }
+    ensures weight { result ≡ weight_with (value_in graph.now.known (ThreadNode (place + 1))) quantum competitor }
+    ensures small { result < 2 ^ 96 }
+{
+    let Some(competitor) = competitor else {
+        return 0;
+    };
+    let value = graph.value_of(Node::Thread(place as u32 + 1));
+    weight(value, competitor.compensation, quantum)
+}
