@@ -1,9 +1,11 @@
 -- Who competes in draws, with what, and who wins one.
-use Rattle.std.specs.Prelude.{ℕ, ◌<◌, Option, Some, None, IfSome, is_some, List, map, filter, slice_index}
+use Rattle.std.specs.Prelude.{◌≡◌, ℕ, ◌<◌, ◌≤◌, Option, Some, None, IfSome, is_some, option_and_then, List, length, map, filter, slice_index, if◌then◌else◌}
 use Rattle.std.specs.Option.{option_flatten}
 use Rattle.lot_machine.specs.declared.drawn.Drawn.{Drawn}
+use Rattle.lot_machine.specs.declared.record.Record.{Record}
 use Rattle.lot_machine.specs.Numbered.{at_number, numbers}
 use Rattle.lot_machine.specs.Lottery.{weight, winner}
+use Rattle.lot_machine.specs.State.{is_ready}
 use Rattle.lot_draw.specs.declared.competing.Competitor.{Competitor}
 use Rattle.lot_draw.specs.declared.competing.Winner.{Winner}
 
@@ -38,3 +40,12 @@ winner_among threads (Some w) = Some (record { thread = slice_index threads w.pl
 abbrev pub drawn_among : ℕ → List (Option Competitor) → (ℕ → ℕ) → ℕ → Option Winner
 drawn_among quantum competitors worth d =
     winner_among (competing_threads competitors) (winner (map (weight_among quantum competitors worth) (competing_threads competitors)) d)
+
+-- what the thread with this record competes with: its compensation, if it is Ready (4.2, 4.5)
+abbrev pub competitor_of : Record → Option Competitor
+competitor_of r = if is_ready r.status then Some (record { compensation = r.compensation }) else None
+
+-- those that compete are the Ready threads of these records, and there is a place for each thread
+pub record AreReady (records : List Record) (competitors : List (Option Competitor)) : Type 0 where
+  pub few : length records ≤ length competitors
+  pub each : (t : ℕ) → competitor_at competitors t ≡ option_and_then competitor_of (at_number records t)

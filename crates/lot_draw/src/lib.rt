@@ -3,6 +3,7 @@
 
 mod competing;
 mod generator;
+pub mod laws;
 mod lottery;
 mod run_queue;
 

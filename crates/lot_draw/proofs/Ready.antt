@@ -1,0 +1,82 @@
+-- Those that compete are the Ready threads.
+use Rattle.std.proofs.Common.{◌≡◌, ℕ, zero, suc, ◌+◌, ◌-◌, ◌<◌, ◌≤◌, Bool, true, false, cond, is_some, Option, Some, None, List, [], ◌∷◌, length, map, filter, option_map, option_and_then, ap, sym, ◌∙◌, refl, arith}
+use Rattle.std.specs.List.{range_with_len}
+use Rattle.std.proofs.lemmas.Option.{slice_get_past}
+use Rattle.lot_machine.specs.declared.record.Record.{Record}
+use Rattle.lot_machine.specs.Numbered.{at_number, numbers, option_any}
+use Rattle.lot_machine.specs.Lottery.{weight, winner}
+use Rattle.lot_machine.specs.State.{State, is_ready, status_of, ready_threads, value_of, weight_of}
+use Rattle.lot_machine.proofs.Tickets.{at_number-suc}
+use Rattle.lot_draw.specs.declared.competing.Competitor.{Competitor}
+use Rattle.lot_draw.specs.Competing.{competitor_at, competitor_of, competing_threads, weight_with, weight_among, winner_among, drawn_among, AreReady}
+
+-- ---- lists
+
+-- two tests that say the same keep the same
+filter-same : (p q : ℕ → Bool) → ((t : ℕ) → p t ≡ q t) → (ts : List ℕ) → filter p ts ≡ filter q ts
+filter-same p q same [] = refl
+filter-same p q same (t ∷ ts) = ap (λ b. cond b (t ∷ filter p ts) (filter p ts)) (same t) ∙ ap (λ (xs : List ℕ). cond (q t) (t ∷ xs) xs) (filter-same p q same ts)
+
+-- numbers past a last one that passes add nothing
+filter-past : (q : ℕ → Bool) (start count : ℕ) → ((t : ℕ) → start ≤ t → q t ≡ false) → filter q (range_with_len start count) ≡ []
+filter-past q start zero fails = refl
+filter-past q start (suc count) fails = ap (λ b. cond b (start ∷ filter q (range_with_len (start + 1) count)) (filter q (range_with_len (start + 1) count))) (fails start (omega arith)) ∙ filter-past q (start + 1) count (λ t past. fails t (omega (arith, past)))
+
+filter-more : (q : ℕ → Bool) (start count more all : ℕ) → all ≡ count + more → ((t : ℕ) → start + count ≤ t → q t ≡ false) → filter q (range_with_len start all) ≡ filter q (range_with_len start count)
+filter-more q start zero more all is fails = filter-past q start all (λ t past. fails t (omega (arith, past)))
+filter-more q start (suc count) more zero is fails = absurd (omega (arith, is))
+filter-more q start (suc count) more (suc all) is fails =
+    ap (λ (xs : List ℕ). cond (q start) (start ∷ xs) xs) (filter-more q (start + 1) count more all (omega (arith, is)) (λ t past. fails t (omega (arith, past))))
+
+-- two functions that are the same at what passes
+map-passing : (q : ℕ → Bool) (f g : ℕ → ℕ) → ((t : ℕ) → q t ≡ true → f t ≡ g t) → (ts : List ℕ) → map f (filter q ts) ≡ map g (filter q ts)
+map-passing q f g same [] = refl
+map-passing q f g same (t ∷ ts) = by (q t) (same t) (map-passing q f g same ts)
+  where
+    by : (b : Bool) → (b ≡ true → f t ≡ g t) → map f (filter q ts) ≡ map g (filter q ts) → map f (cond b (t ∷ filter q ts) (filter q ts)) ≡ map g (cond b (t ∷ filter q ts) (filter q ts))
+    by true here rest = ap (λ x. x ∷ map f (filter q ts)) (here refl) ∙ ap (λ (xs : List ℕ). g t ∷ xs) rest
+    by false here rest = rest
+
+-- ---- one record
+
+-- who competes is Ready
+competes-ready : (o : Option Record) → is_some (option_and_then competitor_of o) ≡ option_any is_ready (option_map (λ (r : Record). r.status) o)
+competes-ready None = refl
+competes-ready (Some r) = by (is_ready r.status)
+  where
+    competitor : Competitor
+    competitor = record { compensation = r.compensation }
+
+    by : (b : Bool) → is_some (cond b (Some competitor) None) ≡ b
+    by true = refl
+    by false = refl
+
+-- and weighs what a Ready thread does
+weighs-ready : (value quantum : ℕ) (o : Option Record) → option_any is_ready (option_map (λ (r : Record). r.status) o) ≡ true → weight_with value quantum (option_and_then competitor_of o) ≡ weight value (option_and_then (λ (r : Record). r.compensation) o) quantum
+weighs-ready value quantum None ready = cc
+weighs-ready value quantum (Some r) ready = ap (λ b. weight_with value quantum (cond b (Some (record { compensation = r.compensation })) None)) ready
+
+-- ---- all records
+
+module _ (s : State) (competitors : List (Option Competitor)) (are : AreReady s.records competitors) where
+  abbrev is-ready : ℕ → Bool
+  is-ready t = option_any is_ready (status_of s.records t)
+
+  past : (t : ℕ) → 1 + length s.records ≤ t → is-ready t ≡ false
+  past zero high = absurd (omega (arith, high))
+  past (suc i) high = ap (λ (o : Option Record). option_any is_ready (option_map (λ (r : Record). r.status) o)) (at_number-suc s.records i ∙ slice_get_past s.records i (omega (arith, high)))
+
+  threads : competing_threads competitors ≡ ready_threads s.records
+  threads =
+      filter-same (λ t. is_some (competitor_at competitors t)) is-ready (λ t. ap is_some (are.each t) ∙ competes-ready (at_number s.records t)) (numbers competitors)
+      ∙ filter-more is-ready 1 (length s.records) (length competitors - length s.records) (length competitors) (omega (arith, are.few)) past
+
+  weights : map (weight_among s.limits.quantum competitors (value_of s)) (ready_threads s.records) ≡ map (weight_of s) (ready_threads s.records)
+  weights =
+      map-passing is-ready (weight_among s.limits.quantum competitors (value_of s)) (weight_of s)
+      (λ t ready. ap (weight_with (value_of s t) s.limits.quantum) (are.each t) ∙ weighs-ready (value_of s t) s.limits.quantum (at_number s.records t) ready) (numbers s.records)
+
+  pub ready-drawn : (d : ℕ) → drawn_among s.limits.quantum competitors (value_of s) d ≡ winner_among (ready_threads s.records) (winner (map (weight_of s) (ready_threads s.records)) d)
+  ready-drawn d =
+      ap (λ (ts : List ℕ). winner_among ts (winner (map (weight_among s.limits.quantum competitors (value_of s)) ts) d)) threads
+      ∙ ap (λ (ws : List ℕ). winner_among (ready_threads s.records) (winner ws d)) weights
