@@ -8,7 +8,7 @@ ghost use Rattle.lot_machine.specs.Lottery as lottery;
 ghost use Rattle.lot_graph.specs.Graphs.{IsThread};
 ghost use Rattle.lot_tree.specs.Visits.{CountsReads};
 ghost use Rattle.lot_value.specs.Counts.{counted_up};
-ghost use Rattle.lot_value.specs.Caches.{Known, edges_into_all, value_in};
+ghost use Rattle.lot_value.specs.Caches.{Known, IsOnce, edges_into_all, value_in};
 ghost use Rattle.lot_draw.specs.Competing.{HasTicks, weight_with, weight_among, winner_among, drawn_among};
 ghost use Rattle.lot_draw.specs.Queued.{AreWeights, CompetesIn, IsChanged, IsPlaced, IsSettled};
 
@@ -85,6 +85,7 @@ impl RunQueue {
         ensures live { graph.new.live ≡ graph.old.live }
         ensures unit { graph.new.known.unit ≡ graph.old.known.unit }
         ensures settled { IsSettled graph.new }
+        ensures once { IsOnce graph.old.known }
         ensures counted { meter.new ≡ record meter.old { ticket_reads = counted_up meter.old.ticket_reads (edges_into_all graph.old.now.funding graph.old.known.stale) } }
     {
         while let Some(node) = graph.settle_next(meter) {
@@ -105,6 +106,7 @@ impl RunQueue {
         ensures live { graph.new.live ≡ graph.old.live }
         ensures unit { graph.new.known.unit ≡ graph.old.known.unit }
         ensures settled { IsSettled graph.new }
+        ensures once { IsOnce graph.old.known }
         ensures reads { meter.new.ticket_reads ≡ counted_up meter.old.ticket_reads (edges_into_all graph.old.now.funding graph.old.known.stale) }
         ensures visits { MatchOption result (meter.new.tree_visits ≡ meter.old.tree_visits) (λ w. CountsReads (length self.old.competitors) meter.old.tree_visits meter.new.tree_visits) }
     {

@@ -171,6 +171,7 @@ impl ValuedGraph {
         ensures worth { (node : ANode) → IsNodeWithin self.new.known.layout node → ¬ IsStale self.new.known node → HasEquation self.new.now.funding node → value_in self.new.known node ≡ node_value self.new.known.unit self.new.now.funding self.new.live node }
         ensures node { IfSome result (HasEquation self.old.now.funding) }
         ensures within { IfSome result (IsNodeWithin self.old.known.layout) }
+        ensures once { IsOnce self.old.known }
         ensures settles { IfSome result (Settles self.old.known self.new.known) }
         ensures counted { IfSome result (λ node. meter.new ≡ record meter.old { ticket_reads = counted_up meter.old.ticket_reads (edge_count_into self.old.now.funding node) }) }
         ensures none { IfNone result ((self.old.known.stale ≡ []) × (self.new ≡ self.old) × (meter.new ≡ meter.old)) }

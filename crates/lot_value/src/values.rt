@@ -115,6 +115,7 @@ impl Values {
         ensures right { (live : List Bool) → IsKeptFor active.now graph.now live → IsRight graph.now live self.old → IsRight graph.now live self.new }
         ensures node { IfSome result (HasEquation graph.now.funding) }
         ensures within { IfSome result (IsNodeWithin self.old.layout) }
+        ensures once { IsOnce self.old }
         ensures settles { IfSome result (Settles self.old self.new) }
         ensures counted { IfSome result (λ node. meter.new ≡ record meter.old { ticket_reads = counted_up meter.old.ticket_reads (edge_count_into graph.now.funding node) }) }
         ensures none { IfNone result ((self.old.stale ≡ []) × (self.new ≡ self.old) × (meter.new ≡ meter.old)) }

@@ -1,12 +1,19 @@
-use Rattle.std.proofs.Common.{◌≡◌, ◌∙◌, Some, true, ap, length, refl, subst, sym}
+use Rattle.std.proofs.Common.{◌≡◌, ◌∙◌, ◌⊎◌, inl, inr, Some, true, ap, length, refl, subst, sym}
 use Rattle.lot_machine.specs.Funding.{edge_count_into}
 use Rattle.lot_graph.specs.declared.layout.Layout.{Layout}
 use Rattle.lot_graph.specs.Graphs.{LimitedFunding}
 use Rattle.lot_value.specs.Counts.{counted_up}
+use Rattle.lot_value.specs.Caches.{IsOnce}
+use Rattle.lot_value.specs.Valued.{Valued}
 use Rattle.lot_value.proofs.Settled.{settle-more}
 use Rattle.lot_draw.specs.Queued.{Queued, AreWeights}
 use Rattle.lot_draw.proofs.Weighing.{weights-settled}
 use Rattle.lot_draw.proofs.run_queue.RunQueue.settle.Goals as goal
+
+-- no node is listed twice at first
+once-first : (first now : Valued) → (now ≡ first) ⊎ IsOnce first.known → IsOnce now.known → IsOnce first.known
+once-first first now (inl same) once = subst (λ (v : Valued). IsOnce v.known) same once
+once-first first now (inr before) once = before
 
 pub loop-node-preserved : goal.loop-node-preserved
 loop-node-preserved c =
@@ -26,5 +33,9 @@ loop-node-preserved c =
       now = step.now ∙ inv.now;
       live = step.live ∙ inv.live;
       unit = step.settles.unit ∙ inv.unit;
+      once = inr (once-first c.args.graph.now was inv.once step.once);
       counted = settle-more c.args.graph.now.now.funding c.args.meter.now c.loop-node.meter c.settle_next.new.meter c.args.graph.now.known.stale was.known now.known (Some node) true refl refl step.settles counted inv.counted;
     }
+
+pub returns-clause-once : goal.returns-clause-once
+returns-clause-once c = once-first c.args.graph.now c.loop-node.graph c.loop-node.invariant.once c.settle_next.ensures.once

@@ -1,6 +1,6 @@
-use Rattle.std.proofs.Common.{◌≡◌, ◌+◌, ℕ, length}
+use Rattle.std.proofs.Common.{◌≡◌, ◌+◌, ◌⊎◌, ℕ, length}
 use Rattle.lot_value.specs.Counts.{counted_up}
-use Rattle.lot_value.specs.Caches.{edges_into_all}
+use Rattle.lot_value.specs.Caches.{IsOnce, edges_into_all}
 use Rattle.lot_draw.specs.Queued.{AreWeights}
 use Rattle.lot_draw.proofs.run_queue.RunQueue.settle.Given as goal
 
@@ -12,6 +12,7 @@ invariant-loop-node l = record {
   now : l.graph.now ≡ l.fn.graph.now;
   live : l.graph.live ≡ l.fn.graph.live;
   unit : l.graph.known.unit ≡ l.fn.graph.known.unit;
+  once : (l.graph ≡ l.fn.graph) ⊎ IsOnce l.fn.graph.known;
   counted : (count : ℕ) × (l.meter ≡ record l.fn.meter { ticket_reads = counted_up l.fn.meter.ticket_reads count }) × (count + edges_into_all l.fn.graph.now.funding l.graph.known.stale ≡ edges_into_all l.fn.graph.now.funding l.fn.graph.known.stale);
 }
 

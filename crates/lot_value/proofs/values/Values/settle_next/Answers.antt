@@ -15,7 +15,7 @@ use Rattle.lot_value.proofs.Listed.{listed-low, reordered-then, reordered-same}
 use Rattle.lot_value.proofs.Mapped.{reordered-mapped}
 use Rattle.lot_value.proofs.Nodes.{within-node}
 use Rattle.lot_value.proofs.Rightness.{sources-small}
-use Rattle.lot_value.proofs.Settled.{rank-falls, reordered-right, settle-right, settle-settles, source-fresh, nothing-stale, known-same, fresh-at, shares-at}
+use Rattle.lot_value.proofs.Settled.{rank-falls, reordered-right, settle-right, settle-settles, source-fresh, nothing-stale, known-same, fresh-at, shares-at, once-mapped}
 use Rattle.lot_value.proofs.values.Values.settle_next.Goals as goal
 
 pub loop-place-init : goal.loop-place-init
@@ -178,3 +178,9 @@ returns-then-not-raise_sources-clause-within c =
     let low = listed-low i.stale (node_count i.layout) _ c.in-Some.place c.loop-place.invariant.list (sym c.last.ensures ∙ c.in-Some.is) in
     let within = subst (λ (l : Layout). IsNodeWithin l (node_of i.layout c.in-Some.place)) c.loop-place.invariant.layout (list-back i.layout c.in-Some.place low).1 in
     subst (IsNodeWithin c.args.self.now.layout) (sym c.node_of-node.ensures) within
+
+pub returns-then-not-raise_sources-clause-once : goal.returns-then-not-raise_sources-clause-once
+returns-then-not-raise_sources-clause-once c = rw (← c.self.view_is) (once-mapped c.self.inside.layout c.self.inside.stale c.self.invariant.0)
+
+pub returns-clause-once : goal.returns-clause-once
+returns-clause-once c = rw (← c.self.view_is) (once-mapped c.self.inside.layout c.self.inside.stale c.self.invariant.0)
