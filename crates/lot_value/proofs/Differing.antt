@@ -25,7 +25,6 @@ use Rattle.lot_active.proofs.Ways.{ticket-active, active-ticket}
 use Rattle.lot_value.specs.Caches.{CoversChange, TouchesListed, HasSameEquation}
 use Rattle.lot_value.proofs.Ends.{edge-there, there-edge}
 use Rattle.lot_value.proofs.Nodes.{node-number, contains-or, node-within, within-node}
-use Rattle.lot_value.proofs.Rightness.{has-not-base}
 use Rattle.lot_value.proofs.Shares.{same-test, share-off, share-base, share-user}
 
 module _ (unit : ℕ) (f g : Funding) (live now : List Bool) (changed : List Node) (sound : IsSound f) (sound_now : IsSound g) (covers : CoversChange f live g now changed) (node : Node) (off : ¬ Contains changed node) where
@@ -137,7 +136,7 @@ module _ (old new : Activity) (before after : LimitedFunding) (live now : List B
       by : Contains (switched_nodes after new) to ⊎ (¬ Contains (switched_nodes after new) to)
           → (ends_of_edge after.funding (OfTicket n) ≡ ends_of_edge before.funding (OfTicket n)) ⊎ ((a b : Node) → (ends_of before.funding (OfTicket n) ≡ Some (a, b)) ⊎ (ends_of after.funding (OfTicket n) ≡ Some (a, b)) → Contains changed b)
           → (IsActive before.funding live n ↔ IsActive after.funding now n) ⊎ Contains changed to
-      by (inl c) which = inr (touches.switched to c (has-not-base after.funding to (has from to (OfTicket n, at))))
+      by (inl c) which = inr (touches.switched to c (has from to (OfTicket n, at)))
       by (inr none) (inl alike) = inl (same alike none)
       by (inr none) (inr all) = inr (all from to (inr at))
 

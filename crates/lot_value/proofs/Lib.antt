@@ -12,3 +12,9 @@ pub mod Rightness
 pub mod Differing
 pub mod Rank
 pub mod Settled
+pub mod Touches
+pub mod Following
+pub mod OneEdge
+pub mod GraphCalls
+pub mod Unchanged
+pub mod TicketWorth

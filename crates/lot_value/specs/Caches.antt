@@ -90,8 +90,8 @@ pub record CoversChange (before : Funding) (live : List Bool) (after : Funding) 
   pub marks : (n : ℕ) (from to : Node) → ends_of after (OfTicket n) ≡ Some (from, to) → (IsActive before live n ↔ IsActive after now n) ⊎ Contains changed to
   pub amounts : (c : ℕ) (to : Node) → c ≢ 0 → IsEdge after (Currency c) to → (active_amount after now c ≡ active_amount before live c) ⊎ Contains changed to
 
--- Among these nodes is each one but base that a call switched, and each one that a ticket of a user currency funds whose active
--- amount the call changed.
+-- Among these nodes is each one with an equation that a call switched, and each one that a ticket of a user currency funds whose
+-- active amount the call changed.
 pub record TouchesListed (w : LimitedFunding) (v : Activity) (changed : List Node) : Type 0 where
-  pub switched : (node : Node) → Contains (switched_nodes w v) node → node ≢ Currency 0 → Contains changed node
+  pub switched : (node : Node) → Contains (switched_nodes w v) node → HasEquation w.funding node → Contains changed node
   pub targets : (c : ℕ) (to : Node) → c ≢ 0 → Contains (switched_nodes w v) (Currency c) ⊎ Contains (adjusted_nodes w v) (Currency c) → IsEdge w.funding (Currency c) to → Contains changed to

@@ -3,3 +3,5 @@ pub mod Counts
 pub mod Caches
 pub mod Marking
 pub mod Sources
+pub mod Touched
+pub mod Valued

@@ -5,13 +5,17 @@
 //! Only `Values::new` takes memory.
 #![tactic(auto)]
 
+mod edges;
 pub mod laws;
 mod marking;
 mod meter;
 mod settling;
 #[cfg(test)]
 mod tests;
+mod touching;
+mod valued_graph;
 mod values;
 
 pub use meter::Meter;
+pub use valued_graph::ValuedGraph;
 pub use values::Values;

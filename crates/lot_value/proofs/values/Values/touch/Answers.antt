@@ -28,3 +28,6 @@ returns-clause-only c = rw (← c.self.view_is) (marks c).only
 
 pub returns-clause-exact : goal.returns-clause-exact
 returns-clause-exact c = rw (← c.self.view_is) (λ live has. touch-exact c.args.graph.now live _ _ c.args.node refl (marks c) has)
+
+pub returns-clause-marked : goal.returns-clause-marked
+returns-clause-marked c = (marks c).marked

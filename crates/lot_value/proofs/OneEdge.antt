@@ -1,0 +1,127 @@
+-- What is kept together follows an edge that comes or goes.
+use Rattle.std.proofs.Common.{◌≡◌, ℕ, ◌⊎◌, inl, inr, Bool, Some, None, List, [], length, ap, sym, ◌∙◌, refl, subst, arith}
+use Rattle.std.proofs.lemmas.Bool.{cases_eq}
+use Rattle.lot_machine.specs.declared.funding.Node.{Node}
+use Rattle.lot_machine.specs.declared.funding.Node.TheVariants.{Currency, Thread, Mutex}
+use Rattle.lot_machine.specs.declared.funding.Edge.{Edge}
+use Rattle.lot_machine.specs.declared.funding.Edge.TheVariants.{OfTicket, OfLender, OfMutex}
+use Rattle.lot_machine.specs.Funding.{Funding, ends_of, IsEdge}
+use Rattle.lot_machine.specs.Touched.{IsTouched, IsChangedEdge, PathLeads}
+use Rattle.lot_machine.specs.Equations.{HasEquation, Reaches}
+use Rattle.lot_graph.specs.Graphs.{LimitedFunding}
+use Rattle.lot_graph.specs.Places.{layout_of}
+use Rattle.lot_active.specs.declared.edge_ends.EdgeEnds.{EdgeEnds}
+use Rattle.lot_active.specs.Activity.{Activity}
+use Rattle.lot_active.specs.Changes.{ChangesNodes}
+use Rattle.lot_active.specs.Fundings.{IsKeptFor, AddsEdge, ends_of_edge}
+use Rattle.lot_value.specs.Caches.{Known, IsStale, IsRight, TouchesListed}
+use Rattle.lot_value.specs.Touched.{Touched, IsListed}
+use Rattle.lot_value.specs.Valued.{StandsFor}
+use Rattle.lot_value.proofs.Ends.{edge-there, there-edge, to-is}
+use Rattle.lot_value.proofs.Rightness.{has-not-base}
+use Rattle.lot_value.proofs.Following.{right-follows, listed-downstream, reach-path}
+
+abbrev edge-number : Edge → ℕ
+edge-number (OfTicket n) = n
+edge-number (OfLender n) = n
+edge-number (OfMutex n) = n
+
+-- two edges are the same or not
+same-or-not : (a b : Edge) → (a ≡ b) ⊎ (¬ (a ≡ b))
+same-or-not (OfTicket m) (OfTicket n) = by (cases_eq m n)
+  where
+    by : (m ≡ n) ⊎ (¬ (m ≡ n)) → (OfTicket m ≡ OfTicket n) ⊎ (¬ (OfTicket m ≡ OfTicket n))
+    by (inl same) = inl (ap OfTicket same)
+    by (inr off) = inr (λ same. off (ap edge-number same))
+same-or-not (OfTicket m) (OfLender n) = inr (λ same. cc)
+same-or-not (OfTicket m) (OfMutex n) = inr (λ same. cc)
+same-or-not (OfLender m) (OfTicket n) = inr (λ same. cc)
+same-or-not (OfLender m) (OfLender n) = by (cases_eq m n)
+  where
+    by : (m ≡ n) ⊎ (¬ (m ≡ n)) → (OfLender m ≡ OfLender n) ⊎ (¬ (OfLender m ≡ OfLender n))
+    by (inl same) = inl (ap OfLender same)
+    by (inr off) = inr (λ same. off (ap edge-number same))
+same-or-not (OfLender m) (OfMutex n) = inr (λ same. cc)
+same-or-not (OfMutex m) (OfTicket n) = inr (λ same. cc)
+same-or-not (OfMutex m) (OfLender n) = inr (λ same. cc)
+same-or-not (OfMutex m) (OfMutex n) = by (cases_eq m n)
+  where
+    by : (m ≡ n) ⊎ (¬ (m ≡ n)) → (OfMutex m ≡ OfMutex n) ⊎ (¬ (OfMutex m ≡ OfMutex n))
+    by (inl same) = inl (ap OfMutex same)
+    by (inr off) = inr (λ same. off (ap edge-number same))
+
+pub has-same : (f g : Funding) → length g.lends ≡ length f.lends → (node : Node) → HasEquation f node → HasEquation g node
+has-same f g same (Currency c) has = has
+has-same f g same (Thread t) has = (has.0, omega (arith, has.1, same))
+has-same f g same (Mutex m) has = has
+
+-- an edge that isn't there has no ends
+no-ends : (f : Funding) (edge : Edge) (from to : Node) → ends_of_edge f edge ≡ None → ends_of f edge ≡ Some (from, to) → ⊥
+no-ends f edge from to none at = let no = sym none ∙ edge-there f edge from to at in cc
+
+-- the edge came, or it went
+abbrev pub Differ : LimitedFunding → LimitedFunding → Edge → EdgeEnds → Type 0
+Differ before after edge ends = AddsEdge before after edge ends ⊎ AddsEdge after before edge ends
+
+module _ (before after : LimitedFunding) (edge : Edge) (ends : EdgeEnds) (differ : Differ before after edge ends) (stands : StandsFor before after ends) where
+  pub same-layout : layout_of after ≡ layout_of before
+  same-layout = by differ
+    where
+      by : Differ before after edge ends → layout_of after ≡ layout_of before
+      by (inl adds) = adds.layout
+      by (inr adds) = sym adds.layout
+
+  -- another edge leads where it led
+  same-others : (other : Edge) → ¬ (other ≡ edge) → ends_of_edge after.funding other ≡ ends_of_edge before.funding other
+  same-others other off = by differ
+    where
+      by : Differ before after edge ends → ends_of_edge after.funding other ≡ ends_of_edge before.funding other
+      by (inl adds) = adds.others other off
+      by (inr adds) = sym (adds.others other off)
+
+  -- and this one to its end
+  own-end : (from to : Node) → (ends_of before.funding edge ≡ Some (from, to)) ⊎ (ends_of after.funding edge ≡ Some (from, to)) → ends.to ≡ to
+  own-end from to at = by differ at
+    where
+      by : Differ before after edge ends → (ends_of before.funding edge ≡ Some (from, to)) ⊎ (ends_of after.funding edge ≡ Some (from, to)) → ends.to ≡ to
+      by (inl adds) (inl here) = absurd (no-ends before.funding edge from to adds.none here)
+      by (inl adds) (inr here) = to-is after.funding edge from to here ends adds.here
+      by (inr adds) (inl here) = to-is before.funding edge from to here ends adds.here
+      by (inr adds) (inr here) = absurd (no-ends after.funding edge from to adds.none here)
+
+  changed-edge : IsChangedEdge before.funding after.funding ends.from ends.to
+  changed-edge = by differ
+    where
+      by : Differ before after edge ends → IsChangedEdge before.funding after.funding ends.from ends.to
+      by (inl adds) = inr (edge, there-edge after.funding edge ends adds.here, λ at. no-ends before.funding edge ends.from ends.to adds.none at)
+      by (inr adds) = inl (edge, there-edge before.funding edge ends adds.here, λ at. no-ends after.funding edge ends.from ends.to adds.none at)
+
+  pub ends-have : ((from to : Node) → IsEdge before.funding from to → HasEquation before.funding to) → (from to : Node) → IsEdge after.funding from to → HasEquation after.funding to
+  ends-have have from to (other, at) = by (same-or-not other edge)
+    where
+      by : (other ≡ edge) ⊎ (¬ (other ≡ edge)) → HasEquation after.funding to
+      by (inl same) = subst (HasEquation after.funding) (own-end from to (inr (ap (ends_of after.funding) (sym same) ∙ at))) stands.has
+      by (inr off) =
+          let at_before = there-edge before.funding other _ (sym (same-others other off) ∙ edge-there after.funding other from to at) in
+          has-same before.funding after.funding stands.threads to (have from to (other, at_before))
+
+  module _ (old new : Activity) (live : List Bool) (c known : Known) (was : IsKeptFor old before live) (is : IsKeptFor new after live) (changes : ChangesNodes before live after live ends.from new) where
+    pub right-one : {IsSuch : Node → Type 0} → IsRight before live c → Touched after c known IsSuch → TouchesListed after new known.stale → IsStale known ends.to → IsRight after live known
+    right-one right touched listed marked =
+        right-follows old new before after live live ends.from c known same-layout was is changes right (ends-have right.ends) (has-same before.funding after.funding stands.threads) listed (λ other. by other (same-or-not other edge)) touched
+      where
+        by : (other : Edge) → (other ≡ edge) ⊎ (¬ (other ≡ edge)) → (ends_of_edge after.funding other ≡ ends_of_edge before.funding other) ⊎ ((from to : Node) → (ends_of before.funding other ≡ Some (from, to)) ⊎ (ends_of after.funding other ≡ Some (from, to)) → IsStale known to)
+        by other (inr off) = inl (same-others other off)
+        by other (inl same) = inr (λ from to at. subst (IsStale known) (own-end from to (subst (λ (e : Edge). (ends_of before.funding e ≡ Some (from, to)) ⊎ (ends_of after.funding e ≡ Some (from, to))) same at)) marked)
+
+    pub stale-one : Touched after c known (λ node. IsListed after new node ⊎ (node ≡ ends.to)) → (x : Node) → IsStale known x → IsStale c x ⊎ ((node : Node) × IsTouched before.funding after.funding live live node × PathLeads before.funding after.funding node x)
+    stale-one touched x stale = by (touched.only x stale)
+      where
+        by : IsStale c x ⊎ ((node : Node) × (IsListed after new node ⊎ (node ≡ ends.to)) × Reaches after.funding node x) → IsStale c x ⊎ ((node : Node) × IsTouched before.funding after.funding live live node × PathLeads before.funding after.funding node x)
+        by (inl already) = inl already
+        by (inr (node, inl listed, reached)) = inr (listed-downstream before after live live ends.from new changes (inl (ends.to, inl changed-edge)) node listed x reached)
+        by (inr (node, inr same, reached)) = inr (
+          ends.to,
+          (has-not-base after.funding ends.to stands.has, (ends.to, ([], refl), inl (ends.from, inr changed-edge))),
+          reach-path before.funding after.funding ends.to x (subst (λ n. Reaches after.funding n x) same reached),
+        )

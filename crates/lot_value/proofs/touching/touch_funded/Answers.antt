@@ -1,0 +1,46 @@
+use Rattle.std.proofs.Common.{◌∙◌, List, ap, sym, subst, arith}
+use Rattle.std.proofs.lemmas.Grind.{common_steps}
+use Rattle.lot_machine.specs.declared.funding.Node.{Node}
+use Rattle.lot_machine.specs.Funding.{IsEdge}
+use Rattle.lot_machine.proofs.EachOnce.{contains-nothing}
+use Rattle.lot_value.specs.Caches.{Known}
+use Rattle.lot_value.specs.Touched.{IsFundedBy}
+use Rattle.lot_value.proofs.Touches.{touched-none, touched-then, funded-more, next-listed, all-yielded}
+use Rattle.lot_value.proofs.touching.touch_funded.Goals as goal
+
+pub loop-node-init : goal.loop-node-init
+loop-node-init c = record {
+  split = sym c.into_iter-node-iterator.ensures.into_iter_gives;
+  touched = touched-none c.args.graph.now c.args.values.now (IsFundedBy c.args.graph.now c.args.nodes);
+  marked = λ to by. absurd (contains-nothing by.0 by.1);
+}
+
+pub touch_targets-requires-clause-layout : goal.touch_targets-requires-clause-layout
+touch_targets-requires-clause-layout c = ap (λ (k : Known). k.layout) c.loop-node.invariant.touched.others ∙ c.requires.layout
+
+pub touch_targets-requires-clause-node : goal.touch_targets-requires-clause-node
+touch_targets-requires-clause-node c = c.requires.nodes c.in-Some.node (next-listed _ c.loop-node.yielded _ _ c.in-Some.node c.loop-node.invariant.split c.in-Some.ensures.steps)
+
+pub loop-node-preserved-then-is_user_currency : goal.loop-node-preserved-then-is_user_currency
+loop-node-preserved-then-is_user_currency c =
+    let w = c.args.graph.now in
+    let inv = c.loop-node.invariant in
+    let node = c.in-Some.node in
+    let user = c.is_user_currency.ensures.0 c.if-is_user_currency.true in
+    let here = next-listed _ c.loop-node.yielded _ _ node inv.split c.in-Some.ensures.steps in record {
+      split = grind (arith, common_steps);
+      touched = touched-then w c.args.values.now c.loop-node.values c.touch_targets.new.values (IsFundedBy w c.args.nodes) (IsEdge w.funding node) (IsFundedBy w c.args.nodes) inv.touched c.touch_targets.ensures.touched (λ x so. so) (λ x edge. (node, here, user, edge));
+      marked = funded-more w c.loop-node.values c.touch_targets.new.values c.loop-node.yielded node c.touch_targets.ensures.touched.kept inv.marked (λ user' to edge. c.touch_targets.ensures.marked to edge);
+    }
+
+pub loop-node-preserved : goal.loop-node-preserved
+loop-node-preserved c =
+    let w = c.args.graph.now in
+    let inv = c.loop-node.invariant in record {
+      split = grind (arith, common_steps);
+      touched = inv.touched;
+      marked = funded-more w c.loop-node.values c.loop-node.values c.loop-node.yielded c.in-Some.node (λ x is. is) inv.marked (λ user to edge. let yes = c.is_user_currency.ensures.1 user in let no = sym c.if-is_user_currency.false ∙ yes in cc);
+    }
+
+pub returns-clause-marked : goal.returns-clause-marked
+returns-clause-marked c to funded = c.loop-node.invariant.marked to (subst (λ (xs : List Node). IsFundedBy c.args.graph.now xs to) (all-yielded _ c.loop-node.yielded _ c.loop-node.invariant.split c.in-None.ensures.steps.0) funded)

@@ -1,0 +1,50 @@
+-- What the clauses of `ValuedGraph` see, and what holds of each.
+use Rattle.std.specs.Prelude.{◌≡◌, ◌⊎◌, ◌≤◌, Bool, List, map, length}
+use Rattle.lot_machine.specs.declared.funding.Node.{Node}
+use Rattle.lot_machine.specs.declared.funding.Node.TheVariants.{Thread}
+use Rattle.lot_machine.specs.Numbered.{numbers}
+use Rattle.lot_machine.specs.Bounds.{IsUnit}
+use Rattle.lot_machine.specs.Touched.{IsTouched, PathLeads}
+use Rattle.lot_machine.specs.Equations.{HasEquation}
+use Rattle.lot_graph.specs.Graphs.{LimitedFunding, IsNodeOf}
+use Rattle.lot_graph.specs.Places.{node_place, layout_of}
+use Rattle.lot_active.specs.Activity.{Activity, awake_at}
+use Rattle.lot_active.specs.declared.edge_ends.EdgeEnds.{EdgeEnds}
+use Rattle.lot_active.specs.Fundings.{IsKeptFor}
+use Rattle.lot_value.specs.Caches.{Known, IsStale, IsRight}
+
+-- a funding with its limits, who is live, and what is known of the values
+pub record Valued : Type 0 where
+  pub now : LimitedFunding
+  pub live : List Bool
+  pub known : Known
+
+-- for each thread that is there, whether it is awake
+abbrev pub live_of : LimitedFunding → Activity → List Bool
+live_of w v = map (λ t. awake_at v.awake (node_place (layout_of w) (Thread t))) (numbers w.funding.lends)
+
+-- Activity and values are those of the graph and its live threads, and sizes are within their bounds.
+pub record AreTogether (w : LimitedFunding) (v : Activity) (c : Known) : Type 0 where
+  pub kept : IsKeptFor v w (live_of w v)
+  pub right : IsRight w (live_of w v) c
+  pub tickets : w.ticket_limit ≤ 65535
+  pub unit : IsUnit c.unit
+
+-- A change makes stale only what a path of edges, there before or after it, reaches from a node that it touched.
+abbrev pub MakesStale : Valued → Valued → Type 0
+MakesStale old new =
+    (x : Node) → IsStale new.known x → IsStale old.known x ⊎ ((node : Node) × IsTouched old.now.funding new.now.funding old.live new.live node × PathLeads old.now.funding new.now.funding node x)
+
+-- The change from the first graph to the second is taken up: activity and values are together again, these threads are live, and
+-- what gets stale is what a path of edges reaches from a node that the change touched.
+pub record Follows (w now : LimitedFunding) (v new : Activity) (c known : Known) (after : List Bool) : Type 0 where
+  pub together : AreTogether now new known
+  pub live : live_of now new ≡ after
+  pub stale : (x : Node) → IsStale known x → IsStale c x ⊎ ((node : Node) × IsTouched w.funding now.funding (live_of w v) (live_of now new) node × PathLeads w.funding now.funding node x)
+
+-- One edge came or went between the two, with these ends: as many threads are there, and the node that the edge leads to has an
+-- equation, and a place.
+pub record StandsFor (before after : LimitedFunding) (ends : EdgeEnds) : Type 0 where
+  pub threads : length after.funding.lends ≡ length before.funding.lends
+  pub has : HasEquation after.funding ends.to
+  pub within : IsNodeOf after ends.to

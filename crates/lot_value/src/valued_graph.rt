@@ -1,0 +1,322 @@
+//! A funding graph with what is active in it and what everything is worth, kept together.
+ghost use Rattle.std.specs.Prelude.{◌≡◌, ◌+◌, ◌<◌, ◌≤◌, ◌↔◌, ◌++◌, ◌∷◌, Bool, true, false, List, [], Some, None, IfOk, IfNone, IsErr, IsTrue, OnOk, OnErr, OnSome, length, slice_set};
+ghost use Rattle.std.specs.Option.{SomeIff};
+ghost use Rattle.lot_machine.specs.declared.funding.Node.{Node as ANode};
+ghost use Rattle.lot_machine.specs.declared.funding.Node.TheVariants.{Currency as CurrencyNode, Thread as ThreadNode, Mutex as MutexNode};
+ghost use Rattle.lot_machine.specs.declared.ticket.Ticket.{Ticket as ATicket};
+ghost use Rattle.lot_machine.specs.declared.ticket.Target.TheVariants.{Unfunded};
+ghost use Rattle.lot_machine.specs.Numbered.{at_number, set_number};
+ghost use Rattle.lot_machine.specs.Funding.{ticket_at, target_of, owner_of, issued_in, backing_currency, with_target, with_new_ticket, without_ticket};
+ghost use Rattle.lot_machine.specs.Activity.{IsActive, active_amount};
+ghost use Rattle.lot_machine.specs.declared.funding.Lend.TheVariants.{Nobody};
+ghost use Rattle.lot_machine.specs.Equations.{HasEquation, Reaches};
+ghost use Rattle.lot_machine.specs.Value.{node_value, ticket_value};
+ghost use Rattle.lot_graph.specs.Graphs.{IsNodeOf, IsThread, IsMutex, IsCurrency, IsUserCurrency, IsTarget, IsCycle, IsFunding, IsLender, IsBorrower, LendReaches, opening_funding};
+ghost use Rattle.lot_active.specs.Changes.{ChangesNodes};
+ghost use Rattle.lot_active.specs.Fundings.{IsKeptFor};
+ghost use Rattle.lot_value.specs.Counts.{counted_up};
+ghost use Rattle.lot_value.specs.Caches.{IsStale, IsOnce, edges_into_all};
+ghost use Rattle.lot_value.specs.Valued.{MakesStale};
+
+use crate::edges::{attach, detach};
+use crate::meter::Meter;
+use crate::touching::touch_listed;
+use crate::values::Values;
+use lot_active::{Active, ends_of_edge};
+use lot_graph::{Cycle, Graph};
+use lot_machine::{Edge, Lend, Limits, Node, Target};
+use std::alloc::{AllocError, Global};
+use std::marker::Model;
+
+/// Tickets and what they fund, what threads lend and who owns mutexes; which threads are live, and so which tickets are active;
+/// and what each currency, thread and mutex is worth (4.4), if it isn't stale. Each change of the first two makes stale what it
+/// has to, and reads nothing for a value.
+#[derive(Drop)]
+pub struct ValuedGraph {
+    graph: Graph,
+    active: Active,
+    values: Values,
+}
+
+impl Model for ValuedGraph {
+    ghost use Rattle.lot_value.specs.Valued.{Valued, live_of, AreTogether};
+
+    ghost Value = { Valued };
+
+    ghost view = { λ s. record { now = s.graph; live = live_of s.graph s.active; known = s.values } };
+
+    ghost invariant = { λ s. AreTogether s.graph s.active s.values };
+}
+
+impl ValuedGraph {
+    /// Base alone, free mutexes, nobody live, and nothing stale.
+    pub fn new(alloc: Global, limits: &Limits) -> Result<Self, AllocError>
+        ensures now { IfOk result (λ made. made.now ≡ record { funding = opening_funding limits.now.mutexes; ticket_limit = limits.now.tickets; currency_limit = limits.now.currencies; thread_limit = limits.now.threads }) }
+        ensures live { IfOk result (λ made. made.live ≡ []) }
+        ensures unit { IfOk result (λ made. made.known.unit ≡ limits.now.unit) }
+        ensures stale { IfOk result (λ made. made.known.stale ≡ []) }
+    {
+        let graph = Graph::new(alloc, limits)?;
+        let active = Active::new(alloc, &graph)?;
+        let values = Values::new(alloc, &graph, limits.unit)?;
+        Ok(ValuedGraph {
+            graph,
+            active,
+            values,
+        })
+    }
+
+    /// Makes a thread live, or not.
+    pub fn set_live(&mut self, thread: u32, live: bool)
+        requires thread { IsThread self.old.now.funding thread }
+        ensures now { self.new.now ≡ self.old.now }
+        ensures live { self.new.live ≡ set_number self.old.live thread live }
+        ensures known { self.new.known ≡ record self.old.known { stale = self.new.known.stale } }
+        ensures kept { (node : ANode) → IsStale self.old.known node → IsStale self.new.known node }
+        ensures stale { MakesStale self.old self.new }
+    {
+        set_awake(&self.graph, &mut self.active, thread, live);
+        touch_listed(&self.graph, &self.active, &mut self.values);
+    }
+
+    /// Makes a currency and answers its number, one more than the last, or `None` if as many were made as there may be.
+    pub fn make_currency(&mut self) -> Option<u32>
+        ensures number { SomeIff result (length self.old.now.funding.currencies ≤ self.old.now.currency_limit) (length self.old.now.funding.currencies) }
+        ensures made { OnSome result (self.new.now ≡ record self.old.now { funding = record self.old.now.funding { currencies = self.old.now.funding.currencies ++ true ∷ [] } }) }
+        ensures unchanged { IfNone result (self.new ≡ self.old) }
+        ensures live { self.new.live ≡ self.old.live }
+        ensures known { self.new.known ≡ self.old.known }
+    {
+        self.graph.make_currency()
+    }
+
+    /// Removes a user currency that has neither issued nor backing tickets. Its number is never given again.
+    pub fn remove_currency(&mut self, currency: u32)
+        requires currency { IsUserCurrency self.old.now.funding currency }
+        requires none_issued { issued_in self.old.now.funding currency ≡ [] }
+        requires none_backing { backing_currency self.old.now.funding currency ≡ [] }
+        ensures removed { self.new.now ≡ record self.old.now { funding = record self.old.now.funding { currencies = slice_set self.old.now.funding.currencies currency false } } }
+        ensures live { self.new.live ≡ self.old.live }
+        ensures known { self.new.known ≡ self.old.known }
+    {
+        self.graph.remove_currency(currency);
+    }
+
+    /// Issues a ticket in a currency and answers its number, one more than the last, or `None` if as many were made as there may
+    /// be. The amount is at least 1.
+    pub fn issue(&mut self, currency: u32, amount: u32) -> Option<u32>
+        requires currency { IsCurrency self.old.now.funding currency }
+        requires amount { 0 < amount }
+        ensures number { SomeIff result (length self.old.now.funding.tickets < self.old.now.ticket_limit) (length self.old.now.funding.tickets + 1) }
+        ensures issued { OnSome result (self.new.now ≡ record self.old.now { funding = record self.old.now.funding { tickets = with_new_ticket self.old.now.funding.tickets amount currency Unfunded } }) }
+        ensures unchanged { IfNone result (self.new ≡ self.old) }
+        ensures live { self.new.live ≡ self.old.live }
+        ensures known { self.new.known ≡ self.old.known }
+    {
+        self.graph.issue(currency, amount)
+    }
+
+    /// Removes a ticket that funds nothing. Its number is never given again.
+    pub fn destroy(&mut self, ticket: u32)
+        requires unfunded { target_of self.old.now.funding ticket ≡ Some Unfunded }
+        ensures destroyed { self.new.now ≡ record self.old.now { funding = record self.old.now.funding { tickets = without_ticket self.old.now.funding.tickets ticket } } }
+        ensures live { self.new.live ≡ self.old.live }
+        ensures known { self.new.known ≡ self.old.known }
+    {
+        self.graph.destroy(ticket);
+    }
+
+    /// Makes a thread, which isn't live and lends to nobody. Its number is one more than the last.
+    pub fn add_thread(&mut self)
+        requires room { length self.old.now.funding.lends < self.old.now.thread_limit }
+        ensures added { self.new.now ≡ record self.old.now { funding = record self.old.now.funding { lends = self.old.now.funding.lends ++ Nobody ∷ [] } } }
+        ensures live { self.new.live ≡ self.old.live ++ false ∷ [] }
+        ensures known { self.new.known ≡ self.old.known }
+    {
+        self.graph.add_thread();
+    }
+
+    /// Makes a ticket that funds nothing fund a user currency or a thread. `Cycle` if and only if it would make one (4.4).
+    pub fn fund(&mut self, ticket: u32, target: Target) -> Result<(), Cycle>
+        requires unfunded { target_of self.old.now.funding ticket ≡ Some Unfunded }
+        requires target { IsTarget self.old.now.funding target }
+        ensures cycle { IsErr result ↔ IsCycle self.old.now.funding ticket target }
+        ensures funded { OnOk result (self.new.now ≡ record self.old.now { funding = record self.old.now.funding { tickets = with_target self.old.now.funding.tickets ticket target } }) }
+        ensures unchanged { OnErr result (self.new ≡ self.old) }
+        ensures live { self.new.live ≡ self.old.live }
+        ensures known { self.new.known ≡ record self.old.known { stale = self.new.known.stale } }
+        ensures kept { (node : ANode) → IsStale self.old.known node → IsStale self.new.known node }
+        ensures stale { MakesStale self.old self.new }
+    {
+        self.graph.fund(ticket, target)?;
+        let edge = Edge::OfTicket(ticket);
+        attach(&self.graph, &mut self.active, &mut self.values, edge);
+        Ok(())
+    }
+
+    /// Takes a ticket from what it funds.
+    pub fn unfund(&mut self, ticket: u32)
+        requires funding { IsFunding self.old.now.funding ticket }
+        ensures unfunded { self.new.now ≡ record self.old.now { funding = record self.old.now.funding { tickets = with_target self.old.now.funding.tickets ticket Unfunded } } }
+        ensures live { self.new.live ≡ self.old.live }
+        ensures known { self.new.known ≡ record self.old.known { stale = self.new.known.stale } }
+        ensures kept { (node : ANode) → IsStale self.old.known node → IsStale self.new.known node }
+        ensures stale { MakesStale self.old self.new }
+    {
+        let Some(ends) = ends_of_edge(&self.graph, Edge::OfTicket(ticket)) else {
+            unreachable!()
+        };
+        self.graph.unfund(ticket);
+        detach(&self.graph, &mut self.active, &mut self.values, ends);
+    }
+
+    /// Makes a thread lend to another thread, or to a mutex, that doesn't reach it.
+    pub fn lend(&mut self, thread: u32, lend: Lend)
+        requires nobody { at_number self.old.now.funding.lends thread ≡ Some Nobody }
+        requires borrower { IsBorrower self.old.now.funding lend }
+        requires apart { ¬ LendReaches self.old.now.funding lend thread }
+        ensures lent { self.new.now ≡ record self.old.now { funding = record self.old.now.funding { lends = set_number self.old.now.funding.lends thread lend } } }
+        ensures live { self.new.live ≡ self.old.live }
+        ensures known { self.new.known ≡ record self.old.known { stale = self.new.known.stale } }
+        ensures kept { (node : ANode) → IsStale self.old.known node → IsStale self.new.known node }
+        ensures stale { MakesStale self.old self.new }
+    {
+        self.graph.lend(thread, lend);
+        let edge = Edge::OfLender(thread);
+        attach(&self.graph, &mut self.active, &mut self.values, edge);
+    }
+
+    /// Makes a thread that lends lend to nobody.
+    pub fn unlend(&mut self, thread: u32)
+        requires lender { IsLender self.old.now.funding thread }
+        ensures unlent { self.new.now ≡ record self.old.now { funding = record self.old.now.funding { lends = set_number self.old.now.funding.lends thread Nobody } } }
+        ensures live { self.new.live ≡ self.old.live }
+        ensures known { self.new.known ≡ record self.old.known { stale = self.new.known.stale } }
+        ensures kept { (node : ANode) → IsStale self.old.known node → IsStale self.new.known node }
+        ensures stale { MakesStale self.old self.new }
+    {
+        let Some(ends) = ends_of_edge(&self.graph, Edge::OfLender(thread)) else {
+            unreachable!()
+        };
+        self.graph.unlend(thread);
+        detach(&self.graph, &mut self.active, &mut self.values, ends);
+    }
+
+    /// Makes a mutex free, if it isn't. What waiting threads lend to it goes no further then (6.1).
+    pub fn give_up_mutex(&mut self, mutex: u32)
+        requires mutex { IsMutex self.old.now.funding mutex }
+        ensures freed { self.new.now ≡ record self.old.now { funding = record self.old.now.funding { owners = set_number self.old.now.funding.owners mutex None } } }
+        ensures live { self.new.live ≡ self.old.live }
+        ensures known { self.new.known ≡ record self.old.known { stale = self.new.known.stale } }
+        ensures kept { (node : ANode) → IsStale self.old.known node → IsStale self.new.known node }
+        ensures stale { MakesStale self.old self.new }
+    {
+        let Some(ends) = ends_of_edge(&self.graph, Edge::OfMutex(mutex)) else {
+            return;
+        };
+        self.graph.give_up_mutex(mutex);
+        detach(&self.graph, &mut self.active, &mut self.values, ends);
+    }
+
+    /// Makes a thread the owner of a free mutex that it doesn't reach. What waiting threads lend to the mutex goes on to it (6.1).
+    pub fn take_mutex(&mut self, mutex: u32, owner: u32)
+        requires mutex { IsMutex self.old.now.funding mutex }
+        requires free { owner_of self.old.now.funding mutex ≡ None }
+        requires owner { IsThread self.old.now.funding owner }
+        requires apart { ¬ Reaches self.old.now.funding (ThreadNode owner) (MutexNode mutex) }
+        ensures owned { self.new.now ≡ record self.old.now { funding = record self.old.now.funding { owners = set_number self.old.now.funding.owners mutex (Some owner) } } }
+        ensures live { self.new.live ≡ self.old.live }
+        ensures known { self.new.known ≡ record self.old.known { stale = self.new.known.stale } }
+        ensures kept { (node : ANode) → IsStale self.old.known node → IsStale self.new.known node }
+        ensures stale { MakesStale self.old self.new }
+    {
+        self.graph.take_mutex(mutex, owner);
+        let edge = Edge::OfMutex(mutex);
+        attach(&self.graph, &mut self.active, &mut self.values, edge);
+    }
+
+    /// The graph, to read.
+    pub fn graph(&self) -> &Graph
+        ensures { result.now ≡ self.now.now }
+    {
+        &self.graph
+    }
+
+    /// Whether a ticket is active (4.4): whether what it funds is backed.
+    pub fn is_active(&self, ticket: u32) -> bool
+        ensures { IsTrue result ↔ IsActive self.now.now.funding self.now.live ticket }
+    {
+        self.active.is_active(&self.graph, ticket)
+    }
+
+    /// The sum of the amounts of the active tickets of a currency (4.4), in tickets of the currency.
+    pub fn active_amount(&self, currency: u32) -> u64
+        requires currency { currency ≤ self.now.now.currency_limit }
+        ensures { result ≡ active_amount self.now.now.funding self.now.live currency }
+    {
+        self.active.active_amount(currency)
+    }
+
+    /// Whether edges lead from a node to another.
+    pub fn reaches(&mut self, from: Node, to: Node) -> bool
+        requires from { IsNodeOf self.old.now from }
+        requires to { IsNodeOf self.old.now to }
+        ensures reaches { IsTrue result ↔ Reaches self.old.now.funding from to }
+        ensures unchanged { self.new ≡ self.old }
+    {
+        self.graph.reaches(from, to)
+    }
+
+    /// Whether a node is stale.
+    pub fn is_stale(&self, node: Node) -> bool
+        requires node { IsNodeOf self.now.now node }
+        ensures { IsTrue result ↔ IsStale self.now.known node }
+    {
+        self.values.is_stale(node)
+    }
+
+    /// What a node is worth (4.4), if it isn't stale.
+    pub fn value_of(&self, node: Node) -> u64
+        requires node { IsNodeOf self.now.now node }
+        ensures worth { ¬ IsStale self.now.known node → HasEquation self.now.now.funding node → result ≡ node_value self.now.known.unit self.now.now.funding self.now.live node }
+    {
+        self.values.value_of(node)
+    }
+
+    /// What a ticket is worth (4.4), in units of base, if the currency that issued it isn't stale. If the ticket funds something,
+    /// that is one reading, which is counted; else it is worth nothing.
+    pub fn ticket_value(&self, ticket: u32, meter: &mut Meter) -> u64
+        requires fresh { (t : ATicket) → ticket_at self.now.now.funding ticket ≡ Some t → ¬ IsStale self.now.known (CurrencyNode t.issuer) }
+        ensures worth { (t : ATicket) → ticket_at self.now.now.funding ticket ≡ Some t → result ≡ ticket_value self.now.known.unit self.now.now.funding self.now.live t }
+        ensures counted { IsFunding self.now.now.funding ticket → meter.new ≡ record meter.old { ticket_reads = counted_up meter.old.ticket_reads 1 } }
+        ensures uncounted { ¬ IsFunding self.now.now.funding ticket → meter.new ≡ meter.old }
+    {
+        self.values
+            .ticket_value(&self.graph, &self.active, ticket, meter)
+    }
+
+    /// Computes the values of all stale nodes again. Counts each edge into a node that was stale once.
+    pub fn settle(&mut self, meter: &mut Meter)
+        ensures now { self.new.now ≡ self.old.now }
+        ensures live { self.new.live ≡ self.old.live }
+        ensures settled { self.new.known.stale ≡ [] }
+        ensures once { IsOnce self.old.known }
+        ensures counted { meter.new ≡ record meter.old { ticket_reads = counted_up meter.old.ticket_reads (edges_into_all self.old.now.funding self.old.known.stale) } }
+    {
+        self.values.settle(&self.graph, &self.active, meter);
+    }
+}
+
+/// Wakes a thread, or puts it to sleep.
+fn set_awake(graph: &Graph, active: &mut Active, thread: u32, live: bool)
+    requires thread { IsThread graph.now.funding thread }
+    requires kept { (before : List Bool) × IsKeptFor active.old graph.now before }
+    ensures kept { (before : List Bool) → IsKeptFor active.old graph.now before → thread ≤ length before → IsKeptFor active.new graph.now (set_number before thread live) }
+    ensures changes { (before : List Bool) → IsKeptFor active.old graph.now before → thread ≤ length before → ChangesNodes graph.now before graph.now (set_number before thread live) (ThreadNode thread) active.new }
+{
+    if live {
+        active.wake(graph, thread);
+    } else {
+        active.sleep(graph, thread);
+    }
+}
