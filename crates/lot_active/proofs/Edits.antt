@@ -189,48 +189,48 @@ module _ (f : Funding) where
   same-net : (l : Layout) (g : Funding) → ((edge : Edge) → ends_of_edge g edge ≡ ends_of_edge f edge) → net_of l g ≡ net_of l f
   same-net l g same = ap (λ (all_places : ℕ → Option EdgePlaces). let net : Net = record { nodes = node_count l; edges = edge_count l; places = all_places } in net) (fun_ext (λ place. places-mapped l g (edge_at l place) ∙ ap (option_map (places_of_ends l)) (same (edge_at l place)) ∙ sym (places-mapped l f (edge_at l place))))
 
-  pub issue-same : (l : Layout) (amount issuer : ℕ) → net_of l (record f { tickets = with_new_ticket f.tickets amount issuer target.Unfunded }) ≡ net_of l f
-  issue-same l amount issuer = same-net l (record f { tickets = with_new_ticket f.tickets amount issuer target.Unfunded }) same
+  pub issue-ends : (amount issuer : ℕ) (edge : Edge) → ends_of_edge (record f { tickets = with_new_ticket f.tickets amount issuer target.Unfunded }) edge ≡ ends_of_edge f edge
+  issue-ends amount issuer (OfTicket k) = by (number-push f.tickets (Some (record { amount = amount; issuer = issuer; target = target.Unfunded })) k)
     where
-      by : (k : ℕ) → (at_number (with_new_ticket f.tickets amount issuer target.Unfunded) k ≡ at_number f.tickets k)
+      by : (at_number (with_new_ticket f.tickets amount issuer target.Unfunded) k ≡ at_number f.tickets k)
           ⊎ ((at_number f.tickets k ≡ None) × (at_number (with_new_ticket f.tickets amount issuer target.Unfunded) k ≡ Some (Some (record { amount = amount; issuer = issuer; target = target.Unfunded }))))
           → ticket_ends (option_flatten (at_number (with_new_ticket f.tickets amount issuer target.Unfunded) k)) ≡ ticket_ends (option_flatten (at_number f.tickets k))
-      by k (inl is) = ap (λ o. ticket_ends (option_flatten o)) is
-      by k (inr (none, is)) = ap (λ o. ticket_ends (option_flatten o)) is ∙ sym (ap (λ o. ticket_ends (option_flatten o)) none)
+      by (inl is) = ap (λ o. ticket_ends (option_flatten o)) is
+      by (inr (none, is)) = ap (λ o. ticket_ends (option_flatten o)) is ∙ sym (ap (λ o. ticket_ends (option_flatten o)) none)
+  issue-ends amount issuer (OfLender t) = refl
+  issue-ends amount issuer (OfMutex m) = refl
 
-      same : (edge : Edge) → ends_of_edge (record f { tickets = with_new_ticket f.tickets amount issuer target.Unfunded }) edge ≡ ends_of_edge f edge
-      same (OfTicket k) = by k (number-push f.tickets (Some (record { amount = amount; issuer = issuer; target = target.Unfunded })) k)
-      same (OfLender t) = refl
-      same (OfMutex m) = refl
+  pub issue-same : (l : Layout) (amount issuer : ℕ) → net_of l (record f { tickets = with_new_ticket f.tickets amount issuer target.Unfunded }) ≡ net_of l f
+  issue-same l amount issuer = same-net l (record f { tickets = with_new_ticket f.tickets amount issuer target.Unfunded }) (issue-ends amount issuer)
 
-  pub destroy-same : (l : Layout) (n : ℕ) (t : Ticket) → ticket_at f n ≡ Some t → t.target ≡ target.Unfunded → net_of l (record f { tickets = without_ticket f.tickets n }) ≡ net_of l f
-  destroy-same l n t here unfunded = same-net l (record f { tickets = without_ticket f.tickets n }) same
+  pub destroy-ends : (n : ℕ) (t : Ticket) → ticket_at f n ≡ Some t → t.target ≡ target.Unfunded → (edge : Edge) → ends_of_edge (record f { tickets = without_ticket f.tickets n }) edge ≡ ends_of_edge f edge
+  destroy-ends n t here unfunded (OfTicket k) = by (number-set f.tickets n None k)
     where
-      by : (k : ℕ) → (at_number (set_number f.tickets n None) k ≡ at_number f.tickets k) ⊎ ((k ≡ suc (n - 1)) × (at_number (set_number f.tickets n None) k ≡ Some None))
+      by : (at_number (set_number f.tickets n None) k ≡ at_number f.tickets k) ⊎ ((k ≡ suc (n - 1)) × (at_number (set_number f.tickets n None) k ≡ Some None))
           → ticket_ends (option_flatten (at_number (set_number f.tickets n None) k)) ≡ ticket_ends (option_flatten (at_number f.tickets k))
-      by k (inl is) = ap (λ o. ticket_ends (option_flatten o)) is
-      by k (inr (at, is)) =
+      by (inl is) = ap (λ o. ticket_ends (option_flatten o)) is
+      by (inr (at, is)) =
           let low = number-low n t here in
           let k_is : k ≡ n = omega (arith, at, low.0) in
           ap (λ o. ticket_ends (option_flatten o)) is ∙ sym (ap (λ j. ticket_ends (ticket_at f j)) k_is ∙ ap (ticket_ends) here ∙ ticket-none t (ap target_node unfunded))
+  destroy-ends n t here unfunded (OfLender u) = refl
+  destroy-ends n t here unfunded (OfMutex m) = refl
 
-      same : (edge : Edge) → ends_of_edge (record f { tickets = without_ticket f.tickets n }) edge ≡ ends_of_edge f edge
-      same (OfTicket k) = by k (number-set f.tickets n None k)
-      same (OfLender u) = refl
-      same (OfMutex m) = refl
+  pub destroy-same : (l : Layout) (n : ℕ) (t : Ticket) → ticket_at f n ≡ Some t → t.target ≡ target.Unfunded → net_of l (record f { tickets = without_ticket f.tickets n }) ≡ net_of l f
+  destroy-same l n t here unfunded = same-net l (record f { tickets = without_ticket f.tickets n }) (destroy-ends n t here unfunded)
+
+  pub thread-ends : (edge : Edge) → ends_of_edge (record f { lends = f.lends ++ Nobody ∷ [] }) edge ≡ ends_of_edge f edge
+  thread-ends (OfTicket k) = refl
+  thread-ends (OfLender t) = by (number-push f.lends Nobody t)
+    where
+      by : (at_number (f.lends ++ Nobody ∷ []) t ≡ at_number f.lends t) ⊎ ((at_number f.lends t ≡ None) × (at_number (f.lends ++ Nobody ∷ []) t ≡ Some Nobody))
+          → lender_ends t (at_number (f.lends ++ Nobody ∷ []) t) ≡ lender_ends t (at_number f.lends t)
+      by (inl is) = ap (lender_ends t) is
+      by (inr (none, is)) = ap (lender_ends t) is ∙ sym (ap (lender_ends t) none)
+  thread-ends (OfMutex m) = refl
 
   pub thread-same : (l : Layout) → net_of l (record f { lends = f.lends ++ Nobody ∷ [] }) ≡ net_of l f
-  thread-same l = same-net l (record f { lends = f.lends ++ Nobody ∷ [] }) same
-    where
-      by : (t : ℕ) → (at_number (f.lends ++ Nobody ∷ []) t ≡ at_number f.lends t) ⊎ ((at_number f.lends t ≡ None) × (at_number (f.lends ++ Nobody ∷ []) t ≡ Some Nobody))
-          → lender_ends t (at_number (f.lends ++ Nobody ∷ []) t) ≡ lender_ends t (at_number f.lends t)
-      by t (inl is) = ap (lender_ends t) is
-      by t (inr (none, is)) = ap (lender_ends t) is ∙ sym (ap (lender_ends t) none)
-
-      same : (edge : Edge) → ends_of_edge (record f { lends = f.lends ++ Nobody ∷ [] }) edge ≡ ends_of_edge f edge
-      same (OfTicket k) = refl
-      same (OfLender t) = by t (number-push f.lends Nobody t)
-      same (OfMutex m) = refl
+  thread-same l = same-net l (record f { lends = f.lends ++ Nobody ∷ [] }) thread-ends
 
 -- ---- a thread that becomes live, or is live no more
 

@@ -152,6 +152,12 @@ impl Active {
         }
     }
 
+    /// How many edges were passed on, up to now.
+    #[cfg(test)]
+    pub(crate) fn passed(&self) -> u64 {
+        self.marks.passed()
+    }
+
     fn is_on(&self, node: usize) -> bool
         requires node { node < length self.now.amounts }
         ensures mark { result ≡ mark_of self.now node }

@@ -25,6 +25,8 @@ pub(crate) struct Marks {
     awake: Vec<bool>,
     amounts: Vec<u64>,
     lists: Lists,
+    // How many edges were passed on, for the tests. No clause sees it.
+    passed: u64,
 }
 
 impl Model for Marks {
@@ -46,6 +48,7 @@ impl Marks {
             awake: vec![in alloc; false; nodes]?,
             amounts: vec![in alloc; 0; nodes]?,
             lists: Lists::new(alloc, 3, nodes)?,
+            passed: 0,
         })
     }
 
@@ -62,6 +65,11 @@ impl Marks {
         ensures { result ≡ held_at self.now node }
     {
         self.amounts[node]
+    }
+
+    #[cfg(test)]
+    pub(crate) fn passed(&self) -> u64 {
+        self.passed
     }
 
     pub(crate) fn switched(&self) -> Nodes<'_>
@@ -109,6 +117,7 @@ impl Marks {
         self.amounts[node] = shifted(self.amounts[node], amount, on);
         let is = self.is_on(node);
         note(&mut self.lists, node, was, is);
+        self.passed = self.passed.saturating_add(1);
     }
 
     /// The next node whose mark isn't published, if there is one; it counts as published from then on.

@@ -185,6 +185,7 @@ impl Kept {
             Step::IsActive(ticket, is) => {
                 assert!(rt; self.active.is_active(&self.graph, ticket) == is);
             }
+            Step::HavePassed(edges) => assert!(rt; self.active.passed() == edges),
             Step::Changed(switched, adjusted) => {
                 let changed = self.changed();
                 assert!(rt; changed.0 == switched && changed.1 == adjusted);
@@ -208,6 +209,7 @@ enum Step {
     IsBacked(u32, bool),
     IsActive(u32, bool),
     Changed(usize, usize),
+    HavePassed(u64),
 }
 
 /// Plays a row after so many threads and currencies were made.
@@ -329,6 +331,33 @@ fn funded_before_it_wakes(rt: HostRuntime) -> Result<(), Fail> {
         Step::IsAmount(0, 8),
     ];
     play(&rt, rt.alloc(), 2, 1, &steps)
+}
+
+/// A change passes on the edges into the nodes that it switches, each once, and no edge elsewhere.
+#[test]
+fn edges_elsewhere_stay(rt: HostRuntime) -> Result<(), Fail> {
+    let steps = [
+        Step::Funding(0, 9, Target::Currency(1)),
+        Step::Funding(1, 3, Target::Thread(1)),
+        Step::Funding(1, 4, Target::Thread(2)),
+        Step::Funding(1, 5, Target::Thread(3)),
+        Step::HavePassed(0),
+        Step::Wake(1),
+        Step::HavePassed(2),
+        Step::Wake(2),
+        Step::HavePassed(3),
+        Step::Wake(3),
+        Step::HavePassed(4),
+        Step::Unfund(2),
+        Step::HavePassed(5),
+        Step::Sleep(1),
+        Step::HavePassed(5),
+        Step::Sleep(2),
+        Step::HavePassed(6),
+        Step::Sleep(3),
+        Step::HavePassed(8),
+    ];
+    play(&rt, rt.alloc(), 3, 1, &steps)
 }
 
 /// Two tickets of one currency fund the same thread: both count.

@@ -165,7 +165,7 @@ module _ (q : Queued) (v : Valued) (places : length q.weights ≡ length q.compe
   weighs t above within None e = refl
   weighs t above within (Some c) e =
       ap (λ value. weight_with value q.quantum (Some c))
-      (settled.worths t (competes.there t c e) (omega (arith, within, competes.places, ap (λ (l : Layout). l.threads) settled.layout)) (λ stale. contains-nothing (Thread t) (subst (λ (xs : List Node). Contains xs (Thread t)) settled.stale stale)))
+      (settled.worths t (competes.there t c e) (omega (arith, within, competes.places)) (λ stale. contains-nothing (Thread t) (subst (λ (xs : List Node). Contains xs (Thread t)) settled.stale stale)))
 
   at-place : (i : ℕ) → i < length q.weights → get_or q.weights i 0 ≡ weight_among q.quantum q.competitors worth (1 + i)
   at-place i low =

@@ -4,7 +4,6 @@ use Rattle.lot_lists.specs.NodeLists.{NodeLists}
 use Rattle.lot_machine.specs.declared.funding.Node.TheVariants.{Thread}
 use Rattle.lot_machine.specs.Value.{thread_value}
 use Rattle.lot_graph.specs.Graphs.{IsThread}
-use Rattle.lot_graph.specs.Places.{layout_of}
 use Rattle.lot_value.specs.Caches.{Known, IsStale, value_in}
 use Rattle.lot_value.specs.Valued.{Valued}
 use Rattle.lot_value.specs.Marking.{IsStaleList as IsOneList}
@@ -45,11 +44,10 @@ pub record CompetesIn (competitors : List (Option Competitor)) (v : Valued) : Ty
 -- what is kept of each thread that is there and isn't stale is what it is worth
 abbrev pub HasWorths : Valued → Type 0
 HasWorths v =
-    (t : ℕ) → IsThread v.now.funding t → t ≤ v.known.layout.threads → ¬ IsStale v.known (Thread t) → value_in v.known (Thread t) ≡ thread_value v.known.unit v.now.funding v.live t
+    (t : ℕ) → IsThread v.now.funding t → t ≤ v.now.thread_limit → ¬ IsStale v.known (Thread t) → value_in v.known (Thread t) ≡ thread_value v.known.unit v.now.funding v.live t
 
 -- weights can be set from what is kept: all of it is right
 pub record IsSettled (v : Valued) : Type 0 where
-  pub layout : v.known.layout ≡ layout_of v.now
   pub stale : v.known.stale ≡ []
   pub worths : HasWorths v
 

@@ -1,31 +1,35 @@
 -- What the calls of a graph are to what is kept together.
-use Rattle.std.proofs.Common.{◌≡◌, ◌≢◌, ℕ, ◌<◌, ◌≤◌, ◌⊎◌, Bool, Option, Some, None, List, length, ap, sym, ◌∙◌, refl, subst, arith}
-use Rattle.lot_machine.specs.declared.ticket.Ticket.{Ticket}
+use Rattle.std.proofs.Common.{◌≡◌, ℕ, ◌-◌, ◌⊎◌, Bool, Option, Some, None, List, length, ap, sym, ◌∙◌, refl, subst, arith, length-set}
 use Rattle.lot_machine.specs.declared.ticket.Target.{Target}
 use Rattle.lot_machine.specs.declared.ticket.Target.TheVariants as target
 use Rattle.lot_machine.specs.declared.funding.Node.{Node}
 use Rattle.lot_machine.specs.declared.funding.Node.TheVariants.{Currency, Thread, Mutex}
 use Rattle.lot_machine.specs.declared.funding.Edge.{Edge}
-use Rattle.lot_machine.specs.declared.funding.Edge.TheVariants.{OfTicket}
+use Rattle.lot_machine.specs.declared.funding.Edge.TheVariants.{OfTicket, OfLender, OfMutex}
+use Rattle.lot_machine.specs.declared.funding.Lend.{Lend}
+use Rattle.lot_machine.specs.declared.funding.Lend.TheVariants.{Nobody, ToThread, ToMutex}
+use Rattle.lot_machine.specs.Numbered.{at_number, set_number}
 use Rattle.lot_machine.specs.Bounds.{IsUnit}
-use Rattle.lot_machine.specs.Funding.{Funding, ticket_at, target_of, target_node, with_target, IsEdge}
+use Rattle.lot_machine.specs.Funding.{Funding, target_of, owner_of, target_node, lend_node, with_target, IsEdge}
 use Rattle.lot_machine.specs.Touched.{IsTouched, PathLeads}
 use Rattle.lot_machine.specs.Equations.{HasEquation}
 use Rattle.lot_machine.proofs.Tickets.{some-injective}
 use Rattle.lot_graph.specs.declared.layout.Layout.{Layout}
-use Rattle.lot_graph.specs.Graphs.{LimitedFunding, IsTarget}
-use Rattle.lot_graph.specs.Places.{IsNodeWithin, FitsLimits, layout_of}
-use Rattle.lot_graph.proofs.EndLemmas.{ticket-ends}
-use Rattle.lot_graph.proofs.FieldLemmas.{target-ticket}
+use Rattle.lot_graph.specs.Graphs.{LimitedFunding, IsTarget, IsThread, IsMutex, IsBorrower}
+use Rattle.lot_graph.specs.Places.{IsNodeWithin, FitsLimits}
+use Rattle.lot_graph.proofs.EndLemmas.{ticket-ends, lender-ends, mutex-ends, ends-mutex}
+use Rattle.lot_graph.proofs.FieldLemmas.{target-ticket, free-kept}
 use Rattle.lot_active.specs.declared.edge_ends.EdgeEnds.{EdgeEnds}
 use Rattle.lot_active.specs.Activity.{Activity}
-use Rattle.lot_active.specs.Fundings.{IsKeptFor, AddsEdge, ends_of_edge, edge_between}
-use Rattle.lot_active.proofs.CallEdits.{fund-edge, unfund-edge}
-use Rattle.lot_value.specs.Caches.{Known, IsStale, IsRight}
-use Rattle.lot_value.specs.Valued.{live_of, AreTogether, StandsFor}
-use Rattle.lot_value.proofs.Ends.{there-edge}
+use Rattle.lot_active.specs.Changes.{ChangesNodes}
+use Rattle.lot_active.specs.Fundings.{IsKeptFor, AddsEdge, ends_of_edge, edge_between, counted_amount}
+use Rattle.lot_active.proofs.CallEdits.{fund-edge, unfund-edge, lend-edge, unlend-edge, own-edge, disown-edge}
+use Rattle.lot_value.specs.Caches.{Known, IsStale, IsRight, TouchesListed}
+use Rattle.lot_value.specs.Touched.{Touched, IsListed}
+use Rattle.lot_value.specs.Valued.{live_of, AreTogether, StandsFor, Follows}
+use Rattle.lot_value.proofs.Ends.{edge-there, there-edge}
 use Rattle.lot_value.proofs.Nodes.{within-node}
-use Rattle.lot_value.proofs.OneEdge.{has-same}
+use Rattle.lot_value.proofs.OneEdge.{Differ, has-same, same-layout, right-one, stale-one}
 use Rattle.lot_value.proofs.Following.{live-is, live-length}
 
 -- ---- one edge
@@ -58,27 +62,77 @@ stands-went w now edge ends adds threads have fits =
 pub stands-came : (w now : LimitedFunding) (edge : Edge) (ends : EdgeEnds) → AddsEdge w now edge ends → length now.funding.lends ≡ length w.funding.lends → HasEquation now.funding ends.to → FitsLimits now → StandsFor w now ends
 stands-came w now edge ends adds threads has fits = record { threads = threads; has = has; within = within-node now ends.to (fits.to edge ends.from ends.to (there-edge now.funding edge ends adds.here)) }
 
--- ---- tickets
-
-pub unfund-adds : (w now : LimitedFunding) (n : ℕ) (ends : EdgeEnds) → ends_of_edge w.funding (OfTicket n) ≡ Some ends → now ≡ record w { funding = record w.funding { tickets = with_target w.funding.tickets n target.Unfunded } } → AddsEdge now w (OfTicket n) ends
-unfund-adds w now n ends is change =
-    let (t, at, from, to) = ticket-ends w.funding n ends.from ends.to (there-edge w.funding (OfTicket n) ends is) in
-    went-by now w (OfTicket n) (edge_between t.amount (Currency t.issuer) ends.to) ends (unfund-edge w now n t ends.to at to change) is
-
 -- where a target leads
 pub target-node : (f : Funding) (to : Target) → IsTarget f to → (node : Node) × (target_node to ≡ Some node) × HasEquation f node
 target-node f target.Unfunded is = absurd is
 target-node f (target.Currency c) is = (Currency c, refl, λ zero. omega (arith, zero, is.0))
 target-node f (target.Thread t) is = (Thread t, refl, is)
 
-pub fund-adds : (w now : LimitedFunding) (n : ℕ) (to : Target) → target_of w.funding n ≡ Some target.Unfunded → IsTarget w.funding to → now ≡ record w { funding = record w.funding { tickets = with_target w.funding.tickets n to } }
-    → (ends : EdgeEnds) × AddsEdge w now (OfTicket n) ends × HasEquation w.funding ends.to
-fund-adds w now n to free is change =
-    let (t, at, unfunded) = target-ticket w.funding n target.Unfunded free in
-    let (node, leads, has) = target-node w.funding to is in
-    (edge_between t.amount (Currency t.issuer) node, fund-edge w now n t to node at unfunded leads change, has)
+-- and a lend
+pub lend-target : (f : Funding) (lend : Lend) → IsBorrower f lend → (node : Node) × (lend_node lend ≡ Some node) × HasEquation f node
+lend-target f Nobody is = absurd is
+lend-target f (ToThread s) is = (Thread s, refl, is)
+lend-target f (ToMutex m) is = (Mutex m, refl, tt)
 
--- what got stale, by the live threads of now
-pub stale-now : (w now : LimitedFunding) (c known : Known) (live after : List Bool) → live ≡ after → ((x : Node) → IsStale known x → IsStale c x ⊎ ((node : Node) × IsTouched w.funding now.funding live live node × PathLeads w.funding now.funding node x))
-    → (x : Node) → IsStale known x → IsStale c x ⊎ ((node : Node) × IsTouched w.funding now.funding live after node × PathLeads w.funding now.funding node x)
-stale-now w now c known live after same stale = subst (λ (xs : List Bool). (x : Node) → IsStale known x → IsStale c x ⊎ ((node : Node) × IsTouched w.funding now.funding live xs node × PathLeads w.funding now.funding node x)) same stale
+-- one edge came or went, and what stands for it was touched
+pub follows-one : (w now : LimitedFunding) (edge : Edge) (ends : EdgeEnds) → Differ w now edge ends → StandsFor w now ends → (v new : Activity) (c known : Known) → AreTogether w v c → IsKeptFor new now (live_of w v)
+    → ChangesNodes w (live_of w v) now (live_of w v) ends.from new → Touched now c known (λ node. IsListed now new node ⊎ (node ≡ ends.to)) → TouchesListed now new known.stale → IsStale known ends.to → Follows w now v new c known (live_of w v)
+follows-one w now edge ends differ stands v new c known together is changes touched listed marked =
+    let live = live_of w v in
+    let same = live-one w now v new stands.threads is in
+    let layout = same-layout w now edge ends differ stands in
+    let right = right-one w now edge ends differ stands v new live c known together.kept is changes together.right touched listed marked in
+    let stale = stale-one w now edge ends differ stands v new live c known together.kept is changes touched in record {
+      together = together-one w now v new c known stands.threads (ap (λ (l : Layout). l.tickets) layout) (ap (λ (k : Known). k.unit) touched.others) together is right;
+      live = sym same;
+      stale = subst (λ (after : List Bool). (x : Node) → IsStale known x → IsStale c x ⊎ ((node : Node) × IsTouched w.funding now.funding live after node × PathLeads w.funding now.funding node x)) same stale;
+    }
+
+-- what each call adds or takes out, and what stands for it
+module _ (w now : LimitedFunding) (v : Activity) (c : Known) (together : AreTogether w v c) where
+  came : (edge : Edge) (ends : EdgeEnds) → AddsEdge w now edge ends → length now.funding.lends ≡ length w.funding.lends → HasEquation w.funding ends.to → FitsLimits now → (ends : EdgeEnds) × AddsEdge w now edge ends × StandsFor w now ends
+  came edge ends adds threads has fits = (ends, adds, stands-came w now edge ends adds threads (has-same w.funding now.funding threads ends.to has) fits)
+
+  went : (edge : Edge) (other ends : EdgeEnds) → ends_of_edge w.funding edge ≡ Some ends → AddsEdge now w edge other → length now.funding.lends ≡ length w.funding.lends → AddsEdge now w edge ends × StandsFor w now ends
+  went edge other ends is other_adds threads =
+      let adds = went-by now w edge other ends other_adds is in (adds, stands-went w now edge ends adds threads together.right.ends together.kept.fits)
+
+  pub unfund-went : (n : ℕ) (ends : EdgeEnds) → ends_of_edge w.funding (OfTicket n) ≡ Some ends → now ≡ record w { funding = record w.funding { tickets = with_target w.funding.tickets n target.Unfunded } } → AddsEdge now w (OfTicket n) ends × StandsFor w now ends
+  unfund-went n ends is change =
+      let (t, at, from, to) = ticket-ends w.funding n ends.from ends.to (there-edge w.funding (OfTicket n) ends is) in
+      went (OfTicket n) (edge_between t.amount (Currency t.issuer) ends.to) ends is (unfund-edge w now n t ends.to at to change) (ap (λ (x : LimitedFunding). length x.funding.lends) change)
+
+  pub fund-came : (n : ℕ) (to : Target) → target_of w.funding n ≡ Some target.Unfunded → IsTarget w.funding to → now ≡ record w { funding = record w.funding { tickets = with_target w.funding.tickets n to } } → FitsLimits now
+      → (ends : EdgeEnds) × AddsEdge w now (OfTicket n) ends × StandsFor w now ends
+  fund-came n to free is change fits =
+      let (t, at, unfunded) = target-ticket w.funding n target.Unfunded free in
+      let (node, leads, has) = target-node w.funding to is in
+      came (OfTicket n) (edge_between t.amount (Currency t.issuer) node) (fund-edge w now n t to node at unfunded leads change) (ap (λ (x : LimitedFunding). length x.funding.lends) change) has fits
+
+  pub lend-came : (t : ℕ) (lend : Lend) → at_number w.funding.lends t ≡ Some Nobody → IsBorrower w.funding lend → now ≡ record w { funding = record w.funding { lends = set_number w.funding.lends t lend } } → FitsLimits now
+      → (ends : EdgeEnds) × AddsEdge w now (OfLender t) ends × StandsFor w now ends
+  lend-came t lend nobody is change fits =
+      let (node, leads, has) = lend-target w.funding lend is in
+      came (OfLender t) (edge_between 1 (Thread t) node) (lend-edge w now t lend node nobody leads change) (ap (λ (x : LimitedFunding). length x.funding.lends) change ∙ length-set w.funding.lends (t - 1) lend) has fits
+
+  pub unlend-went : (t : ℕ) (ends : EdgeEnds) → ends_of_edge w.funding (OfLender t) ≡ Some ends → now ≡ record w { funding = record w.funding { lends = set_number w.funding.lends t Nobody } } → AddsEdge now w (OfLender t) ends × StandsFor w now ends
+  unlend-went t ends is change =
+      let (lend, at, from, to) = lender-ends w.funding t ends.from ends.to (there-edge w.funding (OfLender t) ends is) in
+      went (OfLender t) (edge_between 1 (Thread t) ends.to) ends is (unlend-edge w now t lend ends.to at to change) (ap (λ (x : LimitedFunding). length x.funding.lends) change ∙ length-set w.funding.lends (t - 1) Nobody)
+
+  pub own-came : (m owner : ℕ) → IsMutex w.funding m → owner_of w.funding m ≡ None → IsThread w.funding owner → now ≡ record w { funding = record w.funding { owners = set_number w.funding.owners m (Some owner) } } → FitsLimits now
+      → (ends : EdgeEnds) × AddsEdge w now (OfMutex m) ends × StandsFor w now ends
+  own-came m owner there free is change fits = came (OfMutex m) (edge_between 1 (Mutex m) (Thread owner)) (own-edge w now m owner there free change) (ap (λ (x : LimitedFunding). length x.funding.lends) change) is fits
+
+  pub disown-went : (m : ℕ) (ends : EdgeEnds) → IsMutex w.funding m → ends_of_edge w.funding (OfMutex m) ≡ Some ends → now ≡ record w { funding = record w.funding { owners = set_number w.funding.owners m None } } → AddsEdge now w (OfMutex m) ends × StandsFor w now ends
+  disown-went m ends there is change =
+      let (owner, owns, from, to) = mutex-ends w.funding m ends.from ends.to (there-edge w.funding (OfMutex m) ends is) in
+      went (OfMutex m) (edge_between 1 (Mutex m) (Thread owner)) ends is (disown-edge w now m owner there owns change) (ap (λ (x : LimitedFunding). length x.funding.lends) change)
+
+-- a mutex without an edge is free, and so is the same when it is made free
+pub free-same : (w : LimitedFunding) (m : ℕ) → IsMutex w.funding m → ((ends : EdgeEnds) → ends_of_edge w.funding (OfMutex m) ≡ Some ends → ⊥) → w ≡ record w { funding = record w.funding { owners = set_number w.funding.owners m None } }
+free-same w m there none = sym (ap (λ (owners : List (Option ℕ)). record w { funding = record w.funding { owners = owners } }) (free-kept w.funding m there (by (owner_of w.funding m) refl)))
+  where
+    by : (o : Option ℕ) → owner_of w.funding m ≡ o → owner_of w.funding m ≡ None
+    by None is = is
+    by (Some owner) is = absurd (none (edge_between (counted_amount w.funding (OfMutex m)) (Mutex m) (Thread owner)) (edge-there w.funding (OfMutex m) (Mutex m) (Thread owner) (ends-mutex w.funding m owner is)))

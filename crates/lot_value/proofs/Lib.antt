@@ -17,3 +17,4 @@ pub mod Following
 pub mod OneEdge
 pub mod GraphCalls
 pub mod Unchanged
+pub mod TicketWorth

@@ -1,12 +1,12 @@
 -- What is kept together follows an edge that comes or goes.
-use Rattle.std.proofs.Common.{◌≡◌, ◌≢◌, ℕ, ◌⊎◌, inl, inr, Bool, Option, Some, None, List, [], ◌∷◌, ◌++◌, Contains, length, ap, sym, ◌∙◌, refl, subst, arith}
+use Rattle.std.proofs.Common.{◌≡◌, ℕ, ◌⊎◌, inl, inr, Bool, Some, None, List, [], length, ap, sym, ◌∙◌, refl, subst, arith}
 use Rattle.std.proofs.lemmas.Bool.{cases_eq}
 use Rattle.lot_machine.specs.declared.funding.Node.{Node}
 use Rattle.lot_machine.specs.declared.funding.Node.TheVariants.{Currency, Thread, Mutex}
 use Rattle.lot_machine.specs.declared.funding.Edge.{Edge}
 use Rattle.lot_machine.specs.declared.funding.Edge.TheVariants.{OfTicket, OfLender, OfMutex}
 use Rattle.lot_machine.specs.Funding.{Funding, ends_of, IsEdge}
-use Rattle.lot_machine.specs.Touched.{IsSeed, IsTouched, IsChangedEdge, PathLeads}
+use Rattle.lot_machine.specs.Touched.{IsTouched, IsChangedEdge, PathLeads}
 use Rattle.lot_machine.specs.Equations.{HasEquation, Reaches}
 use Rattle.lot_graph.specs.Graphs.{LimitedFunding}
 use Rattle.lot_graph.specs.Places.{layout_of}
@@ -64,7 +64,7 @@ abbrev pub Differ : LimitedFunding → LimitedFunding → Edge → EdgeEnds → 
 Differ before after edge ends = AddsEdge before after edge ends ⊎ AddsEdge after before edge ends
 
 module _ (before after : LimitedFunding) (edge : Edge) (ends : EdgeEnds) (differ : Differ before after edge ends) (stands : StandsFor before after ends) where
-  same-layout : layout_of after ≡ layout_of before
+  pub same-layout : layout_of after ≡ layout_of before
   same-layout = by differ
     where
       by : Differ before after edge ends → layout_of after ≡ layout_of before

@@ -1,27 +1,19 @@
 -- What is kept together follows a change that moves no edge and switches nothing.
-use Rattle.std.proofs.Common.{◌≡◌, ◌≢◌, ℕ, suc, ◌+◌, ◌≤◌, ◌⊎◌, ◌↔◌, inl, inr, IsTrue, Bool, true, false, Option, Some, None, List, [], ◌∷◌, ◌++◌, Contains, length, option_map, option_and_then, unwrap_or, ap, sym, ◌∙◌, refl, subst, arith}
-use Rattle.std.specs.Option.{option_flatten}
+use Rattle.std.proofs.Common.{◌≡◌, ℕ, ◌+◌, ◌≤◌, ◌↔◌, inl, Bool, true, false, Option, Some, None, List, [], ◌∷◌, ◌++◌, length, OnSome, IfNone, ap, sym, ◌∙◌, refl, subst, arith}
 use Rattle.std.proofs.lemmas.List.{length_push}
-use Rattle.lot_machine.specs.declared.ticket.Ticket.{Ticket}
 use Rattle.lot_machine.specs.declared.ticket.Target.TheVariants as target
 use Rattle.lot_machine.specs.declared.funding.Node.{Node}
 use Rattle.lot_machine.specs.declared.funding.Node.TheVariants.{Currency, Thread, Mutex}
 use Rattle.lot_machine.specs.declared.funding.Edge.{Edge}
-use Rattle.lot_machine.specs.declared.funding.Edge.TheVariants.{OfTicket, OfLender, OfMutex}
-use Rattle.lot_machine.specs.declared.funding.Lend.{Lend}
+use Rattle.lot_machine.specs.declared.funding.Edge.TheVariants.{OfTicket}
 use Rattle.lot_machine.specs.declared.funding.Lend.TheVariants.{Nobody}
-use Rattle.lot_machine.specs.Bounds.{IsUnit}
-use Rattle.lot_machine.specs.Numbered.{at_number}
-use Rattle.lot_machine.specs.Funding.{Funding, ends_of, IsEdge, target_node, lend_node, with_new_ticket}
+use Rattle.lot_machine.specs.Funding.{Funding, ends_of, target_of, with_new_ticket, without_ticket}
 use Rattle.lot_machine.specs.Activity.{IsActive, active_amount}
 use Rattle.lot_machine.specs.Equations.{HasEquation}
-use Rattle.lot_machine.proofs.EachOnce.{contains-nothing}
-use Rattle.lot_machine.proofs.Changes.{number-push}
 use Rattle.lot_graph.specs.declared.layout.Layout.{Layout}
 use Rattle.lot_graph.specs.Graphs.{LimitedFunding, IsSound, IsNodeOf}
 use Rattle.lot_graph.specs.Places.{node_place, IsNodeWithin, FitsLimits, layout_of}
-use Rattle.lot_graph.proofs.EndLemmas.{pair, ticket-ends}
-use Rattle.lot_active.specs.declared.edge_ends.EdgeEnds.{EdgeEnds}
+use Rattle.lot_graph.proofs.EndLemmas.{ticket-ends}
 use Rattle.lot_active.specs.Activity.{Activity, mark_of}
 use Rattle.lot_active.specs.Changes.{IsActiveNode}
 use Rattle.lot_active.specs.Fundings.{IsKeptFor, ends_of_edge, edge_between, counted_amount}
@@ -32,9 +24,12 @@ use Rattle.lot_value.specs.Caches.{Known, IsRight, CoversChange}
 use Rattle.lot_value.specs.Valued.{live_of, AreTogether}
 use Rattle.lot_value.proofs.Ends.{edge-there, there-edge}
 use Rattle.lot_value.proofs.Nodes.{node-within, within-node}
-use Rattle.lot_active.proofs.CallEdits.{issue-kept, currencies-kept, thread-kept}
+use Rattle.lot_active.proofs.CallEdits.{issue-kept, destroy-kept, currencies-kept, thread-kept}
+use Rattle.lot_active.proofs.Edits.{issue-ends, destroy-ends, thread-ends}
 use Rattle.lot_value.proofs.OneEdge.{has-same}
-use Rattle.lot_value.proofs.GraphCalls.{together-one}
+use Rattle.lot_value.proofs.GraphCalls.{live-one, together-one}
+use Rattle.lot_value.proofs.Following.{live-is, live-length}
+use Rattle.lot_graph.proofs.FieldLemmas.{target-ticket}
 use Rattle.lot_value.proofs.Differing.{same-equation}
 use Rattle.lot_value.proofs.Rightness.{pending-more}
 
@@ -81,55 +76,63 @@ module _ (v : Activity) (before after : LimitedFunding) (live now : List Bool) (
     same = λ node off. same-equation c.unit before.funding after.funding live now [] was.sound is.sound covers node off;
   })
 
--- ---- edges that lead where they led
-
--- where a ticket's edge leads, by the ticket
-abbrev of-ticket : Option Ticket → Option EdgeEnds
-of-ticket o = option_map (λ (ends : Node × Node). edge_between (unwrap_or (option_map (λ (t : Ticket). t.amount) o) 0) ends.0 ends.1) (option_and_then (λ (t : Ticket). option_map (pair (Currency t.issuer)) (target_node t.target)) o)
-
-abbrev of-lender : ℕ → Option Lend → Option EdgeEnds
-of-lender t o = option_map (λ (ends : Node × Node). edge_between 1 ends.0 ends.1) (option_and_then (λ (lend : Lend). option_map (pair (Thread t)) (lend_node lend)) o)
-
-pub issue-alike : (f : Funding) (amount issuer : ℕ) (edge : Edge) → ends_of_edge (record f { tickets = with_new_ticket f.tickets amount issuer target.Unfunded }) edge ≡ ends_of_edge f edge
-issue-alike f amount issuer (OfTicket n) = by (number-push f.tickets (Some (record { amount = amount; issuer = issuer; target = target.Unfunded })) n)
-  where
-    made : List (Option Ticket)
-    made = with_new_ticket f.tickets amount issuer target.Unfunded
-
-    by : (at_number made n ≡ at_number f.tickets n) ⊎ ((at_number f.tickets n ≡ None) × (at_number made n ≡ Some (Some (record { amount = amount; issuer = issuer; target = target.Unfunded })))) → of-ticket (option_flatten (at_number made n)) ≡ of-ticket (option_flatten (at_number f.tickets n))
-    by (inl same) = ap (λ o. of-ticket (option_flatten o)) same
-    by (inr (none, new)) = ap (λ o. of-ticket (option_flatten o)) new ∙ sym (ap (λ o. of-ticket (option_flatten o)) none)
-issue-alike f amount issuer (OfLender t) = refl
-issue-alike f amount issuer (OfMutex m) = refl
-
-pub thread-alike : (f : Funding) (edge : Edge) → ends_of_edge (record f { lends = f.lends ++ Nobody ∷ [] }) edge ≡ ends_of_edge f edge
-thread-alike f (OfTicket n) = refl
-thread-alike f (OfLender t) = by (number-push f.lends Nobody t)
-  where
-    by : (at_number (f.lends ++ Nobody ∷ []) t ≡ at_number f.lends t) ⊎ ((at_number f.lends t ≡ None) × (at_number (f.lends ++ Nobody ∷ []) t ≡ Some Nobody)) → of-lender t (at_number (f.lends ++ Nobody ∷ []) t) ≡ of-lender t (at_number f.lends t)
-    by (inl same) = ap (of-lender t) same
-    by (inr (none, new)) = ap (of-lender t) new ∙ sym (ap (of-lender t) none)
-thread-alike f (OfMutex m) = refl
-
-pub thread-has : (f : Funding) (node : Node) → HasEquation f node → HasEquation (record f { lends = f.lends ++ Nobody ∷ [] }) node
+-- a thread more takes no equation away
+thread-has : (f : Funding) (node : Node) → HasEquation f node → HasEquation (record f { lends = f.lends ++ Nobody ∷ [] }) node
 thread-has f (Currency c) has = has
 thread-has f (Thread t) has = (has.0, omega (arith, has.1, length_push f.lends Nobody))
 thread-has f (Mutex m) has = has
 
--- ---- what stays together
+-- Activity and values stay together, and these threads are live.
+pub record Stays (now : LimitedFunding) (v : Activity) (c : Known) (after : List Bool) : Type 0 where
+  pub together : AreTogether now v c
+  pub live : live_of now v ≡ after
 
--- as many threads, and no edge elsewhere
-pub together-alike : (w now : LimitedFunding) (v : Activity) (c : Known) → IsKeptFor v now (live_of w v) → layout_of now ≡ layout_of w → length now.funding.lends ≡ length w.funding.lends → now.ticket_limit ≡ w.ticket_limit → ((edge : Edge) → ends_of_edge now.funding edge ≡ ends_of_edge w.funding edge)
-    → AreTogether w v c → AreTogether now v c
-together-alike w now v c kept layout threads limit alike together =
-    together-one w now v v c c threads limit refl together kept (right-unchanged v w now (live_of w v) (live_of w v) together.kept kept layout alike c (has-same w.funding now.funding threads) together.right)
+module _ (w now : LimitedFunding) (v : Activity) (c : Known) (together : AreTogether w v c) where
+  -- nothing is another
+  stays-same : now ≡ w → Stays now v c (live_of w v)
+  stays-same same = record { together = subst (λ (x : LimitedFunding). AreTogether x v c) (sym same) together; live = ap (λ (x : LimitedFunding). live_of x v) same }
 
-pub together-issue : (w now : LimitedFunding) (v : Activity) (c : Known) (amount issuer : ℕ) → now ≡ record w { funding = record w.funding { tickets = with_new_ticket w.funding.tickets amount issuer target.Unfunded } } → IsSound now.funding → FitsLimits now → AreTogether w v c → AreTogether now v c
-together-issue w now v c amount issuer is sound fits together =
-    together-alike w now v c (issue-kept v w now (live_of w v) together.kept sound fits amount issuer is) (ap layout_of is) (ap (λ (x : LimitedFunding). length x.funding.lends) is) (ap (λ (x : LimitedFunding). x.ticket_limit) is)
-    (λ edge. ap (λ (x : LimitedFunding). ends_of_edge x.funding edge) is ∙ issue-alike w.funding amount issuer edge) together
+  -- as many threads, and no edge leads elsewhere
+  stays-alike : IsKeptFor v now (live_of w v) → layout_of now ≡ layout_of w → length now.funding.lends ≡ length w.funding.lends → ((edge : Edge) → ends_of_edge now.funding edge ≡ ends_of_edge w.funding edge) → Stays now v c (live_of w v)
+  stays-alike kept layout threads alike =
+      let right = right-unchanged v w now (live_of w v) (live_of w v) together.kept kept layout alike c (has-same w.funding now.funding threads) together.right in record {
+        together = together-one w now v v c c threads (ap (λ (l : Layout). l.tickets) layout) refl together kept right;
+        live = sym (live-one w now v v threads kept);
+      }
 
-pub together-currencies : (w now : LimitedFunding) (v : Activity) (c : Known) (currencies : List Bool) → now ≡ record w { funding = record w.funding { currencies = currencies } } → IsSound now.funding → FitsLimits now → AreTogether w v c → AreTogether now v c
-together-currencies w now v c currencies is sound fits together =
-    together-alike w now v c (currencies-kept v w now (live_of w v) together.kept sound fits currencies is) (ap layout_of is) (ap (λ (x : LimitedFunding). length x.funding.lends) is) (ap (λ (x : LimitedFunding). x.ticket_limit) is)
-    (λ edge. ap (λ (x : LimitedFunding). ends_of_edge x.funding edge) is) together
+  -- a ticket is issued, if there may be one more
+  pub stays-issue : (number : Option ℕ) (amount issuer : ℕ) → OnSome number (now ≡ record w { funding = record w.funding { tickets = with_new_ticket w.funding.tickets amount issuer target.Unfunded } }) → IfNone number (now ≡ w) → IsSound now.funding → FitsLimits now
+      → Stays now v c (live_of w v)
+  stays-issue None amount issuer issued unchanged sound fits = stays-same unchanged
+  stays-issue (Some n) amount issuer issued unchanged sound fits =
+      stays-alike (issue-kept v w now (live_of w v) together.kept sound fits amount issuer issued) (ap layout_of issued) (ap (λ (x : LimitedFunding). length x.funding.lends) issued)
+      (λ edge. ap (λ (x : LimitedFunding). ends_of_edge x.funding edge) issued ∙ issue-ends w.funding amount issuer edge)
+
+  pub stays-destroy : (n : ℕ) → target_of w.funding n ≡ Some target.Unfunded → now ≡ record w { funding = record w.funding { tickets = without_ticket w.funding.tickets n } } → IsSound now.funding → FitsLimits now → Stays now v c (live_of w v)
+  stays-destroy n free destroyed sound fits =
+      let (t, at, unfunded) = target-ticket w.funding n target.Unfunded free in
+      stays-alike (destroy-kept v w now (live_of w v) together.kept sound fits n t at unfunded destroyed) (ap layout_of destroyed) (ap (λ (x : LimitedFunding). length x.funding.lends) destroyed)
+      (λ edge. ap (λ (x : LimitedFunding). ends_of_edge x.funding edge) destroyed ∙ destroy-ends w.funding n t at unfunded edge)
+
+  pub stays-currencies : (currencies : List Bool) → now ≡ record w { funding = record w.funding { currencies = currencies } } → IsSound now.funding → FitsLimits now → Stays now v c (live_of w v)
+  stays-currencies currencies made sound fits =
+      stays-alike (currencies-kept v w now (live_of w v) together.kept sound fits currencies made) (ap layout_of made) (ap (λ (x : LimitedFunding). length x.funding.lends) made) (λ edge. ap (λ (x : LimitedFunding). ends_of_edge x.funding edge) made)
+
+  -- a currency is made, if there may be one more
+  pub stays-made : (number : Option ℕ) → OnSome number (now ≡ record w { funding = record w.funding { currencies = w.funding.currencies ++ true ∷ [] } }) → IfNone number (now ≡ w) → IsSound now.funding → FitsLimits now → Stays now v c (live_of w v)
+  stays-made None made unchanged sound fits = stays-same unchanged
+  stays-made (Some n) made unchanged sound fits = stays-currencies (w.funding.currencies ++ true ∷ []) made sound fits
+
+  pub stays-thread : now ≡ record w { funding = record w.funding { lends = w.funding.lends ++ Nobody ∷ [] } } → IsSound now.funding → FitsLimits now → Stays now v c (live_of w v ++ false ∷ [])
+  stays-thread added sound fits =
+      let live = live_of w v ++ false ∷ [] in
+      let kept = thread-kept v w now (live_of w v) together.kept sound fits added in
+      let more : length now.funding.lends ≡ length w.funding.lends + 1 = ap (λ (x : LimitedFunding). length x.funding.lends) added ∙ length_push w.funding.lends Nobody in
+      let size : length live ≡ length now.funding.lends = omega (arith, length_push (live_of w v) false, live-length w v, more) in
+      let same = live-is now v live kept.fits kept.awake size in
+      let alike : (edge : Edge) → ends_of_edge now.funding edge ≡ ends_of_edge w.funding edge = λ edge. ap (λ (x : LimitedFunding). ends_of_edge x.funding edge) added ∙ thread-ends w.funding edge in
+      let there : (node : Node) → HasEquation w.funding node → HasEquation now.funding node = λ node has. subst (λ (x : LimitedFunding). HasEquation x.funding node) (sym added) (thread-has w.funding node has) in
+      let right = right-unchanged v w now (live_of w v) live together.kept kept (ap layout_of added) alike c there together.right in record {
+        together = record { kept = subst (IsKeptFor v now) same kept; right = subst (λ (xs : List Bool). IsRight now xs c) same right; tickets = omega (arith, ap (λ (x : LimitedFunding). x.ticket_limit) added, together.tickets); unit = together.unit };
+        live = sym same;
+      }

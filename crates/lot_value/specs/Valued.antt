@@ -1,5 +1,5 @@
 -- What the clauses of `ValuedGraph` see, and what holds of each.
-use Rattle.std.specs.Prelude.{◌≡◌, ◌≢◌, ◌⊎◌, ℕ, ◌<◌, ◌≤◌, Bool, List, map, length, slice_index_or, false}
+use Rattle.std.specs.Prelude.{◌≡◌, ◌⊎◌, ◌≤◌, Bool, List, map, length}
 use Rattle.lot_machine.specs.declared.funding.Node.{Node}
 use Rattle.lot_machine.specs.declared.funding.Node.TheVariants.{Thread}
 use Rattle.lot_machine.specs.Numbered.{numbers}
@@ -34,6 +34,13 @@ pub record AreTogether (w : LimitedFunding) (v : Activity) (c : Known) : Type 0 
 abbrev pub MakesStale : Valued → Valued → Type 0
 MakesStale old new =
     (x : Node) → IsStale new.known x → IsStale old.known x ⊎ ((node : Node) × IsTouched old.now.funding new.now.funding old.live new.live node × PathLeads old.now.funding new.now.funding node x)
+
+-- The change from the first graph to the second is taken up: activity and values are together again, these threads are live, and
+-- what gets stale is what a path of edges reaches from a node that the change touched.
+pub record Follows (w now : LimitedFunding) (v new : Activity) (c known : Known) (after : List Bool) : Type 0 where
+  pub together : AreTogether now new known
+  pub live : live_of now new ≡ after
+  pub stale : (x : Node) → IsStale known x → IsStale c x ⊎ ((node : Node) × IsTouched w.funding now.funding (live_of w v) (live_of now new) node × PathLeads w.funding now.funding node x)
 
 -- One edge came or went between the two, with these ends: as many threads are there, and the node that the edge leads to has an
 -- equation, and a place.

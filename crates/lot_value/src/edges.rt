@@ -1,15 +1,13 @@
 //! How what is active and what is stale follow one edge of the graph.
-ghost use Rattle.std.specs.Prelude.{◌≡◌, ◌⊎◌, Bool, List, Some, length};
+ghost use Rattle.std.specs.Prelude.{◌≡◌};
 ghost use Rattle.lot_machine.specs.declared.funding.Node.{Node as ANode};
 ghost use Rattle.lot_machine.specs.declared.funding.Edge.{Edge as AnEdge};
-ghost use Rattle.lot_machine.specs.Touched.{IsTouched, PathLeads};
-ghost use Rattle.lot_machine.specs.Equations.{HasEquation};
 ghost use Rattle.lot_graph.specs.Graphs.{LimitedFunding, IsSound};
 ghost use Rattle.lot_graph.specs.Places.{FitsLimits};
 ghost use Rattle.lot_active.specs.declared.edge_ends.EdgeEnds.{EdgeEnds as Ends};
-ghost use Rattle.lot_active.specs.Fundings.{IsKeptFor, AddsEdge};
-ghost use Rattle.lot_value.specs.Caches.{IsStale, IsRight};
-ghost use Rattle.lot_value.specs.Valued.{StandsFor};
+ghost use Rattle.lot_active.specs.Fundings.{AddsEdge};
+ghost use Rattle.lot_value.specs.Caches.{IsStale};
+ghost use Rattle.lot_value.specs.Valued.{AreTogether, Follows, StandsFor, live_of};
 
 use crate::touching::touch_listed;
 use crate::values::Values;
@@ -19,11 +17,10 @@ use lot_machine::Edge;
 
 /// Takes up an edge that was put into the graph.
 pub(crate) fn attach(graph: &Graph, active: &mut Active, values: &mut Values, edge: Edge)
-    requires before { (before : LimitedFunding) × (live : List Bool) × (ends : Ends) × AddsEdge before graph.now edge ends × StandsFor before graph.now ends × IsKeptFor active.old before live × IsRight before live values.old }
-    ensures kept { (before : LimitedFunding) (live : List Bool) (ends : Ends) → AddsEdge before graph.now edge ends → StandsFor before graph.now ends → IsKeptFor active.old before live → IsRight before live values.old → IsKeptFor active.new graph.now live × IsRight graph.now live values.new }
-    ensures stays { (node : ANode) → IsStale values.old node → IsStale values.new node }
-    ensures stale { (before : LimitedFunding) (live : List Bool) (ends : Ends) → AddsEdge before graph.now edge ends → StandsFor before graph.now ends → IsKeptFor active.old before live
-        → (x : ANode) → IsStale values.new x → IsStale values.old x ⊎ ((node : ANode) × IsTouched before.funding graph.now.funding live live node × PathLeads before.funding graph.now.funding node x) }
+    requires before { (before : LimitedFunding) × (ends : Ends) × AddsEdge before graph.now edge ends × StandsFor before graph.now ends × AreTogether before active.old values.old }
+    ensures follows { (before : LimitedFunding) (ends : Ends) → AddsEdge before graph.now edge ends → StandsFor before graph.now ends → AreTogether before active.old values.old
+        → Follows before graph.now active.old active.new values.old values.new (live_of before active.old) }
+    ensures kept { (node : ANode) → IsStale values.old node → IsStale values.new node }
     ensures others { values.new ≡ record values.old { stale = values.new.stale } }
 {
     active.attach(graph, edge);
@@ -38,11 +35,10 @@ pub(crate) fn attach(graph: &Graph, active: &mut Active, values: &mut Values, ed
 pub(crate) fn detach(graph: &Graph, active: &mut Active, values: &mut Values, ends: EdgeEnds)
     requires sound { IsSound graph.now.funding }
     requires fits { FitsLimits graph.now }
-    requires before { (before : LimitedFunding) × (live : List Bool) × (edge : AnEdge) × AddsEdge graph.now before edge ends × StandsFor before graph.now ends × IsKeptFor active.old before live × IsRight before live values.old }
-    ensures kept { (before : LimitedFunding) (live : List Bool) (edge : AnEdge) → AddsEdge graph.now before edge ends → StandsFor before graph.now ends → IsKeptFor active.old before live → IsRight before live values.old → IsKeptFor active.new graph.now live × IsRight graph.now live values.new }
-    ensures stays { (node : ANode) → IsStale values.old node → IsStale values.new node }
-    ensures stale { (before : LimitedFunding) (live : List Bool) (edge : AnEdge) → AddsEdge graph.now before edge ends → StandsFor before graph.now ends → IsKeptFor active.old before live
-        → (x : ANode) → IsStale values.new x → IsStale values.old x ⊎ ((node : ANode) × IsTouched before.funding graph.now.funding live live node × PathLeads before.funding graph.now.funding node x) }
+    requires before { (before : LimitedFunding) × (edge : AnEdge) × AddsEdge graph.now before edge ends × StandsFor before graph.now ends × AreTogether before active.old values.old }
+    ensures follows { (before : LimitedFunding) (edge : AnEdge) → AddsEdge graph.now before edge ends → StandsFor before graph.now ends → AreTogether before active.old values.old
+        → Follows before graph.now active.old active.new values.old values.new (live_of before active.old) }
+    ensures kept { (node : ANode) → IsStale values.old node → IsStale values.new node }
     ensures others { values.new ≡ record values.old { stale = values.new.stale } }
 {
     active.detach(graph, ends);

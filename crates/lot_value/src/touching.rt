@@ -67,7 +67,7 @@ fn has_equation(graph: &Graph, node: Node) -> bool
     ensures { IsTrue result ↔ HasEquation graph.now.funding node }
 {
     match node {
-        Node::Currency(currency) => currency != 0,
+        Node::Currency(currency) => 0 < currency,
         Node::Thread(thread) => 0 < thread && thread <= graph.threads(),
         Node::Mutex(_) => true,
     }

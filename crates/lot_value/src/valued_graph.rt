@@ -1,16 +1,18 @@
 //! A funding graph with what is active in it and what everything is worth, kept together.
-ghost use Rattle.std.specs.Prelude.{◌≡◌, ◌+◌, ◌<◌, ◌≤◌, ◌↔◌, ◌++◌, ◌∷◌, Bool, true, false, List, [], Some, IfOk, IfSome, IfNone, IsErr, OnOk, OnErr, OnSome, length};
+ghost use Rattle.std.specs.Prelude.{◌≡◌, ◌+◌, ◌<◌, ◌≤◌, ◌↔◌, ◌++◌, ◌∷◌, Bool, true, false, List, [], Some, None, IfOk, IfSome, IfNone, IsErr, IsTrue, OnOk, OnErr, OnSome, length, slice_set};
 ghost use Rattle.std.specs.Option.{SomeIff};
 ghost use Rattle.lot_machine.specs.declared.funding.Node.{Node as ANode};
-ghost use Rattle.lot_machine.specs.declared.funding.Node.TheVariants.{Thread as ThreadNode};
+ghost use Rattle.lot_machine.specs.declared.funding.Node.TheVariants.{Currency as CurrencyNode, Thread as ThreadNode, Mutex as MutexNode};
+ghost use Rattle.lot_machine.specs.declared.ticket.Ticket.{Ticket as ATicket};
 ghost use Rattle.lot_machine.specs.declared.ticket.Target.TheVariants.{Unfunded};
-ghost use Rattle.lot_machine.specs.Numbered.{set_number};
-ghost use Rattle.lot_machine.specs.Funding.{target_of, with_target, with_new_ticket, edge_count_into};
+ghost use Rattle.lot_machine.specs.Numbered.{at_number, set_number};
+ghost use Rattle.lot_machine.specs.Funding.{edge_count_into, ticket_at, target_of, owner_of, issued_in, backing_currency, with_target, with_new_ticket, without_ticket};
+ghost use Rattle.lot_machine.specs.Activity.{IsActive, active_amount};
 ghost use Rattle.lot_machine.specs.declared.funding.Lend.TheVariants.{Nobody};
-ghost use Rattle.lot_machine.specs.Equations.{HasEquation};
-ghost use Rattle.lot_machine.specs.Value.{node_value};
-ghost use Rattle.lot_graph.specs.Graphs.{IsThread, IsCurrency, IsTarget, IsCycle, IsFunding, opening_funding};
-ghost use Rattle.lot_graph.specs.Places.{IsNodeWithin, layout_of};
+ghost use Rattle.lot_machine.specs.Equations.{HasEquation, Reaches};
+ghost use Rattle.lot_machine.specs.Value.{node_value, ticket_value};
+ghost use Rattle.lot_graph.specs.Graphs.{IsNodeOf, IsThread, IsMutex, IsCurrency, IsUserCurrency, IsTarget, IsCycle, IsFunding, IsLender, IsBorrower, LendReaches, opening_funding};
+ghost use Rattle.lot_graph.specs.Places.{layout_of};
 ghost use Rattle.lot_active.specs.Changes.{ChangesNodes};
 ghost use Rattle.lot_active.specs.Fundings.{IsKeptFor};
 ghost use Rattle.lot_value.specs.Counts.{counted_up};
@@ -23,7 +25,7 @@ use crate::touching::touch_listed;
 use crate::values::Values;
 use lot_active::{Active, ends_of_edge};
 use lot_graph::{Cycle, Graph};
-use lot_machine::{Edge, Limits, Node, Target};
+use lot_machine::{Edge, Lend, Limits, Node, Target};
 use std::alloc::{AllocError, Global};
 use std::marker::Model;
 
@@ -70,6 +72,7 @@ impl ValuedGraph {
         requires thread { IsThread self.old.now.funding thread }
         ensures now { self.new.now ≡ self.old.now }
         ensures live { self.new.live ≡ set_number self.old.live thread live }
+        ensures known { self.new.known ≡ record self.old.known { stale = self.new.known.stale } }
         ensures kept { (node : ANode) → IsStale self.old.known node → IsStale self.new.known node }
         ensures stale { MakesStale self.old self.new }
     {
@@ -88,6 +91,18 @@ impl ValuedGraph {
         self.graph.make_currency()
     }
 
+    /// Removes a user currency that has neither issued nor backing tickets. Its number is never given again.
+    pub fn remove_currency(&mut self, currency: u32)
+        requires currency { IsUserCurrency self.old.now.funding currency }
+        requires none_issued { issued_in self.old.now.funding currency ≡ [] }
+        requires none_backing { backing_currency self.old.now.funding currency ≡ [] }
+        ensures removed { self.new.now ≡ record self.old.now { funding = record self.old.now.funding { currencies = slice_set self.old.now.funding.currencies currency false } } }
+        ensures live { self.new.live ≡ self.old.live }
+        ensures known { self.new.known ≡ self.old.known }
+    {
+        self.graph.remove_currency(currency);
+    }
+
     /// Issues a ticket in a currency and answers its number, one more than the last, or `None` if as many were made as there may
     /// be. The amount is at least 1.
     pub fn issue(&mut self, currency: u32, amount: u32) -> Option<u32>
@@ -100,6 +115,16 @@ impl ValuedGraph {
         ensures known { self.new.known ≡ self.old.known }
     {
         self.graph.issue(currency, amount)
+    }
+
+    /// Removes a ticket that funds nothing. Its number is never given again.
+    pub fn destroy(&mut self, ticket: u32)
+        requires unfunded { target_of self.old.now.funding ticket ≡ Some Unfunded }
+        ensures destroyed { self.new.now ≡ record self.old.now { funding = record self.old.now.funding { tickets = without_ticket self.old.now.funding.tickets ticket } } }
+        ensures live { self.new.live ≡ self.old.live }
+        ensures known { self.new.known ≡ self.old.known }
+    {
+        self.graph.destroy(ticket);
     }
 
     /// Makes a thread, which isn't live and lends to nobody. Its number is one more than the last.
@@ -120,6 +145,7 @@ impl ValuedGraph {
         ensures funded { OnOk result (self.new.now ≡ record self.old.now { funding = record self.old.now.funding { tickets = with_target self.old.now.funding.tickets ticket target } }) }
         ensures unchanged { OnErr result (self.new ≡ self.old) }
         ensures live { self.new.live ≡ self.old.live }
+        ensures known { self.new.known ≡ record self.old.known { stale = self.new.known.stale } }
         ensures kept { (node : ANode) → IsStale self.old.known node → IsStale self.new.known node }
         ensures stale { MakesStale self.old self.new }
     {
@@ -134,6 +160,7 @@ impl ValuedGraph {
         requires funding { IsFunding self.old.now.funding ticket }
         ensures unfunded { self.new.now ≡ record self.old.now { funding = record self.old.now.funding { tickets = with_target self.old.now.funding.tickets ticket Unfunded } } }
         ensures live { self.new.live ≡ self.old.live }
+        ensures known { self.new.known ≡ record self.old.known { stale = self.new.known.stale } }
         ensures kept { (node : ANode) → IsStale self.old.known node → IsStale self.new.known node }
         ensures stale { MakesStale self.old self.new }
     {
@@ -144,12 +171,129 @@ impl ValuedGraph {
         detach(&self.graph, &mut self.active, &mut self.values, ends);
     }
 
+    /// Makes a thread lend to another thread, or to a mutex, that doesn't reach it.
+    pub fn lend(&mut self, thread: u32, lend: Lend)
+        requires nobody { at_number self.old.now.funding.lends thread ≡ Some Nobody }
+        requires borrower { IsBorrower self.old.now.funding lend }
+        requires apart { ¬ LendReaches self.old.now.funding lend thread }
+        ensures lent { self.new.now ≡ record self.old.now { funding = record self.old.now.funding { lends = set_number self.old.now.funding.lends thread lend } } }
+        ensures live { self.new.live ≡ self.old.live }
+        ensures known { self.new.known ≡ record self.old.known { stale = self.new.known.stale } }
+        ensures kept { (node : ANode) → IsStale self.old.known node → IsStale self.new.known node }
+        ensures stale { MakesStale self.old self.new }
+    {
+        self.graph.lend(thread, lend);
+        let edge = Edge::OfLender(thread);
+        attach(&self.graph, &mut self.active, &mut self.values, edge);
+    }
+
+    /// Makes a thread that lends lend to nobody.
+    pub fn unlend(&mut self, thread: u32)
+        requires lender { IsLender self.old.now.funding thread }
+        ensures unlent { self.new.now ≡ record self.old.now { funding = record self.old.now.funding { lends = set_number self.old.now.funding.lends thread Nobody } } }
+        ensures live { self.new.live ≡ self.old.live }
+        ensures known { self.new.known ≡ record self.old.known { stale = self.new.known.stale } }
+        ensures kept { (node : ANode) → IsStale self.old.known node → IsStale self.new.known node }
+        ensures stale { MakesStale self.old self.new }
+    {
+        let Some(ends) = ends_of_edge(&self.graph, Edge::OfLender(thread)) else {
+            unreachable!()
+        };
+        self.graph.unlend(thread);
+        detach(&self.graph, &mut self.active, &mut self.values, ends);
+    }
+
+    /// Makes a mutex free, if it isn't. What waiting threads lend to it goes no further then (6.1).
+    pub fn give_up_mutex(&mut self, mutex: u32)
+        requires mutex { IsMutex self.old.now.funding mutex }
+        ensures freed { self.new.now ≡ record self.old.now { funding = record self.old.now.funding { owners = set_number self.old.now.funding.owners mutex None } } }
+        ensures live { self.new.live ≡ self.old.live }
+        ensures known { self.new.known ≡ record self.old.known { stale = self.new.known.stale } }
+        ensures kept { (node : ANode) → IsStale self.old.known node → IsStale self.new.known node }
+        ensures stale { MakesStale self.old self.new }
+    {
+        let Some(ends) = ends_of_edge(&self.graph, Edge::OfMutex(mutex)) else {
+            return;
+        };
+        self.graph.give_up_mutex(mutex);
+        detach(&self.graph, &mut self.active, &mut self.values, ends);
+    }
+
+    /// Makes a thread the owner of a free mutex that it doesn't reach. What waiting threads lend to the mutex goes on to it (6.1).
+    pub fn take_mutex(&mut self, mutex: u32, owner: u32)
+        requires mutex { IsMutex self.old.now.funding mutex }
+        requires free { owner_of self.old.now.funding mutex ≡ None }
+        requires owner { IsThread self.old.now.funding owner }
+        requires apart { ¬ Reaches self.old.now.funding (ThreadNode owner) (MutexNode mutex) }
+        ensures owned { self.new.now ≡ record self.old.now { funding = record self.old.now.funding { owners = set_number self.old.now.funding.owners mutex (Some owner) } } }
+        ensures live { self.new.live ≡ self.old.live }
+        ensures known { self.new.known ≡ record self.old.known { stale = self.new.known.stale } }
+        ensures kept { (node : ANode) → IsStale self.old.known node → IsStale self.new.known node }
+        ensures stale { MakesStale self.old self.new }
+    {
+        self.graph.take_mutex(mutex, owner);
+        let edge = Edge::OfMutex(mutex);
+        attach(&self.graph, &mut self.active, &mut self.values, edge);
+    }
+
+    /// The graph, to read.
+    pub fn graph(&self) -> &Graph
+        ensures { result.now ≡ self.now.now }
+    {
+        &self.graph
+    }
+
+    /// Whether a ticket is active (4.4): whether what it funds is backed.
+    pub fn is_active(&self, ticket: u32) -> bool
+        ensures { IsTrue result ↔ IsActive self.now.now.funding self.now.live ticket }
+    {
+        self.active.is_active(&self.graph, ticket)
+    }
+
+    /// The sum of the amounts of the active tickets of a currency (4.4), in tickets of the currency.
+    pub fn active_amount(&self, currency: u32) -> u64
+        requires currency { currency ≤ self.now.now.currency_limit }
+        ensures { result ≡ active_amount self.now.now.funding self.now.live currency }
+    {
+        self.active.active_amount(currency)
+    }
+
+    /// Whether edges lead from a node to another.
+    pub fn reaches(&mut self, from: Node, to: Node) -> bool
+        requires from { IsNodeOf self.old.now from }
+        requires to { IsNodeOf self.old.now to }
+        ensures reaches { IsTrue result ↔ Reaches self.old.now.funding from to }
+        ensures unchanged { self.new ≡ self.old }
+    {
+        self.graph.reaches(from, to)
+    }
+
+    /// Whether a node is stale.
+    pub fn is_stale(&self, node: Node) -> bool
+        requires node { IsNodeOf self.now.now node }
+        ensures { IsTrue result ↔ IsStale self.now.known node }
+    {
+        self.values.is_stale(node)
+    }
+
     /// What a node is worth (4.4), if it isn't stale.
     pub fn value_of(&self, node: Node) -> u64
-        requires node { IsNodeWithin self.now.known.layout node }
+        requires node { IsNodeOf self.now.now node }
         ensures worth { ¬ IsStale self.now.known node → HasEquation self.now.now.funding node → result ≡ node_value self.now.known.unit self.now.now.funding self.now.live node }
     {
         self.values.value_of(node)
+    }
+
+    /// What a ticket is worth (4.4), in units of base, if the currency that issued it isn't stale. If the ticket funds something,
+    /// that is one reading, which is counted; else it is worth nothing.
+    pub fn ticket_value(&self, ticket: u32, meter: &mut Meter) -> u64
+        requires fresh { (t : ATicket) → ticket_at self.now.now.funding ticket ≡ Some t → ¬ IsStale self.now.known (CurrencyNode t.issuer) }
+        ensures worth { (t : ATicket) → ticket_at self.now.now.funding ticket ≡ Some t → result ≡ ticket_value self.now.known.unit self.now.now.funding self.now.live t }
+        ensures counted { IsFunding self.now.now.funding ticket → meter.new ≡ record meter.old { ticket_reads = counted_up meter.old.ticket_reads 1 } }
+        ensures uncounted { ¬ IsFunding self.now.now.funding ticket → meter.new ≡ meter.old }
+    {
+        self.values
+            .ticket_value(&self.graph, &self.active, ticket, meter)
     }
 
     /// Computes the values of all stale nodes again. Counts each edge into a node that was stale once.
@@ -168,9 +312,9 @@ impl ValuedGraph {
         ensures now { self.new.now ≡ self.old.now }
         ensures live { self.new.live ≡ self.old.live }
         ensures layout { self.new.known.layout ≡ layout_of self.new.now }
-        ensures worth { (node : ANode) → IsNodeWithin self.new.known.layout node → ¬ IsStale self.new.known node → HasEquation self.new.now.funding node → value_in self.new.known node ≡ node_value self.new.known.unit self.new.now.funding self.new.live node }
+        ensures worth { (node : ANode) → IsNodeOf self.new.now node → ¬ IsStale self.new.known node → HasEquation self.new.now.funding node → value_in self.new.known node ≡ node_value self.new.known.unit self.new.now.funding self.new.live node }
         ensures node { IfSome result (HasEquation self.old.now.funding) }
-        ensures within { IfSome result (IsNodeWithin self.old.known.layout) }
+        ensures within { IfSome result (IsNodeOf self.old.now) }
         ensures once { IsOnce self.old.known }
         ensures settles { IfSome result (Settles self.old.known self.new.known) }
         ensures counted { IfSome result (λ node. meter.new ≡ record meter.old { ticket_reads = counted_up meter.old.ticket_reads (edge_count_into self.old.now.funding node) }) }

@@ -1,11 +1,13 @@
 //! Values that are kept, and those that are stale.
-ghost use Rattle.std.specs.Prelude.{◌≡◌, ◌⊎◌, ◌↔◌, ℕ, Bool, List, [], ◌∷◌, Contains, IfOk, IfSome, IfNone, IsTrue, replicate};
+ghost use Rattle.std.specs.Prelude.{◌≡◌, ◌⊎◌, ◌↔◌, ℕ, Bool, List, [], ◌∷◌, Contains, Some, IfOk, IfSome, IfNone, IsTrue, replicate};
 ghost use Rattle.lot_machine.specs.declared.funding.Node.{Node as ANode};
+ghost use Rattle.lot_machine.specs.declared.funding.Node.TheVariants.{Currency as CurrencyNode};
+ghost use Rattle.lot_machine.specs.declared.ticket.Ticket.{Ticket as ATicket};
 ghost use Rattle.lot_machine.specs.declared.funding.Edge.TheVariants.{OfTicket as OfTicketEdge};
-ghost use Rattle.lot_machine.specs.Funding.{IsEdge, edge_count_into};
+ghost use Rattle.lot_machine.specs.Funding.{IsEdge, edge_count_into, ticket_at};
 ghost use Rattle.lot_machine.specs.Equations.{HasEquation, Reaches};
-ghost use Rattle.lot_machine.specs.Value.{node_value};
-ghost use Rattle.lot_graph.specs.Graphs.{LimitedFunding, IsSound, IsNodeOf};
+ghost use Rattle.lot_machine.specs.Value.{node_value, ticket_value};
+ghost use Rattle.lot_graph.specs.Graphs.{LimitedFunding, IsSound, IsNodeOf, IsFunding};
 ghost use Rattle.lot_graph.specs.Places as places;
 ghost use Rattle.lot_graph.specs.Places.{FitsLimits, IsNodeWithin, layout_of};
 ghost use Rattle.lot_active.specs.Fundings.{IsKeptFor};
@@ -14,11 +16,11 @@ ghost use Rattle.lot_value.specs.Caches.{IsStale, IsOnce, IsRight, IsRightBut, I
 
 use crate::marking::{STALE, mark};
 use crate::meter::Meter;
-use crate::settling::{Sources, raise_sources, read_value};
+use crate::settling::{Sources, raise_sources, read_share, read_value};
 use lot_active::Active;
 use lot_graph::{Graph, Layout};
 use lot_lists::Lists;
-use lot_machine::Node;
+use lot_machine::{Edge, Node};
 use std::alloc::{AllocError, Global};
 use std::marker::Model;
 
@@ -76,6 +78,33 @@ impl Values {
         ensures worth { ¬ IsStale self.now node → (w : LimitedFunding) (live : List Bool) → IsSound w.funding → FitsLimits w → IsRight w live self.now → HasEquation w.funding node → result ≡ node_value self.now.unit w.funding live node }
     {
         self.values[self.layout.list_of(node)]
+    }
+
+    /// What a ticket is worth (4.4), in units of base, if the currency that issued it isn't stale. If the ticket funds something,
+    /// that is one reading, which is counted; else it is worth nothing.
+    pub fn ticket_value(
+        &self,
+        graph: &Graph,
+        active: &Active,
+        ticket: u32,
+        meter: &mut Meter,
+    ) -> u64
+        requires right { (live : List Bool) × IsKeptFor active.now graph.now live × IsSmall self.now.unit graph.now live × IsRight graph.now live self.now }
+        requires fresh { (t : ATicket) → ticket_at graph.now.funding ticket ≡ Some t → ¬ IsStale self.now (CurrencyNode t.issuer) }
+        ensures worth { (live : List Bool) → IsKeptFor active.now graph.now live → IsRight graph.now live self.now → (t : ATicket) → ticket_at graph.now.funding ticket ≡ Some t → result ≡ ticket_value self.now.unit graph.now.funding live t }
+        ensures counted { IsFunding graph.now.funding ticket → meter.new ≡ record meter.old { ticket_reads = counted_up meter.old.ticket_reads 1 } }
+        ensures uncounted { ¬ IsFunding graph.now.funding ticket → meter.new ≡ meter.old }
+    {
+        if !graph.is_funding(ticket) {
+            return 0;
+        }
+        let sources = Sources {
+            graph,
+            active,
+            values: &self.values,
+            unit: self.unit,
+        };
+        read_share(sources, Edge::OfTicket(ticket), meter)
     }
 
     /// Makes a node and all that it reaches stale. It reads each edge from a node that gets stale once, and nothing for a value.

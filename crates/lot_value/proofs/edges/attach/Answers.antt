@@ -1,66 +1,57 @@
-use Rattle.std.proofs.Common.{◌≡◌, ◌⊎◌, ◌∙◌, inl, inr, sym, subst, Contains}
+use Rattle.std.proofs.Common.{◌≡◌, ◌⊎◌, ◌∙◌, inl, inr, sym, subst}
 use Rattle.lot_machine.specs.declared.funding.Node.{Node}
 use Rattle.lot_machine.specs.Equations.{HasEquation}
 use Rattle.lot_graph.specs.Graphs.{IsNodeOf}
 use Rattle.lot_value.specs.Caches.{IsStale}
 use Rattle.lot_value.specs.Touched.{IsListed}
+use Rattle.lot_value.specs.Valued.{live_of}
 use Rattle.lot_value.proofs.Ends.{there-edge, to-is}
-use Rattle.lot_value.proofs.OneEdge.{ends-have, right-one, stale-one}
+use Rattle.lot_value.proofs.OneEdge.{ends-have}
+use Rattle.lot_value.proofs.GraphCalls.{follows-one}
 use Rattle.lot_value.proofs.Touches.{touched-one, touched-then, listed-more}
 use Rattle.lot_value.proofs.edges.attach.Goals as goal
 
 pub touch_listed-requires-clause-kept : goal.touch_listed-requires-clause-kept
 touch_listed-requires-clause-kept c =
-    let (before, live, ends, adds, stands, was, right) = c.requires.before in
-    (live, c.attach.ensures.kept before ends live adds was)
+    let (before, ends, adds, stands, together) = c.requires.before in
+    (live_of before c.args.active.now, c.attach.ensures.kept before ends (live_of before c.args.active.now) adds together.kept)
 
 pub touch_listed-requires-clause-switched : goal.touch_listed-requires-clause-switched
 touch_listed-requires-clause-switched c node listed =
-    let (before, live, ends, adds, stands, was, right) = c.requires.before in
-    ((c.attach.ensures.changes before ends live adds was).switched.each node listed).0
+    let (before, ends, adds, stands, together) = c.requires.before in
+    ((c.attach.ensures.changes before ends (live_of before c.args.active.now) adds together.kept).switched.each node listed).0
 
 pub touch_listed-requires-clause-adjusted : goal.touch_listed-requires-clause-adjusted
 touch_listed-requires-clause-adjusted c node listed =
-    let (before, live, ends, adds, stands, was, right) = c.requires.before in
-    ((c.attach.ensures.changes before ends live adds was).adjusted.each node listed).0
+    let (before, ends, adds, stands, together) = c.requires.before in
+    ((c.attach.ensures.changes before ends (live_of before c.args.active.now) adds together.kept).adjusted.each node listed).0
 
 pub touch_listed-requires-clause-ends : goal.touch_listed-requires-clause-ends
 touch_listed-requires-clause-ends c =
-    let (before, live, ends, adds, stands, was, right) = c.requires.before in
-    ends-have before c.args.graph.now c.args.edge ends (inl adds) stands right.ends
+    let (before, ends, adds, stands, together) = c.requires.before in
+    ends-have before c.args.graph.now c.args.edge ends (inl adds) stands together.right.ends
 
-pub returns-clause-kept : goal.returns-clause-kept
-returns-clause-kept c before live ends adds stands was right =
+pub returns-clause-follows : goal.returns-clause-follows
+returns-clause-follows c before ends adds stands together =
     let w = c.args.graph.now in
     let such : Node → Type 0 = λ node. IsListed w c.attach.new.self node ⊎ (node ≡ ends.to) in
-    let is = c.attach.ensures.kept before ends live adds was in
-    let changes = c.attach.ensures.changes before ends live adds was in
-    let same = to-is w.funding c.args.edge ends.from ends.to (there-edge w.funding c.args.edge ends adds.here) c.in-Some.ends (sym c.ends_of_edge.ensures.ends ∙ c.in-Some.is) in
-    let one = touched-one w c.touch_listed.new.values c.touch.new.self c.in-Some.ends.to such (inr same) (subst (HasEquation w.funding) (sym same) stands.has) c.touch.ensures.right c.touch.ensures.kept c.touch.ensures.only c.touch.ensures.others in
-    let touched = touched-then w c.args.values.now c.touch_listed.new.values c.touch.new.self (IsListed w c.attach.new.self) such such c.touch_listed.ensures.touched one (λ x so. inl so) (λ x so. so) in (
-      is,
-      right-one before w c.args.edge ends (inl adds) stands c.args.active.now c.attach.new.self live c.args.values.now c.touch.new.self was is changes right touched (listed-more w c.attach.new.self c.touch_listed.new.values c.touch.new.self c.touch.ensures.kept c.touch_listed.ensures.listed) (subst (IsStale c.touch.new.self) same c.touch.ensures.marked),
-    )
-
-pub returns-clause-stale : goal.returns-clause-stale
-returns-clause-stale c before live ends adds stands was =
-    let w = c.args.graph.now in
-    let such : Node → Type 0 = λ node. IsListed w c.attach.new.self node ⊎ (node ≡ ends.to) in
-    let is = c.attach.ensures.kept before ends live adds was in
-    let changes = c.attach.ensures.changes before ends live adds was in
+    let live = live_of before c.args.active.now in
+    let is = c.attach.ensures.kept before ends live adds together.kept in
+    let changes = c.attach.ensures.changes before ends live adds together.kept in
     let same = to-is w.funding c.args.edge ends.from ends.to (there-edge w.funding c.args.edge ends adds.here) c.in-Some.ends (sym c.ends_of_edge.ensures.ends ∙ c.in-Some.is) in
     let one = touched-one w c.touch_listed.new.values c.touch.new.self c.in-Some.ends.to such (inr same) (subst (HasEquation w.funding) (sym same) stands.has) c.touch.ensures.right c.touch.ensures.kept c.touch.ensures.only c.touch.ensures.others in
     let touched = touched-then w c.args.values.now c.touch_listed.new.values c.touch.new.self (IsListed w c.attach.new.self) such such c.touch_listed.ensures.touched one (λ x so. inl so) (λ x so. so) in
-    stale-one before w c.args.edge ends (inl adds) stands c.args.active.now c.attach.new.self live c.args.values.now c.touch.new.self was is changes touched
+    let listed = listed-more w c.attach.new.self c.touch_listed.new.values c.touch.new.self c.touch.ensures.kept c.touch_listed.ensures.listed in
+    follows-one before w c.args.edge ends (inl adds) stands c.args.active.now c.attach.new.self c.args.values.now c.touch.new.self together is changes touched listed (subst (IsStale c.touch.new.self) same c.touch.ensures.marked)
 
 pub unreachable-requires : goal.unreachable-requires
 unreachable-requires c =
-    let (before, live, ends, adds, stands, was, right) = c.requires.before in
+    let (before, ends, adds, stands, together) = c.requires.before in
     c.in_default.not-Some ends (c.ends_of_edge.ensures.ends ∙ adds.here)
 
 pub touch-requires-clause-node : goal.touch-requires-clause-node
 touch-requires-clause-node c =
     let w = c.args.graph.now in
-    let (before, live, ends, adds, stands, was, right) = c.requires.before in
+    let (before, ends, adds, stands, together) = c.requires.before in
     let same = to-is w.funding c.args.edge ends.from ends.to (there-edge w.funding c.args.edge ends adds.here) c.in-Some.ends (sym c.ends_of_edge.ensures.ends ∙ c.in-Some.is) in
     subst (IsNodeOf w) (sym same) stands.within

@@ -1,4 +1,4 @@
-use Rattle.std.proofs.Common.{◌≡◌, ◌++◌, Contains}
+use Rattle.std.proofs.Common.{◌≡◌, ◌++◌}
 use Rattle.lot_machine.specs.declared.funding.Node.{Node}
 use Rattle.lot_value.specs.Caches.{IsStale}
 use Rattle.lot_value.specs.Touched.{Touched, IsFundedBy}

@@ -1,12 +1,10 @@
-use Rattle.std.proofs.Common.{◌≡◌, ◌∙◌, ◌++◌, ◌∷◌, Contains, List, ap, sym, subst, arith}
+use Rattle.std.proofs.Common.{◌∙◌, Contains, List, ap, sym, subst, arith}
 use Rattle.std.proofs.lemmas.Grind.{common_steps}
-use Rattle.std.proofs.lemmas.List.Elements.{Contains-append_right}
 use Rattle.lot_machine.specs.declared.funding.Node.{Node}
 use Rattle.lot_machine.specs.Equations.{HasEquation}
 use Rattle.lot_machine.proofs.EachOnce.{contains-nothing}
 use Rattle.lot_active.specs.Changes.{switched_nodes}
 use Rattle.lot_value.specs.Caches.{Known}
-use Rattle.lot_value.proofs.Listed.{contains-first}
 use Rattle.lot_value.proofs.Touches.{touched-none, touched-one, touched-then, marked-more, next-listed, all-yielded}
 use Rattle.lot_value.proofs.touching.touch_switched.Goals as goal
 

@@ -1,4 +1,4 @@
-use Rattle.std.proofs.Common.{◌≡◌, ◌∙◌, Contains, List, Some, ap, sym, subst, arith}
+use Rattle.std.proofs.Common.{◌∙◌, List, Some, ap, sym, subst}
 use Rattle.lot_machine.specs.declared.funding.Node.{Node}
 use Rattle.lot_machine.specs.declared.funding.Edge.{Edge}
 use Rattle.lot_machine.specs.Funding.{IsEdge}

@@ -2,9 +2,11 @@ use Rattle.std.proofs.Common.{◌≡◌, ◌∙◌, ◌⊎◌, inl, inr, Some, t
 use Rattle.lot_machine.specs.Funding.{edge_count_into}
 use Rattle.lot_graph.specs.declared.layout.Layout.{Layout}
 use Rattle.lot_graph.specs.Graphs.{LimitedFunding}
+use Rattle.lot_graph.specs.Places.{IsNodeWithin, layout_of}
 use Rattle.lot_value.specs.Counts.{counted_up}
 use Rattle.lot_value.specs.Caches.{IsOnce}
 use Rattle.lot_value.specs.Valued.{Valued}
+use Rattle.lot_value.proofs.Nodes.{node-within}
 use Rattle.lot_value.proofs.Settled.{settle-more}
 use Rattle.lot_draw.specs.Queued.{Queued, AreWeights}
 use Rattle.lot_draw.proofs.Weighing.{weights-settled}
@@ -24,9 +26,11 @@ loop-node-preserved c =
     let was = c.loop-node.graph in
     let now = c.settle_next.new.self in
     let node = c.in-Some.node in
-    let threads : was.known.layout.threads ≡ c.args.graph.now.now.thread_limit = ap (λ (l : Layout). l.threads) (sym step.settles.layout ∙ step.layout) ∙ ap (λ (w : LimitedFunding). w.thread_limit) (step.now ∙ inv.now) in
+    let layout : was.known.layout ≡ layout_of was.now = sym step.settles.layout ∙ step.layout ∙ ap layout_of step.now in
+    let within = subst (λ (l : Layout). IsNodeWithin l node) (sym layout) (node-within was.now node step.within) in
+    let threads : was.known.layout.threads ≡ c.args.graph.now.now.thread_limit = ap (λ (l : Layout). l.threads) layout ∙ ap (λ (w : LimitedFunding). w.thread_limit) inv.now in
     let places : length old.competitors ≡ was.known.layout.threads = ap (λ (q : Queued). length q.competitors) inv.queue ∙ c.requires.places ∙ sym threads in
-    let weights = weights-settled old new.changed was.known now.known node places step.within step.settles c.list_node.ensures.kept c.list_node.ensures.listed inv.weights in
+    let weights = weights-settled old new.changed was.known now.known node places within step.settles c.list_node.ensures.kept c.list_node.ensures.listed inv.weights in
     let counted = subst (λ (w : LimitedFunding). c.settle_next.new.meter ≡ record c.loop-node.meter { ticket_reads = counted_up c.loop-node.meter.ticket_reads (edge_count_into w.funding node) }) inv.now step.counted in record {
       queue = c.list_node.ensures.others ∙ ap (λ (q : Queued). record q { changed = new.changed }) inv.queue;
       weights = subst (λ (q : Queued). AreWeights q now.known) (sym c.list_node.ensures.others) weights;

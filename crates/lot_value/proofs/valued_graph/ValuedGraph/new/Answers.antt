@@ -1,4 +1,4 @@
-use Rattle.std.proofs.Common.{◌≡◌, ◌≤◌, ap, subst, sym, arith}
+use Rattle.std.proofs.Common.{ap, arith}
 use Rattle.lot_graph.specs.Graphs.{LimitedFunding}
 use Rattle.lot_value.proofs.Following.{together-new}
 use Rattle.lot_value.proofs.valued_graph.ValuedGraph.new.Goals as goal

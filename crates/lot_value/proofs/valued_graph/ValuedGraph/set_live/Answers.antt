@@ -1,4 +1,4 @@
-use Rattle.std.proofs.Common.{◌≡◌, ◌≤◌, ◌∙◌, length, ap, sym, subst, arith}
+use Rattle.std.proofs.Common.{sym, subst}
 use Rattle.lot_graph.specs.Graphs.{IsThread}
 use Rattle.lot_value.specs.Valued.{Valued, live_of}
 use Rattle.lot_value.proofs.Following.{low, live-set, together-set, stale-set}

@@ -1,4 +1,4 @@
-use Rattle.std.proofs.Common.{◌≡◌, ap, subst, sym}
+use Rattle.std.proofs.Common.{subst, sym}
 use Rattle.lot_machine.specs.Bounds.{IsUnit}
 use Rattle.lot_value.specs.Valued.{live_of}
 use Rattle.lot_value.proofs.Following.{stays-small}

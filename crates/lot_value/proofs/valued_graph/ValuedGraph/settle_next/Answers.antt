@@ -2,17 +2,23 @@ use Rattle.std.proofs.Common.{◌≡◌, List, [], Option, Some, None, IfSome, I
 use Rattle.lot_machine.specs.declared.funding.Node.{Node}
 use Rattle.lot_machine.specs.Bounds.{IsUnit}
 use Rattle.lot_graph.specs.declared.layout.Layout.{Layout}
-use Rattle.lot_graph.specs.Places.{IsNodeWithin}
+use Rattle.lot_graph.specs.Graphs.{LimitedFunding, IsNodeOf}
+use Rattle.lot_graph.specs.Places.{IsNodeWithin, layout_of}
 use Rattle.lot_value.specs.Caches.{Known, Settles}
 use Rattle.lot_value.specs.declared.meter.Meter.{Meter}
-use Rattle.lot_value.specs.Valued.{live_of}
+use Rattle.lot_value.specs.Valued.{Valued, live_of}
 use Rattle.lot_value.proofs.Following.{stays-small}
+use Rattle.lot_value.proofs.Nodes.{node-within, within-node}
 use Rattle.lot_value.proofs.Rightness.{right-worth}
 use Rattle.lot_value.proofs.valued_graph.ValuedGraph.settle_next.Goals as goal
 
 unit-stays : (old new : Known) (before after : Meter) (o : Option Node) → IfSome o (Settles old new) → IfNone o ((old.stale ≡ []) × (new ≡ old) × (after ≡ before)) → new.unit ≡ old.unit
 unit-stays old new before after (Some node) settles none = settles.unit
 unit-stays old new before after None settles none = ap (λ (k : Known). k.unit) none.1
+
+is-of : (w : LimitedFunding) (known : Known) (o : Option Node) → known.layout ≡ layout_of w → IfSome o (IsNodeWithin known.layout) → IfSome o (IsNodeOf w)
+is-of w known (Some node) layout within = within-node w node (subst (λ (l : Layout). IsNodeWithin l node) layout within)
+is-of w known None layout within = tt
 
 pub settle_next-requires : goal.settle_next-requires
 settle_next-requires c =
@@ -36,4 +42,8 @@ returns-clause-worth c node within fresh has =
     let inv = c.self.invariant in
     let live = live_of w c.self.inside.active in
     let right = c.settle_next.ensures.right live inv.kept inv.right in
-    right-worth w live c.settle_next.new.self inv.kept.sound inv.kept.fits right node fresh (subst (λ (l : Layout). IsNodeWithin l node) right.layout within) has
+    right-worth w live c.settle_next.new.self inv.kept.sound inv.kept.fits right node fresh (node-within w node within) has
+
+pub returns-clause-within : goal.returns-clause-within
+returns-clause-within c =
+    subst (λ (v : Valued). IfSome c.settle_next.result (IsNodeOf v.now)) c.self.view_is (is-of c.self.inside.graph c.self.inside.values c.settle_next.result c.self.invariant.right.layout c.settle_next.ensures.within)

@@ -1,10 +1,15 @@
-use Rattle.std.proofs.Common.{◌≡◌, subst, sym}
+use Rattle.std.proofs.Common.{subst, sym}
+use Rattle.lot_graph.specs.declared.layout.Layout.{Layout}
+use Rattle.lot_graph.specs.Graphs.{IsNodeOf}
 use Rattle.lot_graph.specs.Places.{IsNodeWithin}
 use Rattle.lot_value.specs.Valued.{Valued, live_of}
+use Rattle.lot_value.proofs.Nodes.{node-within}
 use Rattle.lot_value.proofs.valued_graph.ValuedGraph.value_of.Goals as goal
 
 pub value_of-requires : goal.value_of-requires
-value_of-requires c = record { node = subst (λ (x : Valued). IsNodeWithin x.known.layout c.args.node) (sym c.self.view_is) c.requires.node }
+value_of-requires c =
+    let here = subst (λ (x : Valued). IsNodeOf x.now c.args.node) (sym c.self.view_is) c.requires.node in
+    record { node = subst (λ (l : Layout). IsNodeWithin l c.args.node) (sym c.self.invariant.right.layout) (node-within c.self.inside.graph c.args.node here) }
 
 pub returns : goal.returns
 returns c = record {

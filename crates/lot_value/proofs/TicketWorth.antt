@@ -1,0 +1,80 @@
+-- What a ticket is worth, by the values that are kept.
+use Rattle.std.proofs.Common.{◌≡◌, ℕ, zero, suc, ◌<◌, ◌≤◌, ◌^◌, IsTrue, Bool, true, false, Option, Some, List, Contains, option_map, unwrap_or, sum_by, length, not, ◌==◌, ap, sym, ◌∙◌, refl, subst, arith}
+use Rattle.lot_machine.specs.declared.ticket.Ticket.{Ticket}
+use Rattle.lot_machine.specs.declared.ticket.Target.{Target}
+use Rattle.lot_machine.specs.declared.ticket.Target.TheVariants as target
+use Rattle.lot_machine.specs.declared.funding.Node.{Node}
+use Rattle.lot_machine.specs.declared.funding.Node.TheVariants.{Currency}
+use Rattle.lot_machine.specs.declared.funding.Edge.{Edge}
+use Rattle.lot_machine.specs.declared.funding.Edge.TheVariants.{OfTicket}
+use Rattle.lot_machine.specs.Funding.{Funding, ticket_at, ends_of, target_node}
+use Rattle.lot_machine.specs.Numbered.{option_any}
+use Rattle.lot_machine.specs.Commands.{is_funding, is_unfunded}
+use Rattle.lot_machine.specs.Activity.{is_active, activates_within}
+use Rattle.lot_machine.specs.Equations.{share, ticket_share, edges_into}
+use Rattle.lot_machine.specs.Value.{ticket_value, currency_value, node_value}
+use Rattle.lot_machine.proofs.NodeBounds.{other_ticket, node-bounded}
+use Rattle.lot_machine.proofs.NodeShares.{ticket-is, values-solve}
+use Rattle.lot_machine.proofs.EdgesOnce.{into-once}
+use Rattle.std.proofs.lemmas.List.Sums.{get_or-le-sum_by}
+use Rattle.std.proofs.lemmas.Bool.{eqb-false}
+use Rattle.lot_machine.proofs.Tickets.{some-injective}
+use Rattle.lot_graph.specs.declared.layout.Layout.{Layout}
+use Rattle.lot_graph.specs.Graphs.{LimitedFunding, IsSound, IsFunding}
+use Rattle.lot_graph.specs.Places.{FitsLimits}
+use Rattle.lot_graph.proofs.EndLemmas.{ends-ticket}
+use Rattle.lot_graph.proofs.FieldLemmas.{funding-ticket}
+use Rattle.lot_value.specs.Caches.{Known, IsStale, IsRight, IsSmall, value_in, kept_worth}
+use Rattle.lot_value.proofs.Rightness.{has-not-base, right-worth}
+
+unfunded-off : (k : ℕ) (f : Funding) (live : List Bool) → activates_within k f live target.Unfunded ≡ false
+unfunded-off zero f live = refl
+unfunded-off (suc k) f live = refl
+
+-- a number of a list is at most their sum
+contained-part : {A : Type 0} (g : A → ℕ) (xs : List A) (x : A) → Contains xs x → g x ≤ sum_by g xs
+contained-part g xs x (place, within, at) = subst (λ y. g y ≤ sum_by g xs) at (get_or-le-sum_by g xs place x within)
+
+-- what an edge passes on, by the same values
+pub share-at : (unit other : ℕ) (f : Funding) (live : List Bool) (l m : Layout) (vs us : List ℕ) (edge : Edge) → unit ≡ other → l ≡ m → vs ≡ us → share unit f live (kept_worth l vs) edge ≡ share other f live (kept_worth m us) edge
+share-at unit other f live l m vs us edge units layouts values =
+    ap (λ k. share k f live (kept_worth l vs) edge) units ∙ ap (λ (k : Layout). share other f live (kept_worth k vs) edge) layouts ∙ ap (λ (ks : List ℕ). share other f live (kept_worth m ks) edge) values
+
+module _ (w : LimitedFunding) (live : List Bool) (c : Known) (sound : IsSound w.funding) (fits : FitsLimits w) (right : IsRight w live c) (n : ℕ) (t : Ticket) (at : ticket_at w.funding n ≡ Some t) where
+  -- a ticket that funds nothing is worth nothing
+  pub unfunded-worth : ¬ IsFunding w.funding n → ticket_value c.unit w.funding live t ≡ 0
+  unfunded-worth none = other_ticket w.funding sound.no_cycle sound.funds_there c.unit live t (by t.target refl)
+    where
+      by : (to : Target) → t.target ≡ to → ¬ (is_active w.funding live t ≡ true)
+      by target.Unfunded is on = let off = ap (activates_within (length w.funding.currencies) w.funding live) is ∙ unfunded-off (length w.funding.currencies) w.funding live in let wrong = sym off ∙ on in cc
+      by (target.Currency d) is on = none (subst (λ (o : Option Ticket). IsTrue (option_any is_funding o)) (sym at) (subst (λ (to : Target). IsTrue (not (is_unfunded to))) (sym is) refl))
+      by (target.Thread s) is on = none (subst (λ (o : Option Ticket). IsTrue (option_any is_funding o)) (sym at) (subst (λ (to : Target). IsTrue (not (is_unfunded to))) (sym is) refl))
+
+  module _ (funds : IsFunding w.funding n) where
+    -- where the ticket leads
+    pub funded-end : (to : Node) × (ends_of w.funding (OfTicket n) ≡ Some (Currency t.issuer, to))
+    funded-end =
+        let (u, to, here, leads) = funding-ticket w.funding n funds in
+        let same : u ≡ t = some-injective u t (sym here ∙ at) in
+        (to, ends-ticket w.funding n t to at (ap (λ (x : Ticket). target_node x.target) (sym same) ∙ leads))
+
+    -- its share by the values that are kept is what it is worth, if its issuer isn't stale
+    pub kept-share : ¬ IsStale c (Currency t.issuer) → share c.unit w.funding live (value_in c) (OfTicket n) ≡ ticket_value c.unit w.funding live t
+    kept-share fresh = ap (λ (o : Option Ticket). unwrap_or (option_map (ticket_share c.unit w.funding live (value_in c)) o) 0) at ∙ by (t.issuer == 0) refl ∙ sym (ticket-is w.funding sound.no_cycle sound.funds_there c.unit live t)
+      where
+        by : (b : Bool) → (t.issuer == 0) ≡ b → ticket_share c.unit w.funding live (value_in c) t ≡ ticket_share c.unit w.funding live (node_value c.unit w.funding live) t
+        by true e = rw e refl
+        by false e =
+            let within = fits.from (OfTicket n) (Currency t.issuer) funded-end.0 funded-end.1 in
+            let is : value_in c (Currency t.issuer) ≡ currency_value c.unit w.funding live t.issuer = right-worth w live c sound fits right (Currency t.issuer) fresh within (eqb-false t.issuer 0 e) ∙ rw e refl in
+            rw (e, is) refl
+
+    -- and small
+    pub ticket-small : IsSmall c.unit w live → ticket_value c.unit w.funding live t < 2 ^ 64
+    ticket-small small =
+        let (to, ends) = funded-end in
+        let has = right.ends (Currency t.issuer) to (OfTicket n, ends) in
+        let part = contained-part (share c.unit w.funding live (node_value c.unit w.funding live)) (edges_into w.funding to) (OfTicket n) ((into-once w.funding to).all (OfTicket n) (Currency t.issuer, ends)) in
+        let is : share c.unit w.funding live (node_value c.unit w.funding live) (OfTicket n) ≡ ticket_value c.unit w.funding live t =
+        ap (λ (o : Option Ticket). unwrap_or (option_map (ticket_share c.unit w.funding live (node_value c.unit w.funding live)) o) 0) at ∙ sym (ticket-is w.funding sound.no_cycle sound.funds_there c.unit live t) in
+        omega (arith, part, is, values-solve w.funding sound.no_cycle sound.funds_there c.unit live to has, node-bounded w.funding sound.no_cycle sound.funds_there c.unit live to (has-not-base w.funding to has), small)

@@ -1,0 +1,21 @@
+use Rattle.std.proofs.Common.{◌≡◌, Some, subst, sym}
+use Rattle.lot_machine.specs.declared.funding.Node.TheVariants.{Currency}
+use Rattle.lot_machine.specs.declared.ticket.Ticket.{Ticket}
+use Rattle.lot_machine.specs.Funding.{ticket_at}
+use Rattle.lot_value.specs.Caches.{IsStale}
+use Rattle.lot_value.specs.Valued.{Valued, live_of}
+use Rattle.lot_value.proofs.Following.{stays-small}
+use Rattle.lot_value.proofs.valued_graph.ValuedGraph.ticket_value.Goals as goal
+
+pub ticket_value-requires : goal.ticket_value-requires
+ticket_value-requires c =
+    let w = c.self.inside.graph in
+    let inv = c.self.invariant in
+    let live = live_of w c.self.inside.active in
+    record {
+      right = (live, inv.kept, stays-small c.self.inside.values.unit w live inv.kept.fits inv.tickets inv.unit, inv.right);
+      fresh = subst (λ (x : Valued). (t : Ticket) → ticket_at x.now.funding c.args.ticket ≡ Some t → ¬ IsStale x.known (Currency t.issuer)) (sym c.self.view_is) c.requires.fresh;
+    }
+
+pub returns-clause-worth : goal.returns-clause-worth
+returns-clause-worth c = rw (← c.self.view_is) (c.ticket_value.ensures.worth (live_of c.self.inside.graph c.self.inside.active) c.self.invariant.kept c.self.invariant.right)

@@ -1,0 +1,33 @@
+use Rattle.std.proofs.Common.{◌∙◌, length, ap, sym, arith}
+use Rattle.lot_machine.specs.declared.funding.Node.TheVariants.{Currency}
+use Rattle.lot_machine.specs.declared.funding.Edge.TheVariants.{OfTicket}
+use Rattle.lot_graph.specs.Places.{layout_of, node_count}
+use Rattle.lot_graph.proofs.EndLemmas.{ends-ticket}
+use Rattle.lot_graph.proofs.FieldLemmas.{funding-ticket}
+use Rattle.lot_value.specs.Caches.{Known}
+use Rattle.lot_value.proofs.TicketWorth.{share-at, kept-share, ticket-small}
+use Rattle.lot_value.proofs.values.Values.ticket_value.Goals as goal
+
+pub read_share-requires-clause-edge : goal.read_share-requires-clause-edge
+read_share-requires-clause-edge c =
+    let f = c.args.graph.now.funding in
+    let (t, to, at, leads) = funding-ticket f c.args.ticket (c.is_funding.ensures.0 c.if-not-is_funding.false) in
+    (to, (Currency t.issuer, ends-ticket f c.args.ticket t to at leads))
+
+pub read_share-requires-clause-sources : goal.read_share-requires-clause-sources
+read_share-requires-clause-sources c =
+    let w = c.args.graph.now in
+    let k = c.args.self.now in
+    let (live, kept, small, right) = c.requires.right in
+    let (t, to, at, leads) = funding-ticket w.funding c.args.ticket (c.is_funding.ensures.0 c.if-not-is_funding.false) in
+    let same = share-at c.self.inside.unit k.unit w.funding live (layout_of w) k.layout c.deref.result.now k.values (OfTicket c.args.ticket) (ap (λ (x : Known). x.unit) c.self.view_is) (sym right.layout) (c.deref.ensures.value ∙ ap (λ (x : Known). x.values) c.self.view_is) in
+    let worth = kept-share w live k kept.sound kept.fits right c.args.ticket t at (c.is_funding.ensures.0 c.if-not-is_funding.false) (c.requires.fresh t at) in
+    let low = ticket-small w live k kept.sound kept.fits right c.args.ticket t at (c.is_funding.ensures.0 c.if-not-is_funding.false) small in
+    (live, record { kept = kept; places = ap length (c.deref.ensures.value ∙ ap (λ (x : Known). x.values) c.self.view_is) ∙ right.places ∙ ap node_count right.layout }, omega (arith, same, worth, low))
+
+pub returns-clause-worth : goal.returns-clause-worth
+returns-clause-worth c live kept right t at =
+    let w = c.args.graph.now in
+    let k = c.args.self.now in
+    let same = share-at c.self.inside.unit k.unit w.funding live (layout_of w) k.layout c.deref.result.now k.values (OfTicket c.args.ticket) (ap (λ (x : Known). x.unit) c.self.view_is) (sym right.layout) (c.deref.ensures.value ∙ ap (λ (x : Known). x.values) c.self.view_is) in
+    c.read_share.ensures.value live (record { kept = kept; places = ap length (c.deref.ensures.value ∙ ap (λ (x : Known). x.values) c.self.view_is) ∙ right.places ∙ ap node_count right.layout }) ∙ same ∙ kept-share w live k kept.sound kept.fits right c.args.ticket t at (c.is_funding.ensures.0 c.if-not-is_funding.false) (c.requires.fresh t at)
