@@ -1,13 +1,23 @@
 -- Who competes is there, after a change.
-use Rattle.std.proofs.Common.{◌≡◌, ℕ, suc, ◌-◌, ◌≤◌, ◌⊎◌, inl, inr, Option, Some, None, List, length, set, ap, sym, ◌∙◌, arith, length-set, replicate}
+use Rattle.std.proofs.Common.{◌≡◌, ℕ, zero, suc, ◌-◌, ◌<◌, ◌≤◌, ◌⊎◌, inl, inr, Option, Some, None, List, length, slice_get, ap, sym, ◌∙◌, refl, subst, arith, length-set, replicate}
 use Rattle.std.specs.Option.{option_flatten}
+use Rattle.std.proofs.lemmas.Bool.{cases_lt}
+use Rattle.std.proofs.lemmas.List.{length-replicate, get_or-replicate}
+use Rattle.std.proofs.lemmas.Option.{slice_get_read, slice_get_past}
+use Rattle.lot_machine.specs.declared.funding.Node.{Node}
 use Rattle.lot_machine.specs.Numbered.{at_number, set_number}
 use Rattle.lot_machine.proofs.Changes.{number-set}
+use Rattle.lot_machine.proofs.Tickets.{at_number-suc}
 use Rattle.lot_graph.specs.Graphs.{LimitedFunding, IsThread}
+use Rattle.lot_value.specs.Caches.{Known, IsStale}
 use Rattle.lot_value.specs.Valued.{Valued}
 use Rattle.lot_draw.specs.declared.competing.Competitor.{Competitor}
 use Rattle.lot_draw.specs.Competing.{competitor_at}
-use Rattle.lot_draw.specs.Queued.{CompetesIn}
+use Rattle.lot_draw.specs.Queued.{Queued, AreWeights, CompetesIn}
+use Rattle.lot_draw.proofs.Weighing.{weights-stale}
+
+abbrev nobody : Option Competitor
+nobody = None
 
 -- after a thread that is there competes with something else
 pub competes-set : (competitors : List (Option Competitor)) (v : Valued) (thread : ℕ) (o : Option Competitor) → IsThread v.now.funding thread → CompetesIn competitors v → CompetesIn (set_number competitors thread o) v
@@ -26,3 +36,27 @@ competes-more competitors v w limit more competes = record {
   places = competes.places ∙ sym limit;
   there = λ t c at. let is = competes.there t c at in (is.0, omega (arith, is.1, more));
 }
+
+-- the queue after that
+pub queue-set : (q new : Queued) (v : Valued) (thread : ℕ) (o : Option Competitor) → IsThread v.now.funding thread → new ≡ record q { competitors = set_number q.competitors thread o; changed = new.changed } → CompetesIn q.competitors v → CompetesIn new.competitors v
+queue-set q new v thread o is set competes = subst (λ (cs : List (Option Competitor)). CompetesIn cs v) (sym (ap (λ (x : Queued). x.competitors) set)) (competes-set q.competitors v thread o is competes)
+
+-- where nobody competes
+pub competes-none : (competitors : List (Option Competitor)) (v : Valued) (n : ℕ) → competitors ≡ replicate n None → v.now.thread_limit ≡ n → CompetesIn competitors v
+competes-none competitors v n is limit = record {
+  places = ap (length {A = Option Competitor}) is ∙ length-replicate n nobody ∙ sym limit;
+  there = λ t c at. let no : None ≡ Some c = sym (idle t) ∙ sym (ap (λ (cs : List (Option Competitor)). competitor_at cs t) is) ∙ at in cc;
+}
+  where
+    past : (i : ℕ) → (i < n) ⊎ (n ≤ i) → option_flatten (slice_get (replicate n nobody) i) ≡ None
+    past i (inl low) = ap option_flatten (slice_get_read (replicate n nobody) n i nobody (sym (length-replicate n nobody)) low (sym (get_or-replicate n i nobody nobody low)))
+    past i (inr high) = ap option_flatten (slice_get_past (replicate n nobody) i (omega (arith, high, length-replicate n nobody)))
+
+    idle : (t : ℕ) → competitor_at (replicate n nobody) t ≡ None
+    idle zero = refl
+    idle (suc i) = ap option_flatten (at_number-suc (replicate n nobody) i) ∙ past i (cases_lt i n)
+
+-- weights stay right where a value is kept and more is stale, after something that kept both
+pub weights-follow : (q : Queued) (first then last : Known) → then ≡ first → last ≡ record then { stale = last.stale } → ((node : Node) → IsStale then node → IsStale last node) → AreWeights q first → AreWeights q last
+weights-follow q first then last same more kept weights =
+    subst (AreWeights q) (sym more) (weights-stale q then last.stale kept (subst (AreWeights q) (sym same) weights))

@@ -1,4 +1,9 @@
 //! Lotteries: what a thread weighs, who wins, and where drawn numbers come from.
+//!
+//! A `RunQueue` keeps what each thread competes with, and the weights of those that compete in a tree of partial sums.
+//! `RunQueue::set_competitor` and `RunQueue::settle` write nothing to the tree: they list the threads whose weight may have to
+//! change. `RunQueue::draw` settles what is stale, sets the weights of the listed threads, and visits the tree once. Only
+//! `RunQueue::new` takes memory.
 #![tactic(auto)]
 
 mod competing;
@@ -6,6 +11,8 @@ mod generator;
 pub mod laws;
 mod lottery;
 mod run_queue;
+#[cfg(test)]
+mod tests;
 
 pub use competing::{Competitor, Winner};
 pub use generator::ParkMiller;
