@@ -22,6 +22,39 @@ enum Line<'a> {
     List(Kind),
 }
 
+/// A step of a row: what the kernel is given and has to answer, or what a table has to show of a number.
+#[derive(Clone, Copy)]
+enum Step<'a> {
+    Gives(Line<'a>, Reply),
+    /// A draw on the processor with this number, who wins it, and what is delivered to the winner.
+    Wins(u32, u64, Winner, Option<u32>),
+    /// A draw on the processor with this number that nobody wins.
+    Idles(u32, u64),
+    /// A trap on the processor with this number, without work before it: its thread, and what comes of it. It costs its one
+    /// tick, and doesn't end the quantum.
+    Traps(u32, Action, u32, Outcome),
+    Ticket(TicketShown<'a>),
+    Currency(CurrencyShown<'a>),
+    Thread(ThreadShown<'a>),
+    /// What the thread with this number is worth.
+    Value(u32, u64),
+    NoTicket(u32),
+    NoCurrency(u32),
+    NoThread(u32),
+}
+
+/// A thread that wins a draw, the number drawn, and the total.
+type Winner = (u32, u128, u128);
+
+/// A ticket's number, amount, issuer, target or `-`, whether it is active, and its value.
+type TicketShown<'a> = (u32, u32, &'a str, &'a str, bool, u64);
+
+/// A currency's number, name, backing, issued, active amount and value.
+type CurrencyShown<'a> = (u32, &'a str, u32, u32, u64, u64);
+
+/// A thread's number, name, status, value, weight, quanta and ticks.
+type ThreadShown<'a> = (u32, &'a str, Status, u64, u128, u64, u64);
+
 fn name(text: &str) -> Result<Name, Fail> {
     Ok(Name::new(text).ok_or("name")?)
 }
@@ -61,100 +94,148 @@ fn answer(kernel: &mut Kernel, line: Line<'_>) -> Result<Reply, Fail> {
     Ok(kernel.event(&Event::Command(command(line)?)))
 }
 
-/// Gives the commands in turn, and compares each answer.
-fn check_answers(
+/// Gives a command, and compares the answer.
+fn check_answer(
     rt: &impl Abort,
     kernel: &mut Kernel,
-    lines: &[(Line<'_>, Reply)],
+    line: Line<'_>,
+    reply: Reply,
 ) -> Result<(), Fail> {
-    for (line, reply) in lines {
-        assert_eq!(rt; answer(kernel, *line)?, *reply, "{line:?}");
+    assert_eq!(rt; answer(kernel, line)?, reply, "{line:?}");
+    Ok(())
+}
+
+/// Gives an event, and compares the answer.
+fn check_event(rt: &impl Abort, kernel: &mut Kernel, event: Event, reply: Reply) {
+    assert_eq!(rt; kernel.event(&event), reply, "{event:?}");
+}
+
+/// Gives these events at once, at most ten, and compares the answers.
+fn check_run(rt: &impl Abort, kernel: &mut Kernel, events: &[Event], replies: &[Reply]) {
+    let mut room = [Reply::List(Kind::Threads); 10];
+    assert!(rt; events.len() <= 10);
+    let out = &mut room[..events.len()];
+    kernel.run(events, out);
+    assert_eq!(rt; &*out, replies);
+}
+
+/// The target of a ticket, which is shown as `-` where there is none.
+fn target_of(text: &str) -> Result<Option<Name>, Fail> {
+    if text == "-" {
+        return Ok(None);
+    }
+    Ok(Some(name(text)?))
+}
+
+fn ticket_row(shown: TicketShown<'_>) -> Result<TicketRow, Fail> {
+    let (_, amount, issuer, target, is_active, value) = shown;
+    let issuer = name(issuer)?;
+    let target = target_of(target)?;
+    Ok(TicketRow {
+        amount,
+        issuer,
+        target,
+        is_active,
+        value,
+    })
+}
+
+fn check_ticket(rt: &impl Abort, kernel: &mut Kernel, number: u32, row: Option<TicketRow>) {
+    assert_eq!(rt; kernel.ticket_row(number), row, "ticket {number}");
+}
+
+fn currency_row(shown: CurrencyShown<'_>) -> Result<CurrencyRow, Fail> {
+    let (_, text, backing, issued, active_amount, value) = shown;
+    Ok(CurrencyRow {
+        name: name(text)?,
+        backing,
+        issued,
+        active_amount,
+        value,
+    })
+}
+
+fn check_currency(rt: &impl Abort, kernel: &mut Kernel, number: u32, row: Option<CurrencyRow>) {
+    assert_eq!(rt; kernel.currency_row(number), row, "currency {number}");
+}
+
+fn thread_row(shown: ThreadShown<'_>) -> Result<ThreadRow, Fail> {
+    let (_, text, status, value, weight, quanta, ticks) = shown;
+    Ok(ThreadRow {
+        name: name(text)?,
+        status,
+        value,
+        weight,
+        quanta,
+        ticks,
+    })
+}
+
+fn check_thread(rt: &impl Abort, kernel: &mut Kernel, number: u32, row: Option<ThreadRow>) {
+    assert_eq!(rt; kernel.thread_row(number), row, "thread {number}");
+}
+
+/// Compares what a thread is worth.
+fn check_value(rt: &impl Abort, kernel: &mut Kernel, thread: u32, value: u64) {
+    let found = match kernel.thread_row(thread) {
+        Some(row) => Some(row.value),
+        None => None,
+    };
+    assert_eq!(rt; found, Some(value), "thread {thread}");
+}
+
+/// Takes a step.
+fn take(rt: &impl Abort, kernel: &mut Kernel, step: Step<'_>) -> Result<(), Fail> {
+    match step {
+        Step::Gives(line, reply) => return check_answer(rt, kernel, line, reply),
+        Step::Wins(processor, d, winner, delivered) => {
+            check_event(
+                rt,
+                kernel,
+                Event::Draw(processor, d),
+                handed(winner, delivered),
+            );
+        }
+        Step::Idles(processor, d) => {
+            check_event(rt, kernel, Event::Draw(processor, d), Reply::Idle);
+        }
+        Step::Traps(processor, action, thread, outcome) => {
+            let event = Event::Trap(processor, 0, action);
+            check_event(rt, kernel, event, trapped(thread, outcome));
+        }
+        Step::Ticket(shown) => check_ticket(rt, kernel, shown.0, Some(ticket_row(shown)?)),
+        Step::Currency(shown) => check_currency(rt, kernel, shown.0, Some(currency_row(shown)?)),
+        Step::Thread(shown) => check_thread(rt, kernel, shown.0, Some(thread_row(shown)?)),
+        Step::Value(thread, value) => check_value(rt, kernel, thread, value),
+        Step::NoTicket(number) => check_ticket(rt, kernel, number, None),
+        Step::NoCurrency(number) => check_currency(rt, kernel, number, None),
+        Step::NoThread(number) => check_thread(rt, kernel, number, None),
     }
     Ok(())
 }
 
-/// Compares the tickets with these numbers to what they are to be: amount, issuer, target or `-`, whether active, value.
-fn check_tickets(
-    rt: &impl Abort,
-    kernel: &mut Kernel,
-    rows: &[(u32, u32, &str, &str, bool, u64)],
-) -> Result<(), Fail> {
-    for (number, amount, issuer, target, is_active, value) in rows {
-        let row = TicketRow {
-            amount: *amount,
-            issuer: name(issuer)?,
-            target: if *target == "-" {
-                None
-            } else {
-                Some(name(target)?)
-            },
-            is_active: *is_active,
-            value: *value,
-        };
-        assert_eq!(rt; kernel.ticket_row(*number), Some(row), "ticket {number}");
+/// Takes the steps in turn.
+fn take_all(rt: &impl Abort, kernel: &mut Kernel, steps: &[Step<'_>]) -> Result<(), Fail> {
+    for step in steps {
+        take(rt, kernel, *step)?;
     }
     Ok(())
 }
 
-/// Compares the currencies with these numbers to what they are to be: name, backing, issued, active amount, value.
-fn check_currencies(
-    rt: &impl Abort,
-    kernel: &mut Kernel,
-    rows: &[(u32, &str, u32, u32, u64, u64)],
-) -> Result<(), Fail> {
-    for (number, text, backing, issued, active_amount, value) in rows {
-        let row = CurrencyRow {
-            name: name(text)?,
-            backing: *backing,
-            issued: *issued,
-            active_amount: *active_amount,
-            value: *value,
-        };
-        assert_eq!(rt;
-            kernel.currency_row(*number),
-            Some(row),
-            "currency {number}"
-        );
-    }
-    Ok(())
+/// Takes the steps in a new kernel of the largest tables.
+fn play(rt: &impl Abort, alloc: Global, steps: &[Step<'_>]) -> Result<(), Fail> {
+    let mut kernel = largest(alloc, 1)?;
+    take_all(rt, &mut kernel, steps)
 }
 
-/// Compares the threads with these numbers to what they are to be: name, status, value, weight, quanta, ticks.
-fn check_threads(
-    rt: &impl Abort,
-    kernel: &mut Kernel,
-    rows: &[(u32, &str, Status, u64, u128, u64, u64)],
-) -> Result<(), Fail> {
-    for (number, text, status, value, weight, quanta, ticks) in rows {
-        let row = ThreadRow {
-            name: name(text)?,
-            status: *status,
-            value: *value,
-            weight: *weight,
-            quanta: *quanta,
-            ticks: *ticks,
-        };
-        assert_eq!(rt; kernel.thread_row(*number), Some(row), "thread {number}");
-    }
-    Ok(())
-}
-
-/// Compares what the threads with these numbers are worth.
-fn check_values(rt: &impl Abort, kernel: &mut Kernel, values: &[(u32, u64)]) {
-    for (thread, value) in values {
-        let found = match kernel.thread_row(*thread) {
-            Some(row) => Some(row.value),
-            None => None,
-        };
-        assert_eq!(rt; found, Some(*value), "thread {thread}");
-    }
+/// The limits of the largest tables with this quantum and unit, two processors, ports and mutexes, and one script.
+fn largest_limits(quantum: u32, unit: u32) -> Option<Limits> {
+    Limits::new(65535, 4096, 4096, 2, 2, 2, 1, quantum)?.with_unit(unit)
 }
 
 /// A kernel of the largest tables with quantum 100, two processors, ports and mutexes, and one script.
 fn largest(alloc: Global, unit: u32) -> Result<Kernel, Fail> {
-    let limits = Limits::new(65535, 4096, 4096, 2, 2, 2, 1, 100)
-        .and_then(|limits| limits.with_unit(unit))
-        .ok_or("limits")?;
+    let limits = largest_limits(100, unit).ok_or("limits")?;
     Ok(Kernel::new(alloc, limits)?)
 }
 
@@ -165,31 +246,39 @@ fn small(alloc: Global, tickets: u32, currencies: u32, threads: u32) -> Result<K
 }
 
 fn won(thread: u32, number: u128, total: u128) -> Reply {
+    handed((thread, number, total), None)
+}
+
+/// A draw that this thread wins, to which this is delivered.
+fn handed((thread, number, total): Winner, delivered: Option<u32>) -> Reply {
     Reply::Winner {
         thread,
         number,
         total,
-        delivered: None,
+        delivered,
     }
 }
 
-/// A thread's exit, its only tick.
-fn exited(thread: u32) -> Reply {
+/// A trap without work before it, which doesn't end the quantum.
+fn trapped(thread: u32, outcome: Outcome) -> Reply {
     Reply::Trapped {
         thread,
         ticks: 1,
-        outcome: Outcome::Exited,
+        outcome,
         ends: false,
     }
 }
 
-const fn refused(refusal: Refusal) -> Reply {
-    Reply::Refused(refusal)
+/// Makes a thread of this name with a new ticket of base, which has this number.
+fn fund_thread(kernel: &mut Kernel, number: u64, amount: u64, name: &str) -> Result<(), Fail> {
+    answer(kernel, Line::Mkthr(name, 1))?;
+    answer(kernel, Line::Mktkt(amount, "base"))?;
+    answer(kernel, Line::Fund(number, name))?;
+    Ok(())
 }
 
-#[test]
-fn list_lottery(rt: HostRuntime) -> Result<(), Fail> {
-    let mut kernel = largest(rt.alloc(), 1)?;
+/// Five threads with 10, 2, 5, 1 and 2 of base.
+fn fund_five(kernel: &mut Kernel) -> Result<(), Fail> {
     for (number, amount, name) in [
         (1, 10, "a"),
         (2, 2, "b"),
@@ -197,11 +286,24 @@ fn list_lottery(rt: HostRuntime) -> Result<(), Fail> {
         (4, 1, "d"),
         (5, 2, "e"),
     ] {
-        answer(&mut kernel, Line::Mkthr(name, 1))?;
-        answer(&mut kernel, Line::Mktkt(amount, "base"))?;
-        answer(&mut kernel, Line::Fund(number, name))?;
+        fund_thread(kernel, number, amount, name)?;
     }
-    let draws = [
+    Ok(())
+}
+
+/// A draw of 20 that the thread wins, and the end of its quantum.
+fn check_draw(rt: &impl Abort, kernel: &mut Kernel, d: u64, thread: u32, number: u128) {
+    let expired = Reply::Expired { thread, ticks: 100 };
+    check_run(
+        rt,
+        kernel,
+        &[Event::Draw(1, d), Event::Expire(1)],
+        &[won(thread, number, 20), expired],
+    );
+}
+
+fn check_draws(rt: &impl Abort, kernel: &mut Kernel) {
+    for (d, thread, number) in [
         (15, 3, 15),
         (9, 1, 9),
         (10, 2, 10),
@@ -213,63 +315,69 @@ fn list_lottery(rt: HostRuntime) -> Result<(), Fail> {
         (19, 5, 19),
         (35, 3, 15),
         (36090892629924, 1, 4),
-    ];
-    for (d, thread, number) in draws {
-        let mut out = [Reply::Idle; 2];
-        kernel.run(&[Event::Draw(1, d), Event::Expire(1)], &mut out);
-        let expired = Reply::Expired { thread, ticks: 100 };
-        assert_eq!(rt; out, [won(thread, number, 20), expired], "at {d}");
+    ] {
+        check_draw(rt, kernel, d, thread, number);
     }
+}
+
+#[test]
+fn list_lottery(rt: HostRuntime) -> Result<(), Fail> {
+    let mut kernel = largest(rt.alloc(), 1)?;
+    fund_five(&mut kernel)?;
+    check_draws(&rt, &mut kernel);
     Ok(())
 }
+
+const ONE_FUNDED: [Step<'_>; 4] = [
+    Step::Gives(Line::Mkthr("a", 1), Reply::Thread(1)),
+    Step::Gives(Line::Mktkt(10, "base"), Reply::Ticket(1)),
+    Step::Gives(Line::Fund(1, "a"), Reply::Done),
+    Step::Gives(Line::Mktkt(10, "base"), Reply::Ticket(2)),
+];
+
+const OUT_OF_PLACE: [Event; 10] = [
+    Event::Draw(3, 0),
+    Event::Draw(0, 0),
+    Event::Expire(2),
+    Event::Draw(1, 0),
+    Event::Draw(1, 0),
+    Event::Draw(2, 0),
+    Event::Trap(1, 100, Action::Exit),
+    Event::Trap(1, u32::MAX, Action::Exit),
+    Event::Trap(1, 99, Action::Exit),
+    Event::Draw(1, 0),
+];
+
+const OUT_OF_PLACE_REPLIES: [Reply; 10] = [
+    Reply::Refused(Refusal::BadProcessor),
+    Reply::Refused(Refusal::BadProcessor),
+    Reply::Refused(Refusal::NotRunning),
+    Reply::Winner {
+        thread: 1,
+        number: 0,
+        total: 10,
+        delivered: None,
+    },
+    Reply::Refused(Refusal::Busy),
+    Reply::Idle,
+    Reply::Refused(Refusal::BadTicks),
+    Reply::Refused(Refusal::BadTicks),
+    Reply::Trapped {
+        thread: 1,
+        ticks: 100,
+        outcome: Outcome::Exited,
+        ends: false,
+    },
+    Reply::Idle,
+];
 
 #[test]
 fn events_out_of_place(rt: HostRuntime) -> Result<(), Fail> {
     let mut kernel = largest(rt.alloc(), 1)?;
-    let made = [
-        (Line::Mkthr("a", 1), Reply::Thread(1)),
-        (Line::Mktkt(10, "base"), Reply::Ticket(1)),
-        (Line::Fund(1, "a"), Reply::Done),
-        (Line::Mktkt(10, "base"), Reply::Ticket(2)),
-    ];
-    check_answers(&rt, &mut kernel, &made)?;
-    let turns = [
-        Event::Draw(3, 0),
-        Event::Draw(0, 0),
-        Event::Expire(2),
-        Event::Draw(1, 0),
-        Event::Draw(1, 0),
-        Event::Draw(2, 0),
-        Event::Trap(1, 100, Action::Exit),
-        Event::Trap(1, u32::MAX, Action::Exit),
-        Event::Trap(1, 99, Action::Exit),
-        Event::Draw(1, 0),
-    ];
-    let mut out = [Reply::Done; 10];
-    kernel.run(&turns, &mut out);
-    let expected = [
-        Reply::Refused(Refusal::BadProcessor),
-        Reply::Refused(Refusal::BadProcessor),
-        Reply::Refused(Refusal::NotRunning),
-        won(1, 0, 10),
-        Reply::Refused(Refusal::Busy),
-        Reply::Idle,
-        Reply::Refused(Refusal::BadTicks),
-        Reply::Refused(Refusal::BadTicks),
-        Reply::Trapped {
-            thread: 1,
-            ticks: 100,
-            outcome: Outcome::Exited,
-            ends: false,
-        },
-        Reply::Idle,
-    ];
-    assert_eq!(rt; out, expected);
-    check_answers(
-        &rt,
-        &mut kernel,
-        &[(Line::Fund(2, "a"), Reply::Refused(Refusal::DeadThread))],
-    )
+    take_all(&rt, &mut kernel, &ONE_FUNDED)?;
+    check_run(&rt, &mut kernel, &OUT_OF_PLACE, &OUT_OF_PLACE_REPLIES);
+    let dead = Reply::Refused(Refusal::DeadThread);
+    check_answer(&rt, &mut kernel, Line::Fund(2, "a"), dead)
 }
 
 /// Gives one thread all the tickets that there may be, of the largest amount.
@@ -282,17 +390,21 @@ fn fund_fully(kernel: &mut Kernel) -> Result<(), Fail> {
     Ok(())
 }
 
+const NO_MORE_TICKETS: [Step<'_>; 3] = [
+    Step::Gives(Line::Mktkt(1, "base"), Reply::Refused(Refusal::Full)),
+    Step::Gives(Line::Mktkt(0, "base"), Reply::Refused(Refusal::BadAmount)),
+    Step::Gives(
+        Line::Mktkt(4294967296, "base"),
+        Reply::Refused(Refusal::BadAmount),
+    ),
+];
+
 /// All the tickets that there may be, of the largest amount.
 fn all_tickets(rt: &impl Abort, alloc: Global, unit: u32, total: u128) -> Result<(), Fail> {
     let mut kernel = largest(alloc, unit)?;
     fund_fully(&mut kernel)?;
-    let refusals = [
-        (Line::Mktkt(1, "base"), refused(Refusal::Full)),
-        (Line::Mktkt(0, "base"), refused(Refusal::BadAmount)),
-        (Line::Mktkt(4294967296, "base"), refused(Refusal::BadAmount)),
-    ];
-    check_answers(rt, &mut kernel, &refusals)?;
-    assert_eq!(rt; kernel.event(&Event::Draw(1, 7)), won(1, 7, total));
+    take_all(rt, &mut kernel, &NO_MORE_TICKETS)?;
+    check_event(rt, &mut kernel, Event::Draw(1, 7), won(1, 7, total));
     Ok(())
 }
 
@@ -302,14 +414,8 @@ fn largest_totals(rt: HostRuntime) -> Result<(), Fail> {
     all_tickets(&rt, rt.alloc(), 256, 72056494509523200)
 }
 
-/// The largest total of all: every ticket, the finer unit, and the largest compensation.
-#[test]
-fn largest_compensated_total(rt: HostRuntime) -> Result<(), Fail> {
-    let limits = Limits::new(65535, 4096, 4096, 2, 2, 2, 1, 1000)
-        .and_then(|limits| limits.with_unit(256))
-        .ok_or("limits")?;
-    let mut kernel = Kernel::new(rt.alloc(), limits)?;
-    fund_fully(&mut kernel)?;
+/// The third reply to a draw, a yield at once, and the greatest draw.
+fn third_reply(kernel: &mut Kernel) -> Reply {
     let mut out = [Reply::Idle; 3];
     let events = [
         Event::Draw(1, 0),
@@ -317,286 +423,319 @@ fn largest_compensated_total(rt: HostRuntime) -> Result<(), Fail> {
         Event::Draw(1, u64::MAX),
     ];
     kernel.run(&events, &mut out);
+    out[2]
+}
+
+/// The largest total of all: every ticket, the finer unit, and the largest compensation.
+#[test]
+fn largest_compensated_total(rt: HostRuntime) -> Result<(), Fail> {
+    let limits = largest_limits(1000, 256).ok_or("limits")?;
+    let mut kernel = Kernel::new(rt.alloc(), limits)?;
+    fund_fully(&mut kernel)?;
     let last = won(1, 18446744073709551615, 72056494509523200000);
-    assert_eq!(rt; out[2], last);
+    assert_eq!(rt; third_reply(&mut kernel), last);
     Ok(())
 }
 
+const PAPERS_GRAPH: [Step<'_>; 38] = [
+    Step::Gives(Line::Mkcur("alice"), Reply::Currency(1)),
+    Step::Gives(Line::Mkcur("bob"), Reply::Currency(2)),
+    Step::Gives(Line::Mkcur("task1"), Reply::Currency(3)),
+    Step::Gives(Line::Mkcur("task2"), Reply::Currency(4)),
+    Step::Gives(Line::Mkcur("task3"), Reply::Currency(5)),
+    Step::Gives(Line::Mktkt(1000, "base"), Reply::Ticket(1)),
+    Step::Gives(Line::Fund(1, "alice"), Reply::Done),
+    Step::Gives(Line::Mktkt(2000, "base"), Reply::Ticket(2)),
+    Step::Gives(Line::Fund(2, "bob"), Reply::Done),
+    Step::Gives(Line::Mktkt(100, "alice"), Reply::Ticket(3)),
+    Step::Gives(Line::Fund(3, "task1"), Reply::Done),
+    Step::Gives(Line::Mktkt(200, "alice"), Reply::Ticket(4)),
+    Step::Gives(Line::Fund(4, "task2"), Reply::Done),
+    Step::Gives(Line::Mktkt(100, "bob"), Reply::Ticket(5)),
+    Step::Gives(Line::Fund(5, "task3"), Reply::Done),
+    Step::Gives(
+        Line::Fundx(200, "task2", "thread2", 1),
+        Reply::Funded {
+            ticket: 6,
+            thread: 1,
+        },
+    ),
+    Step::Gives(
+        Line::Fundx(300, "task2", "thread3", 1),
+        Reply::Funded {
+            ticket: 7,
+            thread: 2,
+        },
+    ),
+    Step::Gives(
+        Line::Fundx(100, "task3", "thread4", 1),
+        Reply::Funded {
+            ticket: 8,
+            thread: 3,
+        },
+    ),
+    Step::Gives(Line::List(Kind::Currencies), Reply::List(Kind::Currencies)),
+    Step::Gives(Line::List(Kind::Tickets), Reply::List(Kind::Tickets)),
+    Step::Gives(Line::List(Kind::Threads), Reply::List(Kind::Threads)),
+    Step::Currency((0, "base", 0, 2, 3000, 3000)),
+    Step::Currency((1, "alice", 1, 2, 200, 1000)),
+    Step::Currency((2, "bob", 1, 1, 100, 2000)),
+    Step::Currency((3, "task1", 1, 0, 0, 0)),
+    Step::Currency((4, "task2", 1, 2, 500, 1000)),
+    Step::Currency((5, "task3", 1, 1, 100, 2000)),
+    Step::Ticket((1, 1000, "base", "alice", true, 1000)),
+    Step::Ticket((2, 2000, "base", "bob", true, 2000)),
+    Step::Ticket((3, 100, "alice", "task1", false, 0)),
+    Step::Ticket((4, 200, "alice", "task2", true, 1000)),
+    Step::Ticket((5, 100, "bob", "task3", true, 2000)),
+    Step::Ticket((6, 200, "task2", "thread2", true, 400)),
+    Step::Ticket((7, 300, "task2", "thread3", true, 600)),
+    Step::Ticket((8, 100, "task3", "thread4", true, 2000)),
+    Step::Thread((1, "thread2", Status::Ready, 400, 400, 0, 0)),
+    Step::Thread((2, "thread3", Status::Ready, 600, 600, 0, 0)),
+    Step::Thread((3, "thread4", Status::Ready, 2000, 2000, 0, 0)),
+];
+
 #[test]
 fn papers_graph(rt: HostRuntime) -> Result<(), Fail> {
-    let mut kernel = largest(rt.alloc(), 1)?;
-    check_answers(
-        &rt,
-        &mut kernel,
-        &[
-            (Line::Mkcur("alice"), Reply::Currency(1)),
-            (Line::Mkcur("bob"), Reply::Currency(2)),
-            (Line::Mkcur("task1"), Reply::Currency(3)),
-            (Line::Mkcur("task2"), Reply::Currency(4)),
-            (Line::Mkcur("task3"), Reply::Currency(5)),
-            (Line::Mktkt(1000, "base"), Reply::Ticket(1)),
-            (Line::Fund(1, "alice"), Reply::Done),
-            (Line::Mktkt(2000, "base"), Reply::Ticket(2)),
-            (Line::Fund(2, "bob"), Reply::Done),
-            (Line::Mktkt(100, "alice"), Reply::Ticket(3)),
-            (Line::Fund(3, "task1"), Reply::Done),
-            (Line::Mktkt(200, "alice"), Reply::Ticket(4)),
-            (Line::Fund(4, "task2"), Reply::Done),
-            (Line::Mktkt(100, "bob"), Reply::Ticket(5)),
-            (Line::Fund(5, "task3"), Reply::Done),
-            (
-                Line::Fundx(200, "task2", "thread2", 1),
-                Reply::Funded {
-                    ticket: 6,
-                    thread: 1,
-                },
-            ),
-            (
-                Line::Fundx(300, "task2", "thread3", 1),
-                Reply::Funded {
-                    ticket: 7,
-                    thread: 2,
-                },
-            ),
-            (
-                Line::Fundx(100, "task3", "thread4", 1),
-                Reply::Funded {
-                    ticket: 8,
-                    thread: 3,
-                },
-            ),
-            (Line::List(Kind::Currencies), Reply::List(Kind::Currencies)),
-            (Line::List(Kind::Tickets), Reply::List(Kind::Tickets)),
-            (Line::List(Kind::Threads), Reply::List(Kind::Threads)),
-        ],
-    )?;
-    check_currencies(
-        &rt,
-        &mut kernel,
-        &[
-            (0, "base", 0, 2, 3000, 3000),
-            (1, "alice", 1, 2, 200, 1000),
-            (2, "bob", 1, 1, 100, 2000),
-            (3, "task1", 1, 0, 0, 0),
-            (4, "task2", 1, 2, 500, 1000),
-            (5, "task3", 1, 1, 100, 2000),
-        ],
-    )?;
-    check_tickets(
-        &rt,
-        &mut kernel,
-        &[
-            (1, 1000, "base", "alice", true, 1000),
-            (2, 2000, "base", "bob", true, 2000),
-            (3, 100, "alice", "task1", false, 0),
-            (4, 200, "alice", "task2", true, 1000),
-            (5, 100, "bob", "task3", true, 2000),
-            (6, 200, "task2", "thread2", true, 400),
-            (7, 300, "task2", "thread3", true, 600),
-            (8, 100, "task3", "thread4", true, 2000),
-        ],
-    )?;
-    check_threads(
-        &rt,
-        &mut kernel,
-        &[
-            (1, "thread2", Status::Ready, 400, 400, 0, 0),
-            (2, "thread3", Status::Ready, 600, 600, 0, 0),
-            (3, "thread4", Status::Ready, 2000, 2000, 0, 0),
-        ],
-    )
+    play(&rt, rt.alloc(), &PAPERS_GRAPH)
 }
+
+const ROWS_OF_NOTHING: [Step<'_>; 18] = [
+    Step::Gives(Line::Mkcur("g"), Reply::Currency(1)),
+    Step::Gives(Line::Mktkt(1, "base"), Reply::Ticket(1)),
+    Step::Gives(Line::Mktkt(1, "base"), Reply::Ticket(2)),
+    Step::Gives(Line::Mkthr("a", 1), Reply::Thread(1)),
+    Step::Gives(Line::Rmtkt(1), Reply::Done),
+    Step::Gives(Line::Rmcur("g"), Reply::Done),
+    Step::NoTicket(0),
+    Step::NoTicket(1),
+    Step::NoTicket(3),
+    Step::NoTicket(u32::MAX),
+    Step::NoCurrency(1),
+    Step::NoCurrency(2),
+    Step::NoCurrency(u32::MAX),
+    Step::NoThread(0),
+    Step::NoThread(2),
+    Step::NoThread(u32::MAX),
+    Step::Ticket((2, 1, "base", "-", false, 0)),
+    Step::Thread((1, "a", Status::Ready, 0, 0, 0, 0)),
+];
 
 #[test]
 fn rows_of_nothing(rt: HostRuntime) -> Result<(), Fail> {
-    let mut kernel = largest(rt.alloc(), 1)?;
-    check_answers(
-        &rt,
-        &mut kernel,
-        &[
-            (Line::Mkcur("g"), Reply::Currency(1)),
-            (Line::Mktkt(1, "base"), Reply::Ticket(1)),
-            (Line::Mktkt(1, "base"), Reply::Ticket(2)),
-            (Line::Mkthr("a", 1), Reply::Thread(1)),
-            (Line::Rmtkt(1), Reply::Done),
-            (Line::Rmcur("g"), Reply::Done),
-        ],
-    )?;
-    for number in [0, 1, 3, u32::MAX] {
-        assert_eq!(rt; kernel.ticket_row(number), None, "ticket {number}");
+    play(&rt, rt.alloc(), &ROWS_OF_NOTHING)
+}
+
+/// Gives the commands in turn.
+fn answer_all(kernel: &mut Kernel, lines: &[Line<'_>]) -> Result<(), Fail> {
+    for line in lines {
+        answer(kernel, *line)?;
     }
-    for number in [1, 2, u32::MAX] {
-        assert_eq!(rt; kernel.currency_row(number), None, "currency {number}");
+    Ok(())
+}
+
+/// Gives currency `g` a thread for each of these amounts.
+fn share(kernel: &mut Kernel, amounts: &[(u64, &str)]) -> Result<(), Fail> {
+    for (amount, thread) in amounts {
+        answer(kernel, Line::Fundx(*amount, "g", thread, 1))?;
     }
-    for number in [0, 2, u32::MAX] {
-        assert_eq!(rt; kernel.thread_row(number), None, "thread {number}");
-    }
-    check_tickets(&rt, &mut kernel, &[(2, 1, "base", "-", false, 0)])?;
-    check_threads(&rt, &mut kernel, &[(1, "a", Status::Ready, 0, 0, 0, 0)])
+    Ok(())
 }
 
 /// A base ticket funds currency `g`, whose tickets of these amounts fund a thread each.
 fn shares(alloc: Global, unit: u32, whole: u64, amounts: &[(u64, &str)]) -> Result<Kernel, Fail> {
     let mut kernel = largest(alloc, unit)?;
-    answer(&mut kernel, Line::Mkcur("g"))?;
-    answer(&mut kernel, Line::Mktkt(whole, "base"))?;
-    answer(&mut kernel, Line::Fund(1, "g"))?;
-    for (amount, thread) in amounts {
-        answer(&mut kernel, Line::Fundx(*amount, "g", thread, 1))?;
-    }
+    let lines = [
+        Line::Mkcur("g"),
+        Line::Mktkt(whole, "base"),
+        Line::Fund(1, "g"),
+    ];
+    answer_all(&mut kernel, &lines)?;
+    share(&mut kernel, amounts)?;
     Ok(kernel)
+}
+
+/// Compares what the threads with these numbers are worth.
+fn check_values(rt: &impl Abort, kernel: &mut Kernel, values: &[(u32, u64)]) {
+    for (thread, value) in values {
+        check_value(rt, kernel, *thread, *value);
+    }
+}
+
+/// What is shared by whom, at which unit; what the threads are then worth; and a draw with its winner.
+#[derive(Clone, Copy)]
+struct Shared<'a> {
+    unit: u32,
+    whole: u64,
+    amounts: &'a [(u64, &'a str)],
+    values: &'a [(u32, u64)],
+    d: u64,
+    winner: Winner,
+}
+
+const SHARED_AMOUNTS: [Shared<'_>; 4] = [
+    Shared {
+        unit: 1,
+        whole: 100,
+        amounts: &[(1, "a"), (1, "b"), (1, "c")],
+        values: &[(1, 33), (2, 33), (3, 33)],
+        d: 99,
+        winner: (1, 0, 99),
+    },
+    Shared {
+        unit: 1,
+        whole: 200,
+        amounts: &[(2, "a"), (1, "b")],
+        values: &[(1, 133), (2, 66)],
+        d: 132,
+        winner: (1, 132, 199),
+    },
+    Shared {
+        unit: 256,
+        whole: 100,
+        amounts: &[(1, "a"), (1, "b"), (1, "c")],
+        values: &[(1, 8533), (2, 8533), (3, 8533)],
+        d: 25598,
+        winner: (3, 25598, 25599),
+    },
+    Shared {
+        unit: 256,
+        whole: 1,
+        amounts: &[(1, "a"), (1, "b")],
+        values: &[(1, 128), (2, 128)],
+        d: 128,
+        winner: (2, 128, 256),
+    },
+];
+
+fn check_shared(rt: &impl Abort, alloc: Global, row: Shared<'_>) -> Result<(), Fail> {
+    let (thread, number, total) = row.winner;
+    let mut kernel = shares(alloc, row.unit, row.whole, row.amounts)?;
+    check_values(rt, &mut kernel, row.values);
+    check_event(
+        rt,
+        &mut kernel,
+        Event::Draw(1, row.d),
+        won(thread, number, total),
+    );
+    Ok(())
 }
 
 #[test]
 fn rounding(rt: HostRuntime) -> Result<(), Fail> {
-    let thirds = [(1, "a"), (1, "b"), (1, "c")];
-    let halves = [(1, "a"), (1, "b")];
-    let uneven = [(2, "a"), (1, "b")];
-    let rows: [(u32, u64, &[(u64, &str)], &[(u32, u64)], u64, Reply); 4] = [
-        (
-            1,
-            100,
-            &thirds,
-            &[(1, 33), (2, 33), (3, 33)],
-            99,
-            won(1, 0, 99),
-        ),
-        (1, 200, &uneven, &[(1, 133), (2, 66)], 132, won(1, 132, 199)),
-        (
-            256,
-            100,
-            &thirds,
-            &[(1, 8533), (2, 8533), (3, 8533)],
-            25598,
-            won(3, 25598, 25599),
-        ),
-        (
-            256,
-            1,
-            &halves,
-            &[(1, 128), (2, 128)],
-            128,
-            won(2, 128, 256),
-        ),
-    ];
-    for (unit, whole, amounts, values, d, reply) in rows {
-        let mut kernel = shares(rt.alloc(), unit, whole, amounts)?;
-        check_values(&rt, &mut kernel, values);
-        assert_eq!(rt;
-            kernel.event(&Event::Draw(1, d)),
-            reply,
-            "{whole} at {unit}"
-        );
+    for row in SHARED_AMOUNTS {
+        check_shared(&rt, rt.alloc(), row)?;
     }
     Ok(())
 }
+
+const NOTHING: [Step<'_>; 7] = [
+    Step::Value(1, 0),
+    Step::Value(2, 0),
+    Step::Idles(1, 0),
+    Step::Idles(1, 1),
+    Step::Idles(1, u64::MAX),
+    Step::Gives(
+        Line::Fundx(1, "base", "c", 1),
+        Reply::Funded {
+            ticket: 4,
+            thread: 3,
+        },
+    ),
+    Step::Wins(1, 0, (3, 0, 1), None),
+];
 
 #[test]
 fn rounded_to_nothing(rt: HostRuntime) -> Result<(), Fail> {
     let mut kernel = shares(rt.alloc(), 1, 1, &[(1, "a"), (1, "b")])?;
-    check_values(&rt, &mut kernel, &[(1, 0), (2, 0)]);
-    for d in [0, 1, u64::MAX] {
-        assert_eq!(rt; kernel.event(&Event::Draw(1, d)), Reply::Idle, "at {d}");
-    }
-    let funded = Reply::Funded {
-        ticket: 4,
-        thread: 3,
-    };
-    check_answers(
-        &rt,
-        &mut kernel,
-        &[(Line::Fundx(1, "base", "c", 1), funded)],
-    )?;
-    assert_eq!(rt; kernel.event(&Event::Draw(1, 0)), won(3, 0, 1));
-    Ok(())
+    take_all(&rt, &mut kernel, &NOTHING)
 }
+
+const TWO_LEVELS: [Step<'_>; 10] = [
+    Step::Gives(Line::Mkcur("g"), Reply::Currency(1)),
+    Step::Gives(Line::Mkcur("h"), Reply::Currency(2)),
+    Step::Gives(Line::Mktkt(100, "base"), Reply::Ticket(1)),
+    Step::Gives(Line::Fund(1, "g"), Reply::Done),
+    Step::Gives(Line::Mktkt(1, "g"), Reply::Ticket(2)),
+    Step::Gives(Line::Fund(2, "h"), Reply::Done),
+    Step::Gives(
+        Line::Fundx(1, "h", "a", 1),
+        Reply::Funded {
+            ticket: 3,
+            thread: 1,
+        },
+    ),
+    Step::Gives(
+        Line::Fundx(1, "g", "b", 1),
+        Reply::Funded {
+            ticket: 4,
+            thread: 2,
+        },
+    ),
+    Step::Value(1, 50),
+    Step::Value(2, 50),
+];
+
+/// What is left once the lower thread has exited.
+const ONE_LEVEL: [Step<'_>; 9] = [
+    Step::Gives(Line::Fund(4, "a"), Reply::Refused(Refusal::DeadThread)),
+    Step::Wins(1, 99, (2, 99, 100), None),
+    Step::Currency((0, "base", 0, 1, 100, 100)),
+    Step::Currency((1, "g", 1, 2, 1, 100)),
+    Step::Currency((2, "h", 1, 1, 0, 0)),
+    Step::Ticket((2, 1, "g", "h", false, 0)),
+    Step::Ticket((3, 1, "h", "a", false, 0)),
+    Step::Thread((1, "a", Status::Dead, 0, 0, 1, 1)),
+    Step::Thread((
+        2,
+        "b",
+        Status::Running {
+            processor: 1,
+            used: 0,
+        },
+        100,
+        100,
+        1,
+        0,
+    )),
+];
 
 #[test]
 fn two_levels(rt: HostRuntime) -> Result<(), Fail> {
     let mut kernel = largest(rt.alloc(), 1)?;
-    let a = Reply::Funded {
-        ticket: 3,
-        thread: 1,
-    };
-    let b = Reply::Funded {
-        ticket: 4,
-        thread: 2,
-    };
-    let lines = [
-        (Line::Mkcur("g"), Reply::Currency(1)),
-        (Line::Mkcur("h"), Reply::Currency(2)),
-        (Line::Mktkt(100, "base"), Reply::Ticket(1)),
-        (Line::Fund(1, "g"), Reply::Done),
-        (Line::Mktkt(1, "g"), Reply::Ticket(2)),
-        (Line::Fund(2, "h"), Reply::Done),
-        (Line::Fundx(1, "h", "a", 1), a),
-        (Line::Fundx(1, "g", "b", 1), b),
-    ];
-    check_answers(&rt, &mut kernel, &lines)?;
-    check_values(&rt, &mut kernel, &[(1, 50), (2, 50)]);
-    let mut out = [Reply::Done; 2];
-    kernel.run(
+    take_all(&rt, &mut kernel, &TWO_LEVELS)?;
+    check_run(
+        &rt,
+        &mut kernel,
         &[Event::Draw(1, 0), Event::Trap(1, 0, Action::Exit)],
-        &mut out,
+        &[won(1, 0, 100), trapped(1, Outcome::Exited)],
     );
-    assert_eq!(rt; out, [won(1, 0, 100), exited(1)]);
-    let dead = refused(Refusal::DeadThread);
-    check_answers(&rt, &mut kernel, &[(Line::Fund(4, "a"), dead)])?;
-    assert_eq!(rt; kernel.event(&Event::Draw(1, 99)), won(2, 99, 100));
-    check_currencies(
-        &rt,
-        &mut kernel,
-        &[
-            (0, "base", 0, 1, 100, 100),
-            (1, "g", 1, 2, 1, 100),
-            (2, "h", 1, 1, 0, 0),
-        ],
-    )?;
-    let running = Status::Running {
-        processor: 1,
-        used: 0,
-    };
-    check_tickets(
-        &rt,
-        &mut kernel,
-        &[(2, 1, "g", "h", false, 0), (3, 1, "h", "a", false, 0)],
-    )?;
-    check_threads(
-        &rt,
-        &mut kernel,
-        &[
-            (1, "a", Status::Dead, 0, 0, 1, 1),
-            (2, "b", running, 100, 100, 1, 0),
-        ],
-    )
+    take_all(&rt, &mut kernel, &ONE_LEVEL)
 }
+
+const CYCLES: [Step<'_>; 16] = [
+    Step::Gives(Line::Mkcur("a"), Reply::Currency(1)),
+    Step::Gives(Line::Mkcur("b"), Reply::Currency(2)),
+    Step::Gives(Line::Mkcur("c"), Reply::Currency(3)),
+    Step::Gives(Line::Mkcur("d"), Reply::Currency(4)),
+    Step::Gives(Line::Mktkt(1, "a"), Reply::Ticket(1)),
+    Step::Gives(Line::Fund(1, "a"), Reply::Refused(Refusal::Cycle)),
+    Step::Gives(Line::Fund(1, "b"), Reply::Done),
+    Step::Gives(Line::Mktkt(1, "b"), Reply::Ticket(2)),
+    Step::Gives(Line::Fund(2, "c"), Reply::Done),
+    Step::Gives(Line::Mktkt(1, "c"), Reply::Ticket(3)),
+    Step::Gives(Line::Fund(3, "a"), Reply::Refused(Refusal::Cycle)),
+    Step::Gives(Line::Mktkt(1, "a"), Reply::Ticket(4)),
+    Step::Gives(Line::Fund(4, "c"), Reply::Done),
+    Step::Gives(Line::Fund(3, "d"), Reply::Done),
+    Step::Gives(Line::Mktkt(1, "b"), Reply::Ticket(5)),
+    Step::Gives(Line::Fund(5, "d"), Reply::Done),
+];
 
 #[test]
 fn cycles(rt: HostRuntime) -> Result<(), Fail> {
-    let mut kernel = largest(rt.alloc(), 1)?;
-    let cycle = refused(Refusal::Cycle);
-    check_answers(
-        &rt,
-        &mut kernel,
-        &[
-            (Line::Mkcur("a"), Reply::Currency(1)),
-            (Line::Mkcur("b"), Reply::Currency(2)),
-            (Line::Mkcur("c"), Reply::Currency(3)),
-            (Line::Mkcur("d"), Reply::Currency(4)),
-            (Line::Mktkt(1, "a"), Reply::Ticket(1)),
-            (Line::Fund(1, "a"), cycle),
-            (Line::Fund(1, "b"), Reply::Done),
-            (Line::Mktkt(1, "b"), Reply::Ticket(2)),
-            (Line::Fund(2, "c"), Reply::Done),
-            (Line::Mktkt(1, "c"), Reply::Ticket(3)),
-            (Line::Fund(3, "a"), cycle),
-            (Line::Mktkt(1, "a"), Reply::Ticket(4)),
-            (Line::Fund(4, "c"), Reply::Done),
-            (Line::Fund(3, "d"), Reply::Done),
-            (Line::Mktkt(1, "b"), Reply::Ticket(5)),
-            (Line::Fund(5, "d"), Reply::Done),
-        ],
-    )
+    play(&rt, rt.alloc(), &CYCLES)
 }
 
 /// Makes so many currencies: `c1`, `c2` and so on.
@@ -619,168 +758,215 @@ fn fund_anew(kernel: &mut Kernel, amount: u64, issuer: &str, target: &str) -> Re
     Ok(())
 }
 
-/// Currencies `c1`, `c2` and so on: a base ticket funds the first, so many tickets of each fund the next, and a ticket of
-/// the last funds thread `a`.
-fn chain(alloc: Global, base: u64, currencies: u32, tickets: u32) -> Result<Kernel, Fail> {
-    let mut kernel = largest(alloc, 1)?;
-    make_currencies(&mut kernel, alloc, currencies)?;
-    let last = format!(in alloc; "c{currencies}")?;
-    answer(&mut kernel, Line::Fundx(1, &last, "a", 1))?;
-    for number in (1..currencies).rev() {
-        let issuer = format!(in alloc; "c{number}")?;
-        let target = format!(in alloc; "c{}", number + 1)?;
-        for _ in 0..tickets {
-            fund_anew(&mut kernel, 1, &issuer, &target)?;
-        }
+/// So many tickets of this currency fund the next.
+fn link(kernel: &mut Kernel, alloc: Global, number: u32, tickets: u32) -> Result<(), Fail> {
+    let issuer = format!(in alloc; "c{number}")?;
+    let target = format!(in alloc; "c{}", number.saturating_add(1))?;
+    for _ in 0..tickets {
+        fund_anew(kernel, 1, &issuer, &target)?;
     }
-    fund_anew(&mut kernel, base, "base", "c1")?;
-    Ok(kernel)
-}
-
-#[test]
-fn chain_of_diamonds(rt: HostRuntime) -> Result<(), Fail> {
-    let mut kernel = chain(rt.alloc(), 7, 64, 2)?;
-    let cycle = refused(Refusal::Cycle);
-    check_answers(
-        &rt,
-        &mut kernel,
-        &[
-            (Line::Mktkt(1, "c64"), Reply::Ticket(129)),
-            (Line::Fund(129, "c1"), cycle),
-        ],
-    )?;
-    check_currencies(
-        &rt,
-        &mut kernel,
-        &[(1, "c1", 1, 2, 2, 7), (64, "c64", 2, 2, 1, 6)],
-    )?;
-    assert_eq!(rt; kernel.event(&Event::Draw(1, 5)), won(1, 5, 6));
     Ok(())
 }
 
+/// So many tickets of each of these currencies but the last fund the next.
+fn link_all(kernel: &mut Kernel, alloc: Global, count: u32, tickets: u32) -> Result<(), Fail> {
+    for number in (1..count).rev() {
+        link(kernel, alloc, number, tickets)?;
+    }
+    Ok(())
+}
+
+/// Makes thread `a`, with a ticket of this currency.
+fn fund_last(kernel: &mut Kernel, alloc: Global, number: u32) -> Result<(), Fail> {
+    let last = format!(in alloc; "c{number}")?;
+    answer(kernel, Line::Fundx(1, &last, "a", 1))?;
+    Ok(())
+}
+
+/// Currencies `c1`, `c2` and so on: a base ticket funds the first, so many tickets of each fund the next, and a ticket of
+/// the last funds thread `a`.
+fn chain(
+    kernel: &mut Kernel,
+    alloc: Global,
+    base: u64,
+    currencies: u32,
+    tickets: u32,
+) -> Result<(), Fail> {
+    make_currencies(kernel, alloc, currencies)?;
+    fund_last(kernel, alloc, currencies)?;
+    link_all(kernel, alloc, currencies, tickets)?;
+    fund_anew(kernel, base, "base", "c1")
+}
+
+const DIAMONDS: [Step<'_>; 5] = [
+    Step::Gives(Line::Mktkt(1, "c64"), Reply::Ticket(129)),
+    Step::Gives(Line::Fund(129, "c1"), Reply::Refused(Refusal::Cycle)),
+    Step::Currency((1, "c1", 1, 2, 2, 7)),
+    Step::Currency((64, "c64", 2, 2, 1, 6)),
+    Step::Wins(1, 5, (1, 5, 6), None),
+];
+
+#[test]
+fn chain_of_diamonds(rt: HostRuntime) -> Result<(), Fail> {
+    let mut kernel = largest(rt.alloc(), 1)?;
+    chain(&mut kernel, rt.alloc(), 7, 64, 2)?;
+    take_all(&rt, &mut kernel, &DIAMONDS)
+}
+
+const REMOVAL: [Step<'_>; 13] = [
+    Step::Gives(Line::Mkcur("g"), Reply::Currency(1)),
+    Step::Gives(Line::Mktkt(5, "g"), Reply::Ticket(1)),
+    Step::Gives(Line::Rmcur("g"), Reply::Refused(Refusal::InUse)),
+    Step::Gives(Line::Mkthr("a", 1), Reply::Thread(1)),
+    Step::Gives(Line::Fund(1, "a"), Reply::Done),
+    Step::Gives(Line::Rmtkt(1), Reply::Refused(Refusal::Funding)),
+    Step::Gives(Line::Unfund(1), Reply::Done),
+    Step::Gives(Line::Rmtkt(1), Reply::Done),
+    Step::Gives(Line::Rmcur("g"), Reply::Done),
+    Step::Gives(Line::Unfund(1), Reply::Refused(Refusal::NoTicket)),
+    Step::Gives(Line::Mktkt(5, "base"), Reply::Ticket(2)),
+    Step::Gives(Line::Mkcur("g"), Reply::Currency(2)),
+    Step::Gives(Line::Rmcur("base"), Reply::Refused(Refusal::BaseFixed)),
+];
+
 #[test]
 fn removal_in_order(rt: HostRuntime) -> Result<(), Fail> {
-    let mut kernel = largest(rt.alloc(), 1)?;
-    check_answers(
-        &rt,
-        &mut kernel,
-        &[
-            (Line::Mkcur("g"), Reply::Currency(1)),
-            (Line::Mktkt(5, "g"), Reply::Ticket(1)),
-            (Line::Rmcur("g"), refused(Refusal::InUse)),
-            (Line::Mkthr("a", 1), Reply::Thread(1)),
-            (Line::Fund(1, "a"), Reply::Done),
-            (Line::Rmtkt(1), refused(Refusal::Funding)),
-            (Line::Unfund(1), Reply::Done),
-            (Line::Rmtkt(1), Reply::Done),
-            (Line::Rmcur("g"), Reply::Done),
-            (Line::Unfund(1), refused(Refusal::NoTicket)),
-            (Line::Mktkt(5, "base"), Reply::Ticket(2)),
-            (Line::Mkcur("g"), Reply::Currency(2)),
-            (Line::Rmcur("base"), refused(Refusal::BaseFixed)),
-        ],
-    )
+    play(&rt, rt.alloc(), &REMOVAL)
+}
+
+const FIRST_FUNDED: Reply = Reply::Funded {
+    ticket: 1,
+    thread: 1,
+};
+
+const TWO_TICKETS: [Step<'_>; 4] = [
+    Step::Gives(Line::Mktkt(1, "base"), Reply::Ticket(1)),
+    Step::Gives(Line::Rmtkt(1), Reply::Done),
+    Step::Gives(Line::Mktkt(1, "base"), Reply::Ticket(2)),
+    Step::Gives(Line::Mktkt(1, "base"), Reply::Refused(Refusal::Full)),
+];
+
+const ONE_TICKET: [Step<'_>; 4] = [
+    Step::Gives(Line::Fundx(1, "base", "a", 1), FIRST_FUNDED),
+    Step::Gives(
+        Line::Fundx(1, "base", "b", 1),
+        Reply::Refused(Refusal::Full),
+    ),
+    Step::Gives(Line::Mkthr("b", 1), Reply::Thread(2)),
+    Step::Gives(Line::Mkthr("c", 1), Reply::Refused(Refusal::Full)),
+];
+
+const ONE_THREAD: [Step<'_>; 3] = [
+    Step::Gives(Line::Fundx(1, "base", "a", 1), FIRST_FUNDED),
+    Step::Gives(
+        Line::Fundx(1, "base", "b", 1),
+        Reply::Refused(Refusal::Full),
+    ),
+    Step::Gives(Line::Mktkt(1, "base"), Reply::Ticket(2)),
+];
+
+const TWO_CURRENCIES: [Step<'_>; 4] = [
+    Step::Gives(Line::Mkcur("a"), Reply::Currency(1)),
+    Step::Gives(Line::Rmcur("a"), Reply::Done),
+    Step::Gives(Line::Mkcur("b"), Reply::Currency(2)),
+    Step::Gives(Line::Mkcur("c"), Reply::Refused(Refusal::Full)),
+];
+
+/// Takes the steps in a new kernel of so many tickets, currencies and threads.
+fn play_small(
+    rt: &impl Abort,
+    alloc: Global,
+    (tickets, currencies, threads): (u32, u32, u32),
+    steps: &[Step<'_>],
+) -> Result<(), Fail> {
+    let mut kernel = small(alloc, tickets, currencies, threads)?;
+    take_all(rt, &mut kernel, steps)
 }
 
 #[test]
 fn full_tables(rt: HostRuntime) -> Result<(), Fail> {
-    let full = refused(Refusal::Full);
-    let funded = Reply::Funded {
-        ticket: 1,
-        thread: 1,
-    };
-    let two_tickets = [
-        (Line::Mktkt(1, "base"), Reply::Ticket(1)),
-        (Line::Rmtkt(1), Reply::Done),
-        (Line::Mktkt(1, "base"), Reply::Ticket(2)),
-        (Line::Mktkt(1, "base"), full),
-    ];
-    let one_ticket = [
-        (Line::Fundx(1, "base", "a", 1), funded),
-        (Line::Fundx(1, "base", "b", 1), full),
-        (Line::Mkthr("b", 1), Reply::Thread(2)),
-        (Line::Mkthr("c", 1), full),
-    ];
-    let one_thread = [
-        (Line::Fundx(1, "base", "a", 1), funded),
-        (Line::Fundx(1, "base", "b", 1), full),
-        (Line::Mktkt(1, "base"), Reply::Ticket(2)),
-    ];
-    let two_currencies = [
-        (Line::Mkcur("a"), Reply::Currency(1)),
-        (Line::Rmcur("a"), Reply::Done),
-        (Line::Mkcur("b"), Reply::Currency(2)),
-        (Line::Mkcur("c"), full),
-    ];
-    let tables: [(u32, u32, u32, &[(Line<'_>, Reply)]); 4] = [
-        (2, 1, 1, &two_tickets),
-        (1, 1, 2, &one_ticket),
-        (2, 1, 1, &one_thread),
-        (1, 2, 1, &two_currencies),
-    ];
-    for (tickets, currencies, threads, lines) in tables {
-        let mut kernel = small(rt.alloc(), tickets, currencies, threads)?;
-        check_answers(&rt, &mut kernel, lines)?;
-    }
-    Ok(())
+    play_small(&rt, rt.alloc(), (2, 1, 1), &TWO_TICKETS)?;
+    play_small(&rt, rt.alloc(), (1, 1, 2), &ONE_TICKET)?;
+    play_small(&rt, rt.alloc(), (2, 1, 1), &ONE_THREAD)?;
+    play_small(&rt, rt.alloc(), (1, 2, 1), &TWO_CURRENCIES)
 }
+
+const REFUSED: [Step<'_>; 41] = [
+    Step::Gives(Line::Mktkt(0, "no"), Reply::Refused(Refusal::BadAmount)),
+    Step::Gives(
+        Line::Mktkt(4294967296, "no"),
+        Reply::Refused(Refusal::BadAmount),
+    ),
+    Step::Gives(Line::Mktkt(1, "no"), Reply::Refused(Refusal::NoCurrency)),
+    Step::Gives(Line::Rmtkt(1), Reply::Refused(Refusal::NoTicket)),
+    Step::Gives(Line::Unfund(1), Reply::Refused(Refusal::NoTicket)),
+    Step::Gives(Line::Mkcur("Bad"), Reply::Refused(Refusal::BadName)),
+    Step::Gives(Line::Mkcur("base"), Reply::Refused(Refusal::NameTaken)),
+    Step::Gives(Line::Mkcur("g"), Reply::Currency(1)),
+    Step::Gives(Line::Mkcur("g"), Reply::Refused(Refusal::NameTaken)),
+    Step::Gives(Line::Mkcur("h"), Reply::Refused(Refusal::Full)),
+    Step::Gives(Line::Rmcur("no"), Reply::Refused(Refusal::NoCurrency)),
+    Step::Gives(Line::Rmcur("base"), Reply::Refused(Refusal::BaseFixed)),
+    Step::Gives(Line::Mktkt(4294967295, "g"), Reply::Ticket(1)),
+    Step::Gives(Line::Rmcur("g"), Reply::Refused(Refusal::InUse)),
+    Step::Gives(Line::Mkthr("", 0), Reply::Refused(Refusal::BadName)),
+    Step::Gives(Line::Mkthr("g", 0), Reply::Refused(Refusal::NameTaken)),
+    Step::Gives(Line::Mkthr("a", 0), Reply::Refused(Refusal::NoScript)),
+    Step::Gives(Line::Mkthr("a", 2), Reply::Refused(Refusal::NoScript)),
+    Step::Gives(Line::Mkthr("a", 1), Reply::Thread(1)),
+    Step::Gives(Line::Mkthr("a", 1), Reply::Refused(Refusal::NameTaken)),
+    Step::Gives(Line::Mkthr("b", 1), Reply::Refused(Refusal::Full)),
+    Step::Gives(Line::Fund(9, "no"), Reply::Refused(Refusal::NoTicket)),
+    Step::Gives(Line::Fund(1, "no"), Reply::Refused(Refusal::NoTarget)),
+    Step::Gives(Line::Fund(1, "base"), Reply::Refused(Refusal::BaseFixed)),
+    Step::Gives(Line::Fund(1, "g"), Reply::Refused(Refusal::Cycle)),
+    Step::Gives(Line::Unfund(1), Reply::Refused(Refusal::NotFunding)),
+    Step::Gives(Line::Fund(1, "a"), Reply::Done),
+    Step::Gives(Line::Fund(1, "g"), Reply::Refused(Refusal::Funding)),
+    Step::Gives(Line::Rmtkt(1), Reply::Refused(Refusal::Funding)),
+    Step::Gives(
+        Line::Fundx(0, "no", "Bad", 0),
+        Reply::Refused(Refusal::BadAmount),
+    ),
+    Step::Gives(
+        Line::Fundx(1, "no", "Bad", 0),
+        Reply::Refused(Refusal::NoCurrency),
+    ),
+    Step::Gives(
+        Line::Fundx(1, "g", "Bad", 0),
+        Reply::Refused(Refusal::BadName),
+    ),
+    Step::Gives(
+        Line::Fundx(1, "g", "a", 0),
+        Reply::Refused(Refusal::NameTaken),
+    ),
+    Step::Gives(
+        Line::Fundx(1, "g", "b", 0),
+        Reply::Refused(Refusal::NoScript),
+    ),
+    Step::Gives(Line::Fundx(1, "g", "b", 1), Reply::Refused(Refusal::Full)),
+    Step::Gives(Line::Mktkt(1, "base"), Reply::Ticket(2)),
+    Step::Gives(Line::Mktkt(1, "base"), Reply::Refused(Refusal::Full)),
+    Step::Gives(Line::Fund(2, "g"), Reply::Done),
+    Step::Gives(Line::Unfund(1), Reply::Done),
+    Step::Gives(Line::Rmtkt(1), Reply::Done),
+    Step::Gives(Line::Rmcur("g"), Reply::Refused(Refusal::InUse)),
+];
 
 /// In each line the least check that fails is answered, though later ones would fail too.
 #[test]
 fn refused_commands(rt: HostRuntime) -> Result<(), Fail> {
-    let mut kernel = small(rt.alloc(), 2, 1, 1)?;
-    let lines = [
-        (Line::Mktkt(0, "no"), refused(Refusal::BadAmount)),
-        (Line::Mktkt(4294967296, "no"), refused(Refusal::BadAmount)),
-        (Line::Mktkt(1, "no"), refused(Refusal::NoCurrency)),
-        (Line::Rmtkt(1), refused(Refusal::NoTicket)),
-        (Line::Unfund(1), refused(Refusal::NoTicket)),
-        (Line::Mkcur("Bad"), refused(Refusal::BadName)),
-        (Line::Mkcur("base"), refused(Refusal::NameTaken)),
-        (Line::Mkcur("g"), Reply::Currency(1)),
-        (Line::Mkcur("g"), refused(Refusal::NameTaken)),
-        (Line::Mkcur("h"), refused(Refusal::Full)),
-        (Line::Rmcur("no"), refused(Refusal::NoCurrency)),
-        (Line::Rmcur("base"), refused(Refusal::BaseFixed)),
-        (Line::Mktkt(4294967295, "g"), Reply::Ticket(1)),
-        (Line::Rmcur("g"), refused(Refusal::InUse)),
-        (Line::Mkthr("", 0), refused(Refusal::BadName)),
-        (Line::Mkthr("g", 0), refused(Refusal::NameTaken)),
-        (Line::Mkthr("a", 0), refused(Refusal::NoScript)),
-        (Line::Mkthr("a", 2), refused(Refusal::NoScript)),
-        (Line::Mkthr("a", 1), Reply::Thread(1)),
-        (Line::Mkthr("a", 1), refused(Refusal::NameTaken)),
-        (Line::Mkthr("b", 1), refused(Refusal::Full)),
-        (Line::Fund(9, "no"), refused(Refusal::NoTicket)),
-        (Line::Fund(1, "no"), refused(Refusal::NoTarget)),
-        (Line::Fund(1, "base"), refused(Refusal::BaseFixed)),
-        (Line::Fund(1, "g"), refused(Refusal::Cycle)),
-        (Line::Unfund(1), refused(Refusal::NotFunding)),
-        (Line::Fund(1, "a"), Reply::Done),
-        (Line::Fund(1, "g"), refused(Refusal::Funding)),
-        (Line::Rmtkt(1), refused(Refusal::Funding)),
-        (Line::Fundx(0, "no", "Bad", 0), refused(Refusal::BadAmount)),
-        (Line::Fundx(1, "no", "Bad", 0), refused(Refusal::NoCurrency)),
-        (Line::Fundx(1, "g", "Bad", 0), refused(Refusal::BadName)),
-        (Line::Fundx(1, "g", "a", 0), refused(Refusal::NameTaken)),
-        (Line::Fundx(1, "g", "b", 0), refused(Refusal::NoScript)),
-        (Line::Fundx(1, "g", "b", 1), refused(Refusal::Full)),
-        (Line::Mktkt(1, "base"), Reply::Ticket(2)),
-        (Line::Mktkt(1, "base"), refused(Refusal::Full)),
-        (Line::Fund(2, "g"), Reply::Done),
-        (Line::Unfund(1), Reply::Done),
-        (Line::Rmtkt(1), Reply::Done),
-        (Line::Rmcur("g"), refused(Refusal::InUse)),
-    ];
-    check_answers(&rt, &mut kernel, &lines)
+    play_small(&rt, rt.alloc(), (2, 1, 1), &REFUSED)
+}
+
+fn check_unit(rt: &impl Abort, alloc: Global, unit: u32) -> Result<(), Fail> {
+    let kernel = largest(alloc, unit)?;
+    assert_eq!(rt; (kernel.unit(), kernel.limits().unit), (unit, unit));
+    Ok(())
 }
 
 #[test]
 fn units(rt: HostRuntime) -> Result<(), Fail> {
-    for unit in [1, 256] {
-        let kernel = largest(rt.alloc(), unit)?;
-        assert_eq!(rt; kernel.unit(), unit);
-        assert_eq!(rt; kernel.limits().unit, unit);
-    }
-    Ok(())
+    check_unit(&rt, rt.alloc(), 1)?;
+    check_unit(&rt, rt.alloc(), 256)
 }

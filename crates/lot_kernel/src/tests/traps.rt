@@ -1,469 +1,515 @@
 //! Yields, ports, mutexes and exits.
-use super::{Line, answer, check_answers, check_threads, check_values, largest, refused, won};
+use super::{
+    Line, Step, answer, check_run, check_thread, largest, play, take_all, thread_row, won,
+};
 use crate::{Action, Event, Kernel, Outcome, Refusal, Reply, Status, TrapRefusal};
 use std::alloc::Global;
 use std::process::Abort;
 use std::test::Fail;
 
-/// What a processor is given: a draw with its number, or a trap without work before it.
-#[derive(Clone, Copy, Debug)]
-enum Turn {
-    Draw(u64),
-    Trap(Action),
-}
-
-/// Gives turns to a processor, and compares each answer.
-fn check_turns(rt: &impl Abort, kernel: &mut Kernel, processor: u32, turns: &[(Turn, Reply)]) {
-    for (turn, reply) in turns {
-        let event = match *turn {
-            Turn::Draw(d) => Event::Draw(processor, d),
-            Turn::Trap(action) => Event::Trap(processor, 0, action),
-        };
-        assert_eq!(rt; kernel.event(&event), *reply, "{turn:?} on {processor}");
-    }
-}
-
-/// A kernel of the largest tables with threads of these names, funded with so much of base, in order.
-fn funded(alloc: Global, threads: &[(u64, &str)]) -> Result<Kernel, Fail> {
-    let mut kernel = largest(alloc, 1)?;
+/// Makes threads of these names, funded with so much of base, in order.
+fn fund(kernel: &mut Kernel, threads: &[(u64, &str)]) -> Result<(), Fail> {
     for (amount, name) in threads {
-        answer(&mut kernel, Line::Fundx(*amount, "base", name, 1))?;
+        answer(kernel, Line::Fundx(*amount, "base", name, 1))?;
     }
+    Ok(())
+}
+
+/// Takes the steps in a kernel of the largest tables with threads of these names, funded with so much of base, in order.
+fn play_funded(
+    rt: &impl Abort,
+    alloc: Global,
+    threads: &[(u64, &str)],
+    steps: &[Step<'_>],
+) -> Result<(), Fail> {
+    let mut kernel = largest(alloc, 1)?;
+    fund(&mut kernel, threads)?;
+    take_all(rt, &mut kernel, steps)
+}
+
+/// Gives the events to a kernel with thread `a`, which has so much of base, and compares the answers.
+fn run_funded(
+    rt: &impl Abort,
+    alloc: Global,
+    amount: u64,
+    events: &[Event],
+    replies: &[Reply],
+) -> Result<Kernel, Fail> {
+    let mut kernel = largest(alloc, 1)?;
+    fund(&mut kernel, &[(amount, "a")])?;
+    check_run(rt, &mut kernel, events, replies);
     Ok(kernel)
 }
 
-/// A trap that costs its one tick, and doesn't end the quantum.
-const fn trapped(thread: u32, outcome: Outcome) -> Reply {
-    Reply::Trapped {
-        thread,
-        ticks: 1,
-        outcome,
+/// A draw, a yield after so many ticks of work, and the greatest draw of this total, by a thread with so much.
+fn check_compensation(
+    rt: &impl Abort,
+    alloc: Global,
+    (amount, ran, total): (u64, u32, u64),
+) -> Result<(), Fail> {
+    let yielded = Reply::Trapped {
+        thread: 1,
+        ticks: ran.saturating_add(1),
+        outcome: Outcome::Yielded,
         ends: false,
-    }
+    };
+    let last = total.saturating_sub(1);
+    let mut kernel = run_funded(
+        rt,
+        alloc,
+        amount,
+        &[
+            Event::Draw(1, 0),
+            Event::Trap(1, ran, Action::Yield),
+            Event::Draw(1, last),
+        ],
+        &[
+            won(1, 0, u128::from(amount)),
+            yielded,
+            won(1, u128::from(last), u128::from(total)),
+        ],
+    )?;
+    check_compensated(rt, &mut kernel, amount, u64::from(ran).saturating_add(1))
 }
 
-/// The same of a trap that is refused.
-const fn turned_away(thread: u32, refusal: TrapRefusal) -> Reply {
-    trapped(thread, Outcome::Refused(refusal))
-}
-
-/// A winner to which a number was delivered.
-const fn handed(thread: u32, number: u128, total: u128, delivered: u32) -> Reply {
-    Reply::Winner {
-        thread,
-        number,
-        total,
-        delivered: Some(delivered),
-    }
-}
-
-const fn passed(thread: u32, to: u32, draw: Option<(u64, u64)>) -> Reply {
-    trapped(thread, Outcome::Passed { to, draw })
+/// Compares the thread that won a second time, after so many ticks, to what it is to be.
+fn check_compensated(
+    rt: &impl Abort,
+    kernel: &mut Kernel,
+    amount: u64,
+    ticks: u64,
+) -> Result<(), Fail> {
+    let runs = Status::Running {
+        processor: 1,
+        used: 0,
+    };
+    let row = thread_row((1, "a", runs, amount, u128::from(amount), 2, ticks))?;
+    check_thread(rt, kernel, 1, Some(row));
+    Ok(())
 }
 
 #[test]
 fn compensation(rt: HostRuntime) -> Result<(), Fail> {
     // What one thread has, the ticks of work before it yields, and the total of the next draw.
-    for (amount, ran, total) in [(400, 19, 2000), (7, 2, 233), (400, 98, 404), (400, 99, 400)] {
-        let mut kernel = funded(rt.alloc(), &[(amount, "a")])?;
-        let mut out = [Reply::Idle; 3];
-        let events = [
-            Event::Draw(1, 0),
-            Event::Trap(1, ran, Action::Yield),
-            Event::Draw(1, total - 1),
-        ];
-        kernel.run(&events, &mut out);
-        let yielded = Reply::Trapped {
-            thread: 1,
-            ticks: ran + 1,
-            outcome: Outcome::Yielded,
-            ends: false,
-        };
-        let again = won(1, u128::from(total) - 1, u128::from(total));
-        assert_eq!(rt; out, [won(1, 0, u128::from(amount)), yielded, again]);
-        let runs = Status::Running {
-            processor: 1,
-            used: 0,
-        };
-        let ticks = u64::from(ran) + 1;
-        let weight = u128::from(amount);
-        check_threads(
-            &rt,
-            &mut kernel,
-            &[(1, "a", runs, amount, weight, 2, ticks)],
-        )?;
+    for row in [(400, 19, 2000), (7, 2, 233), (400, 98, 404), (400, 99, 400)] {
+        check_compensation(&rt, rt.alloc(), row)?;
     }
     Ok(())
 }
 
+const EXPIRY: [Event; 3] = [Event::Draw(1, 0), Event::Expire(1), Event::Draw(1, 0)];
+
+const EXPIRED: Reply = Reply::Expired {
+    thread: 1,
+    ticks: 100,
+};
+
+const EXPIRY_REPLIES: [Reply; 3] = [
+    Reply::Winner {
+        thread: 1,
+        number: 0,
+        total: 400,
+        delivered: None,
+    },
+    EXPIRED,
+    Reply::Winner {
+        thread: 1,
+        number: 0,
+        total: 400,
+        delivered: None,
+    },
+];
+
 #[test]
 fn an_expiry_gives_no_compensation(rt: HostRuntime) -> Result<(), Fail> {
-    let mut kernel = funded(rt.alloc(), &[(400, "a")])?;
-    let mut out = [Reply::Idle; 3];
-    kernel.run(
-        &[Event::Draw(1, 0), Event::Expire(1), Event::Draw(1, 0)],
-        &mut out,
-    );
-    let expired = Reply::Expired {
-        thread: 1,
-        ticks: 100,
-    };
-    assert_eq!(rt; out, [won(1, 0, 400), expired, won(1, 0, 400)]);
+    run_funded(&rt, rt.alloc(), 400, &EXPIRY, &EXPIRY_REPLIES)?;
     Ok(())
 }
+
+const TWO_PROCESSORS: [Event; 4] = [
+    Event::Draw(1, 4),
+    Event::Draw(2, 0),
+    Event::Expire(1),
+    Event::Draw(2, 3),
+];
+
+const TWO_PROCESSORS_REPLIES: [Reply; 4] = [
+    Reply::Winner {
+        thread: 1,
+        number: 4,
+        total: 10,
+        delivered: None,
+    },
+    Reply::Idle,
+    EXPIRED,
+    Reply::Winner {
+        thread: 1,
+        number: 3,
+        total: 10,
+        delivered: None,
+    },
+];
 
 #[test]
 fn two_processors(rt: HostRuntime) -> Result<(), Fail> {
-    let mut kernel = funded(rt.alloc(), &[(10, "a")])?;
-    let mut out = [Reply::Done; 4];
-    let events = [
-        Event::Draw(1, 4),
-        Event::Draw(2, 0),
-        Event::Expire(1),
-        Event::Draw(2, 3),
-    ];
-    kernel.run(&events, &mut out);
-    let expired = Reply::Expired {
-        thread: 1,
-        ticks: 100,
-    };
-    assert_eq!(rt; out, [won(1, 4, 10), Reply::Idle, expired, won(1, 3, 10)]);
+    run_funded(
+        &rt,
+        rt.alloc(),
+        10,
+        &TWO_PROCESSORS,
+        &TWO_PROCESSORS_REPLIES,
+    )?;
     Ok(())
 }
+
+const WAITING_SERVER: [Step<'_>; 15] = [
+    Step::Gives(Line::Mkthr("v", 1), Reply::Thread(1)),
+    Step::Gives(
+        Line::Fundx(400, "base", "c", 1),
+        Reply::Funded {
+            ticket: 1,
+            thread: 2,
+        },
+    ),
+    Step::Gives(Line::Mktkt(1, "base"), Reply::Ticket(2)),
+    Step::Gives(Line::Fund(2, "v"), Reply::Done),
+    Step::Wins(1, 0, (1, 0, 401), None),
+    Step::Traps(1, Action::Receive(1), 1, Outcome::Waits),
+    Step::Gives(Line::Unfund(2), Reply::Done),
+    Step::Wins(1, 0, (2, 0, 400), None),
+    Step::Traps(1, Action::Call(1, 9), 2, Outcome::ServedBy(1)),
+    Step::Wins(1, 39999, (1, 39999, 40000), Some(9)),
+    Step::Traps(1, Action::Reply(5), 1, Outcome::Replied(2)),
+    Step::Traps(1, Action::Yield, 1, Outcome::Yielded),
+    Step::Wins(1, 0, (2, 0, 40000), Some(5)),
+    Step::Value(1, 0),
+    Step::Value(2, 400),
+];
 
 #[test]
 fn a_call_to_a_server_that_waits(rt: HostRuntime) -> Result<(), Fail> {
-    let mut kernel = largest(rt.alloc(), 1)?;
-    let made = [
-        (Line::Mkthr("v", 1), Reply::Thread(1)),
-        (
-            Line::Fundx(400, "base", "c", 1),
-            Reply::Funded {
-                ticket: 1,
-                thread: 2,
-            },
-        ),
-        (Line::Mktkt(1, "base"), Reply::Ticket(2)),
-        (Line::Fund(2, "v"), Reply::Done),
-    ];
-    check_answers(&rt, &mut kernel, &made)?;
-    let waits = [
-        (Turn::Draw(0), won(1, 0, 401)),
-        (Turn::Trap(Action::Receive(1)), trapped(1, Outcome::Waits)),
-    ];
-    check_turns(&rt, &mut kernel, 1, &waits);
-    check_answers(&rt, &mut kernel, &[(Line::Unfund(2), Reply::Done)])?;
-    let turns = [
-        (Turn::Draw(0), won(2, 0, 400)),
-        (
-            Turn::Trap(Action::Call(1, 9)),
-            trapped(2, Outcome::ServedBy(1)),
-        ),
-        (Turn::Draw(39999), handed(1, 39999, 40000, 9)),
-        (
-            Turn::Trap(Action::Reply(5)),
-            trapped(1, Outcome::Replied(2)),
-        ),
-        (Turn::Trap(Action::Yield), trapped(1, Outcome::Yielded)),
-        (Turn::Draw(0), handed(2, 0, 40000, 5)),
-    ];
-    check_turns(&rt, &mut kernel, 1, &turns);
-    check_values(&rt, &mut kernel, &[(1, 0), (2, 400)]);
-    Ok(())
+    play(&rt, rt.alloc(), &WAITING_SERVER)
 }
+
+const QUEUED_CALL: [Step<'_>; 17] = [
+    Step::Gives(Line::Mkcur("g"), Reply::Currency(1)),
+    Step::Gives(Line::Mktkt(300, "base"), Reply::Ticket(1)),
+    Step::Gives(Line::Fund(1, "g"), Reply::Done),
+    Step::Gives(
+        Line::Fundx(100, "g", "c", 1),
+        Reply::Funded {
+            ticket: 2,
+            thread: 1,
+        },
+    ),
+    Step::Gives(
+        Line::Fundx(100, "g", "x", 1),
+        Reply::Funded {
+            ticket: 3,
+            thread: 2,
+        },
+    ),
+    Step::Gives(
+        Line::Fundx(10, "base", "y", 1),
+        Reply::Funded {
+            ticket: 4,
+            thread: 3,
+        },
+    ),
+    Step::Wins(1, 0, (1, 0, 310), None),
+    Step::Traps(1, Action::Call(1, 7), 1, Outcome::Queued),
+    Step::Value(1, 0),
+    Step::Value(2, 300),
+    Step::Value(3, 10),
+    Step::Wins(1, 300, (3, 300, 310), None),
+    Step::Traps(
+        1,
+        Action::Receive(1),
+        3,
+        Outcome::Received {
+            client: 1,
+            number: 7,
+        },
+    ),
+    Step::Value(1, 150),
+    Step::Value(2, 150),
+    Step::Value(3, 160),
+    Step::Wins(2, 0, (2, 0, 150), None),
+];
 
 #[test]
 fn a_queued_call(rt: HostRuntime) -> Result<(), Fail> {
-    let mut kernel = largest(rt.alloc(), 1)?;
-    let made = [
-        (Line::Mkcur("g"), Reply::Currency(1)),
-        (Line::Mktkt(300, "base"), Reply::Ticket(1)),
-        (Line::Fund(1, "g"), Reply::Done),
-        (
-            Line::Fundx(100, "g", "c", 1),
-            Reply::Funded {
-                ticket: 2,
-                thread: 1,
-            },
-        ),
-        (
-            Line::Fundx(100, "g", "x", 1),
-            Reply::Funded {
-                ticket: 3,
-                thread: 2,
-            },
-        ),
-        (
-            Line::Fundx(10, "base", "y", 1),
-            Reply::Funded {
-                ticket: 4,
-                thread: 3,
-            },
-        ),
-    ];
-    check_answers(&rt, &mut kernel, &made)?;
-    let queued = [
-        (Turn::Draw(0), won(1, 0, 310)),
-        (Turn::Trap(Action::Call(1, 7)), trapped(1, Outcome::Queued)),
-    ];
-    check_turns(&rt, &mut kernel, 1, &queued);
-    check_values(&rt, &mut kernel, &[(1, 0), (2, 300), (3, 10)]);
-    let client = 1;
-    let received = [
-        (Turn::Draw(300), won(3, 300, 310)),
-        (
-            Turn::Trap(Action::Receive(1)),
-            trapped(3, Outcome::Received { client, number: 7 }),
-        ),
-    ];
-    check_turns(&rt, &mut kernel, 1, &received);
-    check_values(&rt, &mut kernel, &[(1, 150), (2, 150), (3, 160)]);
-    check_turns(&rt, &mut kernel, 2, &[(Turn::Draw(0), won(2, 0, 150))]);
-    Ok(())
+    play(&rt, rt.alloc(), &QUEUED_CALL)
 }
+
+// The client's number is delivered when the server wins next.
+const LENDS: [Step<'_>; 10] = [
+    Step::Wins(1, 400, (3, 400, 450), None),
+    Step::Traps(1, Action::Receive(1), 3, Outcome::Waits),
+    Step::Wins(1, 300, (2, 300, 400), None),
+    Step::Traps(1, Action::Lock(1), 2, Outcome::Locked),
+    Step::Traps(1, Action::Call(1, 0), 2, Outcome::ServedBy(3)),
+    Step::Wins(1, 0, (1, 0, 15300), None),
+    Step::Traps(1, Action::Lock(1), 1, Outcome::Waits),
+    Step::Thread((1, "w", Status::Waiting(1), 300, 30000, 1, 1)),
+    Step::Thread((2, "o", Status::Served(3), 400, 20000, 1, 2)),
+    Step::Thread((3, "v", Status::Ready, 450, 45000, 1, 1)),
+];
 
 #[test]
 fn a_chain_of_lends(rt: HostRuntime) -> Result<(), Fail> {
-    let mut kernel = funded(rt.alloc(), &[(300, "w"), (100, "o"), (50, "v")])?;
-    let turns = [
-        (Turn::Draw(400), won(3, 400, 450)),
-        (Turn::Trap(Action::Receive(1)), trapped(3, Outcome::Waits)),
-        (Turn::Draw(300), won(2, 300, 400)),
-        (Turn::Trap(Action::Lock(1)), trapped(2, Outcome::Locked)),
-        (
-            Turn::Trap(Action::Call(1, 0)),
-            trapped(2, Outcome::ServedBy(3)),
-        ),
-        (Turn::Draw(0), won(1, 0, 15300)),
-        (Turn::Trap(Action::Lock(1)), trapped(1, Outcome::Waits)),
-    ];
-    // The client's number is delivered when the server wins next.
-    check_turns(&rt, &mut kernel, 1, &turns);
-    let rows = [
-        (1, "w", Status::Waiting(1), 300, 30000, 1, 1),
-        (2, "o", Status::Served(3), 400, 20000, 1, 2),
-        (3, "v", Status::Ready, 450, 45000, 1, 1),
-    ];
-    check_threads(&rt, &mut kernel, &rows)
+    play_funded(
+        &rt,
+        rt.alloc(),
+        &[(300, "w"), (100, "o"), (50, "v")],
+        &LENDS,
+    )
 }
 
-/// Three threads with 50, 100 and 300, of which the first owns mutex 1 and runs, and the others wait for it.
-fn contended(rt: &impl Abort, alloc: Global) -> Result<Kernel, Fail> {
-    let mut kernel = funded(alloc, &[(50, "a"), (100, "b"), (300, "c")])?;
-    let turns = [
-        (Turn::Draw(0), won(1, 0, 450)),
-        (Turn::Trap(Action::Lock(1)), trapped(1, Outcome::Locked)),
-        (Turn::Trap(Action::Yield), trapped(1, Outcome::Yielded)),
-        (Turn::Draw(2500), won(2, 2500, 2900)),
-        (Turn::Trap(Action::Lock(1)), trapped(2, Outcome::Waits)),
-        (Turn::Draw(7500), won(3, 7500, 7800)),
-        (Turn::Trap(Action::Lock(1)), trapped(3, Outcome::Waits)),
-        (Turn::Draw(0), won(1, 0, 22500)),
-    ];
-    check_turns(rt, &mut kernel, 1, &turns);
-    Ok(kernel)
+/// Of three threads with 50, 100 and 300 the first owns mutex 1 and runs, and the others wait for it.
+const CONTENDED: [Step<'_>; 8] = [
+    Step::Wins(1, 0, (1, 0, 450), None),
+    Step::Traps(1, Action::Lock(1), 1, Outcome::Locked),
+    Step::Traps(1, Action::Yield, 1, Outcome::Yielded),
+    Step::Wins(1, 2500, (2, 2500, 2900), None),
+    Step::Traps(1, Action::Lock(1), 2, Outcome::Waits),
+    Step::Wins(1, 7500, (3, 7500, 7800), None),
+    Step::Traps(1, Action::Lock(1), 3, Outcome::Waits),
+    Step::Wins(1, 0, (1, 0, 22500), None),
+];
+
+const PASSED_TO_SECOND: [Step<'_>; 4] = [
+    Step::Traps(
+        1,
+        Action::Unlock(1, 99),
+        1,
+        Outcome::Passed {
+            to: 2,
+            draw: Some((99, 400)),
+        },
+    ),
+    Step::Thread((1, "a", Status::Ready, 50, 5000, 2, 3)),
+    Step::Thread((2, "b", Status::Ready, 400, 40000, 1, 1)),
+    Step::Thread((3, "c", Status::Waiting(1), 300, 30000, 1, 1)),
+];
+
+const PASSED_TO_THIRD: [Step<'_>; 3] = [
+    Step::Traps(
+        1,
+        Action::Unlock(1, 100),
+        1,
+        Outcome::Passed {
+            to: 3,
+            draw: Some((100, 400)),
+        },
+    ),
+    Step::Thread((2, "b", Status::Waiting(1), 100, 10000, 1, 1)),
+    Step::Thread((3, "c", Status::Ready, 400, 40000, 1, 1)),
+];
+
+/// Takes the steps once the mutex is contended.
+fn play_contended(rt: &impl Abort, alloc: Global, steps: &[Step<'_>]) -> Result<(), Fail> {
+    let mut kernel = largest(alloc, 1)?;
+    fund(&mut kernel, &[(50, "a"), (100, "b"), (300, "c")])?;
+    take_all(rt, &mut kernel, &CONTENDED)?;
+    take_all(rt, &mut kernel, steps)
 }
 
 #[test]
 fn an_unlock_passes_by_lottery(rt: HostRuntime) -> Result<(), Fail> {
-    let mut kernel = contended(&rt, rt.alloc())?;
-    let unlock = Turn::Trap(Action::Unlock(1, 99));
-    check_turns(
-        &rt,
-        &mut kernel,
-        1,
-        &[(unlock, passed(1, 2, Some((99, 400))))],
-    );
-    let rows = [
-        (1, "a", Status::Ready, 50, 5000, 2, 3),
-        (2, "b", Status::Ready, 400, 40000, 1, 1),
-        (3, "c", Status::Waiting(1), 300, 30000, 1, 1),
-    ];
-    check_threads(&rt, &mut kernel, &rows)?;
-
-    let mut kernel = contended(&rt, rt.alloc())?;
-    let unlock = Turn::Trap(Action::Unlock(1, 100));
-    check_turns(
-        &rt,
-        &mut kernel,
-        1,
-        &[(unlock, passed(1, 3, Some((100, 400))))],
-    );
-    let rows = [
-        (2, "b", Status::Waiting(1), 100, 10000, 1, 1),
-        (3, "c", Status::Ready, 400, 40000, 1, 1),
-    ];
-    check_threads(&rt, &mut kernel, &rows)
+    play_contended(&rt, rt.alloc(), &PASSED_TO_SECOND)?;
+    play_contended(&rt, rt.alloc(), &PASSED_TO_THIRD)
 }
+
+const WORTHLESS_WAITERS: [Step<'_>; 12] = [
+    Step::Wins(1, 0, (1, 0, 60), None),
+    Step::Traps(1, Action::Lock(1), 1, Outcome::Locked),
+    Step::Traps(1, Action::Yield, 1, Outcome::Yielded),
+    Step::Wins(1, 500, (2, 500, 550), None),
+    Step::Traps(1, Action::Lock(1), 2, Outcome::Waits),
+    Step::Wins(1, 1500, (3, 1500, 1530), None),
+    Step::Traps(1, Action::Lock(1), 3, Outcome::Waits),
+    Step::Gives(Line::Unfund(2), Reply::Done),
+    Step::Gives(Line::Unfund(3), Reply::Done),
+    Step::Wins(1, 0, (1, 0, 500), None),
+    Step::Traps(
+        1,
+        Action::Unlock(1, 5),
+        1,
+        Outcome::Passed { to: 2, draw: None },
+    ),
+    Step::Wins(1, 0, (1, 0, 1000), None),
+];
 
 #[test]
 fn waiters_worth_nothing(rt: HostRuntime) -> Result<(), Fail> {
-    let mut kernel = funded(rt.alloc(), &[(10, "a"), (20, "b"), (30, "c")])?;
-    let turns = [
-        (Turn::Draw(0), won(1, 0, 60)),
-        (Turn::Trap(Action::Lock(1)), trapped(1, Outcome::Locked)),
-        (Turn::Trap(Action::Yield), trapped(1, Outcome::Yielded)),
-        (Turn::Draw(500), won(2, 500, 550)),
-        (Turn::Trap(Action::Lock(1)), trapped(2, Outcome::Waits)),
-        (Turn::Draw(1500), won(3, 1500, 1530)),
-        (Turn::Trap(Action::Lock(1)), trapped(3, Outcome::Waits)),
-    ];
-    check_turns(&rt, &mut kernel, 1, &turns);
-    let unfunded = [
-        (Line::Unfund(2), Reply::Done),
-        (Line::Unfund(3), Reply::Done),
-    ];
-    check_answers(&rt, &mut kernel, &unfunded)?;
-    let turns = [
-        (Turn::Draw(0), won(1, 0, 500)),
-        (Turn::Trap(Action::Unlock(1, 5)), passed(1, 2, None)),
-        (Turn::Draw(0), won(1, 0, 1000)),
-    ];
-    check_turns(&rt, &mut kernel, 1, &turns);
-    Ok(())
+    play_funded(
+        &rt,
+        rt.alloc(),
+        &[(10, "a"), (20, "b"), (30, "c")],
+        &WORTHLESS_WAITERS,
+    )
 }
+
+const LOCK_CYCLE: [Step<'_>; 10] = [
+    Step::Wins(1, 0, (1, 0, 20), None),
+    Step::Wins(2, 0, (2, 0, 10), None),
+    Step::Traps(1, Action::Lock(1), 1, Outcome::Locked),
+    Step::Traps(2, Action::Lock(2), 2, Outcome::Locked),
+    Step::Traps(1, Action::Lock(2), 1, Outcome::Waits),
+    Step::Traps(
+        2,
+        Action::Lock(1),
+        2,
+        Outcome::Refused(TrapRefusal::LockCycle),
+    ),
+    Step::Traps(
+        2,
+        Action::Lock(2),
+        2,
+        Outcome::Refused(TrapRefusal::AlreadyOwner),
+    ),
+    Step::Traps(
+        2,
+        Action::Unlock(1, 0),
+        2,
+        Outcome::Refused(TrapRefusal::NotOwner),
+    ),
+    Step::Traps(
+        2,
+        Action::Lock(3),
+        2,
+        Outcome::Refused(TrapRefusal::NoMutex),
+    ),
+    Step::Thread((
+        2,
+        "b",
+        Status::Running {
+            processor: 2,
+            used: 5,
+        },
+        20,
+        20,
+        1,
+        5,
+    )),
+];
 
 #[test]
 fn a_lock_that_would_make_a_cycle(rt: HostRuntime) -> Result<(), Fail> {
-    let mut kernel = funded(rt.alloc(), &[(10, "a"), (10, "b")])?;
-    check_turns(&rt, &mut kernel, 1, &[(Turn::Draw(0), won(1, 0, 20))]);
-    check_turns(&rt, &mut kernel, 2, &[(Turn::Draw(0), won(2, 0, 10))]);
-    let first = [(Turn::Trap(Action::Lock(1)), trapped(1, Outcome::Locked))];
-    check_turns(&rt, &mut kernel, 1, &first);
-    let second = [(Turn::Trap(Action::Lock(2)), trapped(2, Outcome::Locked))];
-    check_turns(&rt, &mut kernel, 2, &second);
-    let waits = [(Turn::Trap(Action::Lock(2)), trapped(1, Outcome::Waits))];
-    check_turns(&rt, &mut kernel, 1, &waits);
-    let refusals = [
-        (
-            Turn::Trap(Action::Lock(1)),
-            turned_away(2, TrapRefusal::LockCycle),
-        ),
-        (
-            Turn::Trap(Action::Lock(2)),
-            turned_away(2, TrapRefusal::AlreadyOwner),
-        ),
-        (
-            Turn::Trap(Action::Unlock(1, 0)),
-            turned_away(2, TrapRefusal::NotOwner),
-        ),
-        (
-            Turn::Trap(Action::Lock(3)),
-            turned_away(2, TrapRefusal::NoMutex),
-        ),
-    ];
-    check_turns(&rt, &mut kernel, 2, &refusals);
-    let runs = Status::Running {
-        processor: 2,
-        used: 5,
-    };
-    check_threads(&rt, &mut kernel, &[(2, "b", runs, 20, 20, 1, 5)])
+    play_funded(&rt, rt.alloc(), &[(10, "a"), (10, "b")], &LOCK_CYCLE)
 }
+
+const QUANTUM: [Event; 6] = [
+    Event::Draw(1, 0),
+    Event::Trap(1, 100, Action::Lock(1)),
+    Event::Trap(1, 99, Action::Lock(1)),
+    Event::Draw(1, 0),
+    Event::Trap(1, 9, Action::Unlock(1, 0)),
+    Event::Expire(1),
+];
+
+const QUANTUM_REPLIES: [Reply; 6] = [
+    Reply::Winner {
+        thread: 1,
+        number: 0,
+        total: 10,
+        delivered: None,
+    },
+    Reply::Refused(Refusal::BadTicks),
+    Reply::Trapped {
+        thread: 1,
+        ticks: 100,
+        outcome: Outcome::Locked,
+        ends: true,
+    },
+    Reply::Winner {
+        thread: 1,
+        number: 0,
+        total: 10,
+        delivered: None,
+    },
+    Reply::Trapped {
+        thread: 1,
+        ticks: 10,
+        outcome: Outcome::Freed,
+        ends: false,
+    },
+    Reply::Expired {
+        thread: 1,
+        ticks: 90,
+    },
+];
 
 #[test]
 fn the_end_of_a_quantum(rt: HostRuntime) -> Result<(), Fail> {
-    let mut kernel = funded(rt.alloc(), &[(10, "a")])?;
-    let mut out = [Reply::Done; 6];
-    let events = [
-        Event::Draw(1, 0),
-        Event::Trap(1, 100, Action::Lock(1)),
-        Event::Trap(1, 99, Action::Lock(1)),
-        Event::Draw(1, 0),
-        Event::Trap(1, 9, Action::Unlock(1, 0)),
-        Event::Expire(1),
-    ];
-    kernel.run(&events, &mut out);
-    let expected = [
-        won(1, 0, 10),
-        refused(Refusal::BadTicks),
-        Reply::Trapped {
-            thread: 1,
-            ticks: 100,
-            outcome: Outcome::Locked,
-            ends: true,
-        },
-        won(1, 0, 10),
-        Reply::Trapped {
-            thread: 1,
-            ticks: 10,
-            outcome: Outcome::Freed,
-            ends: false,
-        },
-        Reply::Expired {
-            thread: 1,
-            ticks: 90,
-        },
-    ];
-    assert_eq!(rt; out, expected);
+    run_funded(&rt, rt.alloc(), 10, &QUANTUM, &QUANTUM_REPLIES)?;
     Ok(())
 }
+
+const REFUSED_TRAPS: [Step<'_>; 4] = [
+    Step::Wins(1, 0, (1, 0, 10), None),
+    Step::Traps(
+        1,
+        Action::Call(3, 0),
+        1,
+        Outcome::Refused(TrapRefusal::NoPort),
+    ),
+    Step::Traps(
+        1,
+        Action::Reply(1),
+        1,
+        Outcome::Refused(TrapRefusal::NothingToReply),
+    ),
+    Step::Thread((
+        1,
+        "a",
+        Status::Running {
+            processor: 1,
+            used: 2,
+        },
+        10,
+        10,
+        1,
+        2,
+    )),
+];
 
 #[test]
 fn refused_traps_cost_their_ticks(rt: HostRuntime) -> Result<(), Fail> {
-    let mut kernel = funded(rt.alloc(), &[(10, "a")])?;
-    let turns = [
-        (Turn::Draw(0), won(1, 0, 10)),
-        (
-            Turn::Trap(Action::Call(3, 0)),
-            turned_away(1, TrapRefusal::NoPort),
-        ),
-        (
-            Turn::Trap(Action::Reply(1)),
-            turned_away(1, TrapRefusal::NothingToReply),
-        ),
-    ];
-    check_turns(&rt, &mut kernel, 1, &turns);
-    let runs = Status::Running {
-        processor: 1,
-        used: 2,
-    };
-    check_threads(&rt, &mut kernel, &[(1, "a", runs, 10, 10, 1, 2)])
+    play_funded(&rt, rt.alloc(), &[(10, "a")], &REFUSED_TRAPS)
 }
+
+const TWO_CLIENTS: [Step<'_>; 16] = [
+    Step::Wins(1, 0, (1, 0, 60), None),
+    Step::Traps(1, Action::Receive(1), 1, Outcome::Waits),
+    Step::Wins(1, 0, (2, 0, 50), None),
+    Step::Traps(1, Action::Call(1, 5), 2, Outcome::ServedBy(1)),
+    Step::Wins(1, 0, (1, 0, 3030), Some(5)),
+    Step::Traps(1, Action::Receive(1), 1, Outcome::Waits),
+    Step::Value(2, 0),
+    Step::Wins(1, 0, (3, 0, 30), None),
+    Step::Traps(1, Action::Call(1, 6), 3, Outcome::ServedBy(1)),
+    Step::Wins(1, 0, (1, 0, 6000), Some(6)),
+    Step::Traps(1, Action::Reply(1), 1, Outcome::Replied(2)),
+    Step::Traps(1, Action::Reply(2), 1, Outcome::Replied(3)),
+    Step::Traps(
+        1,
+        Action::Reply(3),
+        1,
+        Outcome::Refused(TrapRefusal::NothingToReply),
+    ),
+    Step::Traps(1, Action::Yield, 1, Outcome::Yielded),
+    Step::Thread((1, "v", Status::Ready, 10, 250, 3, 6)),
+    Step::Wins(1, 250, (2, 250, 5250), Some(1)),
+];
 
 #[test]
 fn a_server_of_two_clients(rt: HostRuntime) -> Result<(), Fail> {
-    let mut kernel = funded(rt.alloc(), &[(10, "v"), (20, "c"), (30, "d")])?;
-    let turns = [
-        (Turn::Draw(0), won(1, 0, 60)),
-        (Turn::Trap(Action::Receive(1)), trapped(1, Outcome::Waits)),
-        (Turn::Draw(0), won(2, 0, 50)),
-        (
-            Turn::Trap(Action::Call(1, 5)),
-            trapped(2, Outcome::ServedBy(1)),
-        ),
-        (Turn::Draw(0), handed(1, 0, 3030, 5)),
-        (Turn::Trap(Action::Receive(1)), trapped(1, Outcome::Waits)),
-    ];
-    check_turns(&rt, &mut kernel, 1, &turns);
-    check_values(&rt, &mut kernel, &[(2, 0)]);
-    let turns = [
-        (Turn::Draw(0), won(3, 0, 30)),
-        (
-            Turn::Trap(Action::Call(1, 6)),
-            trapped(3, Outcome::ServedBy(1)),
-        ),
-        (Turn::Draw(0), handed(1, 0, 6000, 6)),
-        (
-            Turn::Trap(Action::Reply(1)),
-            trapped(1, Outcome::Replied(2)),
-        ),
-        (
-            Turn::Trap(Action::Reply(2)),
-            trapped(1, Outcome::Replied(3)),
-        ),
-        (
-            Turn::Trap(Action::Reply(3)),
-            turned_away(1, TrapRefusal::NothingToReply),
-        ),
-        (Turn::Trap(Action::Yield), trapped(1, Outcome::Yielded)),
-    ];
-    check_turns(&rt, &mut kernel, 1, &turns);
-    check_threads(&rt, &mut kernel, &[(1, "v", Status::Ready, 10, 250, 3, 6)])?;
-    check_turns(
+    play_funded(
         &rt,
-        &mut kernel,
-        1,
-        &[(Turn::Draw(250), handed(2, 250, 5250, 1))],
-    );
-    Ok(())
+        rt.alloc(),
+        &[(10, "v"), (20, "c"), (30, "d")],
+        &TWO_CLIENTS,
+    )
 }
