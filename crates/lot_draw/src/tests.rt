@@ -59,7 +59,8 @@ impl Room {
         if let Some(used) = compensation {
             assert!(rt; 0 < used);
         }
-        self.queue.set_competitor(thread, Some(Competitor { compensation }));
+        self.queue
+            .set_competitor(thread, Some(Competitor { compensation }));
     }
 
     /// A thread runs, and doesn't compete.
@@ -73,7 +74,10 @@ impl Room {
         let graph = self.graph.graph();
         assert!(rt; 0 < amount && graph.is_currency(currency));
         assert!(rt; is_target(graph, target));
-        let ticket = self.graph.issue(currency, amount).expect(rt, "no ticket is left");
+        let ticket = self
+            .graph
+            .issue(currency, amount)
+            .expect(rt, "no ticket is left");
         assert!(rt; self.graph.graph().is_unfunded(ticket));
         assert!(rt; self.graph.fund(ticket, target).is_ok());
     }
@@ -133,7 +137,12 @@ fn thirds(rt: &impl Abort, alloc: Global) -> Result<Room, Fail> {
 #[test]
 fn reads_what_is_stale(rt: HostRuntime) -> Result<(), Fail> {
     let mut room = thirds(&rt, rt.alloc())?;
-    for (d, thread, number, reads) in [(0, 1, 0, 4), (98, 3, 98, 0), (100, 1, 1, 0), (33, 2, 33, 0)] {
+    for (d, thread, number, reads) in [
+        (0, 1, 0, 4),
+        (98, 3, 98, 0),
+        (100, 1, 1, 0),
+        (33, 2, 33, 0),
+    ] {
         let (winner, read, visits) = room.draw(d);
         assert_eq!(rt; winner, won(thread, number, 99), "at {d}");
         assert_eq!(rt; read, reads, "at {d}");
@@ -165,9 +174,18 @@ fn compensates(rt: HostRuntime) -> Result<(), Fail> {
         let thread = room.add_thread(&rt);
         room.fund(&rt, 400, 0, Target::Thread(thread));
     }
-    for (compensation, total) in [(Some(20), 2400), (Some(99), 804), (Some(1), 40400), (None, 800)] {
+    for (compensation, total) in [
+        (Some(20), 2400),
+        (Some(99), 804),
+        (Some(1), 40400),
+        (None, 800),
+    ] {
         room.compete(&rt, 1, compensation);
-        assert_eq!(rt; room.draw(total as u64 - 1).0, won(2, total - 1, total), "at {total}");
+        assert_eq!(rt;
+            room.draw(total as u64 - 1).0,
+            won(2, total - 1, total),
+            "at {total}"
+        );
     }
     Ok(())
 }
