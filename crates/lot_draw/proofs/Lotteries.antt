@@ -1,9 +1,8 @@
 -- Who weighs nothing can be left out of a lottery.
-use Rattle.std.proofs.Common.{◌≡◌, ℕ, zero, suc, ◌+◌, ◌%◌, ◌<◌, ◌≤◌, ◌==◌, nat_lt, Bool, true, false, cond, Option, Some, None, List, [], ◌∷◌, length, map, filter, sum, get_or, add_comm, ap, sym, ◌∙◌, refl, arith}
+use Rattle.std.proofs.Common.{◌≡◌, ℕ, suc, ◌+◌, ◌%◌, ◌<◌, ◌≤◌, ◌==◌, nat_lt, Bool, true, false, cond, Option, Some, None, List, [], ◌∷◌, length, map, filter, sum, get_or, add_comm, ap, sym, ◌∙◌, refl, arith}
 use Rattle.std.proofs.lemmas.Bool.{ltb-true, ltb-false, eqb-true}
 use Rattle.std.proofs.lemmas.List.FromFn.{get_or-range_with_len}
 use Rattle.std.proofs.lemmas.List.Sums.{sum_by-cons}
-use Rattle.lot_machine.specs.declared.drawn.Drawn.{Drawn}
 use Rattle.lot_machine.specs.Numbered.{numbers}
 use Rattle.lot_machine.specs.Lottery.{first_above, running_sums, winner}
 use Rattle.lot_draw.specs.declared.competing.Winner.{Winner}
@@ -30,13 +29,13 @@ module _ (competes : ℕ → Bool) (weight : ℕ → ℕ) (idle : (t : ℕ) → 
     where
       among : (b : Bool) → nat_lt number (before + weight t) ≡ b → (before + weight t ≤ number → IsSame ts (before + weight t) number)
           → get_or (t ∷ ts) (cond b 0 (suc (first_above number (running_sums (before + weight t) (map weight ts))))) 0
-            ≡ get_or (t ∷ filter competes ts) (cond b 0 (suc (first_above number (running_sums (before + weight t) (map weight (filter competes ts)))))) 0
+          ≡ get_or (t ∷ filter competes ts) (cond b 0 (suc (first_above number (running_sums (before + weight t) (map weight (filter competes ts)))))) 0
       among true e next = refl
       among false e next = next (ltb-false number (before + weight t) e)
 
       passed : weight t ≡ 0 → (b : Bool) → nat_lt number (before + weight t) ≡ b → (before + weight t ≤ number → IsSame ts (before + weight t) number)
           → get_or (t ∷ ts) (cond b 0 (suc (first_above number (running_sums (before + weight t) (map weight ts))))) 0
-            ≡ get_or (filter competes ts) (first_above number (running_sums before (map weight (filter competes ts)))) 0
+          ≡ get_or (filter competes ts) (first_above number (running_sums before (map weight (filter competes ts)))) 0
       passed nothing true e next = absurd (omega (arith, ltb-true number (before + weight t) e))
       passed nothing false e next =
           let same : before + weight t ≡ before = omega arith in
@@ -44,7 +43,7 @@ module _ (competes : ℕ → Bool) (weight : ℕ → ℕ) (idle : (t : ℕ) → 
 
       by : (b : Bool) → competes t ≡ b → (before + weight t ≤ number → IsSame ts (before + weight t) number)
           → get_or (t ∷ ts) (cond (nat_lt number (before + weight t)) 0 (suc (first_above number (running_sums (before + weight t) (map weight ts))))) 0
-            ≡ get_or (cond b (t ∷ filter competes ts) (filter competes ts)) (first_above number (running_sums before (map weight (cond b (t ∷ filter competes ts) (filter competes ts))))) 0
+          ≡ get_or (cond b (t ∷ filter competes ts) (filter competes ts)) (first_above number (running_sums before (map weight (cond b (t ∷ filter competes ts) (filter competes ts))))) 0
       by true e next = among (nat_lt number (before + weight t)) refl next
       by false e next = passed (idle t e) (nat_lt number (before + weight t)) refl next
 

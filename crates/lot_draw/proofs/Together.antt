@@ -8,7 +8,7 @@ use Rattle.lot_machine.specs.declared.funding.Node.{Node}
 use Rattle.lot_machine.specs.Numbered.{at_number, set_number}
 use Rattle.lot_machine.proofs.Changes.{number-set}
 use Rattle.lot_machine.proofs.Tickets.{at_number-suc}
-use Rattle.lot_graph.specs.Graphs.{LimitedFunding, IsThread}
+use Rattle.lot_graph.specs.Graphs.{IsThread}
 use Rattle.lot_value.specs.Caches.{Known, IsStale}
 use Rattle.lot_value.specs.Valued.{Valued}
 use Rattle.lot_draw.specs.declared.competing.Competitor.{Competitor}

@@ -1,5 +1,5 @@
 -- What threads weigh, and how weights stay right.
-use Rattle.std.proofs.Common.{◌≡◌, ◌≢◌, ℕ, zero, suc, ◌+◌, ◌-◌, ◌*◌, ◌^◌, ◌<◌, ◌≤◌, ◌⊎◌, inl, inr, ◌↔◌, Bool, true, false, is_some, Option, Some, None, List, [], ◌∷◌, ◌++◌, All, Contains, length, map, sum, set, get_or, replicate, add-one, slice_get, ap, sym, ◌∙◌, refl, subst, arith, length-set, IfSome, IfNone}
+use Rattle.std.proofs.Common.{◌≡◌, ℕ, zero, suc, ◌+◌, ◌-◌, ◌^◌, ◌<◌, ◌≤◌, ◌⊎◌, inl, inr, ◌↔◌, Bool, false, is_some, Option, Some, None, List, [], ◌∷◌, ◌++◌, All, Contains, length, map, sum, set, get_or, replicate, add-one, slice_get, ap, sym, ◌∙◌, refl, subst, arith, length-set, IfSome}
 use Rattle.std.specs.Option.{option_flatten}
 use Rattle.std.specs.List.{remove, range_with_len}
 use Rattle.std.proofs.lemmas.Bool.{cases_eq}
@@ -7,7 +7,7 @@ use Rattle.std.proofs.lemmas.Grind.{get_or-set_at}
 use Rattle.std.proofs.lemmas.List.{get_or-set_other, length-replicate, get_or-replicate}
 use Rattle.std.proofs.lemmas.List.Sums.{sum_by-le}
 use Rattle.std.proofs.lemmas.Option.{slice_get_read}
-use Rattle.std.proofs.lemmas.List.Elements.{All-set, Contains-push_cases, Contains-append_left, Contains-append_right}
+use Rattle.std.proofs.lemmas.List.Elements.{Contains-push_cases, Contains-append_left, Contains-append_right}
 use Rattle.lot_machine.specs.declared.funding.Node.{Node}
 use Rattle.lot_machine.specs.declared.funding.Node.TheVariants.{Currency, Thread, Mutex}
 use Rattle.lot_machine.specs.Numbered.{at_number, set_number, numbers}
@@ -16,14 +16,13 @@ use Rattle.lot_machine.specs.Value.{thread_value}
 use Rattle.lot_machine.proofs.Changes.{number-set}
 use Rattle.lot_machine.proofs.Tickets.{at_number-suc}
 use Rattle.lot_machine.proofs.EachOnce.{contains-nothing, still-left}
-use Rattle.lot_graph.specs.declared.layout.Layout.{Layout}
 use Rattle.lot_graph.specs.Graphs.{LimitedFunding, IsThread}
 use Rattle.lot_graph.specs.Places.{node_place, IsNodeWithin}
 use Rattle.lot_value.specs.Caches.{Known, IsStale, Settles, value_in}
 use Rattle.lot_value.specs.Valued.{Valued}
 use Rattle.lot_draw.specs.declared.competing.Competitor.{Competitor}
 use Rattle.lot_draw.specs.Competing.{competitor_at, weight_with, weight_among, winner_among, drawn_among}
-use Rattle.lot_draw.specs.Queued.{Queued, IsPlaced, AreWeights, CompetesIn, IsSettled}
+use Rattle.lot_draw.specs.Queued.{Queued, AreWeights, CompetesIn, IsSettled}
 use Rattle.lot_draw.proofs.Lotteries.{same-winner}
 
 -- ---- sums
@@ -126,7 +125,7 @@ weights-none q n competitors weights c t placed fresh off =
     idle (suc i) above within =
         ap option_flatten
         (at_number-suc (replicate n nobody) i
-          ∙ slice_get_read (replicate n nobody) n i nobody (sym (length-replicate n nobody)) (omega (arith, within)) (sym (get_or-replicate n i nobody nobody (omega (arith, within)))))
+        ∙ slice_get_read (replicate n nobody) n i nobody (sym (length-replicate n nobody)) (omega (arith, within)) (sym (get_or-replicate n i nobody nobody (omega (arith, within)))))
 
 -- ---- who competes
 

@@ -8,7 +8,7 @@ ghost use Rattle.lot_machine.specs.Lottery as lottery;
 ghost use Rattle.lot_graph.specs.Graphs.{IsThread};
 ghost use Rattle.lot_tree.specs.Visits.{CountsReads};
 ghost use Rattle.lot_value.specs.Counts.{counted_up};
-ghost use Rattle.lot_value.specs.Caches.{Known, IsOnce, edges_into_all, value_in};
+ghost use Rattle.lot_value.specs.Caches.{Known, IsStale, IsOnce, edges_into_all, value_in};
 ghost use Rattle.lot_draw.specs.Competing.{HasTicks, weight_with, weight_among, winner_among, drawn_among};
 ghost use Rattle.lot_draw.specs.Queued.{AreWeights, CompetesIn, IsChanged, IsPlaced, IsSettled};
 
@@ -80,6 +80,7 @@ impl RunQueue {
         requires places { length self.old.competitors ≡ graph.old.now.thread_limit }
         requires weights { AreWeights self.old graph.old.known }
         ensures queue { self.new ≡ record self.old { changed = self.new.changed } }
+        ensures listed { (place : ℕ) → Contains self.new.changed place → Contains self.old.changed place ⊎ IsStale graph.old.known (ThreadNode (place + 1)) }
         ensures weights { AreWeights self.new graph.new.known }
         ensures now { graph.new.now ≡ graph.old.now }
         ensures live { graph.new.live ≡ graph.old.live }
@@ -131,6 +132,7 @@ impl RunQueue {
         requires place { (t : ℕ) → node ≡ ThreadNode t → IsPlaced self.old t }
         ensures others { self.new ≡ record self.old { changed = self.new.changed } }
         ensures kept { (x : ℕ) → Contains self.old.changed x → Contains self.new.changed x }
+        ensures only { (x : ℕ) → Contains self.new.changed x → Contains self.old.changed x ⊎ (node ≡ ThreadNode (x + 1)) }
         ensures listed { (t : ℕ) → node ≡ ThreadNode t → IsChanged self.new t }
     {
         if let Node::Thread(thread) = node {
@@ -197,7 +199,12 @@ impl RunQueue {
 }
 
 /// What the thread at a place weighs, by the value that is kept of it and what it competes with, if it does.
-fn weight_at(graph: &ValuedGraph, place: usize, competitor: Option<Competitor>, quantum: u32) -> u128
+fn weight_at(
+    graph: &ValuedGraph,
+    place: usize,
+    competitor: Option<Competitor>,
+    quantum: u32,
+) -> u128
     requires ticks { HasTicks competitor }
     requires place { place < graph.now.now.thread_limit }
     requires there { IfSome competitor (λ c. IsThread graph.now.now.funding (place + 1)) }

@@ -59,7 +59,8 @@ impl Room {
         if let Some(used) = compensation {
             assert!(rt; 0 < used);
         }
-        self.queue.set_competitor(thread, Some(Competitor { compensation }));
+        self.queue
+            .set_competitor(thread, Some(Competitor { compensation }));
     }
 
     /// A thread runs, and doesn't compete.
@@ -73,9 +74,18 @@ impl Room {
         let graph = self.graph.graph();
         assert!(rt; 0 < amount && graph.is_currency(currency));
         assert!(rt; is_target(graph, target));
-        let ticket = self.graph.issue(currency, amount).expect(rt, "no ticket is left");
+        let ticket = self
+            .graph
+            .issue(currency, amount)
+            .expect(rt, "no ticket is left");
         assert!(rt; self.graph.graph().is_unfunded(ticket));
         assert!(rt; self.graph.fund(ticket, target).is_ok());
+    }
+
+    /// Takes a ticket from what it funds.
+    fn unfund(&mut self, rt: &impl Abort, ticket: u32) {
+        assert!(rt; self.graph.graph().is_funding(ticket));
+        self.graph.unfund(ticket);
     }
 
     /// A draw, with the counts of what it read and visited.
@@ -133,12 +143,46 @@ fn thirds(rt: &impl Abort, alloc: Global) -> Result<Room, Fail> {
 #[test]
 fn reads_what_is_stale(rt: HostRuntime) -> Result<(), Fail> {
     let mut room = thirds(&rt, rt.alloc())?;
-    for (d, thread, number, reads) in [(0, 1, 0, 4), (98, 3, 98, 0), (100, 1, 1, 0), (33, 2, 33, 0)] {
+    for (d, thread, number, reads) in [
+        (0, 1, 0, 4),
+        (98, 3, 98, 0),
+        (100, 1, 1, 0),
+        (33, 2, 33, 0),
+    ] {
         let (winner, read, visits) = room.draw(d);
         assert_eq!(rt; winner, won(thread, number, 99), "at {d}");
         assert_eq!(rt; read, reads, "at {d}");
         assert!(rt; visits >= 1 && visits <= 4, "at {d}");
     }
+    Ok(())
+}
+
+// A ticket that is made and funds the currency reads nothing by itself; the next draw reads the edges into what got stale.
+#[test]
+fn funded_between_draws(rt: HostRuntime) -> Result<(), Fail> {
+    let mut room = thirds(&rt, rt.alloc())?;
+    assert!(rt; room.draw(0).1 == 4);
+    room.fund(&rt, 50, 0, Target::Currency(1));
+    let (winner, reads, _) = room.draw(149);
+    assert_eq!(rt; winner, won(3, 149, 150));
+    assert!(rt; reads == 5);
+    Ok(())
+}
+
+// A ticket two currencies upstream of the thread goes: the thread is worth what funds it besides.
+#[test]
+fn unfunded_upstream(rt: HostRuntime) -> Result<(), Fail> {
+    let mut room = small_room(rt.alloc())?;
+    let thread = room.add_thread(&rt);
+    let first = room.make_currency(&rt);
+    let second = room.make_currency(&rt);
+    room.fund(&rt, 100, 0, Target::Currency(first));
+    room.fund(&rt, 10, first, Target::Currency(second));
+    room.fund(&rt, 7, second, Target::Thread(thread));
+    room.fund(&rt, 60, 0, Target::Thread(thread));
+    assert_eq!(rt; room.draw(159).0, won(1, 159, 160));
+    room.unfund(&rt, 1);
+    assert_eq!(rt; room.draw(59).0, won(1, 59, 60));
     Ok(())
 }
 
@@ -165,9 +209,18 @@ fn compensates(rt: HostRuntime) -> Result<(), Fail> {
         let thread = room.add_thread(&rt);
         room.fund(&rt, 400, 0, Target::Thread(thread));
     }
-    for (compensation, total) in [(Some(20), 2400), (Some(99), 804), (Some(1), 40400), (None, 800)] {
+    for (compensation, total) in [
+        (Some(20), 2400),
+        (Some(99), 804),
+        (Some(1), 40400),
+        (None, 800),
+    ] {
         room.compete(&rt, 1, compensation);
-        assert_eq!(rt; room.draw(total as u64 - 1).0, won(2, total - 1, total), "at {total}");
+        assert_eq!(rt;
+            room.draw(total as u64 - 1).0,
+            won(2, total - 1, total),
+            "at {total}"
+        );
     }
     Ok(())
 }

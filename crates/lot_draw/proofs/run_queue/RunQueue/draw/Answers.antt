@@ -12,4 +12,4 @@ returns-clause-winner c =
     let quantum : new.quantum ≡ old.quantum = ap (λ (q : Queued). q.quantum) (c.weigh_changed.ensures.queue) ∙ ap (λ (q : Queued). q.quantum) c.settle.ensures.queue in
     let competes = still-competes old.competitors new.competitors c.args.graph.now v (sym competitors) (sym c.settle.ensures.now) c.requires.competes in
     c.hold_lottery.ensures.winner ∙ draws new v c.weigh_changed.ensures.places competes c.settle.ensures.settled (ap (λ (q : Queued). q.changed) c.weigh_changed.ensures.queue) c.weigh_changed.ensures.weights c.args.d
-        ∙ same-drawn new.quantum old.quantum new.competitors old.competitors v c.args.graph.now c.args.d quantum competitors c.settle.ensures.unit c.settle.ensures.now c.settle.ensures.live
+    ∙ same-drawn new.quantum old.quantum new.competitors old.competitors v c.args.graph.now c.args.d quantum competitors c.settle.ensures.unit c.settle.ensures.now c.settle.ensures.live

@@ -1,4 +1,4 @@
-use Rattle.std.proofs.Common.{◌≡◌, ◌<◌, ◌%◌, ◌∙◌, ap, arith, length}
+use Rattle.std.proofs.Common.{◌<◌, ◌%◌, ap, arith, length}
 use Rattle.lot_draw.proofs.Lotteries.{drawn-is}
 use Rattle.lot_draw.proofs.run_queue.RunQueue.hold_lottery.Goals as goal
 

@@ -1,8 +1,20 @@
-use Rattle.std.proofs.Common.{◌≡◌, ◌-◌, inl, inr, ap}
+use Rattle.std.proofs.Common.{◌≡◌, ℕ, ◌+◌, ◌-◌, ◌<◌, ◌⊎◌, ◌∙◌, inl, inr, ap, arith}
+use Rattle.lot_machine.specs.declared.funding.Node.{Node}
+use Rattle.lot_machine.specs.declared.funding.Node.TheVariants.{Thread}
 use Rattle.lot_draw.proofs.run_queue.RunQueue.list_node.Goals as goal
+
+-- the thread of a place
+at-place : {A : Type 0} (node : Node) (thread place : ℕ) → node ≡ Thread thread → 0 < thread → A ⊎ (place ≡ thread - 1) → A ⊎ (node ≡ Thread (place + 1))
+at-place node thread place is above (inl there) = inl there
+at-place node thread place is above (inr at) = inr (is ∙ ap Thread (omega (arith, above, at)))
 
 pub returns-in-Thread-clause-kept : goal.returns-in-Thread-clause-kept
 returns-in-Thread-clause-kept c x there = (c.list.ensures.listed x).1 (inl there)
+
+pub returns-in-Thread-clause-only : goal.returns-in-Thread-clause-only
+returns-in-Thread-clause-only c x there =
+    let is : c.args.node ≡ Thread c.in-Thread.thread = cc in
+    at-place c.args.node c.in-Thread.thread x is (c.requires.place c.in-Thread.thread is).0 ((c.list.ensures.listed x).0 there)
 
 pub returns-in-Thread-clause-listed : goal.returns-in-Thread-clause-listed
 returns-in-Thread-clause-listed c t is =

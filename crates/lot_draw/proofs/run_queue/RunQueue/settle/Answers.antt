@@ -1,16 +1,23 @@
-use Rattle.std.proofs.Common.{◌≡◌, ◌∙◌, ◌⊎◌, inl, inr, Some, true, ap, length, refl, subst, sym}
+use Rattle.std.proofs.Common.{◌≡◌, ◌+◌, ◌∙◌, ◌⊎◌, ℕ, inl, inr, Some, true, ap, length, refl, subst, sym}
+use Rattle.lot_machine.specs.declared.funding.Node.{Node}
+use Rattle.lot_machine.specs.declared.funding.Node.TheVariants.{Thread}
 use Rattle.lot_machine.specs.Funding.{edge_count_into}
 use Rattle.lot_graph.specs.declared.layout.Layout.{Layout}
 use Rattle.lot_graph.specs.Graphs.{LimitedFunding}
 use Rattle.lot_graph.specs.Places.{IsNodeWithin, layout_of}
 use Rattle.lot_value.specs.Counts.{counted_up}
-use Rattle.lot_value.specs.Caches.{IsOnce}
+use Rattle.lot_value.specs.Caches.{Known, IsStale, IsOnce}
 use Rattle.lot_value.specs.Valued.{Valued}
 use Rattle.lot_value.proofs.Nodes.{node-within}
 use Rattle.lot_value.proofs.Settled.{settle-more}
 use Rattle.lot_draw.specs.Queued.{Queued, AreWeights}
 use Rattle.lot_draw.proofs.Weighing.{weights-settled}
 use Rattle.lot_draw.proofs.run_queue.RunQueue.settle.Goals as goal
+
+-- what is listed after one step was listed or stale at first
+listed-more : {A B : Type 0} (was first : Known) (node : Node) (place : ℕ) → IsStale was node → ((other : Node) → IsStale was other → IsStale first other) → (A → B ⊎ IsStale first (Thread (place + 1))) → A ⊎ (node ≡ Thread (place + 1)) → B ⊎ IsStale first (Thread (place + 1))
+listed-more was first node place stale fewer listed (inl there) = listed there
+listed-more was first node place stale fewer listed (inr is) = inr (fewer (Thread (place + 1)) (subst (IsStale was) is stale))
 
 -- no node is listed twice at first
 once-first : (first now : Valued) → (now ≡ first) ⊎ IsOnce first.known → IsOnce now.known → IsOnce first.known
@@ -33,6 +40,8 @@ loop-node-preserved c =
     let weights = weights-settled old new.changed was.known now.known node places within step.settles c.list_node.ensures.kept c.list_node.ensures.listed inv.weights in
     let counted = subst (λ (w : LimitedFunding). c.settle_next.new.meter ≡ record c.loop-node.meter { ticket_reads = counted_up c.loop-node.meter.ticket_reads (edge_count_into w.funding node) }) inv.now step.counted in record {
       queue = c.list_node.ensures.others ∙ ap (λ (q : Queued). record q { changed = new.changed }) inv.queue;
+      listed = λ place there. listed-more was.known c.args.graph.now.known node place step.settles.was inv.fewer (inv.listed place) (c.list_node.ensures.only place there);
+      fewer = λ other stale. inv.fewer other (step.settles.each other stale);
       weights = subst (λ (q : Queued). AreWeights q now.known) (sym c.list_node.ensures.others) weights;
       now = step.now ∙ inv.now;
       live = step.live ∙ inv.live;

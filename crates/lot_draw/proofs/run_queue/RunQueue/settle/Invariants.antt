@@ -1,6 +1,8 @@
-use Rattle.std.proofs.Common.{◌≡◌, ◌+◌, ◌⊎◌, ℕ, length}
+use Rattle.std.proofs.Common.{◌≡◌, ◌+◌, ◌⊎◌, ℕ, Contains, length}
+use Rattle.lot_machine.specs.declared.funding.Node.{Node}
+use Rattle.lot_machine.specs.declared.funding.Node.TheVariants.{Thread}
 use Rattle.lot_value.specs.Counts.{counted_up}
-use Rattle.lot_value.specs.Caches.{IsOnce, edges_into_all}
+use Rattle.lot_value.specs.Caches.{IsStale, IsOnce, edges_into_all}
 use Rattle.lot_draw.specs.Queued.{AreWeights}
 use Rattle.lot_draw.proofs.run_queue.RunQueue.settle.Given as goal
 
@@ -8,6 +10,8 @@ use Rattle.lot_draw.proofs.run_queue.RunQueue.settle.Given as goal
 abbrev pub invariant-loop-node : goal.invariant-loop-node
 invariant-loop-node l = record {
   queue : l.self ≡ record l.fn.self { changed = l.self.changed };
+  listed : (place : ℕ) → Contains l.self.changed place → Contains l.fn.self.changed place ⊎ IsStale l.fn.graph.known (Thread (place + 1));
+  fewer : (node : Node) → IsStale l.graph.known node → IsStale l.fn.graph.known node;
   weights : AreWeights l.self l.graph.known;
   now : l.graph.now ≡ l.fn.graph.now;
   live : l.graph.live ≡ l.fn.graph.live;

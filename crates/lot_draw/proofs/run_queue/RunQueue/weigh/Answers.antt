@@ -32,5 +32,5 @@ returns-clause-weight c =
     let low : c.args.place < length i.competitors.items = subst (λ (q : Queued). c.args.place < length q.competitors) (sym c.self.view_is) c.requires.place in
     rw (← c.self.view_is)
     (c.set.ensures
-      ∙ ap (λ w. set i.tree c.args.place w)
-      (c.weight_at-weight.ensures.weight ∙ ap (weight_with (value_in c.args.graph.now.known (Thread (c.args.place + 1))) i.quantum) (sym (competitor-place i.competitors.items c.args.place c.index.result.now low c.index.ensures))))
+    ∙ ap (λ w. set i.tree c.args.place w)
+    (c.weight_at-weight.ensures.weight ∙ ap (weight_with (value_in c.args.graph.now.known (Thread (c.args.place + 1))) i.quantum) (sym (competitor-place i.competitors.items c.args.place c.index.result.now low c.index.ensures))))

@@ -1,4 +1,4 @@
-use Rattle.std.proofs.Common.{◌≡◌, ◌≤◌, ◌∙◌, length, ap, arith}
+use Rattle.std.proofs.Common.{◌∙◌, length, ap, arith}
 use Rattle.std.proofs.lemmas.List.{length_push}
 use Rattle.lot_machine.specs.declared.funding.Lend.TheVariants.{Nobody}
 use Rattle.lot_graph.specs.Graphs.{LimitedFunding}

@@ -1,4 +1,4 @@
-use Rattle.std.proofs.Common.{◌≡◌, ◌≤◌, None, Some, arith, rules}
+use Rattle.std.proofs.Common.{◌≤◌, arith, rules}
 use Rattle.lot_graph.specs.Graphs.{IsThread}
 use Rattle.lot_draw.proofs.Together.{queue-set}
 use Rattle.lot_draw.proofs.tests.Room.compete.Goals as goal

@@ -1,4 +1,4 @@
-use Rattle.std.proofs.Common.{◌≡◌, ◌≤◌, ◌∙◌, Bool, List, Option, Some, None, Result, Ok, Err, OnSome, IfNone, OnOk, OnErr, length, ap, arith}
+use Rattle.std.proofs.Common.{◌≡◌, ◌∙◌, List, Option, Some, None, Result, Ok, Err, OnSome, IfNone, OnOk, OnErr, length, ap, arith}
 use Rattle.lot_machine.specs.declared.ticket.Ticket.{Ticket}
 use Rattle.lot_graph.specs.Graphs.{LimitedFunding}
 use Rattle.lot_value.specs.Valued.{Valued}
