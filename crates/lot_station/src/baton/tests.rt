@@ -1,9 +1,9 @@
 //! Seats of a station that take turns from one thread and from many.
-ghost use Rattle.std.specs.Prelude.{◌≡◌, All, IfOk};
+ghost use Rattle.std.specs.Prelude.{◌≡◌, All, IfSome};
 ghost use Rattle.lot_station.specs.BatonSeats.{IsSameSeat, IsSeatOf};
 
 use crate::tests::{END, ENDED, Shares, TWO_PROCESSORS, end_of};
-use crate::{BatonSeat, BatonStation};
+use crate::{BatonSeat, BatonStation, SeatMissing};
 use lot_machine::Reply;
 use lot_script::Slice;
 use lot_system::{Answer, System, TurnFault, Work};
@@ -14,11 +14,8 @@ use std::test::*;
 
 mod threads;
 
-fn program_of(alloc: Global, text: &str) -> Result<Program, Fail> {
-    match parse(alloc, text.as_bytes()) {
-        Ok(program) => Ok(program),
-        Err(_) => Err("program".into()),
-    }
+fn program_of(alloc: Global, text: &str) -> Option<Program> {
+    parse(alloc, text.as_bytes()).ok()
 }
 
 /// The slice of the work, if there is any.
@@ -60,22 +57,36 @@ fn reply_of<R: Wait>(
     Some(answer.reply)
 }
 
-/// A station of the program with room for ten turns, and its three seats.
-fn opened(
-    alloc: Global,
-    program: &Program,
-) -> Result<(BatonStation, BatonSeat, BatonSeat, BatonSeat), Fail>
-    ensures { IfOk result (λ r. IsSeatOf r.0 r.1 × IsSeatOf r.0 r.2 × IsSeatOf r.0 r.3) }
+/// Three seats of the station, one by one.
+fn three(
+    _station: &BatonStation,
+    mut seats: Vec<BatonSeat>,
+) -> Option<(BatonSeat, BatonSeat, BatonSeat)>
+    requires { All (IsSeatOf _station.now) seats.items }
+    ensures { IfSome result (λ r. IsSeatOf _station.now r.0 × IsSeatOf _station.now r.1 × IsSeatOf _station.now r.2) }
 {
-    let system = System::open(alloc, program, 10)?;
-    let (station, mut seats) = BatonStation::open(alloc, system)?;
     if seats.len() != 3 {
-        return Err("seats".into());
+        return None;
     }
     let zero = seats.remove(0);
     let one = seats.remove(0);
     let two = seats.remove(0);
-    Ok((station, zero, one, two))
+    Some((zero, one, two))
+}
+
+/// A station of the program with room for ten turns, and its three seats.
+fn opened(
+    alloc: Global,
+    program: &Program,
+) -> Option<(BatonStation, BatonSeat, BatonSeat, BatonSeat)>
+    ensures { IfSome result (λ r. IsSeatOf r.0 r.1 × IsSeatOf r.0 r.2 × IsSeatOf r.0 r.3) }
+{
+    let system = System::open(alloc, program, 10).ok()?;
+    let Ok((station, seats)) = BatonStation::open(alloc, system) else {
+        return None;
+    };
+    let (zero, one, two) = three(&station, seats)?;
+    Some((station, zero, one, two))
 }
 
 const FUNDED: Reply = Reply::Funded {
@@ -111,6 +122,55 @@ fn met<R: Wait>(
     [first, second, reply_of(rt, station, program, one)]
 }
 
+/// What a station hands back that is closed with two seats; `None` where it was closed.
+fn closed_without_one<R: Wait>(
+    rt: &R,
+    alloc: Global,
+    station: BatonStation,
+    zero: BatonSeat,
+    two: BatonSeat,
+) -> Option<SeatMissing>
+    requires { IsSeatOf station zero × IsSeatOf station two }
+    ensures station { IfSome result (λ back. back.station ≡ station) }
+    ensures seats { IfSome result (λ back. All (IsSeatOf back.station) back.seats.items) }
+{
+    let seats = vec![in alloc; zero, two].ok()?;
+    match station.close(rt, seats) {
+        Ok(_) => None,
+        Err(back) => Some(back),
+    }
+}
+
+/// What a station hands back that is closed with this seat behind those that it handed back before; `None` where it was
+/// closed.
+fn closed_out_of_order<R: Wait>(
+    rt: &R,
+    mut back: SeatMissing,
+    one: BatonSeat,
+) -> Option<SeatMissing>
+    requires { IsSeatOf back.station one × All (IsSeatOf back.station) back.seats.items }
+    ensures { IfSome result (λ again. All (IsSeatOf again.station) again.seats.items) }
+{
+    back.seats.push(one).ok()?;
+    match back.station.close(rt, back.seats) {
+        Ok(_) => None,
+        Err(again) => Some(again),
+    }
+}
+
+/// The station closed with its three seats, of which the last two are in each other's places.
+fn closed_in_order<R: Wait>(rt: &R, alloc: Global, back: SeatMissing) -> Option<System>
+    requires { All (IsSeatOf back.station) back.seats.items }
+{
+    let SeatMissing { station, seats } = back;
+    let (zero, two, one) = three(&station, seats)?;
+    let seats = vec![in alloc; zero, one, two].ok()?;
+    match station.close(rt, seats) {
+        Ok(system) => Some(system),
+        Err(_) => None,
+    }
+}
+
 /// The station closed, once a seat was missing and once two were in another order.
 fn closed<R: Wait>(
     rt: &R,
@@ -119,34 +179,31 @@ fn closed<R: Wait>(
     zero: BatonSeat,
     one: BatonSeat,
     two: BatonSeat,
-) -> Result<System, Fail>
+) -> Option<System>
     requires { IsSeatOf station zero × IsSeatOf station one × IsSeatOf station two }
 {
-    let Err(mut back) = station.close(rt, vec![in alloc; zero, two]?) else {
-        return Err("closed without a seat".into());
-    };
-    back.seats.push(one)?;
-    let Err(mut back) = back.station.close(rt, back.seats) else {
-        return Err("closed out of order".into());
-    };
-    back.seats.swap(1, 2);
-    match back.station.close(rt, back.seats) {
-        Ok(system) => Ok(system),
-        Err(_) => Err("not closed".into()),
-    }
+    let back = closed_without_one(rt, alloc, station, zero, two)?;
+    let again = closed_out_of_order(rt, back, one)?;
+    closed_in_order(rt, alloc, again)
+}
+
+/// Whether the replies are of a command, a draw of 5 of 10, and a draw that nobody wins.
+fn are_met(replies: &[Option<Reply>; 3]) -> bool {
+    *replies == [Some(FUNDED), Some(won(5)), Some(Reply::Idle)]
+}
+
+/// Whether the turns behind meetings are answered so, and whether the closed system has them.
+fn turns_behind<R: Wait>(rt: &R, alloc: Global) -> Option<(bool, bool)> {
+    let program = program_of(alloc, TWO_PROCESSORS)?;
+    let (station, mut zero, mut one, mut two) = opened(alloc, &program)?;
+    let replies = met(rt, &station, &program, &mut zero, &mut one, &mut two);
+    let system = closed(rt, alloc, station, zero, one, two)?;
+    Some((are_met(&replies), system.history() == [0, 2, 1].as_slice()))
 }
 
 #[test]
-fn turns_behind_meetings(rt: HostRuntime) -> Result<(), Fail> {
-    let program = program_of(rt.alloc(), TWO_PROCESSORS)?;
-    let (station, mut zero, mut one, mut two) = opened(rt.alloc(), &program)?;
-    assert_eq!(rt;
-        met(&rt, &station, &program, &mut zero, &mut one, &mut two),
-        [Some(FUNDED), Some(won(5)), Some(Reply::Idle)]
-    );
-    let system = closed(&rt, rt.alloc(), station, zero, one, two)?;
-    assert_eq!(rt; system.history(), [0, 2, 1].as_slice());
-    Ok(())
+fn turns_behind_meetings(rt: HostRuntime) {
+    assert_eq!(rt; turns_behind(&rt, rt.alloc()), Some((true, true)));
 }
 
 /// The turns of the actors 0, 1, 2, 1 and 2.
@@ -200,37 +257,45 @@ fn ends_the_row<R: Wait>(
     zero: BatonSeat,
     one: BatonSeat,
     two: BatonSeat,
-) -> Result<bool, Fail>
+) -> Option<bool>
     requires { IsSeatOf station zero × IsSeatOf station one × IsSeatOf station two }
 {
     let system = closed(rt, alloc, station, zero, one, two)?;
-    match end_of(alloc, system) {
-        Some(end) => Ok(end.as_slice() == END.as_bytes()),
-        None => Err("end".into()),
-    }
+    let end = end_of(alloc, system)?;
+    Some(end.as_slice() == END.as_bytes())
+}
+
+const EXPIRED: Reply = Reply::Expired {
+    thread: 1,
+    ticks: 100,
+};
+
+/// Whether the replies are the row's.
+fn are_scheduled(replies: &[Option<Reply>; 5]) -> bool {
+    *replies
+        == [
+            Some(FUNDED),
+            Some(won(4)),
+            Some(Reply::Idle),
+            Some(EXPIRED),
+            Some(won(3)),
+        ]
+}
+
+/// Whether the row's turns are answered as they are to be, whether the console's next turn is refused, whether the seats
+/// have the row's numbers, and whether the closed system has its end.
+fn plays_the_row<R: Wait>(rt: &R, alloc: Global) -> Option<[bool; 4]> {
+    let program = program_of(alloc, TWO_PROCESSORS)?;
+    let (station, mut zero, mut one, mut two) = opened(alloc, &program)?;
+    let replies = scheduled(rt, &station, &program, &mut zero, &mut one, &mut two);
+    let ended = is_ended(rt, &station, &program, &mut zero);
+    let shares = [shares_of(&zero), shares_of(&one), shares_of(&two)];
+    let end = ends_the_row(rt, alloc, station, zero, one, two)?;
+    Some([are_scheduled(&replies), ended, shares == ENDED, end])
 }
 
 // The row of the station under a lock: the same replies, the same numbers of the seats, and the same end.
 #[test]
-fn write_then_read(rt: HostRuntime) -> Result<(), Fail> {
-    let program = program_of(rt.alloc(), TWO_PROCESSORS)?;
-    let (station, mut zero, mut one, mut two) = opened(rt.alloc(), &program)?;
-    let expired = Reply::Expired {
-        thread: 1,
-        ticks: 100,
-    };
-    assert_eq!(rt;
-        scheduled(&rt, &station, &program, &mut zero, &mut one, &mut two),
-        [
-            Some(FUNDED),
-            Some(won(4)),
-            Some(Reply::Idle),
-            Some(expired),
-            Some(won(3))
-        ]
-    );
-    assert!(rt; is_ended(&rt, &station, &program, &mut zero));
-    assert_eq!(rt; [shares_of(&zero), shares_of(&one), shares_of(&two)], ENDED);
-    assert!(rt; ends_the_row(&rt, rt.alloc(), station, zero, one, two)?);
-    Ok(())
+fn write_then_read(rt: HostRuntime) {
+    assert_eq!(rt; plays_the_row(&rt, rt.alloc()), Some([true; 4]));
 }

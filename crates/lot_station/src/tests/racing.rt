@@ -3,7 +3,7 @@ ghost use Rattle.std.specs.Prelude.{◌≡◌, ◌+◌};
 
 use crate::tests::{TWO_PROCESSORS, end_of};
 use crate::{Seat, Station, TurnLedger};
-use lot_system::{Answer, System, TurnFault, slice_for};
+use lot_system::{Answer, System, slice_for};
 use lot_text::{Program, parse};
 use std::alloc::{AllocError, Global};
 use std::marker::Brand;
@@ -24,21 +24,32 @@ struct Player<T: TurnLedger, Q: Ledger, K: Ledger> {
     answers: Vec<Answer>,
 }
 
+/// The answer to the next turn of the seat, with the slice of its work, if it is made.
+fn next_answer<T: TurnLedger, Q: Ledger, K: Ledger>(
+    rt: &impl Wait,
+    station: &Station<T, Q, K>,
+    program: &Program,
+    seat: &mut Seat<T, Q, K>,
+) -> Option<Answer> {
+    let slice = slice_for(program, station.work(rt, seat)).ok()?;
+    station.turn(rt, seat, slice).ok()
+}
+
 /// Makes the player's turns, each with the slice of its work, until one isn't made or memory is refused.
 fn play_turns<T: TurnLedger, Q: Ledger, K: Ledger>(
     rt: &impl Wait,
     station: &Station<T, Q, K>,
     program: &Program,
     player: &mut Player<T, Q, K>,
-) -> Result<(), TurnFault> {
+) {
     for _turn in 0..player.turns {
-        let slice = slice_for(program, station.work(rt, &player.seat))?;
-        let answer = station.turn(rt, &mut player.seat, slice)?;
+        let Some(answer) = next_answer(rt, station, program, &mut player.seat) else {
+            return;
+        };
         if player.answers.push(answer).is_err() {
-            return Ok(());
+            return;
         }
     }
-    Ok(())
 }
 
 /// The closed system, and each actor's answers.
@@ -79,9 +90,7 @@ fn race<
         rt,
         &mut players,
         3,
-        &|_, player| {
-            let _ = play_turns(rt, &station, program, player);
-        },
+        &|_, player| play_turns(rt, &station, program, player),
     );
     let mut seats = Vec::new(alloc);
     let mut answers = Vec::new(alloc);
@@ -111,29 +120,52 @@ fn raced<R: Threads + Wait + Sync>(
     )
 }
 
-/// The answers of each actor in another system of the program that makes the turns of a history, and that system.
-fn replayed(alloc: Global, program: &Program, history: &[u8]) -> Result<Option<Raced>, AllocError> {
-    let mut system = System::open(alloc, program, 5)?;
+/// No answers of so many actors.
+fn no_answers(alloc: Global, actors: usize) -> Option<Vec<Vec<Answer>>> {
     let mut answers = Vec::new(alloc);
-    for _actor in 0..system.processors() as usize + 1 {
-        answers.push(Vec::new(alloc))?;
+    for _actor in 0..actors {
+        answers.push(Vec::new(alloc)).ok()?;
     }
+    Some(answers)
+}
+
+/// The answer to a turn of the actor with this number, with the slice of its work, if it is made.
+fn answer_again(program: &Program, system: &mut System, number: u32) -> Option<Answer> {
+    if number > system.processors() {
+        return None;
+    }
+    let slice = slice_for(program, system.work(number)).ok()?;
+    system.turn(number, slice).ok()
+}
+
+/// Adds the answer to those of the actor with this number, if there are any; `None` where memory is refused.
+fn keep(answers: &mut [Vec<Answer>], number: usize, answer: Answer) -> Option<()> {
+    match answers.get_mut(number) {
+        Some(own) => own.push(answer).ok(),
+        None => Some(()),
+    }
+}
+
+/// Makes the turns of a history, and keeps the answers; `None` where one isn't made or memory is refused.
+fn replay(
+    program: &Program,
+    system: &mut System,
+    history: &[u8],
+    answers: &mut [Vec<Answer>],
+) -> Option<()> {
     for actor in history {
-        let number = u32::from(*actor);
-        if number > system.processors() {
-            return Ok(None);
-        }
-        let Ok(slice) = slice_for(program, system.work(number)) else {
-            return Ok(None);
-        };
-        let Ok(answer) = system.turn(number, slice) else {
-            return Ok(None);
-        };
-        if let Some(own) = answers.get_mut(number as usize) {
-            own.push(answer)?;
-        }
+        let answer = answer_again(program, system, u32::from(*actor))?;
+        keep(answers, usize::from(*actor), answer)?;
     }
-    Ok(Some((system, answers)))
+    Some(())
+}
+
+/// The answers of each actor in another system of the program that makes the turns of a history, and that system.
+fn replayed(alloc: Global, program: &Program, history: &[u8]) -> Option<Raced> {
+    let mut system = System::open(alloc, program, 5).ok()?;
+    let mut answers = no_answers(alloc, system.processors() as usize + 1)?;
+    replay(program, &mut system, history, &mut answers)?;
+    Some((system, answers))
 }
 
 /// Whether each answer of a race is the one of the closed history, and both systems end alike.
@@ -143,7 +175,7 @@ fn is_replayed<R: Threads + Wait + Sync>(
     program: &Program,
 ) -> Option<(bool, bool)> {
     let (system, answers) = raced(rt, alloc, program).ok()??;
-    let (other, expected) = replayed(alloc, program, system.history()).ok()??;
+    let (other, expected) = replayed(alloc, program, system.history())?;
     let same = system.history().len() == 5 && answers == expected;
     Some((same, end_of(alloc, system)? == end_of(alloc, other)?))
 }

@@ -1,8 +1,8 @@
 //! Seats that aren't one for each actor, in order.
-ghost use Rattle.std.specs.Prelude.{◌≡◌, ◌+◌};
+ghost use Rattle.std.specs.Prelude.{◌≡◌, ◌+◌, IfSome};
 
 use crate::tests::{TWO_PROCESSORS, opened};
-use crate::{CloseFault, Station, TurnLedger};
+use crate::{CloseFault, Seat, Station, TurnLedger};
 use lot_system::System;
 use std::alloc::{AllocError, Global};
 use std::marker::Brand;
@@ -10,8 +10,85 @@ use std::sync::Wait;
 use std::sync::ledger::{Blank, Ledger};
 use std::test::*;
 
-/// Closes a station without its last seat, then with two seats in each other's places, and then rightly, with a turn of the
+/// How many seats were handed back, and the station with its seats.
+type HandedBack<T, Q, K> = (usize, Station<T, Q, K>, Vec<Seat<T, Q, K>>);
+
+/// A turn without a slice of the seat at this place.
+fn turn_at<T: TurnLedger, Q: Ledger, K: Ledger>(
+    rt: &impl Wait,
+    station: &Station<T, Q, K>,
+    seats: &mut [Seat<T, Q, K>],
+    place: usize,
+) -> Option<()> {
+    let seat = seats.get_mut(place)?;
+    match station.turn(rt, seat, None) {
+        Ok(_) => Some(()),
+        Err(_) => None,
+    }
+}
+
+/// Closes the station without its last seat, which is then put back.
+fn without_last<T: TurnLedger, Q: Ledger, K: Ledger>(
+    station: Station<T, Q, K>,
+    mut seats: Vec<Seat<T, Q, K>>,
+) -> Option<HandedBack<T, Q, K>>
+    requires { (T.parts ≡ station.program.limits.processors + 1) × (Q.parts ≡ station.program.limits.processors + 1) × (K.parts ≡ station.program.limits.processors + 1) }
+    ensures { IfSome result (λ back. back.1 ≡ station) }
+{
+    let last = seats.pop()?;
+    let Err(CloseFault::SeatMissing(station, mut seats)) = station.close(seats) else {
+        return None;
+    };
+    let few = seats.len();
+    seats.push(last).ok()?;
+    Some((few, station, seats))
+}
+
+/// Closes the station with its seats the other way round, and puts them in order again.
+fn reversed<T: TurnLedger, Q: Ledger, K: Ledger>(
+    station: Station<T, Q, K>,
+    mut seats: Vec<Seat<T, Q, K>>,
+) -> Option<HandedBack<T, Q, K>>
+    requires { (T.parts ≡ station.program.limits.processors + 1) × (Q.parts ≡ station.program.limits.processors + 1) × (K.parts ≡ station.program.limits.processors + 1) }
+    ensures { IfSome result (λ back. back.1 ≡ station) }
+{
+    seats.reverse();
+    let Err(CloseFault::SeatMissing(station, mut seats)) = station.close(seats) else {
+        return None;
+    };
+    seats.reverse();
+    Some((seats.len(), station, seats))
+}
+
+/// Closes the station after a draw of its first processor.
+fn after_draw<T: TurnLedger, Q: Ledger, K: Ledger>(
+    rt: &impl Wait,
+    station: Station<T, Q, K>,
+    mut seats: Vec<Seat<T, Q, K>>,
+) -> Option<System>
+    requires { (T.parts ≡ station.program.limits.processors + 1) × (Q.parts ≡ station.program.limits.processors + 1) × (K.parts ≡ station.program.limits.processors + 1) }
+{
+    turn_at(rt, &station, &mut seats, 1)?;
+    station.close(seats).ok()
+}
+
+/// Closes a station without its last seat, then with its seats the other way round, and then rightly, with a turn of the
 /// console before and a draw after. Answers how many seats were handed back each time, and the system.
+fn close_often<T: TurnLedger, Q: Ledger, K: Ledger>(
+    rt: &impl Wait,
+    station: Station<T, Q, K>,
+    mut seats: Vec<Seat<T, Q, K>>,
+) -> Option<(usize, usize, System)>
+    requires { (T.parts ≡ station.program.limits.processors + 1) × (Q.parts ≡ station.program.limits.processors + 1) × (K.parts ≡ station.program.limits.processors + 1) }
+{
+    turn_at(rt, &station, &mut seats, 0)?;
+    let (few, station, seats) = without_last(station, seats)?;
+    let (all, station, seats) = reversed(station, seats)?;
+    let system = after_draw(rt, station, seats)?;
+    Some((few, all, system))
+}
+
+/// The same of a station of the system.
 fn misplace<T: TurnLedger, Q: Ledger, K: Ledger>(
     rt: &impl Wait,
     alloc: Global,
@@ -25,31 +102,8 @@ fn misplace<T: TurnLedger, Q: Ledger, K: Ledger>(
     requires quanta { (quanta.name ≡ Q.name) × (quanta.parts ≡ Q.parts) × (Q.parts ≡ system.setting.program.limits.processors + 1) }
     requires ticks { (ticks.name ≡ K.name) × (ticks.parts ≡ K.parts) × (K.parts ≡ system.setting.program.limits.processors + 1) }
 {
-    let (station, mut seats) = Station::<T, Q, K>::open(alloc, system, turns, quanta, ticks)?;
-    if station.turn(rt, &mut seats[0], None).is_err() {
-        return Ok(None);
-    }
-    let Some(last) = seats.pop() else {
-        return Ok(None);
-    };
-    let Err(CloseFault::SeatMissing(station, mut seats)) = station.close(seats) else {
-        return Ok(None);
-    };
-    let few = seats.len();
-    seats.push(last)?;
-    seats.reverse();
-    let Err(CloseFault::SeatMissing(station, mut seats)) = station.close(seats) else {
-        return Ok(None);
-    };
-    let all = seats.len();
-    seats.reverse();
-    let Some(processor) = seats.get_mut(1) else {
-        return Ok(None);
-    };
-    if station.turn(rt, processor, None).is_err() {
-        return Ok(None);
-    }
-    Ok(station.close(seats).ok().map(|system| (few, all, system)))
+    let (station, seats) = Station::<T, Q, K>::open(alloc, system, turns, quanta, ticks)?;
+    Ok(close_often(rt, station, seats))
 }
 
 /// The same, in a station that has ledgers of its own.

@@ -50,28 +50,61 @@ fn copied(work: &Work) -> Work {
     }
 }
 
-/// A command, a draw, and then the slice of the thread that won, twice.
-fn make_twice<T: TurnLedger, Q: Ledger, K: Ledger>(
+/// A draw, and then the slice of the thread that won: what it came to, where it ended, and the work that it was of.
+fn lock<T: TurnLedger, Q: Ledger, K: Ledger>(
     rt: &impl Wait,
     program: &Program,
     station: &Station<T, Q, K>,
-    seats: &mut [Seat<T, Q, K>],
-) -> Option<Twice> {
-    station.turn(rt, seats.get_mut(0)?, None).ok()?;
-    let seat = seats.get_mut(1)?;
+    seat: &mut Seat<T, Q, K>,
+) -> Option<(Reply, Context, Work)> {
     station.turn(rt, seat, None).ok()?;
     let work = station.work(rt, seat)?;
     let slice = slice_for(program, Some(copied(&work))).ok()??;
     let end = slice.end().copied();
     let locked = station.turn(rt, seat, Some(slice)).ok()?.reply;
-    let before = shares_of(seat);
+    Some((locked, end, work))
+}
+
+/// The work that the slice of this work is refused with.
+fn refused<T: TurnLedger, Q: Ledger, K: Ledger>(
+    rt: &impl Wait,
+    program: &Program,
+    station: &Station<T, Q, K>,
+    seat: &mut Seat<T, Q, K>,
+    work: Work,
+) -> Option<Work> {
     let again = slice_for(program, Some(work)).ok()?;
-    let Err(TurnFault::Stale(Some(stale))) = station.turn(rt, seat, again) else {
-        return None;
-    };
+    match station.turn(rt, seat, again) {
+        Err(TurnFault::Stale(stale)) => stale,
+        _ => None,
+    }
+}
+
+/// Whether the slice of this work finds the history full.
+fn finds_full<T: TurnLedger, Q: Ledger, K: Ledger>(
+    rt: &impl Wait,
+    program: &Program,
+    station: &Station<T, Q, K>,
+    seat: &mut Seat<T, Q, K>,
+    work: &Work,
+) -> Option<bool> {
+    let right = slice_for(program, Some(copied(work))).ok()?;
+    let turn = station.turn(rt, seat, right);
+    Some(matches!(turn, Err(TurnFault::HistoryFull)))
+}
+
+/// A draw, and then the slice of the thread that won, twice.
+fn use_twice<T: TurnLedger, Q: Ledger, K: Ledger>(
+    rt: &impl Wait,
+    program: &Program,
+    station: &Station<T, Q, K>,
+    seat: &mut Seat<T, Q, K>,
+) -> Option<Twice> {
+    let (locked, end, work) = lock(rt, program, station, seat)?;
+    let before = shares_of(seat);
+    let stale = refused(rt, program, station, seat, work)?;
     let after = shares_of(seat);
-    let right = slice_for(program, Some(copied(&stale))).ok()?;
-    let full = matches!(station.turn(rt, seat, right), Err(TurnFault::HistoryFull));
+    let full = finds_full(rt, program, station, seat, &stale)?;
     Some(Twice {
         locked,
         end,
@@ -80,6 +113,17 @@ fn make_twice<T: TurnLedger, Q: Ledger, K: Ledger>(
         after,
         full,
     })
+}
+
+/// A command, and then the same.
+fn make_twice<T: TurnLedger, Q: Ledger, K: Ledger>(
+    rt: &impl Wait,
+    program: &Program,
+    station: &Station<T, Q, K>,
+    seats: &mut [Seat<T, Q, K>],
+) -> Option<Twice> {
+    station.turn(rt, seats.get_mut(0)?, None).ok()?;
+    use_twice(rt, program, station, seats.get_mut(1)?)
 }
 
 /// The same in a station of the system, and the system that `close` gave.

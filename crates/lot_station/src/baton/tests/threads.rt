@@ -109,37 +109,57 @@ fn backwards(alloc: Global, answers: Vec<Answers>) -> Result<Vec<Vec<Answer>>, A
     Ok(lists)
 }
 
-/// The turns of the history by one thread, each of which is answered as it was in its own.
+/// Whether the next turn of the actor is answered as it was in its own thread.
+fn is_made_again(
+    program: &Program,
+    system: &mut System,
+    actor: u32,
+    answers: &mut Vec<Answer>,
+) -> bool {
+    if actor > system.processors() {
+        return false;
+    }
+    let slice = slice_of(program, system.work(actor));
+    system.turn(actor, slice).ok() == answers.pop()
+}
+
+/// Whether each turn of the history is answered as it was in its own thread.
+fn are_made_again(
+    program: &Program,
+    system: &mut System,
+    history: &[u8],
+    answers: &mut [Vec<Answer>],
+) -> bool {
+    for actor in history {
+        let Some(own) = answers.get_mut(usize::from(*actor)) else {
+            return false;
+        };
+        if !is_made_again(program, system, u32::from(*actor), own) {
+            return false;
+        }
+    }
+    true
+}
+
+/// The turns of the history by one thread; `None` where one isn't answered as it was in its own.
 fn played_again(
     alloc: Global,
     program: &Program,
     history: &[u8],
     mut answers: Vec<Vec<Answer>>,
-) -> Result<System, Fail> {
-    let mut system = System::open(alloc, program, ROOM)?;
-    for actor in history {
-        let Some(answers) = answers.get_mut(usize::from(*actor)) else {
-            return Err("actor".into());
-        };
-        let actor = u32::from(*actor);
-        if actor > system.processors() {
-            return Err("processor".into());
-        }
-        let slice = slice_of(program, system.work(actor));
-        if system.turn(actor, slice).ok() != answers.pop() {
-            return Err("another answer".into());
-        }
+) -> Option<System> {
+    let mut system = System::open(alloc, program, ROOM).ok()?;
+    if !are_made_again(program, &mut system, history, &mut answers) {
+        return None;
     }
-    Ok(system)
+    Some(system)
 }
 
 /// The report of the system and its history.
-fn end_of(alloc: Global, system: &mut System) -> Result<Vec<u8>, Fail> {
+fn end_of(alloc: Global, system: &mut System) -> Option<Vec<u8>> {
     let mut writer = Watched::new(Vec::new(alloc));
-    match write_end(system, &mut writer) {
-        Ok(()) => Ok(writer.into_inner()),
-        Err(_) => Err("write_end".into()),
-    }
+    write_end(system, &mut writer).ok()?;
+    Some(writer.into_inner())
 }
 
 /// A system of the program after all turns of all seats, and what they were answered.
@@ -147,13 +167,16 @@ fn played<R: Threads + Wait + Sync>(
     rt: &R,
     alloc: Global,
     program: &Program,
-) -> Result<(System, Vec<Answers>), Fail> {
-    let (station, mut seats) = BatonStation::open(alloc, System::open(alloc, program, ROOM)?)?;
-    let answers = no_answers(alloc, seats.len())?;
+) -> Option<(System, Vec<Answers>)> {
+    let system = System::open(alloc, program, ROOM).ok()?;
+    let Ok((station, mut seats)) = BatonStation::open(alloc, system) else {
+        return None;
+    };
+    let answers = no_answers(alloc, seats.len()).ok()?;
     play_all(rt, &station, program, &mut seats, &answers);
     match station.close(rt, seats) {
-        Ok(system) => Ok((system, answers)),
-        Err(_) => Err("not closed".into()),
+        Ok(system) => Some((system, answers)),
+        Err(_) => None,
     }
 }
 
@@ -163,17 +186,25 @@ fn ends_alike(
     program: &Program,
     system: &mut System,
     answers: Vec<Answers>,
-) -> Result<bool, Fail> {
-    let answers = backwards(alloc, answers)?;
+) -> Option<bool> {
+    let answers = backwards(alloc, answers).ok()?;
     let mut again = played_again(alloc, program, system.history(), answers)?;
-    Ok(end_of(alloc, &mut again)? == end_of(alloc, system)?)
+    Some(end_of(alloc, &mut again)? == end_of(alloc, system)?)
+}
+
+/// How many turns were made in threads, and whether one thread makes them alike.
+fn plays_in_threads<R: Threads + Wait + Sync>(rt: &R, alloc: Global) -> Option<(usize, bool)> {
+    let program = program_of(alloc, BUSY)?;
+    let (mut system, answers) = played(rt, alloc, &program)?;
+    let turns = system.history().len();
+    let alike = ends_alike(alloc, &program, &mut system, answers)?;
+    Some((turns, alike))
 }
 
 #[test]
-fn turns_in_threads(rt: HostRuntime) -> Result<(), Fail> {
-    let program = program_of(rt.alloc(), BUSY)?;
-    let (mut system, answers) = played(&rt, rt.alloc(), &program)?;
-    assert_eq!(rt; system.history().len(), ROOM as usize);
-    assert!(rt; ends_alike(rt.alloc(), &program, &mut system, answers)?);
-    Ok(())
+fn turns_in_threads(rt: HostRuntime) {
+    assert_eq!(rt;
+        plays_in_threads(&rt, rt.alloc()),
+        Some((ROOM as usize, true))
+    );
 }
