@@ -3,7 +3,7 @@ ghost use Rattle.std.specs.Prelude.{◌≡◌, ◌+◌};
 
 use crate::tests::{TWO_PROCESSORS, Turnstile};
 use crate::{Gate, OpenGate, RunFault, run_all};
-use lot_station::{Station, TurnLedger};
+use lot_station::{Seat, Station, TurnLedger};
 use lot_system::{System, TurnFault};
 use lot_text::{Program, parse};
 use std::alloc::{AllocError, Global};
@@ -19,6 +19,20 @@ struct Outcome {
     is_full: bool,
     turns: u64,
     system: Option<System>,
+}
+
+/// Whether the run was stopped by a full history.
+pub(super) fn is_stopped(run: Result<(), RunFault>) -> bool {
+    matches!(run, Err(RunFault::Turn(TurnFault::HistoryFull)))
+}
+
+/// The turns of all seats.
+fn turns_of<T: TurnLedger, Q: Ledger, K: Ledger>(seats: &[Seat<T, Q, K>]) -> u64 {
+    let mut turns: u64 = 0;
+    for seat in seats {
+        turns = turns.saturating_add(seat.turns());
+    }
+    turns
 }
 
 /// The turns of the program in a station of the system.
@@ -44,12 +58,10 @@ fn work<
     requires ticks { (ticks.name ≡ K.name) × (ticks.parts ≡ K.parts) × (K.parts ≡ system.setting.program.limits.processors + 1) }
 {
     let (station, mut seats) = Station::<T, Q, K>::open(alloc, system, turns, quanta, ticks)?;
-    let run = run_all(rt, &station, program, gate, &mut seats);
-    let turns = seats
-        .iter()
-        .fold(0, |sum: u64, seat| sum.saturating_add(seat.turns()));
+    let is_full = is_stopped(run_all(rt, &station, program, gate, &mut seats));
+    let turns = turns_of(&seats);
     Ok(Outcome {
-        is_full: matches!(run, Err(RunFault::Turn(TurnFault::HistoryFull))),
+        is_full,
         turns,
         system: station.close(seats).ok(),
     })
@@ -77,28 +89,40 @@ fn worked<G: Gate + Sync, R: Threads + Wait + Sync>(
     )
 }
 
+/// Whether a run in a history with room for three turns was stopped, the turns of its seats, and those of its history.
+fn stopped<R: Threads + Wait + Sync>(rt: &R, alloc: Global) -> Option<(bool, u64, usize)> {
+    let program = parse(alloc, TWO_PROCESSORS.as_bytes()).ok()?;
+    let outcome = worked(rt, alloc, &program, &OpenGate, 3).ok()?;
+    let system = outcome.system?;
+    Some((outcome.is_full, outcome.turns, system.history().len()))
+}
+
 // The run says why it stopped, and the seats have the turns of the history.
 #[test]
-fn stops_where_the_history_is_full(rt: HostRuntime) -> Result<(), Fail> {
-    let alloc = rt.alloc();
-    let program = parse(alloc, TWO_PROCESSORS.as_bytes())?;
-    let outcome = worked(&rt, alloc, &program, &OpenGate, 3)?;
-    assert_eq!(rt; (outcome.is_full, outcome.turns), (true, 3));
-    let system = outcome.system.ok_or("not closed")?;
-    assert_eq!(rt; system.history().len(), 3);
-    Ok(())
+fn stops_where_the_history_is_full(rt: HostRuntime) {
+    assert_eq!(rt; stopped(&rt, rt.alloc()), Some((true, 3, 3)));
+}
+
+/// Whether this processor's worker, held until the others have come by twice, gave up in a history with room for two turns;
+/// whether the run was stopped, and the turns of its seats.
+fn stopped_behind<R: Threads + Wait + Sync>(
+    rt: &R,
+    alloc: Global,
+    held: u32,
+) -> Option<(bool, bool, u64)> {
+    let program = parse(alloc, TWO_PROCESSORS.as_bytes()).ok()?;
+    let gate = Turnstile::new(held, 2);
+    let outcome = worked(rt, alloc, &program, &gate, 2).ok()?;
+    Some((gate.gave_up(), outcome.is_full, outcome.turns))
 }
 
 // A worker that stops lets the others stop too, one that waits at its gate among them.
 #[test]
-fn stops_behind_gates(rt: HostRuntime) -> Result<(), Fail> {
-    let alloc = rt.alloc();
-    let program = parse(alloc, TWO_PROCESSORS.as_bytes())?;
+fn stops_behind_gates(rt: HostRuntime) {
     for held in [1, 2] {
-        let gate = Turnstile::new(held, 2);
-        let outcome = worked(&rt, alloc, &program, &gate, 2)?;
-        assert!(rt; !gate.gave_up());
-        assert_eq!(rt; (outcome.is_full, outcome.turns), (true, 2));
+        assert_eq!(rt;
+            stopped_behind(&rt, rt.alloc(), held),
+            Some((false, true, 2))
+        );
     }
-    Ok(())
 }

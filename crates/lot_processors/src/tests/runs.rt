@@ -2,30 +2,43 @@
 
 use crate::tests::TWO_PROCESSORS;
 use crate::{FreeRunFault, OpenGate, free_run};
-use lot_text::parse;
+use lot_text::{Program, parse};
+use std::alloc::Global;
+use std::sync::Wait;
 use std::test::*;
+use std::thread::Threads;
 
 /// How often the actor stands in the history.
 fn times(history: &[u8], actor: u8) -> usize {
     history.iter().filter(|other| **other == actor).count()
 }
 
+/// How often each actor has a turn in a free run of the program.
+fn turns_of<R: Threads + Wait + Sync>(
+    rt: &R,
+    alloc: Global,
+    program: &Program,
+) -> Option<[usize; 3]> {
+    let system = free_run(rt, alloc, program, &OpenGate).ok()?;
+    let history = system.history();
+    Some([times(history, 0), times(history, 1), times(history, 2)])
+}
+
+/// Whether each actor has its turns in each of so many runs.
+fn have_turns<R: Threads + Wait + Sync>(rt: &R, alloc: Global, rounds: u32) -> Option<bool> {
+    let program = parse(alloc, TWO_PROCESSORS.as_bytes()).ok()?;
+    for _round in 0..rounds {
+        if turns_of(rt, alloc, &program)? != [1, 2, 2] {
+            return Some(false);
+        }
+    }
+    Some(true)
+}
+
 // Each processor has its turns, and the console one for each command.
 #[test]
-fn each_actor_has_its_turns(rt: HostRuntime) -> Result<(), Fail> {
-    let alloc = rt.alloc();
-    let program = parse(alloc, TWO_PROCESSORS.as_bytes())?;
-    for _round in 0..50 {
-        let Ok(system) = free_run(&rt, alloc, &program, &OpenGate) else {
-            return Err("not run".into());
-        };
-        let history = system.history();
-        assert_eq!(rt;
-            [times(history, 0), times(history, 1), times(history, 2)],
-            [1, 2, 2]
-        );
-    }
-    Ok(())
+fn each_actor_has_its_turns(rt: HostRuntime) {
+    assert_eq!(rt; have_turns(&rt, rt.alloc(), 50), Some(true));
 }
 
 // For runs in which one allocation is refused: it answers that memory was refused, and nothing else.

@@ -54,6 +54,27 @@ fn won(thread: u32, number: u128, total: u128) -> Reply {
     }
 }
 
+/// Compares a reply with what it is to be.
+fn check(rt: &impl Abort, reply: Reply, wanted: Reply) {
+    assert_eq!(rt; reply, wanted);
+}
+
+/// Gives an event, and compares the reply.
+fn check_event(rt: &impl Abort, kernel: &mut Kernel, event: Event, reply: Reply) {
+    check(rt, kernel.event(&event), reply);
+}
+
+/// Makes a currency, which gets this number.
+fn check_currency(
+    rt: &impl Abort,
+    kernel: &mut Kernel,
+    text: &str,
+    number: u32,
+) -> Result<(), Fail> {
+    check(rt, make_currency(kernel, text)?, Reply::Currency(number));
+    Ok(())
+}
+
 /// Issues a ticket of this amount that has this number, and has it fund a currency.
 fn make_link(
     rt: &impl Abort,
@@ -62,43 +83,71 @@ fn make_link(
     issuer: &str,
     funded: &str,
 ) -> Result<(), Fail> {
-    assert_eq!(rt; make_ticket(kernel, amount, issuer)?, Reply::Ticket(ticket));
-    assert_eq!(rt; fund(kernel, u64::from(ticket), funded)?, Reply::Done);
+    check(
+        rt,
+        make_ticket(kernel, amount, issuer)?,
+        Reply::Ticket(ticket),
+    );
+    check(rt, fund(kernel, u64::from(ticket), funded)?, Reply::Done);
     Ok(())
 }
 
-/// A chain of 4096 currencies: base funds the first with 7, each funds the next with 1, and the last a thread. It is made from
-/// its end.
-fn chain(rt: &impl Abort, alloc: Global) -> Result<Kernel, Fail> {
-    let mut kernel = Kernel::new(alloc, largest()?)?;
+/// Makes a thread with a ticket of this amount, issued in this currency; they have these numbers.
+fn check_funded(
+    rt: &impl Abort,
+    kernel: &mut Kernel,
+    (amount, issuer, text): (u64, &str, &str),
+    (ticket, thread): (u32, u32),
+) -> Result<(), Fail> {
+    let made = make_funded(kernel, amount, issuer, text)?;
+    check(rt, made, Reply::Funded { ticket, thread });
+    Ok(())
+}
+
+/// Makes the currency with this number in a chain.
+fn make_place(
+    rt: &impl Abort,
+    kernel: &mut Kernel,
+    alloc: Global,
+    number: u32,
+) -> Result<(), Fail> {
+    let text = format!(in alloc; "c{number}")?;
+    check_currency(rt, kernel, text.as_str(), number)
+}
+
+/// Issues the ticket with this number, by which a currency of the chain funds the next.
+fn join_places(
+    rt: &impl Abort,
+    kernel: &mut Kernel,
+    alloc: Global,
+    ticket: u32,
+) -> Result<(), Fail> {
+    let issuer = format!(in alloc; "c{}", 4097u32.saturating_sub(ticket))?;
+    let funded = format!(in alloc; "c{}", 4098u32.saturating_sub(ticket))?;
+    make_link(rt, kernel, (ticket, 1), issuer.as_str(), funded.as_str())
+}
+
+fn make_places(rt: &impl Abort, kernel: &mut Kernel, alloc: Global) -> Result<(), Fail> {
     for number in 1..=4096u32 {
-        let text = format!(in alloc; "c{number}")?;
-        assert_eq!(rt;
-            make_currency(&mut kernel, text.as_str())?,
-            Reply::Currency(number)
-        );
+        make_place(rt, kernel, alloc, number)?;
     }
-    let made = make_funded(&mut kernel, 1, "c4096", "a")?;
-    assert_eq!(rt;
-        made,
-        Reply::Funded {
-            ticket: 1,
-            thread: 1
-        }
-    );
+    Ok(())
+}
+
+fn join_all(rt: &impl Abort, kernel: &mut Kernel, alloc: Global) -> Result<(), Fail> {
     for ticket in 2..=4096u32 {
-        let issuer = format!(in alloc; "c{}", 4097 - ticket)?;
-        let funded = format!(in alloc; "c{}", 4098 - ticket)?;
-        make_link(
-            rt,
-            &mut kernel,
-            (ticket, 1),
-            issuer.as_str(),
-            funded.as_str(),
-        )?;
+        join_places(rt, kernel, alloc, ticket)?;
     }
-    make_link(rt, &mut kernel, (4097, 7), "base", "c1")?;
-    Ok(kernel)
+    Ok(())
+}
+
+/// Makes a chain of 4096 currencies: base funds the first with 7, each funds the next with 1, and the last a thread. It is
+/// made from its end.
+fn make_chain(rt: &impl Abort, kernel: &mut Kernel, alloc: Global) -> Result<(), Fail> {
+    make_places(rt, kernel, alloc)?;
+    check_funded(rt, kernel, (1, "c4096", "a"), (1, 1))?;
+    join_all(rt, kernel, alloc)?;
+    make_link(rt, kernel, (4097, 7), "base", "c1")
 }
 
 /// Whether the currency is worth nothing and has nothing active.
@@ -109,81 +158,105 @@ fn is_worth_nothing(row: Option<CurrencyRow>) -> bool {
     }
 }
 
-// What base funds reaches the thread through all the currencies, and nothing is worth anything when it has ended.
-#[test]
-fn a_chain_of_all_currencies(rt: HostRuntime) -> Result<(), Fail> {
-    let mut kernel = chain(&rt, rt.alloc())?;
-    assert_eq!(rt; kernel.event(&Event::Draw(1, 6)), won(1, 6, 7));
-    let exited = Reply::Trapped {
-        thread: 1,
-        ticks: 1,
-        outcome: Outcome::Exited,
-        ends: false,
-    };
-    assert_eq!(rt; kernel.event(&Event::Trap(1, 0, Action::Exit)), exited);
+/// Compares all currencies of the chain with what is worth nothing.
+fn check_worth_nothing(rt: &impl Abort, kernel: &mut Kernel) {
     for currency in 0..=4096 {
         assert!(rt;
             is_worth_nothing(kernel.currency_row(currency)),
             "currency {currency}"
         );
     }
+}
+
+/// A draw, the exit of the winner, and a draw that nobody wins.
+fn check_exit(rt: &impl Abort, kernel: &mut Kernel) {
+    check_event(rt, kernel, Event::Draw(1, 6), won(1, 6, 7));
+    let exited = Reply::Trapped {
+        thread: 1,
+        ticks: 1,
+        outcome: Outcome::Exited,
+        ends: false,
+    };
+    check_event(rt, kernel, Event::Trap(1, 0, Action::Exit), exited);
+    check_worth_nothing(rt, kernel);
     assert!(rt; kernel.currency_row(4097).is_none());
-    assert_eq!(rt; kernel.event(&Event::Draw(1, 6)), Reply::Idle);
+    check_event(rt, kernel, Event::Draw(1, 6), Reply::Idle);
+}
+
+// What base funds reaches the thread through all the currencies, and nothing is worth anything when it has ended.
+#[test]
+fn a_chain_of_all_currencies(rt: HostRuntime) -> Result<(), Fail> {
+    let mut kernel = Kernel::new(rt.alloc(), largest()?)?;
+    make_chain(&rt, &mut kernel, rt.alloc())?;
+    check_exit(&rt, &mut kernel);
     Ok(())
+}
+
+/// Makes three threads, funded with 33 of a currency each.
+fn make_three(rt: &impl Abort, kernel: &mut Kernel) -> Result<(), Fail> {
+    for (text, ticket, thread) in [("a", 2, 1), ("b", 3, 2), ("c", 4, 3)] {
+        check_funded(rt, kernel, (33, "g", text), (ticket, thread))?;
+    }
+    Ok(())
+}
+
+/// Makes a currency that 100 of base fund, and shares it between three threads.
+fn make_shared(rt: &impl Abort, kernel: &mut Kernel) -> Result<(), Fail> {
+    check_currency(rt, kernel, "g", 1)?;
+    make_link(rt, kernel, (1, 100), "base", "g")?;
+    make_three(rt, kernel)
+}
+
+/// The third thread wins a draw of 99, and its quantum expires.
+fn check_third(rt: &impl Abort, kernel: &mut Kernel) {
+    check_event(rt, kernel, Event::Draw(1, 98), won(3, 98, 99));
+    let expired = Reply::Expired {
+        thread: 3,
+        ticks: 100,
+    };
+    check_event(rt, kernel, Event::Expire(1), expired);
 }
 
 // A second ticket that funds a currency is shared at once: 100 and 50 of base over three threads of 33 each.
 #[test]
 fn a_second_ticket_is_shared(rt: HostRuntime) -> Result<(), Fail> {
     let mut kernel = Kernel::new(rt.alloc(), largest()?)?;
-    assert_eq!(rt; make_currency(&mut kernel, "g")?, Reply::Currency(1));
-    assert_eq!(rt; make_ticket(&mut kernel, 100, "base")?, Reply::Ticket(1));
-    assert_eq!(rt; fund(&mut kernel, 1, "g")?, Reply::Done);
-    for (text, ticket, thread) in [("a", 2, 1), ("b", 3, 2), ("c", 4, 3)] {
-        let made = make_funded(&mut kernel, 33, "g", text)?;
-        assert_eq!(rt; made, Reply::Funded { ticket, thread });
-    }
-    assert_eq!(rt; kernel.event(&Event::Draw(1, 98)), won(3, 98, 99));
-    let expired = Reply::Expired {
-        thread: 3,
-        ticks: 100,
-    };
-    assert_eq!(rt; kernel.event(&Event::Expire(1)), expired);
-    assert_eq!(rt; make_ticket(&mut kernel, 50, "base")?, Reply::Ticket(5));
-    assert_eq!(rt; fund(&mut kernel, 5, "g")?, Reply::Done);
-    assert_eq!(rt; kernel.event(&Event::Draw(1, 149)), won(3, 149, 150));
+    make_shared(&rt, &mut kernel)?;
+    check_third(&rt, &mut kernel);
+    make_link(&rt, &mut kernel, (5, 50), "base", "g")?;
+    check_event(&rt, &mut kernel, Event::Draw(1, 149), won(3, 149, 150));
     Ok(())
 }
 
-/// A thread that 100 of base reach by two currencies, and 60 by the second alone.
-fn upstream(rt: &impl Abort, alloc: Global) -> Result<Kernel, Fail> {
-    let mut kernel = Kernel::new(alloc, largest()?)?;
-    assert_eq!(rt; make_currency(&mut kernel, "g")?, Reply::Currency(1));
-    assert_eq!(rt; make_currency(&mut kernel, "h")?, Reply::Currency(2));
-    make_link(rt, &mut kernel, (1, 100), "base", "g")?;
-    make_link(rt, &mut kernel, (2, 1), "g", "h")?;
-    make_link(rt, &mut kernel, (3, 60), "base", "h")?;
-    make_funded(&mut kernel, 1, "h", "a")?;
-    Ok(kernel)
+/// Makes a thread that 100 of base reach by two currencies, and 60 by the second alone.
+fn make_upstream(rt: &impl Abort, kernel: &mut Kernel) -> Result<(), Fail> {
+    check_currency(rt, kernel, "g", 1)?;
+    check_currency(rt, kernel, "h", 2)?;
+    make_link(rt, kernel, (1, 100), "base", "g")?;
+    make_link(rt, kernel, (2, 1), "g", "h")?;
+    make_link(rt, kernel, (3, 60), "base", "h")?;
+    make_funded(kernel, 1, "h", "a")?;
+    Ok(())
+}
+
+/// Draws before and after base's first ticket stops funding.
+fn check_upstream(rt: &impl Abort, kernel: &mut Kernel) {
+    let unfund = Event::Command(Command::Unfund { ticket: 1 });
+    let expired = Reply::Expired {
+        thread: 1,
+        ticks: 100,
+    };
+    check_event(rt, kernel, Event::Draw(1, 159), won(1, 159, 160));
+    check_event(rt, kernel, Event::Expire(1), expired);
+    check_event(rt, kernel, unfund, Reply::Done);
+    check_event(rt, kernel, Event::Draw(1, 59), won(1, 59, 60));
 }
 
 // A value follows funding two currencies upstream.
 #[test]
 fn an_unfunding_upstream_is_seen(rt: HostRuntime) -> Result<(), Fail> {
-    let mut kernel = upstream(&rt, rt.alloc())?;
-    for (event, reply) in [
-        (Event::Draw(1, 159), won(1, 159, 160)),
-        (
-            Event::Expire(1),
-            Reply::Expired {
-                thread: 1,
-                ticks: 100,
-            },
-        ),
-        (Event::Command(Command::Unfund { ticket: 1 }), Reply::Done),
-        (Event::Draw(1, 59), won(1, 59, 60)),
-    ] {
-        assert_eq!(rt; kernel.event(&event), reply);
-    }
+    let mut kernel = Kernel::new(rt.alloc(), largest()?)?;
+    make_upstream(&rt, &mut kernel)?;
+    check_upstream(&rt, &mut kernel);
     Ok(())
 }

@@ -13,6 +13,7 @@ use lot_tree::SumTree;
 use std::alloc::{AllocError, Global};
 use std::marker::Brand;
 use std::process::Abort;
+use std::sync::Wait;
 use std::sync::ledger::{Blank, Ledger};
 use std::test::*;
 
@@ -23,42 +24,79 @@ fn bounds() -> Result<[Limits; 2], Fail> {
     Ok([least, largest])
 }
 
+fn check_kernel(rt: &impl Abort, alloc: Global, limits: Limits) -> Result<(), AllocError> {
+    let kernel = Kernel::new(alloc, limits)?;
+    assert_eq!(rt; (kernel.ticket_count(), kernel.currency_count()), (0, 1));
+    Ok(())
+}
+
+fn check_graph(rt: &impl Abort, alloc: Global, limits: Limits) -> Result<(), AllocError> {
+    let graph = Graph::new(alloc, &limits)?;
+    let base = graph.is_currency(0);
+    assert_eq!(rt;
+        (graph.threads(), graph.mutexes(), base),
+        (0, limits.mutexes, true)
+    );
+    Ok(())
+}
+
 #[test]
 fn kernels_and_graphs(rt: HostRuntime) -> Result<(), Fail> {
     for limits in bounds()? {
-        let kernel = Kernel::new(rt.alloc(), limits)?;
-        assert_eq!(rt; (kernel.ticket_count(), kernel.currency_count()), (0, 1));
-        let graph = Graph::new(rt.alloc(), &limits)?;
-        assert_eq!(rt; (graph.threads(), graph.mutexes()), (0, limits.mutexes));
-        assert!(rt; graph.is_currency(0));
+        check_kernel(&rt, rt.alloc(), limits)?;
+        check_graph(&rt, rt.alloc(), limits)?;
     }
+    Ok(())
+}
+
+/// Whether the first of these lists is empty, if there is one.
+fn check_lists(
+    rt: &impl Abort,
+    alloc: Global,
+    lists: usize,
+    nodes: usize,
+) -> Result<(), AllocError> {
+    let made = Lists::new(alloc, lists, nodes)?;
+    if 0 < lists {
+        assert!(rt; made.is_empty(0));
+    }
+    Ok(())
+}
+
+fn check_queues(
+    rt: &impl Abort,
+    alloc: Global,
+    (ports, mutexes, threads): (u32, u32, u32),
+) -> Result<(), AllocError> {
+    let queues = Queues::new(alloc, ports, mutexes, threads)?;
+    assert_eq!(rt;
+        (
+            queues.ports(),
+            queues.mutexes(),
+            queues.room(),
+            queues.threads()
+        ),
+        (ports, mutexes, threads, 0)
+    );
+    Ok(())
+}
+
+fn check_tree(rt: &impl Abort, alloc: Global, places: usize) -> Result<(), AllocError> {
+    let tree = SumTree::new(alloc, places)?;
+    assert_eq!(rt; (tree.len(), tree.total()), (places, 0));
     Ok(())
 }
 
 #[test]
 fn lists_queues_and_trees(rt: HostRuntime) -> Result<(), Fail> {
-    let alloc = rt.alloc();
     for (lists, nodes) in [(0, 0), (1, 1), (4865, 73983)] {
-        let made = Lists::new(alloc, lists, nodes)?;
-        if 0 < lists {
-            assert!(rt; made.is_empty(0));
-        }
+        check_lists(&rt, rt.alloc(), lists, nodes)?;
     }
-    for (ports, mutexes, threads) in [(0, 0, 1), (256, 256, 4096)] {
-        let queues = Queues::new(alloc, ports, mutexes, threads)?;
-        assert_eq!(rt;
-            (
-                queues.ports(),
-                queues.mutexes(),
-                queues.room(),
-                queues.threads()
-            ),
-            (ports, mutexes, threads, 0)
-        );
+    for sizes in [(0, 0, 1), (256, 256, 4096)] {
+        check_queues(&rt, rt.alloc(), sizes)?;
     }
     for places in [0, 1, 4096] {
-        let tree = SumTree::new(alloc, places)?;
-        assert_eq!(rt; (tree.len(), tree.total()), (places, 0));
+        check_tree(&rt, rt.alloc(), places)?;
     }
     Ok(())
 }
@@ -87,21 +125,64 @@ fn programs(alloc: Global) -> Result<[(Program, u32); 2], Fail> {
     Ok([(least, 0), (large, 1000000)])
 }
 
+/// Compares each script with its copy.
+fn check_scripts(rt: &impl Abort, alloc: Global, program: &Program) -> Result<(), AllocError> {
+    for script in program.scripts() {
+        let copied = script.copied(alloc)?;
+        assert!(rt; copied.is_same(script));
+    }
+    Ok(())
+}
+
+/// A system of the program, which has its processors.
+fn checked_system(
+    rt: &impl Abort,
+    alloc: Global,
+    program: &Program,
+    room: u32,
+) -> Result<System, AllocError> {
+    let system = System::open(alloc, program, room)?;
+    assert_eq!(rt; system.processors(), program.limits().processors);
+    Ok(system)
+}
+
+/// How many seats a baton station of the system has, and whether it is closed.
+fn baton_seats<R: Wait>(
+    rt: &R,
+    alloc: Global,
+    system: System,
+) -> Result<(usize, bool), AllocError> {
+    let (station, seats) = BatonStation::open(alloc, system)?;
+    let count = seats.len();
+    Ok((count, station.close(rt, seats).is_ok()))
+}
+
+/// A copy of the program, which has as many scripts.
+fn checked_copy(rt: &impl Abort, alloc: Global, program: &Program) -> Result<Program, AllocError> {
+    let copy = program.copied(alloc)?;
+    assert_eq!(rt; copy.scripts().len(), program.scripts().len());
+    Ok(copy)
+}
+
+fn check_copies<R: Abort + Wait>(
+    rt: &R,
+    alloc: Global,
+    program: &Program,
+    room: u32,
+) -> Result<(), AllocError> {
+    let copy = checked_copy(rt, alloc, program)?;
+    check_scripts(rt, alloc, program)?;
+    let system = checked_system(rt, alloc, &copy, room)?;
+    let wanted = program.limits().processors as usize + 1;
+    assert_eq!(rt; baton_seats(rt, alloc, system)?, (wanted, true));
+    Ok(())
+}
+
 #[test]
 fn copies_and_systems(rt: HostRuntime) -> Result<(), Fail> {
     let alloc = rt.alloc();
     for (program, room) in programs(alloc)? {
-        let copy = program.copied(alloc)?;
-        assert_eq!(rt; copy.scripts().len(), program.scripts().len());
-        for script in program.scripts() {
-            let copied = script.copied(alloc)?;
-            assert!(rt; copied.is_same(script));
-        }
-        let system = System::open(alloc, &copy, room)?;
-        assert_eq!(rt; system.processors(), program.limits().processors);
-        let (station, seats) = BatonStation::open(alloc, system)?;
-        assert_eq!(rt; seats.len(), program.limits().processors as usize + 1);
-        assert!(rt; station.close(&rt, seats).is_ok());
+        check_copies(&rt, alloc, &program, room)?;
     }
     Ok(())
 }
