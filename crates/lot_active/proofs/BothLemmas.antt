@@ -22,6 +22,7 @@ use Rattle.lot_active.specs.Fundings.{AddsEdge, ends_of_edge, edge_between}
 use Rattle.lot_active.specs.Both.{Both, Agree}
 use Rattle.lot_active.proofs.Edits.{same-ends, ends-there}
 use Rattle.lot_active.proofs.CallEdits.{fund-edge, unfund-edge, lend-edge, unlend-edge, disown-edge, issue-kept, thread-kept, currencies-kept}
+use Rattle.lot_graph.specs.Changes.{with_currencies, with_lends, with_owners, with_tickets}
 
 abbrev pub both : LimitedFunding → Activity → Both
 both w v = record { graph = w; activity = v }
@@ -31,17 +32,17 @@ none-live zero alive = cc
 none-live (suc i) alive = let none = sym (at_number-suc (let bits : List Bool = [] in bits) i) ∙ alive in cc
 
 module _ (w now : LimitedFunding) (v : Activity) (agree : Agree (both w v)) (sound : IsSound now.funding) (fits : FitsLimits now) where
-  pub currency-both : (o : Option ℕ) (currencies : List Bool) → OnSome o (now ≡ record w { funding = record w.funding { currencies = currencies } }) → IfNone o (now ≡ w) → Agree (both now v)
+  pub currency-both : (o : Option ℕ) (currencies : List Bool) → OnSome o (now ≡ with_currencies w currencies) → IfNone o (now ≡ w) → Agree (both now v)
   currency-both None currencies made same = subst (λ (x : LimitedFunding). Agree (both x v)) (sym same) agree
   currency-both (Some n) currencies made same =
       let (live, (size, kept)) = agree in (live, (size ∙ sym (ap (λ (x : LimitedFunding). length x.funding.lends) made), currencies-kept v w now live kept sound fits currencies made))
 
-  pub issue-both : (o : Option ℕ) (amount issuer : ℕ) → OnSome o (now ≡ record w { funding = record w.funding { tickets = with_new_ticket w.funding.tickets amount issuer target.Unfunded } }) → IfNone o (now ≡ w) → Agree (both now v)
+  pub issue-both : (o : Option ℕ) (amount issuer : ℕ) → OnSome o (now ≡ with_tickets w (with_new_ticket w.funding.tickets amount issuer target.Unfunded)) → IfNone o (now ≡ w) → Agree (both now v)
   issue-both None amount issuer made same = subst (λ (x : LimitedFunding). Agree (both x v)) (sym same) agree
   issue-both (Some n) amount issuer made same =
       let (live, (size, kept)) = agree in (live, (size ∙ sym (ap (λ (x : LimitedFunding). length x.funding.lends) made), issue-kept v w now live kept sound fits amount issuer made))
 
-  pub thread-both : now ≡ record w { funding = record w.funding { lends = w.funding.lends ++ Nobody ∷ [] } } → Agree (both now v)
+  pub thread-both : now ≡ with_lends w (w.funding.lends ++ Nobody ∷ []) → Agree (both now v)
   thread-both made =
       let (live, (size, kept)) = agree in
       let after : length (w.funding.lends ++ Nobody ∷ []) ≡ length w.funding.lends + 1 = length-append w.funding.lends (Nobody ∷ []) in
@@ -55,13 +56,13 @@ target-some f (target.Currency c) there = (Currency c, refl)
 target-some f (target.Thread t) there = (Thread t, refl)
 
 module _ (w now : LimitedFunding) (n : ℕ) where
-  pub fund-ends : (to : Target) → target_of w.funding n ≡ Some target.Unfunded → IsTarget w.funding to → now ≡ record w { funding = record w.funding { tickets = with_target w.funding.tickets n to } } → (ends : EdgeEnds) × AddsEdge w now (OfTicket n) ends
+  pub fund-ends : (to : Target) → target_of w.funding n ≡ Some target.Unfunded → IsTarget w.funding to → now ≡ with_tickets w (with_target w.funding.tickets n to) → (ends : EdgeEnds) × AddsEdge w now (OfTicket n) ends
   fund-ends to unfunded there made =
       let t = target-ticket w.funding n target.Unfunded unfunded in
       let node = target-some w.funding to there in
       (edge_between t.0.amount (Currency t.0.issuer) node.0, fund-edge w now n t.0 to node.0 t.1 t.2 node.1 made)
 
-  pub unfund-ends : (ends : EdgeEnds) → IsFunding w.funding n → ends_of_edge w.funding (OfTicket n) ≡ Some ends → now ≡ record w { funding = record w.funding { tickets = with_target w.funding.tickets n target.Unfunded } } → AddsEdge now w (OfTicket n) ends
+  pub unfund-ends : (ends : EdgeEnds) → IsFunding w.funding n → ends_of_edge w.funding (OfTicket n) ≡ Some ends → now ≡ with_tickets w (with_target w.funding.tickets n target.Unfunded) → AddsEdge now w (OfTicket n) ends
   unfund-ends ends funds at made =
       let t = funding-ticket w.funding n funds in
       let other = edge_between t.0.amount (Currency t.0.issuer) t.1 in
@@ -88,16 +89,16 @@ lender-lends f t lends = by (at_number f.lends t) refl lends
     by (Some lend) is some = node-of lend is (lend_node lend) refl some
 
 module _ (w now : LimitedFunding) (n : ℕ) where
-  pub lend-ends : (lend : Lend) → at_number w.funding.lends n ≡ Some Nobody → IsBorrower w.funding lend → now ≡ record w { funding = record w.funding { lends = set_number w.funding.lends n lend } } → (ends : EdgeEnds) × AddsEdge w now (OfLender n) ends
+  pub lend-ends : (lend : Lend) → at_number w.funding.lends n ≡ Some Nobody → IsBorrower w.funding lend → now ≡ with_lends w (set_number w.funding.lends n lend) → (ends : EdgeEnds) × AddsEdge w now (OfLender n) ends
   lend-ends lend nobody there made = let node = borrower-some w.funding lend there in (edge_between 1 (Thread n) node.0, lend-edge w now n lend node.0 nobody node.1 made)
 
-  pub unlend-ends : (ends : EdgeEnds) → IsLender w.funding n → ends_of_edge w.funding (OfLender n) ≡ Some ends → now ≡ record w { funding = record w.funding { lends = set_number w.funding.lends n Nobody } } → AddsEdge now w (OfLender n) ends
+  pub unlend-ends : (ends : EdgeEnds) → IsLender w.funding n → ends_of_edge w.funding (OfLender n) ≡ Some ends → now ≡ with_lends w (set_number w.funding.lends n Nobody) → AddsEdge now w (OfLender n) ends
   unlend-ends ends lends at made =
       let (lend, node, here, node_is) = lender-lends w.funding n lends in
       let adds : AddsEdge now w (OfLender n) (edge_between 1 (Thread n) node) = unlend-edge w now n lend node here node_is made in
       subst (λ (e : EdgeEnds). AddsEdge now w (OfLender n) e) (same-ends (ends_of_edge w.funding (OfLender n)) (edge_between 1 (Thread n) node) ends adds.here at) adds
 
-  pub give-ends : (ends : EdgeEnds) → IsMutex w.funding n → ends_of_edge w.funding (OfMutex n) ≡ Some ends → now ≡ record w { funding = record w.funding { owners = set_number w.funding.owners n None } } → AddsEdge now w (OfMutex n) ends
+  pub give-ends : (ends : EdgeEnds) → IsMutex w.funding n → ends_of_edge w.funding (OfMutex n) ≡ Some ends → now ≡ with_owners w (set_number w.funding.owners n None) → AddsEdge now w (OfMutex n) ends
   give-ends ends there at made =
       let (owner, owned, from, to) = mutex-ends w.funding n ends.from ends.to (ends-there w.funding (OfMutex n) ends at) in
       let adds : AddsEdge now w (OfMutex n) (edge_between 1 (Mutex n) (Thread owner)) = disown-edge w now n owner there owned made in
@@ -113,5 +114,5 @@ ends-lender_is f t ends at =
 pub same-both : (w now : LimitedFunding) (v : Activity) → now ≡ w → Agree (both w v) → Agree (both now v)
 same-both w now v same agree = subst (λ (x : LimitedFunding). Agree (both x v)) (sym same) agree
 
-pub lends-size : (w now : LimitedFunding) (n : ℕ) (lend : Lend) → now ≡ record w { funding = record w.funding { lends = set_number w.funding.lends n lend } } → length now.funding.lends ≡ length w.funding.lends
+pub lends-size : (w now : LimitedFunding) (n : ℕ) (lend : Lend) → now ≡ with_lends w (set_number w.funding.lends n lend) → length now.funding.lends ≡ length w.funding.lends
 lends-size w now n lend made = ap (λ (x : LimitedFunding). length x.funding.lends) made ∙ length-set w.funding.lends (n - 1) lend

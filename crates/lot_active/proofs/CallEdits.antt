@@ -21,11 +21,12 @@ use Rattle.lot_active.specs.Nets.{Net}
 use Rattle.lot_active.specs.Activity.{Activity, IsKept}
 use Rattle.lot_active.specs.Fundings.{AwakeAre, IsKeptFor, AddsEdge, graph_net, edge_between}
 use Rattle.lot_active.proofs.Edits.{HasMore, fund-adds, unfund-adds, lend-adds, unlend-adds, own-adds, disown-adds, issue-same, destroy-same, thread-same}
+use Rattle.lot_graph.specs.Changes.{with_currencies, with_lends, with_owners, with_tickets}
 
 -- ---- one edge
 
 -- a graph with other owners, as many
-owners-layout : (w : LimitedFunding) (m : ℕ) (o : Option ℕ) → layout_of (record w { funding = record w.funding { owners = set_number w.funding.owners m o } }) ≡ layout_of w
+owners-layout : (w : LimitedFunding) (m : ℕ) (o : Option ℕ) → layout_of (with_owners w (set_number w.funding.owners m o)) ≡ layout_of w
 owners-layout w m o = ap (λ k. let l : Layout = record { tickets = w.ticket_limit; currencies = w.currency_limit; threads = w.thread_limit; mutexes = k } in l) (length-set w.funding.owners (m - 1) o)
 
 adds-edge : (less more : LimitedFunding) (edge : Edge) (ends : EdgeEnds) → layout_of more ≡ layout_of less → HasMore less.funding more.funding edge ends → AddsEdge less more edge ends
@@ -33,40 +34,40 @@ adds-edge less more edge ends layout (none, here, others) = record { layout = la
 
 module _ (w now : LimitedFunding) where
   pub fund-edge : (n : ℕ) (t : Ticket) (to : Target) (node : Node) → ticket_at w.funding n ≡ Some t → t.target ≡ target.Unfunded → target_node to ≡ Some node
-      → now ≡ record w { funding = record w.funding { tickets = with_target w.funding.tickets n to } } → AddsEdge w now (OfTicket n) (edge_between t.amount (Currency t.issuer) node)
+      → now ≡ with_tickets w (with_target w.funding.tickets n to) → AddsEdge w now (OfTicket n) (edge_between t.amount (Currency t.issuer) node)
   fund-edge n t to node here unfunded at is =
       subst (λ (x : LimitedFunding). AddsEdge w x (OfTicket n) (edge_between t.amount (Currency t.issuer) node)) (sym is)
-      (adds-edge w (record w { funding = record w.funding { tickets = with_target w.funding.tickets n to } }) (OfTicket n) (edge_between t.amount (Currency t.issuer) node) refl (fund-adds w.funding n t to node here unfunded at))
+      (adds-edge w (with_tickets w (with_target w.funding.tickets n to)) (OfTicket n) (edge_between t.amount (Currency t.issuer) node) refl (fund-adds w.funding n t to node here unfunded at))
 
   pub unfund-edge : (n : ℕ) (t : Ticket) (node : Node) → ticket_at w.funding n ≡ Some t → target_node t.target ≡ Some node
-      → now ≡ record w { funding = record w.funding { tickets = with_target w.funding.tickets n target.Unfunded } } → AddsEdge now w (OfTicket n) (edge_between t.amount (Currency t.issuer) node)
+      → now ≡ with_tickets w (with_target w.funding.tickets n target.Unfunded) → AddsEdge now w (OfTicket n) (edge_between t.amount (Currency t.issuer) node)
   unfund-edge n t node here at is =
       subst (λ (x : LimitedFunding). AddsEdge x w (OfTicket n) (edge_between t.amount (Currency t.issuer) node)) (sym is)
-      (adds-edge (record w { funding = record w.funding { tickets = with_target w.funding.tickets n target.Unfunded } }) w (OfTicket n) (edge_between t.amount (Currency t.issuer) node) refl (unfund-adds w.funding n t node here at))
+      (adds-edge (with_tickets w (with_target w.funding.tickets n target.Unfunded)) w (OfTicket n) (edge_between t.amount (Currency t.issuer) node) refl (unfund-adds w.funding n t node here at))
 
   pub lend-edge : (t : ℕ) (lend : Lend) (node : Node) → at_number w.funding.lends t ≡ Some Nobody → lend_node lend ≡ Some node
-      → now ≡ record w { funding = record w.funding { lends = set_number w.funding.lends t lend } } → AddsEdge w now (OfLender t) (edge_between 1 (Thread t) node)
+      → now ≡ with_lends w (set_number w.funding.lends t lend) → AddsEdge w now (OfLender t) (edge_between 1 (Thread t) node)
   lend-edge t lend node here at is =
       subst (λ (x : LimitedFunding). AddsEdge w x (OfLender t) (edge_between 1 (Thread t) node)) (sym is)
-      (adds-edge w (record w { funding = record w.funding { lends = set_number w.funding.lends t lend } }) (OfLender t) (edge_between 1 (Thread t) node) refl (lend-adds w.funding t lend node here at))
+      (adds-edge w (with_lends w (set_number w.funding.lends t lend)) (OfLender t) (edge_between 1 (Thread t) node) refl (lend-adds w.funding t lend node here at))
 
   pub unlend-edge : (t : ℕ) (lend : Lend) (node : Node) → at_number w.funding.lends t ≡ Some lend → lend_node lend ≡ Some node
-      → now ≡ record w { funding = record w.funding { lends = set_number w.funding.lends t Nobody } } → AddsEdge now w (OfLender t) (edge_between 1 (Thread t) node)
+      → now ≡ with_lends w (set_number w.funding.lends t Nobody) → AddsEdge now w (OfLender t) (edge_between 1 (Thread t) node)
   unlend-edge t lend node here at is =
       subst (λ (x : LimitedFunding). AddsEdge x w (OfLender t) (edge_between 1 (Thread t) node)) (sym is)
-      (adds-edge (record w { funding = record w.funding { lends = set_number w.funding.lends t Nobody } }) w (OfLender t) (edge_between 1 (Thread t) node) refl (unlend-adds w.funding t lend node here at))
+      (adds-edge (with_lends w (set_number w.funding.lends t Nobody)) w (OfLender t) (edge_between 1 (Thread t) node) refl (unlend-adds w.funding t lend node here at))
 
   pub own-edge : (m owner : ℕ) → IsMutex w.funding m → owner_of w.funding m ≡ None
-      → now ≡ record w { funding = record w.funding { owners = set_number w.funding.owners m (Some owner) } } → AddsEdge w now (OfMutex m) (edge_between 1 (Mutex m) (Thread owner))
+      → now ≡ with_owners w (set_number w.funding.owners m (Some owner)) → AddsEdge w now (OfMutex m) (edge_between 1 (Mutex m) (Thread owner))
   own-edge m owner there free is =
       subst (λ (x : LimitedFunding). AddsEdge w x (OfMutex m) (edge_between 1 (Mutex m) (Thread owner))) (sym is)
-      (adds-edge w (record w { funding = record w.funding { owners = set_number w.funding.owners m (Some owner) } }) (OfMutex m) (edge_between 1 (Mutex m) (Thread owner)) (owners-layout w m (Some owner)) (own-adds w.funding m owner there.0 there.1 free))
+      (adds-edge w (with_owners w (set_number w.funding.owners m (Some owner))) (OfMutex m) (edge_between 1 (Mutex m) (Thread owner)) (owners-layout w m (Some owner)) (own-adds w.funding m owner there.0 there.1 free))
 
   pub disown-edge : (m owner : ℕ) → IsMutex w.funding m → owner_of w.funding m ≡ Some owner
-      → now ≡ record w { funding = record w.funding { owners = set_number w.funding.owners m None } } → AddsEdge now w (OfMutex m) (edge_between 1 (Mutex m) (Thread owner))
+      → now ≡ with_owners w (set_number w.funding.owners m None) → AddsEdge now w (OfMutex m) (edge_between 1 (Mutex m) (Thread owner))
   disown-edge m owner there owns is =
       subst (λ (x : LimitedFunding). AddsEdge x w (OfMutex m) (edge_between 1 (Mutex m) (Thread owner))) (sym is)
-      (adds-edge (record w { funding = record w.funding { owners = set_number w.funding.owners m None } }) w (OfMutex m) (edge_between 1 (Mutex m) (Thread owner)) (sym (owners-layout w m None)) (disown-adds w.funding m owner there.0 there.1 owns))
+      (adds-edge (with_owners w (set_number w.funding.owners m None)) w (OfMutex m) (edge_between 1 (Mutex m) (Thread owner)) (sym (owners-layout w m None)) (disown-adds w.funding m owner there.0 there.1 owns))
 
 -- ---- nothing that is kept
 
@@ -80,16 +81,16 @@ same-kept v w now live after kept sound fits layout net awake = record {
 }
 
 module _ (v : Activity) (w now : LimitedFunding) (live : List Bool) (kept : IsKeptFor v w live) (sound : IsSound now.funding) (fits : FitsLimits now) where
-  pub issue-kept : (amount issuer : ℕ) → now ≡ record w { funding = record w.funding { tickets = with_new_ticket w.funding.tickets amount issuer target.Unfunded } } → IsKeptFor v now live
+  pub issue-kept : (amount issuer : ℕ) → now ≡ with_tickets w (with_new_ticket w.funding.tickets amount issuer target.Unfunded) → IsKeptFor v now live
   issue-kept amount issuer is = same-kept v w now live live kept sound fits (ap layout_of is) (ap graph_net is ∙ issue-same w.funding (layout_of w) amount issuer) kept.awake
 
-  pub destroy-kept : (n : ℕ) (t : Ticket) → ticket_at w.funding n ≡ Some t → t.target ≡ target.Unfunded → now ≡ record w { funding = record w.funding { tickets = without_ticket w.funding.tickets n } } → IsKeptFor v now live
+  pub destroy-kept : (n : ℕ) (t : Ticket) → ticket_at w.funding n ≡ Some t → t.target ≡ target.Unfunded → now ≡ with_tickets w (without_ticket w.funding.tickets n) → IsKeptFor v now live
   destroy-kept n t here unfunded is = same-kept v w now live live kept sound fits (ap layout_of is) (ap graph_net is ∙ destroy-same w.funding (layout_of w) n t here unfunded) kept.awake
 
-  pub currencies-kept : (currencies : List Bool) → now ≡ record w { funding = record w.funding { currencies = currencies } } → IsKeptFor v now live
+  pub currencies-kept : (currencies : List Bool) → now ≡ with_currencies w currencies → IsKeptFor v now live
   currencies-kept currencies is = same-kept v w now live live kept sound fits (ap layout_of is) (ap graph_net is) kept.awake
 
-  pub thread-kept : now ≡ record w { funding = record w.funding { lends = w.funding.lends ++ Nobody ∷ [] } } → IsKeptFor v now (live ++ false ∷ [])
+  pub thread-kept : now ≡ with_lends w (w.funding.lends ++ Nobody ∷ []) → IsKeptFor v now (live ++ false ∷ [])
   thread-kept is = same-kept v w now live (live ++ false ∷ []) kept sound fits (ap layout_of is) (ap graph_net is ∙ thread-same w.funding (layout_of w)) awake
     where
       lives-on : (t : ℕ) → IsLive live t → IsLive (live ++ false ∷ []) t

@@ -172,7 +172,7 @@ module _ (g : Net) (node : ℕ) (done xs : List ℕ) (each : HasEachOnce (done +
     pub walk-new : ¬ Contains done e
     walk-new there =
         let p = place-in done e there in
-        let same = both.once e p.0 (length done) (front done p.0 p.1) (behind done) in
+        let same = both.once e p.0 (length done) (front done p.0 p.1) (following done) in
         absurd (omega (arith, within done p.0 p.1, same))
       where
         front : (ys : List ℕ) (k : ℕ) → slice_get ys k ≡ Some e → slice_get (ys ++ e ∷ rest) k ≡ Some e
@@ -180,9 +180,9 @@ module _ (g : Net) (node : ℕ) (done xs : List ℕ) (each : HasEachOnce (done +
         front (y ∷ ys) zero h = h
         front (y ∷ ys) (suc k) h = front ys k h
 
-        behind : (ys : List ℕ) → slice_get (ys ++ e ∷ rest) (length ys) ≡ Some e
-        behind [] = refl
-        behind (y ∷ ys) = behind ys
+        following : (ys : List ℕ) → slice_get (ys ++ e ∷ rest) (length ys) ≡ Some e
+        following [] = refl
+        following (y ∷ ys) = following ys
 
         within : (ys : List ℕ) (k : ℕ) → slice_get ys k ≡ Some e → k < length ys
         within [] k h = cc

@@ -10,8 +10,8 @@ use Rattle.lot_graph.specs.Graphs.{HasEachOnce}
 abbrev pub IsAwake : List Bool → ℕ → Type 0
 IsAwake awake n = slice_get awake n ≡ Some true
 
--- A chain of edges, perhaps empty, leads from the node to one that is awake. An edge is active if the node is that it
--- leads to.
+-- A chain of edges, perhaps empty, leads from the node to one that is awake. An edge is active if the node that it
+-- leads to is.
 abbrev pub IsActive : Net → List Bool → ℕ → Type 0
 IsActive g awake n = (m : ℕ) × Reaches g n m × IsAwake awake m
 
@@ -37,7 +37,7 @@ leads_to_passed test (Some a) = test a.to
 abbrev pub leads_to : Net → (ℕ → Bool) → ℕ → Bool
 leads_to g test e = leads_to_passed test (g.places e)
 
--- the test tells the active nodes
+-- the test is true of the active nodes and of no others
 abbrev pub Tells : Net → List Bool → (ℕ → Bool) → Type 0
 Tells g awake test = (n : ℕ) → IsTrue (test n) ↔ IsActive g awake n
 
@@ -47,8 +47,8 @@ IsActiveAmount g awake n amount = (test : ℕ → Bool) × Tells g awake test ×
 
 -- ---- what is kept
 
--- whether each node is awake, its amount, the nodes that the last call switched on or off, and those of which it changed
--- the amount alone
+-- whether each node is awake, its amount, the nodes that the last call switched on or off, and those whose amount alone
+-- it changed
 pub record Activity : Type 0 where
   pub awake : List Bool
   pub amounts : List ℕ
@@ -84,11 +84,11 @@ pub record IsKept (g : Net) (v : Activity) : Type 0 where
 abbrev pub IsSwitched : Activity → Activity → ℕ → Type 0
 IsSwitched old new n = ¬ (mark_of new n ≡ mark_of old n)
 
--- the call changed its amount alone
+-- the call changed the node's amount alone
 abbrev pub IsAdjusted : Activity → Activity → ℕ → Type 0
 IsAdjusted old new n = ¬ (amount_of new n ≡ amount_of old n) × (mark_of new n ≡ mark_of old n)
 
--- The lists have just the nodes of which the mark or the amount changed, each once, and a path leads from each to the seed.
+-- The lists have just the nodes whose mark or amount changed, each once, and a path leads from each to the seed.
 pub record Changes (g : Net) (seed : ℕ) (old new : Activity) : Type 0 where
   pub switched : HasEachOnce new.switched (IsSwitched old new)
   pub adjusted : HasEachOnce new.adjusted (IsAdjusted old new)

@@ -27,7 +27,7 @@ abbrev pub SwitchesNode : Funding → List Bool → Funding → List Bool → No
 SwitchesNode before live now after node =
     (IsActiveNode now after node × (¬ IsActiveNode before live node)) ⊎ (IsActiveNode before live node × (¬ IsActiveNode now after node))
 
--- its amount is another, and it is active if and only if it was
+-- its amount is different, and it is active if and only if it was
 abbrev pub AdjustsNode : Funding → List Bool → Funding → List Bool → Node → Type 0
 AdjustsNode before live now after node = (node_amount now after node ≢ node_amount before live node) × (IsActiveNode now after node ↔ IsActiveNode before live node)
 
@@ -38,8 +38,8 @@ switched_nodes w v = map (node_of (layout_of w)) v.switched
 abbrev pub adjusted_nodes : LimitedFunding → Activity → List Node
 adjusted_nodes w v = map (node_of (layout_of w)) v.adjusted
 
--- Just the nodes that were switched or adjusted are listed, each once, and a path of edges, perhaps empty, leads from each
--- of them to the node where the change began.
+-- The nodes that were switched or adjusted, and no others, are listed, each once, and a path of edges, perhaps empty,
+-- leads from each of them to the node where the change began.
 pub record ChangesNodes (before : LimitedFunding) (live : List Bool) (now : LimitedFunding) (after : List Bool) (begun : Node) (v : Activity) : Type 0 where
   pub switched : HasEachOnce (switched_nodes now v) (λ node. IsNodeOf now node × SwitchesNode before.funding live now.funding after node)
   pub adjusted : HasEachOnce (adjusted_nodes now v) (λ node. IsNodeOf now node × AdjustsNode before.funding live now.funding after node)

@@ -33,7 +33,7 @@ places_of_edge l f edge = option_map (λ ends. record { from = node_place l ends
 abbrev pub net_of : Layout → Funding → Net
 net_of l f = record { nodes = node_count l; edges = edge_count l; places = λ place. places_of_edge l f (edge_at l place) }
 
--- just the live threads are awake
+-- the live threads are awake, and nothing else is
 pub record AwakeAre (l : Layout) (live : List Bool) (awake : List Bool) : Type 0 where
   pub lives : (x : ℕ) → IsAwake awake x → (t : ℕ) × (x ≡ node_place l (Thread t)) × IsNodeWithin l (Thread t) × IsLive live t
   pub wakes : (t : ℕ) → IsNodeWithin l (Thread t) → IsLive live t → IsAwake awake (node_place l (Thread t))
@@ -46,7 +46,7 @@ edge_between amount from to = record { from = from; to = to; amount = amount }
 abbrev pub graph_net : LimitedFunding → Net
 graph_net w = net_of (layout_of w) w.funding
 
--- What is kept is right for a graph and the live threads: just they are awake, and each amount and each mark is the
+-- What is kept is right for a graph and the live threads: they alone are awake, and each amount and each mark is the
 -- definitions'.
 pub record IsKeptFor (v : Activity) (w : LimitedFunding) (live : List Bool) : Type 0 where
   pub sound : IsSound w.funding
@@ -54,7 +54,7 @@ pub record IsKeptFor (v : Activity) (w : LimitedFunding) (live : List Bool) : Ty
   pub awake : AwakeAre (layout_of w) live v.awake
   pub kept : IsKept (graph_net w) v
 
--- The second graph has this edge, and the first hasn't; all others lead where they led. So one edge more.
+-- The second graph has this edge, and the first hasn't; all others lead where they led. So it has one edge more.
 pub record AddsEdge (less more : LimitedFunding) (edge : Edge) (ends : EdgeEnds) : Type 0 where
   pub layout : layout_of more ≡ layout_of less
   pub none : ends_of_edge less.funding edge ≡ None

@@ -15,8 +15,8 @@ HasMoved false x y = y < x
 abbrev pub set_at : (ℕ → Bool) → ℕ → Bool → ℕ → Bool
 set_at f k b n = if n == k then b else f n
 
--- Where each node stands, between what was held when the call began and now. Published is what edges into the node were
--- counted by.
+-- Where each node stands, between what was held when the call began and now. Published is the mark by which edges into
+-- the node were counted.
 pub record Noted (g : Net) (seed : ℕ) (on : Bool) (was now : Held) (published : ℕ → Bool) : Type 0 where
   pub pending : (n : ℕ) → In now.lists 0 n → (published n ≡ not on) × (on_at now n ≡ on) × (on_at was n ≡ not on)
   pub agrees : (n : ℕ) → ¬ In now.lists 0 n → published n ≡ on_at now n
@@ -37,7 +37,7 @@ pub record Spreading (g : Net) (seed : ℕ) (on : Bool) (was now : Held) : Type 
   pub adds_up : AddsUp g now counted
   pub follows : (e : ℕ) (a : EdgePlaces) → g.places e ≡ Some a → counted e ≡ published a.to
 
--- while the edges into node x are gone over, of which some are done
+-- while the edges into node x are gone through, some of which are done
 pub record Crossing (g : Net) (seed : ℕ) (on : Bool) (was now : Held) (x : ℕ) (done : List ℕ) : Type 0 where
   pub published : ℕ → Bool
   pub counted : ℕ → Bool

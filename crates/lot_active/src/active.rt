@@ -94,7 +94,7 @@ impl Active {
         self.wake_node(graph, node);
     }
 
-    /// A thread is live no more.
+    /// A thread is no longer live.
     pub fn sleep(&mut self, graph: &Graph, thread: u32)
         requires thread { IsThread graph.now.funding thread }
         requires kept { (live : List Bool) × IsKeptFor self.old graph.now live }
@@ -140,7 +140,7 @@ impl Active {
         }
     }
 
-    /// The nodes of which the last call changed the amount alone.
+    /// The nodes whose amount alone the last call changed.
     pub fn adjusted(&self, graph: &Graph) -> ChangedNodes<'_>
         requires kept { (live : List Bool) × IsKeptFor self.now graph.now live }
         ensures nodes { result ≡ adjusted_nodes graph.now self.now }

@@ -8,7 +8,7 @@ ghost use Rattle.lot_active.specs.Fundings as fundings;
 use lot_graph::{Graph, Layout};
 use lot_machine::{Edge, Lend, Node, Target};
 
-/// An edge that is there: where it leads from and to, and its amount, which is that of its ticket, or 1 if it is lent.
+/// An edge that is there: where it leads from and to, and its amount, which is its ticket's, or 1 if it has no ticket.
 #[derive(Clone, Copy, Debug, PartialEq, Eq)]
 pub struct EdgeEnds {
     pub from: Node,

@@ -12,8 +12,8 @@ use lot_lists::{Lists, Nodes};
 use std::alloc::{AllocError, Global};
 use std::marker::Model;
 
-// The nodes whose marks changed and aren't published yet, those whose changed marks were, and those of which the amount
-// alone changed.
+// The nodes whose marks changed and aren't published yet, those whose changed marks were, and those whose amount alone
+// changed.
 const PENDING: usize = 0;
 
 const SWITCHED: usize = 1;
@@ -132,7 +132,7 @@ impl Marks {
         Some(node)
     }
 
-    /// Publishes a node's mark: the edges into it are counted, or counted no more.
+    /// Publishes a node's mark: the edges into it are counted, or no longer counted.
     fn publish(&mut self, graph: &Graph, node: usize, on: bool)
         requires nodes { length self.old.amounts ≡ node_count (layout_of graph.now) }
         requires node { node < node_count (layout_of graph.now) }
@@ -170,7 +170,7 @@ impl Marks {
     }
 }
 
-/// A sum with one edge's amount more, or less.
+/// A sum with one edge's amount added, or subtracted.
 fn shifted(sum: u64, amount: u32, on: bool) -> u64
     requires may { MayMove on sum amount }
     ensures { result ≡ moved on sum amount }
@@ -195,7 +195,7 @@ fn clear(lists: &mut Lists, list: usize)
     }
 }
 
-/// Puts a node into a list, out of the one that it is in, if it is in one.
+/// Moves a node into a list, out of the one that it is in, if it is in one.
 fn relist(lists: &mut Lists, node: usize, list: usize)
     requires node { node < lists.old.nodes }
     requires list { list < length lists.old.lists }

@@ -4,7 +4,7 @@ ghost use Rattle.lot_graph.specs.Graphs.{IsTarget, IsBorrower, LendReaches};
 
 use super::*;
 use lot_graph::Graph;
-use lot_machine::{Edge, Lend, Limits, Node, Target};
+use lot_machine::{Edge, Lend, Limits, Node, Sizes, Target};
 use std::alloc::Global;
 use std::marker::Model;
 use std::process::Abort;
@@ -37,7 +37,7 @@ fn is_target(graph: &Graph, target: Target) -> bool
     }
 }
 
-/// Whether a thread may lend so.
+/// Whether a thread may lend this way.
 fn may_lend(graph: &mut Graph, thread: u32, lend: Lend) -> bool
     requires thread { 0 < thread }
     requires within { thread ≤ graph.old.thread_limit }
@@ -194,7 +194,7 @@ impl Kept {
     }
 }
 
-/// A step of a row: a change, or what must be so then.
+/// A step of a row: a change, or what must then be so.
 #[derive(Clone, Copy)]
 enum Step {
     Funding(u32, u32, Target),
@@ -212,7 +212,7 @@ enum Step {
     HavePassed(u64),
 }
 
-/// Plays a row after so many threads and currencies were made.
+/// Plays a row after this many threads and currencies were made.
 fn play(
     rt: &impl Abort,
     alloc: Global,
@@ -220,7 +220,17 @@ fn play(
     currencies: u32,
     steps: &[Step],
 ) -> Result<(), Fail> {
-    let limits = Limits::new(64, 16, 16, 4, 4, 4, 4, 1000);
+    let limits = Limits::new(Sizes {
+        tickets: 64,
+        currencies: 16,
+        threads: 16,
+        ports: 4,
+        mutexes: 4,
+        processors: 4,
+        scripts: 4,
+        quantum: 1000,
+        unit: 1,
+    });
     let mut kept = Kept::new(rt, alloc, limits)?;
     for _ in 0..threads {
         kept.add_thread(rt);
@@ -446,7 +456,7 @@ fn chain(rt: &impl Abort, kept: &mut Kept) {
 
 #[test]
 fn chain_of_4096_on_and_off(rt: HostRuntime) -> Result<(), Fail> {
-    let limits = Limits::new(65535, 4096, 4096, 256, 256, 64, 256, 1000);
+    let limits = Limits::new(Sizes::LARGEST);
     let mut kept = Kept::new(&rt, rt.alloc(), limits)?;
     chain(&rt, &mut kept);
     for step in [
@@ -468,7 +478,7 @@ fn chain_of_4096_on_and_off(rt: HostRuntime) -> Result<(), Fail> {
 /// All tickets that there may be, each of the largest amount, fund one thread.
 #[test]
 fn largest_sizes(rt: HostRuntime) -> Result<(), Fail> {
-    let limits = Limits::new(65535, 4096, 4096, 256, 256, 64, 256, 1000);
+    let limits = Limits::new(Sizes::LARGEST);
     let mut kept = Kept::new(&rt, rt.alloc(), limits)?;
     kept.add_thread(&rt);
     for _ in 0..65535 {
@@ -491,7 +501,7 @@ fn largest_sizes(rt: HostRuntime) -> Result<(), Fail> {
 
 #[test]
 fn least_sizes(rt: HostRuntime) -> Result<(), Fail> {
-    let mut kept = Kept::new(&rt, rt.alloc(), Limits::new(1, 1, 1, 0, 0, 1, 0, 1))?;
+    let mut kept = Kept::new(&rt, rt.alloc(), Limits::new(Sizes::SMALLEST))?;
     kept.add_thread(&rt);
     kept.make_currency(&rt);
     for step in [

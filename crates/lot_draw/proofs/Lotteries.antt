@@ -1,12 +1,17 @@
 -- Who weighs nothing can be left out of a lottery.
-use Rattle.std.proofs.Common.{◌≡◌, ℕ, suc, ◌+◌, ◌%◌, ◌<◌, ◌≤◌, ◌==◌, nat_lt, Bool, true, false, cond, Option, Some, None, List, [], ◌∷◌, length, map, filter, sum, get_or, add_comm, ap, sym, ◌∙◌, refl, arith}
-use Rattle.std.proofs.lemmas.Bool.{ltb-true, ltb-false, eqb-true}
+use Rattle.std.proofs.Common.{◌≡◌, ℕ, suc, ◌+◌, ◌%◌, ◌<◌, ◌≤◌, ◌==◌, nat_lt, Bool, true, false, cond, Option, Some, None, IfSome, IsSome, is_some, Contains, List, [], ◌∷◌, length, map, filter, sum, get_or, add_comm, ap, sym, ◌∙◌, refl, arith}
+use Rattle.std.proofs.lemmas.Bool.{ltb-true, ltb-false, eqb-true, eqb-false}
 use Rattle.std.proofs.lemmas.List.FromFn.{get_or-range_with_len}
 use Rattle.std.proofs.lemmas.List.Sums.{sum_by-cons}
+use Rattle.std.proofs.Math.Nat.{mod-lt}
+use Rattle.std.proofs.lemmas.List.{length-map}
+use Rattle.std.proofs.lemmas.Option.{slice_get-get_or}
 use Rattle.lot_machine.specs.Numbered.{numbers}
+use Rattle.lot_machine.proofs.EachOnce.{contains-at, contains-filter}
 use Rattle.lot_machine.specs.Lottery.{first_above, running_sums, winner}
+use Rattle.lot_draw.specs.declared.competing.Competitor.{Competitor}
 use Rattle.lot_draw.specs.declared.competing.Winner.{Winner}
-use Rattle.lot_draw.specs.Competing.{winner_among}
+use Rattle.lot_draw.specs.Competing.{competitor_at, competing_threads, weight_among, winner_among, drawn_among}
 
 module _ (competes : ℕ → Bool) (weight : ℕ → ℕ) (idle : (t : ℕ) → competes t ≡ false → weight t ≡ 0) where
   -- the total is the same
@@ -18,7 +23,7 @@ module _ (competes : ℕ → Bool) (weight : ℕ → ℕ) (idle : (t : ℕ) → 
       by true e same = omega (arith, same, sum_by-cons (λ x. x) (weight t) (map weight (filter competes ts)), sum_by-cons (λ x. x) (weight t) (map weight ts))
       by false e same = omega (arith, same, idle t e, sum_by-cons (λ x. x) (weight t) (map weight ts))
 
-  -- where so much stands before, the same one is drawn
+  -- with this sum before them, the same one is drawn
   abbrev IsSame : List ℕ → ℕ → ℕ → Type 0
   IsSame ts before number =
       get_or ts (first_above number (running_sums before (map weight ts))) 0 ≡ get_or (filter competes ts) (first_above number (running_sums before (map weight (filter competes ts)))) 0
@@ -84,3 +89,37 @@ drawn-is xs ws d place number total is_total some is_number is_place low = by (s
     by false e =
         let t = get_or (numbers xs) (first_above (d % sum ws) (running_sums 0 ws)) 0 in
         ap (λ k. won k number total) thread ∙ ap (λ n. won t n total) drawn ∙ ap (won t (d % sum ws)) is_total
+
+-- ---- who wins is among those who draw
+
+place-low : (ws : List ℕ) (before n : ℕ) → before ≤ n → n < before + sum ws → first_above n (running_sums before ws) < length ws
+place-low [] before n low h = absurd (omega (arith, h, low))
+place-low (w ∷ ws) before n low h = at (nat_lt n (before + w)) refl (λ low'. place-low ws (before + w) n low' (omega (arith, h, sum_by-cons (λ x. x) w ws)))
+  where
+    at : (b : Bool) → nat_lt n (before + w) ≡ b → (before + w ≤ n → first_above n (running_sums (before + w) ws) < length ws) → cond b 0 (suc (first_above n (running_sums (before + w) ws))) < suc (length ws)
+    at true e next = omega arith
+    at false e next = omega (arith, next (ltb-false n (before + w) e))
+
+pub winner-drew : (threads ws : List ℕ) (d : ℕ) → length ws ≡ length threads → IfSome (winner_among threads (winner ws d)) (λ w. Contains threads w.thread)
+winner-drew threads ws d same = by (sum ws == 0) refl
+  where
+    by : (b : Bool) → (sum ws == 0) ≡ b → IfSome (winner_among threads (cond b None (Some (record { place = first_above (d % sum ws) (running_sums 0 ws); number = d % sum ws; total = sum ws })))) (λ w. Contains threads w.thread)
+    by true e = tt
+    by false e =
+        let place = first_above (d % sum ws) (running_sums 0 ws) in
+        let some : 0 < sum ws = omega (arith, eqb-false (sum ws) 0 e) in
+        let low : place < length threads = omega (arith, place-low ws 0 (d % sum ws) (omega arith) (omega (arith, mod-lt d some)), same) in
+        contains-at threads place (get_or threads place 0) (slice_get-get_or threads place 0 low)
+
+-- and competes
+pub winner-competes : (quantum : ℕ) (competitors : List (Option Competitor)) (worth : ℕ → ℕ) (d : ℕ) → IfSome (drawn_among quantum competitors worth d) (λ w. IsSome (competitor_at competitors w.thread))
+winner-competes quantum competitors worth d =
+    there (drawn_among quantum competitors worth d) (winner-drew (competing_threads competitors) (map (weight_among quantum competitors worth) (competing_threads competitors)) d (length-map (competing_threads competitors) (weight_among quantum competitors worth)))
+  where
+    is-some : (o : Option Competitor) → is_some o ≡ true → IsSome o
+    is-some None e = cc
+    is-some (Some c) e = refl
+
+    there : (o : Option Winner) → IfSome o (λ w. Contains (competing_threads competitors) w.thread) → IfSome o (λ w. IsSome (competitor_at competitors w.thread))
+    there None drew = tt
+    there (Some w) drew = is-some (competitor_at competitors w.thread) (contains-filter (λ t. is_some (competitor_at competitors t)) (numbers competitors) w.thread drew).1

@@ -41,7 +41,7 @@ competes-more competitors v w limit more competes = record {
 pub queue-set : (q new : Queued) (v : Valued) (thread : ℕ) (o : Option Competitor) → IsThread v.now.funding thread → new ≡ record q { competitors = set_number q.competitors thread o; changed = new.changed } → CompetesIn q.competitors v → CompetesIn new.competitors v
 queue-set q new v thread o is set competes = subst (λ (cs : List (Option Competitor)). CompetesIn cs v) (sym (ap (λ (x : Queued). x.competitors) set)) (competes-set q.competitors v thread o is competes)
 
--- where nobody competes
+-- if nobody competes
 pub competes-none : (competitors : List (Option Competitor)) (v : Valued) (n : ℕ) → competitors ≡ replicate n None → v.now.thread_limit ≡ n → CompetesIn competitors v
 competes-none competitors v n is limit = record {
   places = ap (length {A = Option Competitor}) is ∙ length-replicate n nobody ∙ sym limit;
@@ -56,7 +56,7 @@ competes-none competitors v n is limit = record {
     idle zero = refl
     idle (suc i) = ap option_flatten (at_number-suc (replicate n nobody) i) ∙ past i (cases_lt i n)
 
--- weights stay right where a value is kept and more is stale, after something that kept both
+-- weights stay right when a value is kept and more is stale, after something that kept both
 pub weights-follow : (q : Queued) (first then last : Known) → then ≡ first → last ≡ record then { stale = last.stale } → ((node : Node) → IsStale then node → IsStale last node) → AreWeights q first → AreWeights q last
 weights-follow q first then last same more kept weights =
     subst (AreWeights q) (sym more) (weights-stale q then last.stale kept (subst (AreWeights q) (sym same) weights))

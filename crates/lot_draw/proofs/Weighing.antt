@@ -51,7 +51,7 @@ first-none (x ∷ xs) none = cc
 
 -- ---- weights stay right
 
--- where one thread competes with something else, and is listed
+-- if one thread competes with something else, and is listed
 pub weights-set : (q : Queued) (thread : ℕ) (competitor : Option Competitor) (changed : List ℕ) (c : Known) → ((x : ℕ) → Contains q.changed x ⊎ (x ≡ thread - 1) → Contains changed x) → AreWeights q c
     → AreWeights (record q { competitors = set_number q.competitors thread competitor; changed = changed }) c
 weights-set q thread competitor changed c listed weights t placed fresh off =
@@ -61,11 +61,11 @@ weights-set q thread competitor changed c listed weights t placed fresh off =
     by (inl same) = same
     by (inr (at, is)) = absurd (off (listed (t - 1) (inr (omega (arith, at)))))
 
--- where more is listed
+-- if more is listed
 pub weights-listed : (q : Queued) (changed : List ℕ) (c : Known) → ((x : ℕ) → Contains q.changed x → Contains changed x) → AreWeights q c → AreWeights (record q { changed = changed }) c
 weights-listed q changed c listed weights t placed fresh off = weights t placed fresh (λ there. off (listed (t - 1) there))
 
--- where more is stale
+-- if more is stale
 pub weights-stale : (q : Queued) (c : Known) (stale : List Node) → ((node : Node) → IsStale c node → Contains stale node) → AreWeights q c → AreWeights q (record c { stale = stale })
 weights-stale q c stale kept weights t placed fresh off = weights t placed (λ there. fresh (kept (Thread t) there)) off
 
@@ -75,7 +75,7 @@ apart c (Currency n) t within low above off same = omega (arith, within, same)
 apart c (Thread u) t within low above off same = off (ap Thread (omega (arith, same)))
 apart c (Mutex m) t within low above off same = omega (arith, within.0, same)
 
--- where one node is settled, and listed if it is a thread
+-- if one node is settled, and listed if it is a thread
 pub weights-settled : (q : Queued) (changed : List ℕ) (old new : Known) (node : Node) → length q.competitors ≡ old.layout.threads → IsNodeWithin old.layout node → Settles old new node → ((x : ℕ) → Contains q.changed x → Contains changed x) → ((t : ℕ) → node ≡ Thread t → Contains changed (t - 1)) → AreWeights q old
     → AreWeights (record q { changed = changed }) new
 weights-settled q changed old new node places within settles listed thread weights t placed fresh off =
@@ -92,7 +92,7 @@ weights-settled q changed old new node places within settles listed thread weigh
         ap (λ l. get_or new.values (node_place l (Thread t)) 0) settles.layout
         ∙ settles.values (node_place old.layout (Thread t)) (apart old node t within (omega (arith, placed.1, places)) placed.0 other)
 
--- where the weight of the thread at the front is set, and it is taken from the list
+-- if the weight of the thread at the front is set, and it is taken from the list
 pub weights-weighed : (q : Queued) (c : Known) (place : ℕ) → length q.weights ≡ length q.competitors → place < length q.competitors → slice_get q.changed 0 ≡ Some place → AreWeights q c
     → AreWeights (record q { weights = set q.weights place (weight_among q.quantum q.competitors (λ u. value_in c (Thread u)) (place + 1)); changed = remove q.changed 0 }) c
 weights-weighed q c place places low first weights t placed fresh off = by (cases_eq (t - 1) place)

@@ -26,7 +26,7 @@ IsChanged q t = Contains q.changed (t - 1)
 abbrev pub IsPlaced : Queued → ℕ → Type 0
 IsPlaced q t = (0 < t) × (t ≤ length q.competitors)
 
--- what the thread weighs, where threads are worth so: nothing if it doesn't compete
+-- what the thread weighs, given what threads are worth: nothing if it doesn't compete
 abbrev pub weight_of : Queued → (ℕ → ℕ) → ℕ → ℕ
 weight_of q worth t = weight_among q.quantum q.competitors worth t
 

@@ -28,7 +28,7 @@ impl Model for ParkMiller {
 }
 
 impl ParkMiller {
-    /// The generator whose value is the seed, or `None` where the seed is 0 or above 2147483646.
+    /// The generator whose value is the seed, or `None` if the seed is 0 or above 2147483646.
     pub fn new(seed: u32) -> Option<Self>
         ensures some { IsSome result ↔ IsBetween 1 2147483646 seed }
         ensures value { IfSome result (λ g. g ≡ seed) }

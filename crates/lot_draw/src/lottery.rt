@@ -20,8 +20,8 @@ pub fn weight(value: u64, compensation: Option<u32>, quantum: u32) -> u128
     }
 }
 
-/// Holds a lottery with the number `d` (2, 4.2): `None` exactly where the weights sum to 0, else the first place whose
-/// running sum is strictly greater than `d` modulo the sum.
+/// Holds a lottery with the number `d` (2, 4.2): `None` if the weights sum to 0, else the first place whose running sum
+/// is strictly greater than `d` modulo the sum.
 pub fn winner(weights: &[u128], d: u64) -> Option<Drawn>
     requires { sum weights.now < 2 ^ 128 }
     ensures drawn { result ≡ lottery.winner weights.now d }
@@ -39,7 +39,7 @@ pub fn winner(weights: &[u128], d: u64) -> Option<Drawn>
     })
 }
 
-/// The first place whose running sum is strictly greater than `number`; the count of places where none is.
+/// The first place whose running sum is strictly greater than `number`; the count of places if none is.
 fn first_above(weights: &[u128], number: u128) -> usize
     requires { sum weights.now < 2 ^ 128 }
     ensures place { result ≡ lottery.first_above number (running_sums 0 weights.now) }

@@ -1,5 +1,5 @@
 //! The threads that compete for a processor, with their weights in a tree of partial sums.
-ghost use Rattle.std.specs.Prelude.{◌≡◌, ◌⊎◌, ◌↔◌, ℕ, ◌-◌, ◌+◌, ◌<◌, ◌^◌, [], Contains, IfOk, IfSome, MatchOption, length, replicate, slice_get, slice_set};
+ghost use Rattle.std.specs.Prelude.{◌≡◌, ◌⊎◌, ◌↔◌, ℕ, ◌-◌, ◌+◌, ◌<◌, ◌^◌, [], Contains, IfOk, IfSome, IsSome, MatchOption, length, replicate, slice_get, slice_set};
 ghost use Rattle.std.specs.List.{remove};
 ghost use Rattle.lot_machine.specs.declared.funding.Node.TheVariants.{Thread as ThreadNode};
 ghost use Rattle.lot_machine.specs.Numbered.{numbers, set_number};
@@ -9,7 +9,7 @@ ghost use Rattle.lot_graph.specs.Graphs.{IsThread};
 ghost use Rattle.lot_tree.specs.Visits.{CountsReads};
 ghost use Rattle.lot_value.specs.Counts.{counted_up};
 ghost use Rattle.lot_value.specs.Caches.{Known, IsStale, IsOnce, edges_into_all, value_in};
-ghost use Rattle.lot_draw.specs.Competing.{HasTicks, weight_with, weight_among, winner_among, drawn_among};
+ghost use Rattle.lot_draw.specs.Competing.{HasTicks, competitor_at, weight_with, weight_among, winner_among, drawn_among};
 ghost use Rattle.lot_draw.specs.Queued.{AreWeights, CompetesIn, IsChanged, IsPlaced, IsSettled};
 
 use crate::competing::{Competitor, Winner};
@@ -94,13 +94,14 @@ impl RunQueue {
         }
     }
 
-    /// Holds a draw with the number `d` (2, 4.2) among the threads that compete: `None` where their weights sum to 0.
+    /// Holds a draw with the number `d` (2, 4.2) among the threads that compete: `None` if their weights sum to 0.
     ///
     /// Settles what is stale, sets the weights that may have changed, and visits the tree once.
     pub fn draw(&mut self, graph: &mut ValuedGraph, d: u64, meter: &mut Meter) -> Option<Winner>
         requires competes { CompetesIn self.old.competitors graph.old }
         requires weights { AreWeights self.old graph.old.known }
         ensures winner { result ≡ drawn_among self.old.quantum self.old.competitors (thread_value graph.old.known.unit graph.old.now.funding graph.old.live) d }
+        ensures competes { IfSome result (λ w. IsSome (competitor_at self.old.competitors w.thread)) }
         ensures queue { self.new ≡ record self.old { weights = self.new.weights; changed = [] } }
         ensures weights { AreWeights self.new graph.new.known }
         ensures now { graph.new.now ≡ graph.old.now }

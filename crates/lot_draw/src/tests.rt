@@ -4,7 +4,7 @@ ghost use Rattle.lot_graph.specs.Graphs.{IsThread, IsTarget};
 
 use super::*;
 use lot_graph::Graph;
-use lot_machine::{Limits, Target};
+use lot_machine::{Limits, Sizes, Target};
 use lot_value::{Meter, ValuedGraph};
 use std::alloc::{AllocError, Global};
 use std::marker::Model;
@@ -114,146 +114,267 @@ fn is_thread(graph: &Graph, thread: u32) -> bool
     0 < thread && thread <= graph.threads()
 }
 
-fn small_room(alloc: Global) -> Result<Room, Fail> {
-    let limits = Limits::new(20, 4, 8, 0, 0, 1, 0, 100).ok_or("limits")?;
-    Ok(Room::new(alloc, &limits)?)
-}
-
-fn won(thread: u32, number: u128, total: u128) -> Option<Winner> {
-    Some(Winner {
-        thread,
-        number,
-        total,
+fn small_limits() -> Option<Limits> {
+    Limits::new(Sizes {
+        tickets: 20,
+        currencies: 4,
+        threads: 8,
+        quantum: 100,
+        ..Sizes::SMALLEST
     })
 }
 
-/// 100 of base fund a currency, and 33 of it fund each of three threads.
-fn thirds(rt: &impl Abort, alloc: Global) -> Result<Room, Fail> {
-    let mut room = small_room(alloc)?;
-    let currency = room.make_currency(rt);
-    room.fund(rt, 100, 0, Target::Currency(currency));
-    for _ in 0..3 {
-        let thread = room.add_thread(rt);
-        room.fund(rt, 33, currency, Target::Thread(thread));
-    }
-    Ok(room)
+/// A thread that wins a draw, its number, and the total.
+type Won = (u32, u128, u128);
+
+/// A step of a row: a change, or a draw and what must come of it.
+#[derive(Clone, Copy)]
+enum Step {
+    /// A new thread, which is live and competes.
+    AddThread,
+    MakeCurrency,
+    /// A new ticket of this amount and currency, which funds the target.
+    Fund(u32, u32, Target),
+    Unfund(u32),
+    Run(u32),
+    /// A thread competes, with a compensation or without.
+    Compete(u32, Option<u32>),
+    /// A drawn number, and who wins.
+    Wins(u64, Won),
+    /// The same, with how many edges the draw reads, and how many places it visits at most.
+    Reads(u64, Won, u64, u64),
+    /// A drawn number that nobody wins, which reads and visits nothing.
+    Idles(u64),
 }
+
+fn is_won(winner: Option<Winner>, (thread, number, total): Won) -> bool {
+    match winner {
+        Some(won) => won.thread == thread && won.number == number && won.total == total,
+        None => false,
+    }
+}
+
+/// Draws, and checks who wins.
+fn check_winner(rt: &impl Abort, room: &mut Room, d: u64, won: Won) {
+    let (winner, _, _) = room.draw(d);
+    assert!(rt; is_won(winner, won), "at {d}");
+}
+
+/// Draws, and checks who wins and the counts.
+fn check_counts(rt: &impl Abort, room: &mut Room, d: u64, won: Won, reads: u64, most: u64) {
+    let (winner, read, visits) = room.draw(d);
+    assert!(rt; is_won(winner, won), "at {d}");
+    assert!(rt; read == reads, "{read} at {d}");
+    assert!(rt; visits >= 1 && visits <= most, "{visits} at {d}");
+}
+
+/// Draws, and checks that nobody wins.
+fn check_idle(rt: &impl Abort, room: &mut Room, d: u64) {
+    let (winner, read, visits) = room.draw(d);
+    assert!(rt; winner.is_none(), "at {d}");
+    assert!(rt; read == 0 && visits == 0, "at {d}");
+}
+
+/// A thread that a ticket of base funds.
+fn add_funded(rt: &impl Abort, room: &mut Room, amount: u32) {
+    let thread = room.add_thread(rt);
+    room.fund(rt, amount, 0, Target::Thread(thread));
+}
+
+/// Takes a step.
+fn take(rt: &impl Abort, room: &mut Room, step: Step) {
+    match step {
+        Step::AddThread => {
+            room.add_thread(rt);
+        }
+        Step::MakeCurrency => {
+            room.make_currency(rt);
+        }
+        Step::Fund(amount, currency, target) => room.fund(rt, amount, currency, target),
+        Step::Unfund(ticket) => room.unfund(rt, ticket),
+        Step::Run(thread) => room.run(rt, thread),
+        Step::Compete(thread, compensation) => room.compete(rt, thread, compensation),
+        Step::Wins(d, won) => check_winner(rt, room, d, won),
+        Step::Reads(d, won, reads, most) => check_counts(rt, room, d, won, reads, most),
+        Step::Idles(d) => check_idle(rt, room, d),
+    }
+}
+
+/// Takes the steps in turn.
+fn take_all(rt: &impl Abort, room: &mut Room, steps: &[Step]) {
+    for step in steps {
+        take(rt, room, *step);
+    }
+}
+
+/// Takes the steps in a new room of these limits.
+fn play(
+    rt: &impl Abort,
+    alloc: Global,
+    limits: Option<Limits>,
+    steps: &[Step],
+) -> Result<(), Fail> {
+    let limits = limits.ok_or("limits")?;
+    let mut room = Room::new(alloc, &limits)?;
+    take_all(rt, &mut room, steps);
+    Ok(())
+}
+
+/// 100 of base fund a currency, and 33 of it fund each of three threads.
+const THIRDS: [Step; 8] = [
+    Step::MakeCurrency,
+    Step::Fund(100, 0, Target::Currency(1)),
+    Step::AddThread,
+    Step::Fund(33, 1, Target::Thread(1)),
+    Step::AddThread,
+    Step::Fund(33, 1, Target::Thread(2)),
+    Step::AddThread,
+    Step::Fund(33, 1, Target::Thread(3)),
+];
+
+/// Takes the steps after these.
+fn play_thirds(rt: &impl Abort, alloc: Global, steps: &[Step]) -> Result<(), Fail> {
+    let limits = small_limits().ok_or("limits")?;
+    let mut room = Room::new(alloc, &limits)?;
+    take_all(rt, &mut room, &THIRDS);
+    take_all(rt, &mut room, steps);
+    Ok(())
+}
+
+const STALE: [Step; 4] = [
+    Step::Reads(0, (1, 0, 99), 4, 4),
+    Step::Reads(98, (3, 98, 99), 0, 4),
+    Step::Reads(100, (1, 1, 99), 0, 4),
+    Step::Reads(33, (2, 33, 99), 0, 4),
+];
 
 // Each edge into what was stale is read once: one into the currency, and one into each thread.
 #[test]
 fn reads_what_is_stale(rt: HostRuntime) -> Result<(), Fail> {
-    let mut room = thirds(&rt, rt.alloc())?;
-    for (d, thread, number, reads) in [
-        (0, 1, 0, 4),
-        (98, 3, 98, 0),
-        (100, 1, 1, 0),
-        (33, 2, 33, 0),
-    ] {
-        let (winner, read, visits) = room.draw(d);
-        assert_eq!(rt; winner, won(thread, number, 99), "at {d}");
-        assert_eq!(rt; read, reads, "at {d}");
-        assert!(rt; visits >= 1 && visits <= 4, "at {d}");
-    }
-    Ok(())
+    play_thirds(&rt, rt.alloc(), &STALE)
 }
+
+const FUNDED_BETWEEN: [Step; 3] = [
+    Step::Reads(0, (1, 0, 99), 4, 4),
+    Step::Fund(50, 0, Target::Currency(1)),
+    Step::Reads(149, (3, 149, 150), 5, 4),
+];
 
 // A ticket that is made and funds the currency reads nothing by itself; the next draw reads the edges into what got stale.
 #[test]
 fn funded_between_draws(rt: HostRuntime) -> Result<(), Fail> {
-    let mut room = thirds(&rt, rt.alloc())?;
-    assert!(rt; room.draw(0).1 == 4);
-    room.fund(&rt, 50, 0, Target::Currency(1));
-    let (winner, reads, _) = room.draw(149);
-    assert_eq!(rt; winner, won(3, 149, 150));
-    assert!(rt; reads == 5);
-    Ok(())
+    play_thirds(&rt, rt.alloc(), &FUNDED_BETWEEN)
 }
+
+const UPSTREAM: [Step; 10] = [
+    Step::AddThread,
+    Step::MakeCurrency,
+    Step::MakeCurrency,
+    Step::Fund(100, 0, Target::Currency(1)),
+    Step::Fund(10, 1, Target::Currency(2)),
+    Step::Fund(7, 2, Target::Thread(1)),
+    Step::Fund(60, 0, Target::Thread(1)),
+    Step::Wins(159, (1, 159, 160)),
+    Step::Unfund(1),
+    Step::Wins(59, (1, 59, 60)),
+];
 
 // A ticket two currencies upstream of the thread goes: the thread is worth what funds it besides.
 #[test]
 fn unfunded_upstream(rt: HostRuntime) -> Result<(), Fail> {
-    let mut room = small_room(rt.alloc())?;
-    let thread = room.add_thread(&rt);
-    let first = room.make_currency(&rt);
-    let second = room.make_currency(&rt);
-    room.fund(&rt, 100, 0, Target::Currency(first));
-    room.fund(&rt, 10, first, Target::Currency(second));
-    room.fund(&rt, 7, second, Target::Thread(thread));
-    room.fund(&rt, 60, 0, Target::Thread(thread));
-    assert_eq!(rt; room.draw(159).0, won(1, 159, 160));
-    room.unfund(&rt, 1);
-    assert_eq!(rt; room.draw(59).0, won(1, 59, 60));
-    Ok(())
+    play(&rt, rt.alloc(), small_limits(), &UPSTREAM)
 }
 
-// A thread that runs is worth what it was, and the others alone are drawn.
+const RUNNING: [Step; 8] = [
+    Step::Run(1),
+    Step::Wins(0, (2, 0, 66)),
+    Step::Run(2),
+    Step::Wins(7, (3, 7, 33)),
+    Step::Run(3),
+    Step::Idles(5),
+    Step::Compete(2, None),
+    Step::Wins(40, (2, 7, 33)),
+];
+
+// A thread that runs is worth what it was, and only the others are drawn.
 #[test]
 fn leaves_out_who_runs(rt: HostRuntime) -> Result<(), Fail> {
-    let mut room = thirds(&rt, rt.alloc())?;
-    for (thread, d, wins, total) in [(1, 0, 2, 66), (2, 7, 3, 33)] {
-        room.run(&rt, thread);
-        assert_eq!(rt; room.draw(d).0, won(wins, d as u128, total), "at {thread}");
-    }
-    room.run(&rt, 3);
-    assert_eq!(rt; room.draw(5), (None, 0, 0));
-    room.compete(&rt, 2, None);
-    assert_eq!(rt; room.draw(40).0, won(2, 7, 33));
-    Ok(())
+    play_thirds(&rt, rt.alloc(), &RUNNING)
 }
 
-// Quantum 100: who used 20 ticks of it weighs five times what it is worth.
+const COMPENSATED: [Step; 12] = [
+    Step::AddThread,
+    Step::Fund(400, 0, Target::Thread(1)),
+    Step::AddThread,
+    Step::Fund(400, 0, Target::Thread(2)),
+    Step::Compete(1, Some(20)),
+    Step::Wins(2399, (2, 2399, 2400)),
+    Step::Compete(1, Some(99)),
+    Step::Wins(803, (2, 803, 804)),
+    Step::Compete(1, Some(1)),
+    Step::Wins(40399, (2, 40399, 40400)),
+    Step::Compete(1, None),
+    Step::Wins(799, (2, 799, 800)),
+];
+
+// Quantum 100: a thread that used 20 ticks of it weighs five times what it is worth.
 #[test]
 fn compensates(rt: HostRuntime) -> Result<(), Fail> {
-    let mut room = small_room(rt.alloc())?;
-    for _ in 0..2 {
-        let thread = room.add_thread(&rt);
-        room.fund(&rt, 400, 0, Target::Thread(thread));
+    play(&rt, rt.alloc(), small_limits(), &COMPENSATED)
+}
+
+/// A room of 1000 threads, each of which a ticket of 1 funds.
+fn thousand(rt: &impl Abort, alloc: Global) -> Result<Room, Fail> {
+    let limits = Limits::new(Sizes {
+        tickets: 1000,
+        threads: 1000,
+        quantum: 100,
+        ..Sizes::SMALLEST
+    })
+    .ok_or("limits")?;
+    let mut room = Room::new(alloc, &limits)?;
+    for _ in 0..1000 {
+        add_funded(rt, &mut room, 1);
     }
-    for (compensation, total) in [
-        (Some(20), 2400),
-        (Some(99), 804),
-        (Some(1), 40400),
-        (None, 800),
-    ] {
-        room.compete(&rt, 1, compensation);
-        assert_eq!(rt;
-            room.draw(total as u64 - 1).0,
-            won(2, total - 1, total),
-            "at {total}"
-        );
-    }
-    Ok(())
+    Ok(room)
 }
 
 #[test]
 fn visits_a_place_a_digit(rt: HostRuntime) -> Result<(), Fail> {
-    let limits = Limits::new(1000, 1, 1000, 0, 0, 1, 0, 100).ok_or("limits")?;
-    let mut room = Room::new(rt.alloc(), &limits)?;
-    for _ in 0..1000 {
-        let thread = room.add_thread(&rt);
-        room.fund(&rt, 1, 0, Target::Thread(thread));
-    }
+    let mut room = thousand(&rt, rt.alloc())?;
     for d in 0..1000 {
-        let (winner, reads, visits) = room.draw(d);
-        assert_eq!(rt; winner, won(d as u32 + 1, d as u128, 1000), "at {d}");
-        assert_eq!(rt; reads, if d == 0 { 1000 } else { 0 }, "at {d}");
-        assert!(rt; visits >= 1 && visits <= 10, "{visits} at {d}");
+        let reads = if d == 0 { 1000 } else { 0 };
+        let won = (d as u32 + 1, d as u128, 1000);
+        check_counts(&rt, &mut room, d, won, reads, 10);
     }
     Ok(())
 }
 
+const LEAST: [Step; 4] = [
+    Step::Idles(7),
+    Step::AddThread,
+    Step::Fund(u32::MAX, 0, Target::Thread(1)),
+    Step::Reads(7, (1, 7, 4294967295), 1, 1),
+];
+
 #[test]
-fn queues_of_any_size(rt: HostRuntime) -> Result<(), Fail> {
-    let least = Limits::new(1, 1, 1, 0, 0, 1, 0, 1).ok_or("the least")?;
-    let largest = Limits::new(65535, 4096, 4096, 256, 256, 64, 256, 1000).ok_or("the largest")?;
-    for (limits, most) in [(least, 1), (largest, 13)] {
-        let mut room = Room::new(rt.alloc(), &limits)?;
-        assert_eq!(rt; room.draw(7), (None, 0, 0));
-        let thread = room.add_thread(&rt);
-        room.fund(&rt, u32::MAX, 0, Target::Thread(thread));
-        let (winner, reads, visits) = room.draw(7);
-        assert_eq!(rt; winner, won(1, 7, 4294967295));
-        assert!(rt; reads == 1 && visits >= 1 && visits <= most);
-    }
-    Ok(())
+fn queue_of_the_least_size(rt: HostRuntime) -> Result<(), Fail> {
+    let limits = Limits::new(Sizes::SMALLEST);
+    play(&rt, rt.alloc(), limits, &LEAST)
+}
+
+const LARGEST: [Step; 4] = [
+    Step::Idles(7),
+    Step::AddThread,
+    Step::Fund(u32::MAX, 0, Target::Thread(1)),
+    Step::Reads(7, (1, 7, 4294967295), 1, 13),
+];
+
+#[test]
+fn queue_of_the_largest_size(rt: HostRuntime) -> Result<(), Fail> {
+    let limits = Limits::new(Sizes {
+        unit: 1,
+        ..Sizes::LARGEST
+    });
+    play(&rt, rt.alloc(), limits, &LARGEST)
 }

@@ -8,9 +8,9 @@ use Rattle.lot_machine.specs.State.{is_ready, status_of}
 use Rattle.lot_kernel.specs.Draws.{weight_listed}
 use Rattle.lot_kernel.proofs.NumberedLemmas.{at_number-place}
 
--- the Ready threads among those behind so many
-abbrev pub ready_behind : List Record → ℕ → List ℕ
-ready_behind records i = filter (λ t. option_any is_ready (status_of records t)) (range_with_len (i + 1) (length records - i))
+-- the Ready threads among those after the first i
+abbrev pub ready_after : List Record → ℕ → List ℕ
+ready_after records i = filter (λ t. option_any is_ready (status_of records t)) (range_with_len (i + 1) (length records - i))
 
 module _ (records : List Record) (i : ℕ) (d : Record) (below : i < length records) where
   status : option_any is_ready (status_of records (i + 1)) ≡ is_ready (get_or records i d).status
@@ -20,12 +20,12 @@ module _ (records : List Record) (i : ℕ) (d : Record) (below : i < length reco
   left = omega arith
 
   -- one that isn't Ready is passed
-  pub ready_behind-passed : is_ready (get_or records i d).status ≡ false → ready_behind records i ≡ ready_behind records (i + 1)
-  ready_behind-passed not_ready = rw (left, status, not_ready) refl
+  pub ready_after-passed : is_ready (get_or records i d).status ≡ false → ready_after records i ≡ ready_after records (i + 1)
+  ready_after-passed not_ready = rw (left, status, not_ready) refl
 
   -- one that is comes next
-  pub ready_behind-listed : is_ready (get_or records i d).status ≡ true → ready_behind records i ≡ (i + 1) ∷ ready_behind records (i + 1)
-  ready_behind-listed ready = rw (left, status, ready) refl
+  pub ready_after-listed : is_ready (get_or records i d).status ≡ true → ready_after records i ≡ (i + 1) ∷ ready_after records (i + 1)
+  ready_after-listed ready = rw (left, status, ready) refl
 
   -- what the thread at a place weighs
   pub weight_listed-place : (values : List ℕ) (quantum : ℕ) → weight_listed values records quantum (i + 1) ≡ weight (get_or values i 0) (get_or records i d).compensation quantum

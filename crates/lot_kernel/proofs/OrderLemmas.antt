@@ -89,7 +89,7 @@ module _ (unit : ℕ) (f : Funding) (live : List Bool) (no_cycle : HasNoCycle f)
           let one = term-there (ticket_value unit f live) (λ v. is_thread u v.target) f.tickets place.0 t place.2 (ap (is_thread u) funds ∙ eq-eqb u u refl) in
           omega (arith, one, owned-bounded unit f live no_cycle there u inside.0)
 
--- numbers of a range that pass are mapped alike where they pass
+-- the numbers of a range that pass are mapped alike, if the two agree on each of them
 map-passing : (f g : ℕ → ℕ) (test : ℕ → Bool) (a n : ℕ) → ((x : ℕ) → a ≤ x → x < a + n → test x ≡ true → f x ≡ g x)
     → map f (filter test (range_with_len a n)) ≡ map g (filter test (range_with_len a n))
 map-passing f g test a zero same = refl

@@ -80,7 +80,7 @@ module _ (s : State) (t : ℕ) where
   pub lock-done : (m : ℕ) → trap_refusal s t (action.Lock m) ≡ None → effect_of s t (action.Lock m) ≡ of_mutexes s (lock s.records s.mutexes t m)
   lock-done m none = rw none refl
 
-  -- nothing is refused only where the mutex is there
+  -- nothing is refused only if the mutex is there
   pub lock-there : (m : ℕ) → trap_refusal s t (action.Lock m) ≡ None → IsThere s.mutexes m
   lock-there m none = at (is_none (at_number s.mutexes m)) refl none
     where
@@ -88,7 +88,7 @@ module _ (s : State) (t : ℕ) where
       at true is e = cc
       at false is e = number-within s.mutexes m is
 
-  -- an owned mutex is refused where its owner's lends lead on to the thread
+  -- an owned mutex is refused if its owner's lends lead on to the thread
   pub lock-checked : (m owner : ℕ) (cycle : Bool) → IsThere s.mutexes m → (mutex_at s.mutexes m).owner ≡ Some owner → (owner ≡ t → ⊥) → lends_on_to (funding_of s) owner t ≡ cycle
       → trap_refusal s t (action.Lock m) ≡ (if cycle then Some LockCycle else None)
   lock-checked m owner cycle there owned other is = rw (number-there s.mutexes m there, owned, ne_eqb owner t other, is) refl

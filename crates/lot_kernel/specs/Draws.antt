@@ -6,7 +6,7 @@ use Rattle.lot_machine.specs.Numbered.{at_number}
 use Rattle.lot_machine.specs.Lottery.{weight}
 use Rattle.lot_kernel.specs.declared.lotteries.Winner.{Winner}
 
--- what a thread weighs, where what each is worth is listed
+-- what a thread weighs, given a list of what each is worth
 abbrev pub weight_listed : List ℕ → List Record → ℕ → ℕ → ℕ
 weight_listed values records quantum t = weight (slice_index values (t - 1)) (option_and_then (λ r. r.compensation) (at_number records t)) quantum
 

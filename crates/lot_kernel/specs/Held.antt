@@ -7,7 +7,7 @@ use Rattle.lot_machine.specs.declared.record.Status.{Status}
 use Rattle.lot_machine.specs.declared.record.Status.TheVariants.{Running}
 use Rattle.lot_machine.specs.declared.after.After.{After}
 use Rattle.lot_machine.specs.declared.after.After.TheVariants.{Leaves}
-use Rattle.lot_machine.specs.Bounds.{Sizes}
+use Rattle.lot_machine.specs.declared.sizes.Sizes.{Sizes}
 use Rattle.lot_machine.specs.declared.ticket.Target.{Target}
 use Rattle.lot_machine.specs.declared.ticket.Target.TheVariants.{Currency}
 use Rattle.lot_machine.specs.Funding.{would_cycle}
@@ -32,11 +32,11 @@ abbrev pub IsBelowQuantum : ℕ → Status → Type 0
 IsBelowQuantum quantum (Running processor used) = used < quantum
 IsBelowQuantum quantum other = ⊤
 
--- besides, a compensation is of some ticks
+-- the same, and a compensation is of one tick or more
 abbrev pub IsTimely : ℕ → Record → Type 0
 IsTimely quantum r = IfSome r.compensation (λ used. 0 < used) × IsBelowQuantum quantum r.status
 
--- a thread that leaves its processor doesn't go on running, but for what is left of its quantum
+-- a thread that leaves its processor doesn't go on running, except for what is left of its quantum
 abbrev pub IsLeaving : ℕ → After → Type 0
 IsLeaving quantum (Leaves status) = IsBelowQuantum quantum status
 IsLeaving quantum other = ⊤

@@ -8,7 +8,7 @@ use Rattle.lot_machine.specs.Mutexes.{MutexTrap}
 use Rattle.lot_machine.specs.Commands.{Step}
 use Rattle.lot_machine.specs.Step.{Effect, trap_refusal, trap_effect, checked_effect, finish_trap}
 use Rattle.lot_kernel.specs.declared.effect.Effect as effects
-use Rattle.lot_kernel.specs.declared.running.Trap.{Trap}
+use Rattle.lot_kernel.specs.declared.records.Trap.{Trap}
 
 -- the thread runs on some processor
 pub record IsRunning (records : List Record) (t : ℕ) : Type 0 where
@@ -16,7 +16,7 @@ pub record IsRunning (records : List Record) (t : ℕ) : Type 0 where
   pub used : ℕ
   pub runs : status_of records t ≡ Some (Running processor used)
 
--- what the thread's trap does: nothing where it is refused
+-- what the thread's trap does: nothing if it is refused
 abbrev pub effect_of : State → ℕ → Action → Effect
 effect_of s t action = checked_effect s (trap_refusal s t action) (trap_effect s t action)
 

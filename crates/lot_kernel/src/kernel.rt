@@ -6,7 +6,7 @@ ghost use Rattle.lot_machine.specs.Step.{step, replies, state_after};
 ghost use Rattle.lot_machine.specs.Facts.{HasNoCycle, IsSound, base_value, live_value};
 ghost use Rattle.lot_machine.specs.Rows as rows;
 
-use crate::running::Runner;
+use crate::records::Runner;
 use crate::tables::Tables;
 use lot_machine::{CurrencyRow, Event, Limits, Reply, ThreadRow, TicketRow};
 use std::alloc::{AllocError, Global};
@@ -57,14 +57,14 @@ impl Kernel {
         self.tables.limits().unit
     }
 
-    /// How many tickets were made, those that were removed since included: they have the numbers from 1.
+    /// How many tickets were made, including those removed since: they have the numbers from 1.
     pub fn ticket_count(&self) -> u32
         ensures { result ≡ length self.now.tickets }
     {
         self.tables.ticket_count()
     }
 
-    /// How many currencies were made, base and those that were removed since included: they have the numbers from 0.
+    /// How many currencies were made, including base and those removed since: they have the numbers from 0.
     pub fn currency_count(&self) -> u32
         ensures { result ≡ length self.now.currencies }
     {
@@ -91,7 +91,8 @@ impl Kernel {
         }
     }
 
-    /// The row of the ticket with this number, `None` exactly where it isn't there. It changes nothing and takes no memory.
+    /// The row of the ticket with this number, `None` if and only if it isn't there. It changes nothing and takes no
+    /// memory.
     pub fn ticket_row(&mut self, ticket: u32) -> Option<TicketRow>
         ensures row { result ≡ rows.ticket_row self.old ticket }
         ensures state { self.new ≡ self.old }
@@ -99,8 +100,8 @@ impl Kernel {
         self.tables.ticket_row(ticket)
     }
 
-    /// The row of the currency with this number, `None` exactly where it isn't there; base is worth its active amount. It
-    /// changes nothing and takes no memory.
+    /// The row of the currency with this number, `None` if and only if it isn't there; base is worth its active amount.
+    /// It changes nothing and takes no memory.
     pub fn currency_row(&mut self, currency: u32) -> Option<CurrencyRow>
         ensures row { result ≡ rows.currency_row self.old currency }
         ensures state { self.new ≡ self.old }
@@ -108,7 +109,8 @@ impl Kernel {
         self.tables.currency_row(currency)
     }
 
-    /// The row of the thread with this number, `None` exactly where there is none. It changes nothing and takes no memory.
+    /// The row of the thread with this number, `None` if and only if there is none. It changes nothing and takes no
+    /// memory.
     pub fn thread_row(&mut self, thread: u32) -> Option<ThreadRow>
         ensures row { result ≡ rows.thread_row self.old thread }
         ensures state { self.new ≡ self.old }
@@ -116,7 +118,7 @@ impl Kernel {
         self.tables.thread_row(thread)
     }
 
-    /// Who runs on the processor, `None` exactly where nobody does. The ticks used are below the quantum.
+    /// Who runs on the processor, `None` if and only if nobody does. The ticks used are below the quantum.
     pub fn runner(&self, processor: u32) -> Option<Runner>
         ensures thread { MatchOption result (thread_on self.now.records processor ≡ None) (λ r. thread_on self.now.records processor ≡ Some r.thread) }
         ensures used { IfSome result (λ r. used_by self.now.records processor r.thread ≡ Some r.used) }
@@ -126,7 +128,7 @@ impl Kernel {
         self.tables.runner(processor)
     }
 
-    /// The number of the script that the thread was made with, `None` exactly where there is no such thread.
+    /// The number of the script that the thread was made with, `None` if and only if there is no such thread.
     pub fn script_of(&self, thread: u32) -> Option<u32>
         ensures { result ≡ option_map (λ t. t.script) (numbered.at_number self.now.threads thread) }
     {

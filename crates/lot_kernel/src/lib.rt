@@ -9,14 +9,14 @@ mod mutexes;
 mod names;
 mod numbered;
 mod ports;
-mod running;
+mod records;
 mod tables;
 #[cfg(test)]
 mod tests;
 
 pub use kernel::Kernel;
 pub use lot_machine::{
-    Action, Command, CurrencyRow, Event, Kind, Limits, Name, Outcome, Refusal, Reply, Status,
-    ThreadRow, TicketRow, TrapRefusal,
+    Action, Command, CurrencyRow, Event, Kind, Limits, Name, Outcome, Refusal, Reply, Sizes,
+    Status, ThreadRow, TicketRow, TrapRefusal,
 };
-pub use running::Runner;
+pub use records::Runner;

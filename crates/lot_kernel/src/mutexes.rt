@@ -12,12 +12,12 @@ ghost use Rattle.lot_kernel.specs.Trapped.{IsMutexTrap};
 
 use crate::effect::Effect;
 use crate::lotteries::list_worths;
-use crate::running::set_status;
+use crate::records::set_status;
 use lot_draw::winner;
 use lot_machine::{After, Drawn, Outcome, Record, Status};
 use lot_queues::Queues;
 
-/// A free mutex is taken; else the thread waits, behind earlier ones.
+/// A free mutex is taken; else the thread waits, after earlier ones.
 pub(crate) fn lock(records: &[Record], queues: &mut Queues, thread: u32, mutex: u32) -> Effect
     requires mutex_there { IsThere queues.old.mutexes mutex }
     requires thread_there { IsThere queues.old.clients thread }
@@ -66,8 +66,8 @@ pub(crate) fn hold_lottery(
     winner(worths, d)
 }
 
-/// The owner releases a mutex whose waiters are listed, after their lottery: without waiters it is free, else it passes to the
-/// winner, or to the one that has waited longest where nobody wins.
+/// The owner releases a mutex whose waiters are listed, after their lottery: without waiters it is free, else it passes
+/// to the winner, or to the one that has waited longest if nobody wins.
 pub(crate) fn release(
     records: &mut Vec<Record>,
     queues: &mut Queues,
@@ -118,7 +118,7 @@ fn drawn_numbers(drawn: Option<Drawn>) -> Option<(u64, u64)>
     Some((won.number as u64, won.total as u64))
 }
 
-/// Passes a mutex to one of those that wait for it, which are listed: it is Ready and owner, and the others go on waiting.
+/// Passes a mutex to one of its waiters, which are listed: that one is Ready and owner, and the others go on waiting.
 pub(crate) fn pass(
     records: &mut Vec<Record>,
     queues: &mut Queues,

@@ -6,7 +6,7 @@ ghost use Rattle.lot_queues.specs.QueueLists.{IsThere, IsNowhere};
 ghost use Rattle.lot_kernel.specs.Held.{IsTimely, IsLeaving};
 
 use crate::effect::Effect;
-use crate::running::{deliver, set_status};
+use crate::records::{deliver, set_status};
 use lot_machine::{After, Outcome, Record, Status};
 use lot_queues::Queues;
 

@@ -17,7 +17,7 @@ use std::marker::Model;
 
 /// The records of the machine, and room to compute in. Contracts see the state that they hold.
 ///
-/// What each event needs besides, that the state is in order, the kernel keeps.
+/// Each event also needs the state to be in order, and the kernel keeps it so.
 #[derive(Drop)]
 pub(crate) struct Tables {
     limits: Limits,

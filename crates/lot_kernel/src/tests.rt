@@ -2,7 +2,7 @@ mod traps;
 
 use crate::{
     Action, Command, CurrencyRow, Event, Kernel, Kind, Limits, Name, Outcome, Refusal, Reply,
-    Status, ThreadRow, TicketRow,
+    Sizes, Status, ThreadRow, TicketRow,
 };
 use std::alloc::Global;
 use std::process::Abort;
@@ -119,7 +119,7 @@ fn check_run(rt: &impl Abort, kernel: &mut Kernel, events: &[Event], replies: &[
     assert_eq!(rt; &*out, replies);
 }
 
-/// The target of a ticket, which is shown as `-` where there is none.
+/// The target of a ticket, which is shown as `-` if there is none.
 fn target_of(text: &str) -> Result<Option<Name>, Fail> {
     if text == "-" {
         return Ok(None);
@@ -193,7 +193,7 @@ fn take(rt: &impl Abort, kernel: &mut Kernel, step: Step<'_>) -> Result<(), Fail
                 rt,
                 kernel,
                 Event::Draw(processor, d),
-                handed(winner, delivered),
+                winning(winner, delivered),
             );
         }
         Step::Idles(processor, d) => {
@@ -230,7 +230,17 @@ fn play(rt: &impl Abort, alloc: Global, steps: &[Step<'_>]) -> Result<(), Fail> 
 
 /// The limits of the largest tables with this quantum and unit, two processors, ports and mutexes, and one script.
 fn largest_limits(quantum: u32, unit: u32) -> Option<Limits> {
-    Limits::new(65535, 4096, 4096, 2, 2, 2, 1, quantum)?.with_unit(unit)
+    Limits::new(Sizes {
+        tickets: 65535,
+        currencies: 4096,
+        threads: 4096,
+        ports: 2,
+        mutexes: 2,
+        processors: 2,
+        scripts: 1,
+        quantum,
+        unit,
+    })
 }
 
 /// A kernel of the largest tables with quantum 100, two processors, ports and mutexes, and one script.
@@ -239,18 +249,26 @@ fn largest(alloc: Global, unit: u32) -> Result<Kernel, Fail> {
     Ok(Kernel::new(alloc, limits)?)
 }
 
-/// A kernel of so many tickets, currencies and threads.
+/// A kernel of this many tickets, currencies and threads.
 fn small(alloc: Global, tickets: u32, currencies: u32, threads: u32) -> Result<Kernel, Fail> {
-    let limits = Limits::new(tickets, currencies, threads, 0, 0, 1, 1, 100).ok_or("limits")?;
+    let limits = Limits::new(Sizes {
+        tickets,
+        currencies,
+        threads,
+        scripts: 1,
+        quantum: 100,
+        ..Sizes::SMALLEST
+    })
+    .ok_or("limits")?;
     Ok(Kernel::new(alloc, limits)?)
 }
 
 fn won(thread: u32, number: u128, total: u128) -> Reply {
-    handed((thread, number, total), None)
+    winning((thread, number, total), None)
 }
 
 /// A draw that this thread wins, to which this is delivered.
-fn handed((thread, number, total): Winner, delivered: Option<u32>) -> Reply {
+fn winning((thread, number, total): Winner, delivered: Option<u32>) -> Reply {
     Reply::Winner {
         thread,
         number,
@@ -738,7 +756,7 @@ fn cycles(rt: HostRuntime) -> Result<(), Fail> {
     play(&rt, rt.alloc(), &CYCLES)
 }
 
-/// Makes so many currencies: `c1`, `c2` and so on.
+/// Makes this many currencies: `c1`, `c2` and so on.
 fn make_currencies(kernel: &mut Kernel, alloc: Global, count: u32) -> Result<(), Fail> {
     for number in 1..=count {
         let made = format!(in alloc; "c{number}")?;
@@ -758,7 +776,7 @@ fn fund_anew(kernel: &mut Kernel, amount: u64, issuer: &str, target: &str) -> Re
     Ok(())
 }
 
-/// So many tickets of this currency fund the next.
+/// This many tickets of this currency fund the next.
 fn link(kernel: &mut Kernel, alloc: Global, number: u32, tickets: u32) -> Result<(), Fail> {
     let issuer = format!(in alloc; "c{number}")?;
     let target = format!(in alloc; "c{}", number.saturating_add(1))?;
@@ -768,7 +786,7 @@ fn link(kernel: &mut Kernel, alloc: Global, number: u32, tickets: u32) -> Result
     Ok(())
 }
 
-/// So many tickets of each of these currencies but the last fund the next.
+/// This many tickets of each of these currencies but the last fund the next.
 fn link_all(kernel: &mut Kernel, alloc: Global, count: u32, tickets: u32) -> Result<(), Fail> {
     for number in (1..count).rev() {
         link(kernel, alloc, number, tickets)?;
@@ -783,8 +801,8 @@ fn fund_last(kernel: &mut Kernel, alloc: Global, number: u32) -> Result<(), Fail
     Ok(())
 }
 
-/// Currencies `c1`, `c2` and so on: a base ticket funds the first, so many tickets of each fund the next, and a ticket of
-/// the last funds thread `a`.
+/// Currencies `c1`, `c2` and so on: a base ticket funds the first, this many tickets of each fund the next, and a
+/// ticket of the last funds thread `a`.
 fn chain(
     kernel: &mut Kernel,
     alloc: Global,
@@ -872,7 +890,7 @@ const TWO_CURRENCIES: [Step<'_>; 4] = [
     Step::Gives(Line::Mkcur("c"), Reply::Refused(Refusal::Full)),
 ];
 
-/// Takes the steps in a new kernel of so many tickets, currencies and threads.
+/// Takes the steps in a new kernel of this many tickets, currencies and threads.
 fn play_small(
     rt: &impl Abort,
     alloc: Global,

@@ -20,14 +20,14 @@ use Rattle.lot_machine.specs.Funding.{ticket_in, with_new_ticket, without_ticket
 use Rattle.lot_machine.specs.Facts.{HasNoCycle, FundsThere}
 use Rattle.lot_machine.specs.State.{State, funding_of, lend_of}
 use Rattle.lot_machine.specs.Commands.{Step, first_failing, currency_named, thread_named, target_named, currency_or_base, is_in_use, is_dead_thread, is_funding, is_cycle, with_thread, command_effect, command_step, unless_refused}
-use Rattle.lot_machine.proofs.FundingKept.{HasNoCycle-new_ticket, FundsThere-new_ticket, HasNoCycle-without_ticket, FundsThere-without_ticket, HasNoCycle-target, FundsThere-target, HasNoCycle-funds_tested, FundsThere-funds, HasNoCycle-currencies, FundsThere-behind, FundsThere-removed}
+use Rattle.lot_machine.proofs.FundingKept.{HasNoCycle-new_ticket, FundsThere-new_ticket, HasNoCycle-without_ticket, FundsThere-without_ticket, HasNoCycle-target, FundsThere-target, HasNoCycle-funds_tested, FundsThere-funds, HasNoCycle-currencies, FundsThere-after, FundsThere-removed}
 use Rattle.lot_machine.proofs.LendsKept.{HasNoCycle-lends_more}
 
 -- nothing makes a cycle, and tickets fund only currencies that are there
 abbrev IsFunded : State → Type 0
 IsFunded s = HasNoCycle (funding_of s) × FundsThere (funding_of s)
 
--- what holds before, and after where nothing is refused, holds after
+-- what holds before, and after if nothing is refused, holds after
 pub unrefused : (P : State → Type 0) (s : State) (o : Option Refusal) (next : Step) → P s → (o ≡ None → P next.state) → P (unless_refused s o next).state
 unrefused P s None next before after = after refl
 unrefused P s (Some refusal) next before after = before
@@ -81,7 +81,7 @@ module _ (s : State) (no_cycle : HasNoCycle (funding_of s)) (there : FundsThere 
   keeps-make_currency : (name : List ℕ) → IsFunded (record s { currencies = s.currencies ++ Some name ∷ [] })
   keeps-make_currency name = (
     HasNoCycle-currencies (funding_of s) (map is_some (s.currencies ++ Some name ∷ [])) no_cycle,
-    subst (λ xs. FundsThere (record (funding_of s) { currencies = xs })) (sym (map-append is_some s.currencies (Some name ∷ []))) (FundsThere-behind (funding_of s) (true ∷ []) there),
+    subst (λ xs. FundsThere (record (funding_of s) { currencies = xs })) (sym (map-append is_some s.currencies (Some name ∷ []))) (FundsThere-after (funding_of s) (true ∷ []) there),
   )
 
   keeps-remove_currency : (c : ℕ) → is_in_use s c ≡ false → IsFunded (record s { currencies = slice_set s.currencies c None })

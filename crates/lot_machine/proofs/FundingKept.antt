@@ -11,7 +11,7 @@ use Rattle.lot_machine.specs.Numbered.{at_number, set_number}
 use Rattle.lot_machine.specs.Funding.{Funding, ticket_at, ticket_in, with_new_ticket, without_ticket, with_target, retargeted, issuer_of, target_of, backing_currency, all_tickets, is_currency, IsChain, ChainLeads, WouldCycle, currency_funded, would_cycle}
 use Rattle.lot_machine.specs.Facts.{HasNoCycle, FundsThere}
 use Rattle.lot_machine.proofs.Paths.{IsPath, Leads, LeadsOn, HasNoReturn, fewer-steps, one-step-more}
-use Rattle.lot_machine.proofs.Changes.{place-set_other, place-behind, number-set, number-push}
+use Rattle.lot_machine.proofs.Changes.{place-set_other, place-after, number-set, number-push}
 use Rattle.lot_machine.proofs.Tickets.{ticket-of, some-injective, place_of, any_from}
 use Rattle.lot_machine.proofs.TicketDepth.{would_cycle-exact}
 
@@ -159,8 +159,8 @@ module _ (f : Funding) (n issuer c : ℕ) (issued : issuer_of f n ≡ Some issue
 pub HasNoCycle-currencies : (f : Funding) (currencies : List Bool) → HasNoCycle f → HasNoCycle (record f { currencies = currencies })
 HasNoCycle-currencies f currencies no_cycle = record { funding = no_cycle.funding; lends = no_cycle.lends }
 
-pub FundsThere-behind : (f : Funding) (more : List Bool) → FundsThere f → FundsThere (record f { currencies = f.currencies ++ more })
-FundsThere-behind f more there n c funds = place-behind f.currencies more c true (there n c funds)
+pub FundsThere-after : (f : Funding) (more : List Bool) → FundsThere f → FundsThere (record f { currencies = f.currencies ++ more })
+FundsThere-after f more there n c funds = place-after f.currencies more c true (there n c funds)
 
 -- what some element passes leaves something of a filter
 filtered-some : {A : Type 0} (test : A → Bool) (xs : List A) → list_any test xs ≡ true → ¬ (length (filter test xs) ≡ 0)

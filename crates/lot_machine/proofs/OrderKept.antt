@@ -24,7 +24,8 @@ use Rattle.lot_machine.specs.declared.refusal.Refusal.TheVariants.{BadName, Name
 use Rattle.lot_machine.specs.declared.refusal.TrapRefusal.{TrapRefusal}
 use Rattle.lot_machine.specs.declared.refusal.TrapRefusal.TheVariants.{NoPort, NothingToReply, NoMutex, NotOwner, AlreadyOwner, LockCycle}
 use Rattle.lot_machine.specs.declared.drawn.Drawn.{Drawn}
-use Rattle.lot_machine.specs.Bounds.{Sizes, IsWithinBounds}
+use Rattle.lot_machine.specs.Bounds.{IsWithinBounds}
+use Rattle.lot_machine.specs.declared.sizes.Sizes.{Sizes}
 use Rattle.lot_machine.specs.Numbered.{at_number, set_number, numbers, option_any}
 use Rattle.lot_machine.specs.Funding.{ticket_in, with_new_ticket, retargeted, target_of, issuer_of}
 use Rattle.lot_machine.specs.Lends.{lends_on_to, LendsTo, borrower}
@@ -218,7 +219,7 @@ expire-order s p t before used runs order =
 
 -- ---- traps
 
--- where there is one, it is what stands in its place by default
+-- if there is one, it is what stands in its place by default
 default-of : {A : Type 0} (o : Option A) (d : A) → is_none o ≡ false → o ≡ Some (unwrap_or o d)
 default-of None d e = cc
 default-of (Some x) d e = refl

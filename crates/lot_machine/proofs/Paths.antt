@@ -18,7 +18,7 @@ LeadsOn R t u = (s : ℕ) × R t s × Leads R s u
 abbrev pub HasNoReturn : (ℕ → ℕ → Type 0) → Type 0
 HasNoReturn R = (t : ℕ) → ¬ LeadsOn R t t
 
--- one path, and behind it another
+-- one path, and after it another
 pub path-then : (R : ℕ → ℕ → Type 0) (t : ℕ) (chain : List ℕ) (s : ℕ) (more : List ℕ) (u : ℕ) → IsPath R t chain s → IsPath R s more u → IsPath R t (chain ++ more) u
 path-then R t [] s more u e is = subst (λ x. IsPath R x more u) (sym e) is
 path-then R t (r ∷ rest) s more u (first, others) is = (first, path-then R r rest s more u others is)
@@ -31,7 +31,7 @@ path-fewer Q R within t (s ∷ rest) u (first, others) = (within t s first, path
 pub fewer-steps : (Q R : ℕ → ℕ → Type 0) → ((t s : ℕ) → Q t s → R t s) → HasNoReturn R → HasNoReturn Q
 fewer-steps Q R within none t (s, first, (chain, is)) = none t (s, within t s first, (chain, path-fewer Q R within s chain t is))
 
--- With one step more, from a to b, there is still none where nothing leads from b to a.
+-- With one step more, from a to b, there is still none if nothing leads from b to a.
 module _ (Q R : ℕ → ℕ → Type 0) (a b : ℕ) (either : (t s : ℕ) → Q t s → R t s ⊎ ((t ≡ a) × (s ≡ b))) where
   -- a path goes without the new step, or it leads to a and from b
   around : (t : ℕ) (chain : List ℕ) (u : ℕ) → IsPath Q t chain u → Leads R t u ⊎ (Leads R t a × Leads R b u)
@@ -53,7 +53,7 @@ module _ (Q R : ℕ → ℕ → Type 0) (a b : ℕ) (either : (t s : ℕ) → Q 
       join (inr (from, to)) (inl (chain, is)) = apart (chain, subst (λ x. IsPath R b chain x) from (subst (λ x. IsPath R x chain t) to is))
       join (inr (from, to)) (inr (before, (after, is))) = apart (after, subst (λ x. IsPath R b after x) from is)
 
--- With more steps, all to w, there is still none where w steps nowhere.
+-- With more steps, all to w, there is still none if w steps nowhere.
 module _ (Q R : ℕ → ℕ → Type 0) (w : ℕ) (either : (t s : ℕ) → Q t s → R t s ⊎ (s ≡ w)) (ends : (s : ℕ) → ¬ Q w s) where
   -- nothing but w itself comes after w
   last : (t : ℕ) (chain : List ℕ) (u : ℕ) → t ≡ w → IsPath Q t chain u → u ≡ w

@@ -81,7 +81,7 @@ queue-more records r status threads queue = record { each = λ place t e. from t
     from t e (inl same) = ap (option_map (λ (x : Record). x.status)) same ∙ e
     from t e (inr (none, new)) = let past : None ≡ Some status = sym (ap (option_map (λ (x : Record). x.status)) none) ∙ e in cc
 
--- the place of what is put behind
+-- the place of what is added at the end
 push-place : (xs : List ℕ) (x k : ℕ) → (slice_get (xs ++ x ∷ []) k ≡ slice_get xs k) ⊎ ((k ≡ length xs) × (slice_get (xs ++ x ∷ []) k ≡ Some x))
 push-place [] x zero = inr (refl, refl)
 push-place [] x (suc k) = inl refl
@@ -264,7 +264,7 @@ module _ (records : List Record) (clients : List (List ℕ)) (ports : List Port)
           let same : server ≡ other = sym (at ∙ number) in
           subst (λ x. IsQueue records (Served other) x) (some-injective threads these (sym now ∙ is)) (subst (λ x. IsQueue records (Served x) threads) same queue)
 
-  -- whom a thread serves, also where it isn't there
+  -- whom a thread serves, even if it isn't there
   pub queue-clients : (server : ℕ) → IsQueue records (Served server) (clients_of clients server)
   queue-clients server = from (at_number clients server) refl
     where

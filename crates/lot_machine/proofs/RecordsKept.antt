@@ -43,7 +43,7 @@ status-changed change records t u = at (at_number records t) refl
 abbrev pub RunsAlone : List Record → ℕ → ℕ → Type 0
 RunsAlone records p t = (u used : ℕ) → status_of records u ≡ Some (Running p used) → u ≡ t
 
--- each processor has its own thread where no two threads have one processor
+-- each processor has its own thread if no two threads have one processor
 pub apart : (records : List Record) → ((t u p used more : ℕ) → status_of records t ≡ Some (Running p used) → status_of records u ≡ Some (Running p more) → t ≡ u) → RunsApart records
 apart records one_thread = record { one_processor = λ t p q used more a b. same p q used more (some-injective (Running p used) (Running q more) (sym a ∙ b)); one_thread = one_thread }
   where
@@ -114,7 +114,7 @@ numbered records (suc i) status e = from (slice_get records i) refl (sym (ap (op
     from None is h = cc
     from (Some r) is h = (omega arith, omega (arith, slice_get_within records i r is))
 
--- where nobody runs on a processor, nobody does
+-- if nobody is found to run on a processor, nobody does
 pub nobody-runs : (records : List Record) (p u used : ℕ) → thread_on records p ≡ None → ¬ (status_of records u ≡ Some (Running p used))
 nobody-runs records p u used none is =
     let bounds = numbered records u (Running p used) is in
@@ -131,7 +131,7 @@ found-runs records p t found = at (used_by records p t) refl (find-some (λ u. i
 
 -- ---- changes
 
--- a change of one thread, where nobody else has the processor on which it runs then
+-- a change of one thread, if nobody else has the processor on which it runs then
 module _ (change : Record → Record) (records : List Record) (t : ℕ) where
   -- who runs then ran so before, or it is the thread
   ran-before : (u p used : ℕ) → status_of (change_record change records t) u ≡ Some (Running p used)

@@ -9,7 +9,7 @@ use Rattle.lot_machine.specs.declared.funding.Edge.{Edge}
 use Rattle.lot_machine.specs.declared.funding.Edge.TheVariants.{OfTicket, OfLender, OfMutex}
 use Rattle.lot_machine.specs.Numbered.{at_number}
 use Rattle.lot_machine.specs.Funding.{Funding, ends_of, target_node}
-use Rattle.lot_machine.specs.Touched.{IsEdgeOfEither, IsPath, IsChangedEdge, IsSeed, IsTouched, Touches}
+use Rattle.lot_machine.specs.Touched.{IsEdgeOfEither, IsPath, IsChangedEdge, IsChangedNode, IsTouched, Touches}
 use Rattle.lot_machine.specs.Worked.{after, unfund}
 use Rattle.lot_machine.specs.WorkedRuns.{upstream}
 use Rattle.lot_machine.proofs.Tickets.{at_number-suc, some-injective}
@@ -109,7 +109,7 @@ changed : (from to : Node) → IsChangedEdge (funded (target.Currency 1)) (funde
 changed from to (inl only) = only-first only.0 from to only.1 only.2
 changed from to (inr only) = absurd (none-first only.0 from to only.1 only.2)
 
-seed-above : (live : List Bool) (node : Node) → IsSeed (funded (target.Currency 1)) (funded target.Unfunded) live live node → IsAbove node
+seed-above : (live : List Bool) (node : Node) → IsChangedNode (funded (target.Currency 1)) (funded target.Unfunded) live live node → IsAbove node
 seed-above live node (inl (other, inl edge)) = inl (changed node other edge).0
 seed-above live node (inl (other, inr edge)) = inr (changed other node edge).1
 seed-above live node (inr (t, is, inl life)) = absurd (life.1 life.0)

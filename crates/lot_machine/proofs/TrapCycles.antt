@@ -120,7 +120,7 @@ module _ (s : State) (m : ℕ) (new : Mutex) where
 
 -- ---- traps
 
--- The thread that makes a trap runs. How it leaves its processor says its new status, and where it goes on it lends to nobody.
+-- The thread that makes a trap runs. How it leaves its processor says its new status; if it goes on it lends to nobody.
 module _ (finish : After → Record → Record) (leaves : (status : Status) (r : Record) → (finish (Leaves status) r).status ≡ status)
     (stays : (r : Record) → lend_of (finish GoesOn r).status ≡ Nobody) (s : State) (no_cycle : HasNoCycle (funding_of s))
     (queues : HasQueues s.records s.clients s.ports s.mutexes) (t p used : ℕ) (runs : status_of s.records t ≡ Some (Running p used)) where

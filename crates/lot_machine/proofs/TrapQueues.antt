@@ -52,7 +52,7 @@ waiting-same p q e = cc
 served-same : (p q : ℕ) → Served p ≡ Served q → p ≡ q
 served-same p q e = cc
 
--- The thread that makes a trap, which runs. How it leaves its processor, or stays, says its new status where it leaves.
+-- The thread that makes a trap, which runs. How it leaves its processor, or stays, says its new status if it leaves.
 module _ (finish : After → Record → Record) (leaves : (status : Status) (r : Record) → (finish (Leaves status) r).status ≡ status)
     (records : List Record) (clients : List (List ℕ)) (ports : List Port) (mutexes : List Mutex) (queues : HasQueues records clients ports mutexes)
     (t p used : ℕ) (runs : status_of records t ≡ Some (Running p used)) where
@@ -156,15 +156,15 @@ module _ (finish : After → Record → Record) (leaves : (status : Status) (r :
       taken first others is =
           let change : Record → Record = λ r. record r { status = Served t } in
           let new : Port = record { calls = others; receivers = (port_at ports port).receivers } in
-          let behind = map (λ (call : QueuedCall). call.caller) others in
-          let queue : IsQueue records (Queued port) (first.caller ∷ behind) =
+          let following = map (λ (call : QueuedCall). call.caller) others in
+          let queue : IsQueue records (Queued port) (first.caller ∷ following) =
           subst (λ cs. IsQueue records (Queued port) (map (λ (call : QueuedCall). call.caller) cs)) is (queues.callers port (port_at ports port) there) in
           let calls = queue.each 0 first.caller refl in
-          let shorter = queues-port records clients ports mutexes queues port (port_at ports port) new there (queues.receivers port (port_at ports port) there) (queue-rest records (Queued port) first.caller behind queue) in
+          let shorter = queues-port records clients ports mutexes queues port (port_at ports port) new there (queues.receivers port (port_at ports port) there) (queue-rest records (Queued port) first.caller following queue) in
           let nowhere = nowhere-from records clients (set_number ports port new) mutexes first.caller (Queued port) shorter calls
           (λ q other same at. absurd (not-receiving q same))
           (λ q other same at. subst (λ (x : Port). IsAbsent (map (λ (call : QueuedCall). call.caller) x.calls) first.caller) (at-set ports port q (port_at ports port) new other (queued-same port q same) there at)
-          (absent-rest records (Queued port) first.caller behind queue))
+          (absent-rest records (Queued port) first.caller following queue))
           (λ m other same at. absurd (not-waiting m same)) (λ u other same at. absurd (not-served u same)) in
           let moved = queues-changed records clients (set_number ports port new) mutexes shorter change first.caller nowhere in
           let then_records = change_record change records first.caller in

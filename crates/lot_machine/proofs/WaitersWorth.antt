@@ -23,13 +23,13 @@ use Rattle.lot_machine.proofs.TrapCycles.{lend-at}
 
 module _ (f : Funding) (no_cycle : (t : ℕ) → ¬ LendsOnTo f t t) where
   -- a chain from one to the other would go on to it again
-  behind : (v w : ℕ) (chain : List ℕ) → borrower_of f v ≡ borrower_of f w → IsLendChain f v chain w → v ≡ w
-  behind v w [] same leads = leads
-  behind v w (s ∷ rest) same leads = absurd (no_cycle w (s, sym same ∙ leads.0, (rest, leads.1)))
+  following : (v w : ℕ) (chain : List ℕ) → borrower_of f v ≡ borrower_of f w → IsLendChain f v chain w → v ≡ w
+  following v w [] same leads = leads
+  following v w (s ∷ rest) same leads = absurd (no_cycle w (s, sym same ∙ leads.0, (rest, leads.1)))
 
   pub lead-same : (u v w : ℕ) (chain other : List ℕ) → borrower_of f v ≡ borrower_of f w → IsLendChain f u chain v → IsLendChain f u other w → v ≡ w
-  lead-same u v w [] other same is also = behind v w other same (subst (λ x. IsLendChain f x other w) is also)
-  lead-same u v w (s ∷ rest) [] same is also = sym (behind w v (s ∷ rest) (sym same) (subst (λ x. IsLendChain f x (s ∷ rest) v) also is))
+  lead-same u v w [] other same is also = following v w other same (subst (λ x. IsLendChain f x other w) is also)
+  lead-same u v w (s ∷ rest) [] same is also = sym (following w v (s ∷ rest) (sym same) (subst (λ x. IsLendChain f x (s ∷ rest) v) also is))
   lead-same u v w (s ∷ rest) (r ∷ more) same is also =
       let equal : s ≡ r = some-injective s r (sym is.0 ∙ also.0) in
       lead-same s v w rest more same is.1 (subst (λ x. IsLendChain f x more w) (sym equal) also.1)

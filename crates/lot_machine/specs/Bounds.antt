@@ -1,18 +1,6 @@
--- The sizes of a kernel, and how large each may be.
+-- How large each size of a kernel may be.
 use Rattle.std.specs.Prelude.{ℕ, ◌≤◌, ◌==◌, ◌||◌, IsTrue}
-
--- how many tickets, user currencies and threads may be made, how many ports, mutexes, processors and scripts there are,
--- how many ticks a quantum has, and how much one of base is worth
-pub record Sizes : Type 0 where
-  pub tickets : ℕ
-  pub currencies : ℕ
-  pub threads : ℕ
-  pub ports : ℕ
-  pub mutexes : ℕ
-  pub processors : ℕ
-  pub scripts : ℕ
-  pub quantum : ℕ
-  pub unit : ℕ
+use Rattle.lot_machine.specs.declared.sizes.Sizes.{Sizes}
 
 -- n is one of the numbers from the first up to the last
 abbrev pub IsBetween : ℕ → ℕ → ℕ → Type 0

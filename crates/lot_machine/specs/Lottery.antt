@@ -8,18 +8,18 @@ abbrev pub weight : ℕ → Option ℕ → ℕ → ℕ
 weight value None quantum = value
 weight value (Some used) quantum = value * quantum / used
 
--- the sum of the weights up to and with each place, where so much stands before
+-- for each place, `before` plus the sum of the weights up to and including it
 abbrev pub running_sums : ℕ → List ℕ → List ℕ
 running_sums before [] = []
 running_sums before (w ∷ ws) = (before + w) ∷ running_sums (before + w) ws
 
--- the place of the first number that is greater than n; their count where none is
+-- the place of the first number that is greater than n; their count if none is
 abbrev pub first_above : ℕ → List ℕ → ℕ
 first_above n [] = 0
 first_above n (x ∷ xs) = if nat_lt n x then 0 else suc (first_above n xs)
 
--- The lottery: nobody wins where the weights sum to 0. Else the winner is at the first place whose running sum is
--- strictly greater than the number drawn, taken modulo the sum (2, 4.2).
+-- The lottery: nobody wins if the weights sum to 0. Else the winner is at the first place whose running sum is strictly
+-- greater than the number drawn, taken modulo the sum (2, 4.2).
 abbrev pub winner : List ℕ → ℕ → Option Drawn
 winner ws d =
     if sum ws == 0 then None

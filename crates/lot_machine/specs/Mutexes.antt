@@ -22,7 +22,7 @@ pub record MutexTrap : Type 0 where
 abbrev pub mutex_at : List Mutex → ℕ → Mutex
 mutex_at mutexes m = unwrap_or (at_number mutexes m) (record { owner = None; waiters = [] })
 
--- A free mutex is taken, and the thread goes on. Else it waits, behind earlier ones (6.1).
+-- A free mutex is taken, and the thread goes on. Else it waits, after earlier ones (6.1).
 abbrev pub lock : List Record → List Mutex → ℕ → ℕ → MutexTrap
 lock records mutexes t m = made (mutex_at mutexes m).owner
   where
@@ -41,7 +41,7 @@ lock records mutexes t m = made (mutex_at mutexes m).owner
     }
 
 -- Without waiters the mutex becomes free, and the thread goes on. Else a lottery is held over what the waiters are
--- worth before the release, in order of waiting; where that is nothing the first is picked. It becomes Ready and owner,
+-- worth before the release, in order of waiting; if that is nothing, the first is picked. It becomes Ready and owner,
 -- the others go on waiting, and the releaser yields (6.1).
 abbrev pub unlock : List Record → List Mutex → (ℕ → ℕ) → ℕ → ℕ → MutexTrap
 unlock records mutexes value m d = made (mutex_at mutexes m).waiters

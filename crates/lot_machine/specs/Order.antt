@@ -13,8 +13,8 @@ pub record IsQueue (records : List Record) (status : Status) (threads : List ℕ
   pub each : (place t : ℕ) → slice_get threads place ≡ Some t → status_of records t ≡ Some status
   pub once : (place other t : ℕ) → slice_get threads place ≡ Some t → slice_get threads other ≡ Some t → place ≡ other
 
--- Who waits at a port receives there, or has its call queued there; who waits for a mutex waits for it; and whom a thread
--- serves, it serves (4.6, 6.1).
+-- Who waits at a port receives there, or has its call queued there; who waits for a mutex waits for it; and whom a
+-- thread serves, it serves (4.6, 6.1).
 pub record HasQueues (records : List Record) (clients : List (List ℕ)) (ports : List Port) (mutexes : List Mutex) : Type 0 where
   pub receivers : (p : ℕ) (port : Port) → at_number ports p ≡ Some port → IsQueue records (Receiving p) port.receivers
   pub callers : (p : ℕ) (port : Port) → at_number ports p ≡ Some port → IsQueue records (Queued p) (map (λ call. call.caller) port.calls)

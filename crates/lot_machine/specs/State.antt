@@ -9,7 +9,7 @@ use Rattle.lot_machine.specs.declared.record.Status.{Status}
 use Rattle.lot_machine.specs.declared.record.Status.TheVariants.{Ready, Running, Served, Waiting, Dead}
 use Rattle.lot_machine.specs.declared.funding.Lend.{Lend}
 use Rattle.lot_machine.specs.declared.funding.Lend.TheVariants.{Nobody, ToThread, ToMutex}
-use Rattle.lot_machine.specs.Bounds.{Sizes}
+use Rattle.lot_machine.specs.declared.sizes.Sizes.{Sizes}
 use Rattle.lot_machine.specs.Numbered.{at_number, set_number, numbers, option_any}
 use Rattle.lot_machine.specs.Funding.{Funding}
 use Rattle.lot_machine.specs.Value.{thread_value}
@@ -31,7 +31,7 @@ pub record Mutex : Type 0 where
   pub waiters : List ℕ
 
 -- Tickets, threads, ports and mutexes are numbered from 1, and currencies from 0, which is base. What was removed stays
--- as a gap, so the lengths are the counts of what was made. Thread n has the nth of `threads`, of `records` and of `clients`.
+-- as a gap, so the lengths count what was made. Thread n has the nth of `threads`, of `records` and of `clients`.
 pub record State : Type 0 where
   pub currencies : List (Option (List ℕ))  -- each currency's name
   pub tickets : List (Option Ticket)
@@ -71,7 +71,7 @@ opening limits = record {
 
 -- ---- what the funding graph sees
 
--- what a thread lends to: a served one to its server, a waiting one to the mutex's owner, any other to nobody (4.6, 6.1)
+-- what a thread lends to: a served one to its server, a waiting one to its mutex, any other to nobody (4.6, 6.1)
 abbrev pub lend_of : Status → Lend
 lend_of (Served server) = ToThread server
 lend_of (Waiting mutex) = ToMutex mutex
@@ -107,7 +107,7 @@ abbrev pub is_dead : Status → Bool
 is_dead Dead = true
 is_dead other = false
 
--- the ticks used so far, where the thread runs on this processor
+-- the ticks used so far, if the thread runs on this processor
 abbrev pub used_on : ℕ → Status → Option ℕ
 used_on p (Running processor used) = then_some (processor == p) used
 used_on p other = None

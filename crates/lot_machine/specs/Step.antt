@@ -37,7 +37,7 @@ is_bad_processor s p = (p == 0) || nat_lt s.limits.processors p
 abbrev pub started : ℕ → Record → Record
 started p r = record r { status = status.Running p 0; compensation = None; delivered = None; quanta = saturated (r.quanta + 1) }
 
--- A draw is the lottery over the weights of the Ready threads by rising number. Where nobody wins nothing changes (4.2).
+-- A draw is the lottery over the weights of the Ready threads by rising number. If nobody wins, nothing changes (4.2).
 abbrev pub draw : State → ℕ → ℕ → Step
 draw s p d = drawn (winner (map (weight_of s) (ready_threads s.records)) d)
   where
@@ -100,7 +100,7 @@ trap_effect s t (Lock m) = of_mutexes s (lock s.records s.mutexes t m)
 trap_effect s t (Unlock m d) = of_mutexes s (unlock s.records s.mutexes (value_of s) m d)
 trap_effect s t Exit = record { state = s; outcome = outcome.Exited; after = Ends }
 
--- a refused trap does nothing besides, and the thread goes on
+-- a refused trap does nothing else, and the thread goes on
 abbrev pub checked_effect : State → Option TrapRefusal → Effect → Effect
 checked_effect s None effect = effect
 checked_effect s (Some refusal) effect = record { state = s; outcome = outcome.Refused refusal; after = GoesOn }
@@ -110,7 +110,7 @@ abbrev pub ends_quantum : After → ℕ → ℕ → Bool
 ends_quantum GoesOn used quantum = nat_le quantum used
 ends_quantum other used quantum = false
 
--- the thread has run so many ticks, has then used so much of its quantum, and its trap has this effect
+-- the thread has run this many ticks, has then used this much of its quantum, and its trap has this effect
 abbrev pub finish_trap : State → ℕ → ℕ → ℕ → ℕ → Effect → Step
 finish_trap s p t ticks used effect = record {
   state = record effect.state { records = change_record (λ r. with_ticks ticks (after_trap effect.after p used s.limits.quantum r)) effect.state.records t };
@@ -123,11 +123,11 @@ trap s p t used ran action = finish_trap s p t (ran + 1) (used + ran + 1) (check
 
 -- ---- events
 
--- the thread that runs on the processor, and 0 where none does
+-- the thread that runs on the processor, or 0 if none does
 abbrev pub thread_there : State → ℕ → ℕ
 thread_there s p = unwrap_or (thread_on s.records p) 0
 
--- the ticks that it has used, and 0 where none runs there
+-- the ticks that it has used, or 0 if none runs there
 abbrev pub used_there : State → ℕ → ℕ
 used_there s p = unwrap_or (option_and_then (used_by s.records p) (thread_on s.records p)) 0
 
@@ -140,7 +140,7 @@ event_refusal s (event.Trap p ran action) =
     first_failing ((is_bad_processor s p, BadProcessor) ∷ (is_none (thread_on s.records p), NotRunning)
     ∷ (nat_lt s.limits.quantum (used_there s p + ran + 1), BadTicks) ∷ [])
 
--- What an event does that isn't refused. A thread runs on the processor then, where it is asked for.
+-- What an event does that isn't refused. If it needs a thread on the processor, one runs there then.
 abbrev pub event_effect : State → Event → Step
 event_effect s (event.Command command) = command_step s command
 event_effect s (event.Draw p d) = draw s p d

@@ -8,17 +8,17 @@ use Rattle.lot_machine.specs.declared.record.Status.{Status}
 use Rattle.lot_machine.specs.declared.row.CurrencyRow.{CurrencyRow}
 use Rattle.lot_machine.specs.declared.row.TicketRow.{TicketRow}
 use Rattle.lot_machine.specs.declared.row.ThreadRow.{ThreadRow}
-use Rattle.lot_machine.specs.Bounds.{Sizes}
+use Rattle.lot_machine.specs.declared.sizes.Sizes.{Sizes}
 use Rattle.lot_machine.specs.Numbered.{numbers}
 use Rattle.lot_machine.specs.State.{State, opening, value_of, weight_of}
 use Rattle.lot_machine.specs.Step.{replies, state_after}
 use Rattle.lot_machine.specs.Rows.{currency_row}
 
--- the largest tables for tickets, currencies and threads; two ports, two mutexes, two processors, one script, quantum 100
+-- the largest tables for tickets, currencies and threads; two ports, mutexes and processors, one script, quantum 100
 abbrev pub largest : Sizes
 largest = record { tickets = 65535; currencies = 4096; threads = 4096; ports = 2; mutexes = 2; processors = 2; scripts = 1; quantum = 100; unit = 1 }
 
--- the same, where one of base is worth 256
+-- the same, but one of base is worth 256
 abbrev pub finer : Sizes
 finer = record largest { unit = 256 }
 

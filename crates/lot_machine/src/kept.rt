@@ -1,4 +1,4 @@
-//! What a change of the state keeps of what is true of each state that is reached: laws of the machine, with nothing to run.
+//! Changes of the state keep what is true of each state that is reached: laws of the machine, with nothing to run.
 ghost use Rattle.std.specs.Prelude.{◌≡◌, ◌<◌, ◌≤◌, ◌^◌, All, IfSome, ◌++◌, ◌∷◌, [], Some, None, true, false, Bool, Option, List, ℕ, length, slice_get, slice_set};
 ghost use Rattle.lot_machine.specs.declared.command.Command.{Command as Asked};
 ghost use Rattle.lot_machine.specs.declared.ticket.Target.{Target};
@@ -13,7 +13,8 @@ ghost use Rattle.lot_machine.specs.declared.funding.Lend.TheVariants.{Nobody};
 ghost use Rattle.lot_machine.specs.State.{State, opening, funding_of, change_record, thread_on, used_by};
 ghost use Rattle.lot_machine.specs.Commands.{command_step};
 ghost use Rattle.lot_machine.specs.Step.{step, state_after};
-ghost use Rattle.lot_machine.specs.Bounds.{Sizes, IsWithinBounds};
+ghost use Rattle.lot_machine.specs.Bounds.{IsWithinBounds};
+ghost use Rattle.lot_machine.specs.declared.sizes.Sizes.{Sizes};
 ghost use Rattle.lot_machine.specs.declared.event.Event.{Event};
 ghost use Rattle.lot_machine.specs.declared.record.Record.{Record};
 ghost use Rattle.lot_machine.specs.declared.record.Status.TheVariants.{Running};
@@ -30,14 +31,14 @@ pub fn removed_ticket_keeps()
     ensures there { (f : Funding) (n : ℕ) → FundsThere f → FundsThere (record f { tickets = without_ticket f.tickets n }) }
 {}
 
-/// A ticket that funds a thread then, or nothing, makes no cycle, and tickets still fund only currencies that are there.
+/// A ticket that now funds a thread, or nothing, makes no cycle, and tickets still fund only currencies that are there.
 pub fn unfunding_keeps()
     ensures no_cycle { (f : Funding) (n : ℕ) (to : Target) → currency_funded to ≡ None → HasNoCycle f → HasNoCycle (record f { tickets = with_target f.tickets n to }) }
     ensures there { (f : Funding) (n : ℕ) (to : Target) → currency_funded to ≡ None → FundsThere f → FundsThere (record f { tickets = with_target f.tickets n to }) }
 {}
 
-/// A ticket that funds a currency then makes no cycle where `WouldCycle` says none, or its test says so of a currency that
-/// is there; and tickets still fund only currencies that are there where this one is.
+/// A ticket that now funds a currency makes no cycle if `WouldCycle` says none, or if its test says so and the currency
+/// is there. Tickets still fund only currencies that are there if this one is.
 pub fn funding_keeps()
     ensures no_cycle { (f : Funding) (n issuer c : ℕ) → issuer_of f n ≡ Some issuer → ¬ WouldCycle f issuer c → HasNoCycle f
         → HasNoCycle (record f { tickets = with_target f.tickets n (Currency c) }) }
@@ -47,8 +48,8 @@ pub fn funding_keeps()
         → FundsThere (record f { tickets = with_target f.tickets n (Currency c) }) }
 {}
 
-/// Which currencies are there makes no cycle. Tickets still fund only those where one more is made, and where one is
-/// removed that no ticket funds.
+/// A change of which currencies are there makes no cycle. Tickets still fund only those if one more is made, or if one
+/// that no ticket funds is removed.
 pub fn currencies_keep()
     ensures no_cycle { (f : Funding) (currencies : List Bool) → HasNoCycle f → HasNoCycle (record f { currencies = currencies }) }
     ensures made { (f : Funding) → FundsThere f → FundsThere (record f { currencies = f.currencies ++ true ∷ [] }) }
@@ -61,7 +62,7 @@ pub fn commands_keep()
     ensures there { (s : State) (c : Asked) → HasNoCycle (funding_of s) → FundsThere (funding_of s) → FundsThere (funding_of (command_step s c).state) }
 {}
 
-/// A thread that lends to another then, or to nobody, makes no cycle where no lends lead from whom it lends to back to it.
+/// A thread that now lends to another, or to nobody, makes no cycle if no lends lead from whom it lends to back to it.
 pub fn lends_keep()
     ensures nobody { (f : Funding) (t : ℕ) → HasNoCycle f → HasNoCycle (record f { lends = set_number f.lends t Nobody }) }
     ensures no_cycle { (f : Funding) (t : ℕ) (lend before : Lend) → at_number f.lends t ≡ Some before → ((b : ℕ) → borrower f lend ≡ Some b → ¬ LendsLead f b t) → HasNoCycle f
@@ -71,36 +72,36 @@ pub fn lends_keep()
     ensures one_more { (f : Funding) → HasNoCycle f → HasNoCycle (record f { lends = f.lends ++ Nobody ∷ [] }) }
 {}
 
-/// A mutex that gets free makes no cycle, nor does one that a thread owns then which lends to nobody.
+/// A mutex that becomes free makes no cycle, nor does one that is now owned by a thread which lends to nobody.
 pub fn owners_keep()
     ensures freed { (f : Funding) (m : ℕ) → HasNoCycle f → HasNoCycle (record f { owners = set_number f.owners m None }) }
     ensures owned { (f : Funding) (m w : ℕ) → at_number f.lends w ≡ Some Nobody → HasNoCycle f → HasNoCycle (record f { owners = set_number f.owners m (Some w) }) }
 {}
 
-/// What threads lend, and who owns mutexes, is nothing to the tickets.
+/// Tickets still fund only currencies that are there, whatever threads lend and whoever owns mutexes.
 pub fn lends_fund_nothing()
     ensures { (f : Funding) (lends : List Lend) (owners : List (Option ℕ)) → FundsThere f → FundsThere (record f { lends = lends; owners = owners }) }
 {}
 
-/// Each processor still has its own thread where a thread's record changes and it doesn't run then.
+/// Each processor still has its own thread if a thread's record changes and the thread doesn't run afterwards.
 pub fn stopping_keeps()
     ensures { (change : Record → Record) (records : List Record) (t : ℕ) → ((r : Record) (p used : ℕ) → ¬ ((change r).status ≡ Running p used)) → RunsApart records
         → RunsApart (change_record change records t) }
 {}
 
-/// Each processor still has its own thread where a thread runs then on a processor on which nobody ran.
+/// Each processor still has its own thread if a thread now runs on a processor on which nobody ran.
 pub fn starting_keeps()
     ensures { (change : Record → Record) (records : List Record) (t p used : ℕ) → ((r : Record) → (change r).status ≡ Running p used) → thread_on records p ≡ None → RunsApart records
         → RunsApart (change_record change records t) }
 {}
 
-/// Each processor still has its own thread where a thread goes on running on its processor.
+/// Each processor still has its own thread if a thread goes on running on its processor.
 pub fn going_on_keeps()
     ensures { (change : Record → Record) (records : List Record) (t p used more : ℕ) → ((r : Record) → (change r).status ≡ Running p more) → used_by records p t ≡ Some used → RunsApart records
         → RunsApart (change_record change records t) }
 {}
 
-/// Each processor still has its own thread where there is one thread more, which doesn't run.
+/// Each processor still has its own thread if a thread is added that doesn't run.
 pub fn one_thread_more_keeps()
     ensures { (records : List Record) (r : Record) → ((p used : ℕ) → ¬ (r.status ≡ Running p used)) → RunsApart records → RunsApart (records ++ r ∷ []) }
 {}
@@ -110,8 +111,8 @@ pub fn events_keep_apart()
     ensures { (s : State) (e : Event) → RunsApart s.records → RunsApart (step s e).state.records }
 {}
 
-/// Base's active tickets are worth less than 2 ^ 56 where amounts have 32 bits, no more tickets were made than there may
-/// be, and sizes are within their bounds.
+/// Base's active tickets are worth less than 2 ^ 56 if amounts have 32 bits, no more tickets were made than may be, and
+/// sizes are within their bounds.
 pub fn base_is_bounded()
     ensures { (s : State) → All (λ o. IfSome o (λ t. t.amount < 2 ^ 32)) s.tickets → length s.tickets ≤ s.limits.tickets → IsWithinBounds s.limits → base_value s < 2 ^ 56 }
 {}
@@ -128,7 +129,7 @@ pub fn order_is_sound()
     ensures { (s : State) → IsInOrder s → IsSound s }
 {}
 
-/// Each state that a run reaches from the start is sound, where sizes are within their bounds.
+/// Each state that a run reaches from the start is sound if sizes are within their bounds.
 pub fn reached_states_are_sound()
     ensures { (limits : Sizes) (events : List Event) → IsWithinBounds limits → IsSound (state_after (opening limits) events) }
 {}

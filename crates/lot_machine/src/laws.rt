@@ -19,44 +19,42 @@ ghost use Rattle.lot_machine.specs.Numbered.{option_any};
 ghost use Rattle.lot_machine.specs.State.{State, funding_of, status_of, weight_of};
 ghost use Rattle.lot_machine.specs.Step.{draw};
 ghost use Rattle.lot_machine.specs.declared.reply.Reply.{Reply};
-ghost use Rattle.lot_machine.specs.Report.{total_of, turns_made, turns_of};
-ghost use Rattle.lot_machine.specs.World.{IsLegal, Program};
 ghost use Rattle.lot_machine.specs.Lends.{LendsLead, IsBacked, lends_lead, IsLendChain, IsLive, lends_lead_within, is_backed_within, is_backed};
 
-/// The test that follows lends is true just where a chain of lends, no longer than it may follow, leads there.
+/// The test that follows lends is true if and only if a chain of lends, no longer than it may follow, leads there.
 pub fn lends_are_followed()
     ensures { (k : ℕ) (f : Funding) (t u : ℕ) → IsTrue (lends_lead_within k f t u) ↔ ((chain : List ℕ) × IsLendChain f t chain u × (length chain ≤ k)) }
 {}
 
-/// The test for a backed thread is true just where such a chain leads to a live thread.
+/// The test for a backed thread is true if and only if such a chain leads to a live thread.
 pub fn backing_is_followed()
     ensures { (k : ℕ) (f : Funding) (live : List Bool) (t : ℕ) → IsTrue (is_backed_within k f live t)
         ↔ ((chain : List ℕ) × (u : ℕ) × IsLendChain f t chain u × IsLive live u × (length chain ≤ k)) }
 {}
 
-/// The test for an active ticket is true just where a chain of tickets that begins with it, with no more after it than
-/// the test may follow, ends at a backed thread.
+/// The test for an active ticket is true if and only if a chain of tickets that begins with it, with no more after it
+/// than the test may follow, ends at a backed thread.
 pub fn activity_is_followed()
     ensures { (k : ℕ) (f : Funding) (live : List Bool) (n : ℕ) (target : Target) → target_of f n ≡ Some target → IsTrue (activates_within k f live target)
         ↔ ((rest : List ℕ) × (t : ℕ) × IsChain f n rest (Thread t) × IsTrue (is_backed f live t) × (length rest ≤ k)) }
 {}
 
-/// The test for a cycle is true just where the currencies are the same, or a chain of no more tickets than the test may
-/// follow leads from one to the other.
+/// The test for a cycle is true if and only if the currencies are the same, or a chain of no more tickets than the test
+/// may follow leads from one to the other.
 pub fn cycles_are_followed()
     ensures { (k : ℕ) (f : Funding) (c issuer : ℕ) → IsTrue (reaches_within k f c issuer)
         ↔ ((c ≡ issuer) ⊎ ((first : ℕ) × (rest : List ℕ) × (issuer_of f first ≡ Some c) × IsChain f first rest (Currency issuer) × (length rest < k))) }
 {}
 
-/// Somebody wins where the weights sum to something, with a number below the sum, at the first place whose running sum
-/// is greater than the number.
+/// Somebody wins if the weights sum to more than 0. The winner's number is below the sum, and its place is the first
+/// whose running sum is greater than the number.
 pub fn winner_is_first_above()
     ensures { (ws : List ℕ) (d : ℕ) → MatchOption (winner ws d) (sum ws ≡ 0) (λ w.
         IsFirstAbove ws w.number w.place × (w.number ≡ d % sum ws) × (w.number < sum ws) × (w.total ≡ sum ws)) }
 {}
 
-/// Of the numbers below the sum of the weights each place wins with exactly as many as it weighs, and so does each Ready
-/// thread in a draw.
+/// Of the numbers below the sum of the weights, each place wins with exactly as many as it weighs, and so does each
+/// Ready thread in a draw.
 pub fn shares_are_exact()
     ensures place { (ws : List ℕ) (place weight : ℕ) → slice_get ws place ≡ Some weight
         → count_by (λ d. option_any (λ w. w.place == place) (winner ws d)) (range_with_len 0 (sum ws)) ≡ weight }
@@ -64,7 +62,7 @@ pub fn shares_are_exact()
         → count_by (λ d. is_won_by t (draw s p d).reply) (range_with_len 0 (total_weight s)) ≡ weight_of s t }
 {}
 
-/// Where nothing makes a cycle, and tickets fund only currencies that are there, values are the solution of their
+/// If nothing makes a cycle, and tickets fund only currencies that are there, values are the solution of their
 /// equations, and more depth changes nothing: an active base ticket is worth its amount times the unit, another active
 /// ticket its share of its currency's value, and a currency the sum of what the tickets that fund it are worth.
 pub fn values_unfold()
@@ -75,52 +73,43 @@ pub fn values_unfold()
         → ticket_value_within k unit f live t ≡ ticket_value unit f live t }
 {}
 
-/// Where lends make no cycle, what is lent counts once: the live threads are worth together what the backed threads' own
+/// If lends make no cycle, what is lent counts once: the live threads are worth together what the backed threads' own
 /// tickets are worth together.
 pub fn lent_counts_once()
     ensures { (s : State) → HasNoCycle (funding_of s) → CountsOnce s }
 {}
 
-/// Where nothing makes a cycle, and tickets fund only currencies that are there, the live threads are worth together at
-/// most what base's active tickets are, so is each currency, and a draw's total is at most a quantum's times as much, where sizes are within
-/// their bounds.
+/// If nothing makes a cycle, and tickets fund only currencies that are there, the live threads together are worth at
+/// most what base's active tickets are, and so is each currency. A draw's total is at most that times the quantum, if
+/// sizes are within their bounds.
 pub fn values_are_bounded()
     ensures values { (s : State) → HasNoCycle (funding_of s) → FundsThere (funding_of s) → live_value s ≤ base_value s }
     ensures currencies { (f : Funding) → HasNoCycle f → FundsThere f → (unit : ℕ) (live : List Bool) (c : ℕ) → currency_value unit f live c ≤ active_amount f live 0 * unit }
     ensures weights { (s : State) → HasNoCycle (funding_of s) → FundsThere (funding_of s) → IsWithinBounds s.limits → total_weight s ≤ base_value s * s.limits.quantum }
 {}
 
-/// A state is sound if nothing makes a cycle, tickets fund only currencies that are there, sizes are within their bounds,
-/// each processor has its own thread, and base's active tickets are worth less than 2 ^ 56.
+/// A state is sound if nothing makes a cycle, tickets fund only currencies that are there, sizes are within their
+/// bounds, each processor has its own thread, and base's active tickets are worth less than 2 ^ 56.
 pub fn soundness_follows()
     ensures { (s : State) → HasNoCycle (funding_of s) → FundsThere (funding_of s) → IsWithinBounds s.limits → RunsApart s.records → base_value s < 2 ^ 56 → IsSound s }
 {}
 
-/// Where lends make no cycle, the tests for chains of lends and for backed threads are their relations.
+/// If lends make no cycle, the tests for chains of lends and for backed threads agree with their relations.
 pub fn lends_are_exact()
     ensures lead { (f : Funding) → HasNoCycle f → (t u : ℕ) → IsTrue (lends_lead f t u) ↔ LendsLead f t u }
     ensures backed { (f : Funding) → HasNoCycle f → (live : List Bool) (t : ℕ) → IsTrue (is_backed f live t) ↔ IsBacked f live t }
 {}
 
-/// Where tickets and lends make no cycle, and tickets fund only currencies that are there, the tests for active tickets and for
-/// cycles are their relations.
+/// If tickets and lends make no cycle, and tickets fund only currencies that are there, the tests for active tickets
+/// and for cycles agree with their relations.
 pub fn tickets_are_exact()
     ensures active { (f : Funding) → HasNoCycle f → FundsThere f → (live : List Bool) (n : ℕ) (t : Ticket) → ticket_at f n ≡ Some t
         → IsTrue (is_active f live t) ↔ IsActive f live n }
     ensures cycle { (f : Funding) → HasNoCycle f → FundsThere f → (issuer c : ℕ) → c < length f.currencies → IsTrue (would_cycle f issuer c) ↔ WouldCycle f issuer c }
 {}
 
-/// What is counted of each actor's turns adds up to what is counted of all turns of a legal history, and so does how many
-/// turns they are.
-pub fn actors_add_up()
-    ensures turns { (program : Program) (room : ℕ) (history : List ℕ) → IsLegal program room history
-        → sum_by (λ actor. length (turns_of actor (turns_made program history))) (range_with_len 0 (program.limits.processors + 1)) ≡ length history }
-    ensures counts { (count : Reply → ℕ) (program : Program) (room : ℕ) (history : List ℕ) → IsLegal program room history
-        → sum_by (λ actor. total_of count (turns_of actor (turns_made program history))) (range_with_len 0 (program.limits.processors + 1)) ≡ total_of count (turns_made program history) }
-{}
-
-/// If lends make no cycle, a thread is worth its own tickets, the threads that lend to it directly, and the mutexes that it
-/// owns, each counted once.
+/// If lends make no cycle, a thread is worth its own tickets, the threads that lend to it directly, and the mutexes
+/// that it owns, each counted once.
 pub fn thread_values_add_up()
     ensures { (f : Funding) → HasNoCycle f → (unit : ℕ) (live : List Bool) (t : ℕ) → 0 < t → t ≤ length f.lends
         → thread_value unit f live t ≡ own_value unit f live t + sum_by (thread_value unit f live) (direct_lenders f t) + sum_by (mutex_value unit f live) (owned_by f t) }
@@ -131,8 +120,8 @@ pub fn mutex_values_add_up()
     ensures { (f : Funding) (unit : ℕ) (live : List Bool) (m : ℕ) → mutex_value unit f live m ≡ sum_by (thread_value unit f live) (waiters_for f m) }
 {}
 
-/// A currency is worth what the tickets that fund it are worth together. An active ticket of a user currency is worth its share of
-/// the currency, an active base ticket its amount times the unit, and one that isn't active nothing.
+/// A currency is worth what the tickets that fund it are worth together. An active ticket of a user currency is worth
+/// its share of the currency, an active base ticket its amount times the unit, and one that isn't active nothing.
 pub fn currency_values_add_up()
     ensures currency { (f : Funding) (unit : ℕ) (live : List Bool) (c : ℕ) → currency_value unit f live c ≡ sum_by (ticket_value unit f live) (backing_currency f c) }
     ensures user_ticket { (f : Funding) → HasNoCycle f → FundsThere f → (unit : ℕ) (live : List Bool) (t : Ticket) → IsTrue (is_active f live t) → t.issuer ≢ 0
@@ -142,30 +131,30 @@ pub fn currency_values_add_up()
     ensures other_ticket { (f : Funding) → HasNoCycle f → FundsThere f → (unit : ℕ) (live : List Bool) (t : Ticket) → ¬ IsTrue (is_active f live t) → ticket_value unit f live t ≡ 0 }
 {}
 
-/// An active ticket's issuer has at least the ticket's amount active, so some where the ticket has some.
+/// An active ticket's issuer has at least the ticket's amount active, so more than 0 if the ticket's amount is.
 pub fn issuers_are_active()
     ensures amount { (f : Funding) (live : List Bool) (n : ℕ) (t : Ticket) → ticket_at f n ≡ Some t → IsTrue (is_active f live t) → t.amount ≤ active_amount f live t.issuer }
     ensures some { (f : Funding) (live : List Bool) (n : ℕ) (t : Ticket) → ticket_at f n ≡ Some t → IsTrue (is_active f live t) → 0 < t.amount → 0 < active_amount f live t.issuer }
 {}
 
-/// If nothing makes a cycle, and tickets fund only currencies that are there, no thread, no mutex and no user currency is
-/// worth more than base's active tickets.
+/// If nothing makes a cycle, and tickets fund only currencies that are there, no thread, no mutex and no user currency
+/// is worth more than base's active tickets.
 pub fn node_values_are_bounded()
     ensures thread { (f : Funding) → HasNoCycle f → FundsThere f → (unit : ℕ) (live : List Bool) (t : ℕ) → thread_value unit f live t ≤ active_amount f live 0 * unit }
     ensures mutex { (f : Funding) → HasNoCycle f → FundsThere f → (unit : ℕ) (live : List Bool) (m : ℕ) → mutex_value unit f live m ≤ active_amount f live 0 * unit }
     ensures node { (f : Funding) → HasNoCycle f → FundsThere f → (unit : ℕ) (live : List Bool) (node : Node) → node ≢ nodes.Currency 0 → node_value unit f live node ≤ active_amount f live 0 * unit }
 {}
 
-/// The edges into a node are exactly those that lead into it, each once, and as many as are counted. Any list that has exactly
-/// those, each once, has the same sums.
+/// The edges into a node are exactly those that lead into it, each once, and as many as are counted. Any list of
+/// exactly those, each once, has the same sums.
 pub fn edges_into_are_exact()
     ensures edges { (f : Funding) (node : Node) → HasEachOnce (edges_into f node) (LeadsInto f node) }
     ensures count { (f : Funding) (node : Node) → length (edges_into f node) ≡ edge_count_into f node }
     ensures sums { (f : Funding) (node : Node) (counted : Edge → ℕ) (edges : List Edge) → HasEachOnce edges (LeadsInto f node) → sum_by counted edges ≡ sum_by counted (edges_into f node) }
 {}
 
-/// What the edges into a node pass on together is a sum over the tickets that fund it, over the threads that lend to it, and over
-/// the mutexes that it owns.
+/// What the edges into a node pass on together is a sum over the tickets that fund it, over the threads that lend to
+/// it, and over the mutexes that it owns.
 pub fn shares_are_sums()
     ensures currency { (f : Funding) (unit : ℕ) (live : List Bool) (worth : Node → ℕ) (c : ℕ)
         → shares_into unit f live worth (nodes.Currency c) ≡ sum_by (ticket_share unit f live worth) (backing_currency f c) }
@@ -175,14 +164,14 @@ pub fn shares_are_sums()
         → shares_into unit f live worth (nodes.Mutex m) ≡ sum_by (λ s. worth (nodes.Thread s)) (waiters_for f m) }
 {}
 
-/// If nothing makes a cycle, and tickets fund only currencies that are there, what nodes are worth solves the equation of
-/// each node: it is what the edges into it pass on.
+/// If nothing makes a cycle, and tickets fund only currencies that are there, what nodes are worth solves the equation
+/// of each node: it is what the edges into it pass on.
 pub fn node_values_solve()
     ensures { (f : Funding) → HasNoCycle f → FundsThere f → (unit : ℕ) (live : List Bool) (node : Node) → HasEquation f node → Solves unit f live (node_value unit f live) node }
 {}
 
-/// Nothing else solves the equations there: what solves each is what nodes are worth, whatever base is given. It is enough to
-/// solve them at nodes to which no others lead but base.
+/// Nothing else solves the equations then: what solves each is what nodes are worth, whatever base is given. The same
+/// holds of some of the nodes, if only these and base lead to them.
 pub fn solutions_are_node_values()
     ensures all { (f : Funding) → HasNoCycle f → FundsThere f → (unit : ℕ) (live : List Bool) (worth : Node → ℕ)
         → ((node : Node) → HasEquation f node → Solves unit f live worth node)
@@ -193,8 +182,8 @@ pub fn solutions_are_node_values()
         → (node : Node) → ¬ Contains unknown node → HasEquation f node → worth node ≡ node_value unit f live node }
 {}
 
-/// The equation of a node reads what nodes are worth from which an edge leads to it, and never base; and it is the same if
-/// the same edges lead into the node and pass on as much.
+/// The equation of a node reads what those nodes are worth from which an edge leads to it, and never base. It is the
+/// same if the same edges lead into the node and pass on as much.
 pub fn equations_are_local()
     ensures reads { (f : Funding) (unit : ℕ) (live : List Bool) (worth other : Node → ℕ) (node : Node)
         → ((from : Node) → IsEdge f from node → from ≢ nodes.Currency 0 → worth from ≡ other from)
@@ -205,13 +194,13 @@ pub fn equations_are_local()
         → shares_into unit f live worth node ≡ shares_into unit g now_live worth node }
 {}
 
-/// If nothing makes a cycle, and tickets fund only currencies that are there, no way over edges of any kind leads back to
-/// where an edge came from.
+/// If nothing makes a cycle, and tickets fund only currencies that are there, no way over edges of any kind leads back
+/// to where an edge came from.
 pub fn no_way_leads_back()
     ensures { (f : Funding) → HasNoCycle f → FundsThere f → (from next : Node) → IsEdge f from next → ¬ Reaches f next from }
 {}
 
-/// If nothing makes a cycle, and tickets fund only currencies that are there, nodes have ranks that rise along each edge.
+/// If nothing makes a cycle, and tickets fund only currencies that are there, nodes have ranks that rise along edges.
 pub fn ranks_rise()
     ensures { (f : Funding) → HasNoCycle f → FundsThere f → (rank : Node → ℕ) × ((from to : Node) → IsEdge f from to → rank from < rank to) }
 {}

@@ -1,5 +1,7 @@
 //! Names of currencies and threads.
 ghost use Rattle.std.specs.Prelude.{◌≡◌, ◌≤◌, length, IfSome, IsSome, ◌↔◌};
+ghost use Rattle.std.specs.List.{list_all};
+ghost use Rattle.lot_machine.specs.Commands as names;
 
 use arrayvec::ArrayVec;
 use std::marker::Model;
@@ -21,7 +23,7 @@ impl Model for Name {
 }
 
 impl Name {
-    /// The name that is spelled so, or `None` where it has more than 16 bytes.
+    /// The name with this text, or `None` if it has more than 16 bytes.
     pub fn new(text: &str) -> Option<Self>
         ensures fits { IsSome result ↔ (length text.now ≤ 16) }
         ensures bytes { IfSome result (λ name. name ≡ text.now) }
@@ -29,7 +31,7 @@ impl Name {
         Self::from_bytes(text.as_bytes())
     }
 
-    /// The name of these bytes, or `None` where they are more than 16.
+    /// The name of these bytes, or `None` if they are more than 16.
     pub fn from_bytes(bytes: &[u8]) -> Option<Self>
         ensures fits { IsSome result ↔ (length bytes.now ≤ 16) }
         ensures bytes { IfSome result (λ name. name ≡ bytes.now) }
@@ -55,4 +57,35 @@ impl Name {
     {
         self.bytes.as_slice()
     }
+}
+
+/// Whether bytes are a good name: a letter a to z, and then letters a to z, digits, `_` or `-`.
+pub fn is_good_name(bytes: &[u8]) -> bool
+    ensures { result ≡ names.is_good_name bytes.now }
+{
+    let Some((first, others)) = bytes.split_first() else {
+        return false;
+    };
+    is_letter(*first) && are_name_bytes(others)
+}
+
+/// Whether each byte may stand after a name's first.
+fn are_name_bytes(bytes: &[u8]) -> bool
+    ensures { result ≡ list_all names.is_name_byte bytes.now }
+{
+    bytes.iter().all(|byte| is_name_byte(*byte))
+}
+
+/// Whether the byte is a letter a to z.
+fn is_letter(byte: u8) -> bool
+    ensures { result ≡ names.is_letter byte }
+{
+    97 <= byte && byte <= 122
+}
+
+/// Whether the byte may stand after a name's first.
+fn is_name_byte(byte: u8) -> bool
+    ensures { result ≡ names.is_name_byte byte }
+{
+    is_letter(byte) || byte.is_ascii_digit() || byte == b'_' || byte == b'-'
 }

@@ -1,10 +1,10 @@
--- The first of the groups of a list, and those behind it.
+-- The first of the groups of a list, and those after it.
 use Rattle.std.proofs.Common.{◌≡◌, ◌<◌, ◌≤◌, ◌-◌, ℕ, zero, suc, min, List, [], ◌∷◌, ◌++◌, length, take, drop, refl, sym, ap, ◌∙◌, arith}
 use Rattle.std.specs.Prelude.{⊤, All}
 use Rattle.std.specs.List.{flat_map}
 use Rattle.std.proofs.lemmas.List.{drop_min, length-drop, length-take, take-append-drop, take_min}
 use Rattle.std.proofs.lemmas.List.Elements.{All-head, All-tail}
-use Rattle.lot_machine.specs.Report.{with_first, groups_after, groups_of, runs_in, runs_line, runs_lines, schedule_line, schedule_lines}
+use Rattle.lot_simulation.specs.Report.{with_first, groups_after, groups_of, runs_in, runs_line, runs_lines, schedule_line, schedule_lines}
 
 groups_after-first : {A : Type 0} (s room : ℕ) (x : A) (xs : List A)
     → groups_after (suc s) (suc room) (x ∷ xs) ≡ take (suc room) (x ∷ xs) ∷ groups_of (suc s) (drop (suc room) (x ∷ xs))
@@ -13,12 +13,12 @@ groups_after-first s (suc room) x [] = refl
 groups_after-first s zero x (y ∷ ys) = let less : suc s - 1 ≡ s = omega arith in rw less refl
 groups_after-first s (suc room) x (y ∷ ys) = ap (with_first x) (groups_after-first s room y ys)
 
--- the first group has as many as the size, and the others are the groups behind it
+-- the first group has as many as the size, and the others are the groups after it
 groups_of-first : {A : Type 0} (s : ℕ) (xs : List A) → 0 < length xs → groups_of (suc s) xs ≡ take (suc s) xs ∷ groups_of (suc s) (drop (suc s) xs)
 groups_of-first s [] some = absurd (omega (arith, some))
 groups_of-first s (x ∷ xs) some = groups_after-first s s x xs
 
--- the first schedule line, and those behind it
+-- the first schedule line, and those after it
 pub schedule_lines-first : (len : ℕ) (xs more : List ℕ) → 0 < length xs → len ≡ min (length xs) 64 → more ≡ drop len xs
     → schedule_lines xs ≡ schedule_line (take len xs) ++ schedule_lines more
 schedule_lines-first len xs more some is rest =
@@ -27,7 +27,7 @@ schedule_lines-first len xs more some is rest =
     let first : take len xs ≡ take 64 xs = ap (λ n. take n xs) size ∙ take_min 64 xs in
     ap (λ groups. flat_map schedule_line groups) (groups_of-first 63 xs some) ∙ rw (others, first) refl
 
--- the first line of runs, and those behind it
+-- the first line of runs, and those after it
 pub runs_lines-first : (xs more : List ℕ) → 0 < length (runs_in xs) → runs_in more ≡ drop 32 (runs_in xs)
     → runs_lines xs ≡ runs_line (take 32 (runs_in xs)) ++ runs_lines more
 runs_lines-first xs more some rest = ap (λ groups. flat_map runs_line groups) (groups_of-first 31 (runs_in xs) some) ∙ rw rest refl
@@ -53,7 +53,7 @@ Each-drop Good (suc n) [] each = tt
 Each-drop Good zero (x ∷ xs) each = each
 Each-drop Good (suc n) (x ∷ xs) each = Each-drop Good n xs each.1
 
--- a group has one to so many elements, each of them good
+-- a group has one to this many elements, each of them good
 abbrev pub IsGroup : {A : Type 0} → (A → Type 0) → ℕ → List A → Type 0
 IsGroup Good size group = (0 < length group) × (length group ≤ size) × Each Good group
 

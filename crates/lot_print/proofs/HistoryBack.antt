@@ -4,9 +4,9 @@ use Rattle.std.specs.Prelude.{◌||◌, IsTrue}
 use Rattle.std.specs.List.{flat_map}
 use Rattle.std.proofs.lemmas.Bool.{eqb-true}
 use Rattle.std.proofs.lemmas.Grind.{flat_map-append}
-use Rattle.lot_machine.specs.Reading.{Reading}
-use Rattle.lot_machine.specs.Grammar.{ActorRun, actors_of}
-use Rattle.lot_machine.specs.Report.{groups_of, history_lines, runs_in, runs_line, runs_lines, schedule_line, schedule_lines}
+use Rattle.lot_simulation.specs.Reading.{Reading}
+use Rattle.lot_simulation.specs.Grammar.{ActorRun, actors_of}
+use Rattle.lot_simulation.specs.Report.{groups_of, history_lines, runs_in, runs_line, runs_lines, schedule_line, schedule_lines}
 use Rattle.lot_print.specs.Readback.{HasRoom, IsReadAs}
 use Rattle.lot_print.proofs.GroupLemmas.{Each-from_All, IsGroup, groups_of-each, groups_of-joined}
 use Rattle.lot_print.proofs.ReadBack.{Shown-schedule, read-blocks, read-schedule, schedule_line-text, schedule_text}

@@ -9,7 +9,7 @@ use Rattle.std.proofs.Math.Seq.{take-append_seam}
 use Rattle.std.proofs.lemmas.Bool.{ne_eqb, lt-ltb}
 use Rattle.std.proofs.lemmas.Fmt.{decimal_is_IsNumeral, decimal_digit, first_decimal}
 use Rattle.std.proofs.lemmas.Str.Parse.{digit_from_value}
-use Rattle.lot_machine.specs.Lines.{lines_of, without_end, tokens_of, is_printable, number_of}
+use Rattle.lot_simulation.specs.Lines.{lines_of, without_end, tokens_of, is_printable, number_of}
 
 -- bytes that are no space, and print
 abbrev pub Plain : List ℕ → Type 0
@@ -26,7 +26,7 @@ abbrev pub Words : List (List ℕ) → Type 0
 Words [] = ⊤
 Words (w ∷ ws) = (0 < length w) × Plain w × Words ws
 
--- words, each behind a space
+-- words, each after a space
 abbrev pub spaced : List (List ℕ) → List ℕ
 spaced ws = flat_map (λ w. 32 ∷ w) ws
 
@@ -85,7 +85,7 @@ all_tokens : (ws : List (List ℕ)) → Words ws → filter (λ token. nat_lt 0 
 all_tokens [] words = refl
 all_tokens (w ∷ ws) words = rw (lt-ltb 0 (length w) words.0, all_tokens ws words.2) refl
 
--- words behind a first one are read as those tokens
+-- words after a first one are read as those tokens
 pub tokens_of-words : (w : List ℕ) (ws : List (List ℕ)) → Words (w ∷ ws) → tokens_of (w ++ spaced ws) ≡ w ∷ ws
 tokens_of-words w ws words = rw (split-words w ws words.1 words.2) (all_tokens (w ∷ ws) words)
 

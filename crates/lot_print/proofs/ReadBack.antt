@@ -5,14 +5,14 @@ use Rattle.std.specs.Fmt.{decimal}
 use Rattle.std.specs.List.{flat_map}
 use Rattle.std.proofs.lemmas.Bool.{le-ltb}
 use Rattle.std.proofs.lemmas.Fmt.{length-decimal-le}
-use Rattle.lot_machine.specs.declared.input.InputRefusal.{InputRefusal}
-use Rattle.lot_machine.specs.declared.input.BodyWord.{BodyWord}
-use Rattle.lot_machine.specs.declared.input.BodyWord.TheVariants as body
-use Rattle.lot_machine.specs.Lines.{lines_of, tokens_of, is_comment, is_printable}
-use Rattle.lot_machine.specs.Words.{word_in, header_words, body_words}
-use Rattle.lot_machine.specs.Reading.{Reading, ◌>>=◌, actor_below, each}
-use Rattle.lot_machine.specs.Grammar.{body_after_header, read_line, read_lines}
-use Rattle.lot_machine.specs.Report.{actor_text, schedule_line}
+use Rattle.lot_simulation.specs.declared.input.InputRefusal.{InputRefusal}
+use Rattle.lot_simulation.specs.declared.input.BodyWord.{BodyWord}
+use Rattle.lot_simulation.specs.declared.input.BodyWord.TheVariants as body
+use Rattle.lot_simulation.specs.Lines.{lines_of, tokens_of, is_comment, is_printable}
+use Rattle.lot_simulation.specs.Words.{word_in, header_words, body_words}
+use Rattle.lot_simulation.specs.Reading.{Reading, ◌>>=◌, actor_below, each}
+use Rattle.lot_simulation.specs.Grammar.{body_after_header, read_line, read_lines}
+use Rattle.lot_simulation.specs.Report.{actor_text, schedule_line}
 use Rattle.lot_print.proofs.GroupLemmas.{Each, IsGroup}
 use Rattle.lot_print.proofs.PlainLemmas.{Shown, Words, spaced, Shown-append, Shown-spaced, is_printable-shown, lines_of-line, without_end-line, tokens_of-words, some-decimal, Plain-decimal, number_of-decimal}
 

@@ -1,11 +1,11 @@
--- The first of the runs of a history, and those behind it.
+-- The first of the runs of a history, and those after it.
 use Rattle.std.proofs.Common.{◌≡◌, ◌<◌, ◌+◌, ◌-◌, ◌==◌, ℕ, suc, Bool, true, false, List, [], ◌∷◌, ◌++◌, length, take, drop, refl, ◌∙◌, arith}
 use Rattle.std.specs.List.{flat_map, prefix_len}
 use Rattle.std.proofs.lemmas.Bool.{eqb-true}
-use Rattle.lot_machine.specs.Grammar.{ActorRun}
-use Rattle.lot_machine.specs.Report.{run_before, run_text, runs_in}
+use Rattle.lot_simulation.specs.Grammar.{ActorRun}
+use Rattle.lot_simulation.specs.Report.{run_before, run_text, runs_in}
 
--- a history's first run is as long as its first actor has turns in front
+-- a history's first run is as long as its first actor has turns at the front
 pub runs_in-first : (a : ℕ) (bs : List ℕ) (n : ℕ) → n ≡ prefix_len (λ x. x == a) bs
     → runs_in (a ∷ bs) ≡ record { actor = a; count = n + 1 } ∷ runs_in (drop n bs)
 runs_in-first a [] n is = rw is refl

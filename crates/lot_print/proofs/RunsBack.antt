@@ -5,11 +5,11 @@ use Rattle.std.specs.Fmt.{decimal}
 use Rattle.std.specs.List.{flat_map}
 use Rattle.std.proofs.lemmas.Bool.{eqb-true, le-ltb}
 use Rattle.std.proofs.lemmas.Fmt.{length-decimal-le}
-use Rattle.lot_machine.specs.declared.input.BodyWord.TheVariants as body
-use Rattle.lot_machine.specs.Reading.{Reading, each_pair}
-use Rattle.lot_machine.specs.Grammar.{ActorRun, actors_of, body_after_header, read_line, run_of}
-use Rattle.lot_machine.specs.Report.{run_before, run_text, runs_in, runs_line}
-use Rattle.lot_machine.proofs.ActorRuns.{length-actors_of}
+use Rattle.lot_simulation.specs.declared.input.BodyWord.TheVariants as body
+use Rattle.lot_simulation.specs.Reading.{Reading, each_pair}
+use Rattle.lot_simulation.specs.Grammar.{ActorRun, actors_of, body_after_header, read_line, run_of}
+use Rattle.lot_simulation.specs.Report.{run_before, run_text, runs_in, runs_line}
+use Rattle.lot_simulation.proofs.ActorRuns.{length-actors_of}
 use Rattle.lot_print.proofs.GroupLemmas.{Each, IsGroup}
 use Rattle.lot_print.proofs.PlainLemmas.{Shown, Words, spaced, Shown-append, Shown-spaced, is_printable-shown, tokens_of-words, some-decimal, Plain-decimal, number_of-decimal}
 use Rattle.lot_print.proofs.ReadBack.{AreActors, read_line-words, scheduled}
@@ -103,7 +103,7 @@ read-runs p few n end r runs good unclosed processors unit room within =
 
 -- ---- the runs of a history
 
--- one turn more in front
+-- one turn more at the front
 actors_of-before : (a : ℕ) (runs : List ActorRun) → actors_of (run_before a runs) ≡ a ∷ actors_of runs
 actors_of-before a [] = refl
 actors_of-before a (run ∷ runs) = at (run.actor == a) refl

@@ -4,7 +4,7 @@ use Rattle.std.specs.Io.KnownBytes.{Appends}
 use Rattle.std.proofs.lemmas.List.{take-append-drop}
 use Rattle.lot_text.specs.Watching.{AppendsBeginning}
 use Rattle.lot_print.specs.declared.fault.WriteFault.{WriteFault}
-use Rattle.lot_print.specs.Writing.{Begins, Writes}
+use Rattle.lot_print.specs.Writing.{Begins, Written}
 
 -- what is written after what was written
 pub appends-both : (old mid new : Option (List ℕ)) (a b : List ℕ) → Appends old mid a → Appends mid new b → Appends old new (a ++ b)
@@ -14,17 +14,17 @@ appends-both (Some xs) (Some ys) None a b one two = absurd two
 appends-both (Some xs) (Some ys) (Some zs) a b one two = two ∙ ap (λ ws. ws ++ b) one ∙ append_assoc xs a b
 
 -- a beginning of what follows is one of both
-pub begins-behind : (old mid new : Option (List ℕ)) (a b : List ℕ) → Appends old mid a → Begins mid new b → Begins old new (a ++ b)
-begins-behind old mid new a b one two = (a ++ two.0, two.1, ap (λ ws. a ++ ws) two.2 ∙ sym (append_assoc a two.0 two.1), appends-both old mid new a two.0 one two.3)
+pub begins-after : (old mid new : Option (List ℕ)) (a b : List ℕ) → Appends old mid a → Begins mid new b → Begins old new (a ++ b)
+begins-after old mid new a b one two = (a ++ two.0, two.1, ap (λ ws. a ++ ws) two.2 ∙ sym (append_assoc a two.0 two.1), appends-both old mid new a two.0 one two.3)
 
 -- a beginning of what comes first is one of both
 pub begins-front : (old new : Option (List ℕ)) (a b : List ℕ) → Begins old new a → Begins old new (a ++ b)
 begins-front old new a b one = (one.0, one.1 ++ b, ap (λ ws. ws ++ b) one.2 ∙ append_assoc one.0 one.1 b, one.3)
 
--- what is written behind what was written already
-pub writes-behind : {U : Type 0} (old mid new : Option (List ℕ)) (failed : Bool) (r : Result U WriteFault) (a b : List ℕ) → Appends old mid a → Writes mid new failed r b → Writes old new failed r (a ++ b)
-writes-behind old mid new failed (Ok done) a b one two = (two.0, appends-both old mid new a b one two.1)
-writes-behind old mid new failed (Err fault) a b one two = (two.0, begins-behind old mid new a b one two.1)
+-- what is written after what was written already
+pub writes-after : {U : Type 0} (old mid new : Option (List ℕ)) (failed : Bool) (r : Result U WriteFault) (a b : List ℕ) → Appends old mid a → Written mid new failed r b → Written old new failed r (a ++ b)
+writes-after old mid new failed (Ok done) a b one two = (two.0, appends-both old mid new a b one two.1)
+writes-after old mid new failed (Err fault) a b one two = (two.0, begins-after old mid new a b one two.1)
 
 -- the first of the bytes are a beginning of them
 pub begins-with : (old new : Option (List ℕ)) (bytes : List ℕ) → AppendsBeginning old new bytes → Begins old new bytes
@@ -46,4 +46,4 @@ module _ (old mid new : Option (List ℕ)) (done part left rest whole : List ℕ
 
   -- a beginning of the next part is one of all
   pub parts-stop : Begins mid new part → Begins old new whole
-  parts-stop two = subst (Begins old new) parts-whole (begins-front old new (done ++ part) left (begins-behind old mid new done part one two))
+  parts-stop two = subst (Begins old new) parts-whole (begins-front old new (done ++ part) left (begins-after old mid new done part one two))

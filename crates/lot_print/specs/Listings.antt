@@ -3,7 +3,7 @@ use Rattle.std.specs.Prelude.{ℕ, Option, List, ◌++◌, codes, unwrap_or}
 use Rattle.std.specs.Fmt.{decimal}
 use Rattle.lot_machine.specs.declared.command.Kind.{Kind}
 use Rattle.lot_machine.specs.declared.command.Kind.TheVariants.{Tickets, Currencies, Threads}
-use Rattle.lot_machine.specs.Texts.{newline}
+use Rattle.lot_simulation.specs.Texts.{newline}
 
 -- the first line: what the listing is of, and how many rows follow
 abbrev pub listing_line : Kind → ℕ → List ℕ

@@ -1,12 +1,12 @@
--- When the lines that are printed of a history are read as that history.
+-- When the lines that are printed for a history are read as that history.
 use Rattle.std.specs.Prelude.{◌≡◌, ◌+◌, ◌≤◌, ℕ, Some, None, Ok, List, ◌++◌, length, All}
 use Rattle.lot_machine.specs.Bounds.{IsUnit}
-use Rattle.lot_machine.specs.Lines.{lines_of}
-use Rattle.lot_machine.specs.Reading.{Reading}
-use Rattle.lot_machine.specs.Grammar.{read_lines}
+use Rattle.lot_simulation.specs.Lines.{lines_of}
+use Rattle.lot_simulation.specs.Reading.{Reading}
+use Rattle.lot_simulation.specs.Grammar.{read_lines}
 
--- No script is open, the actors are the console and the processors, and neither the schedule nor the input grows past what
--- an input may have, where the text begins behind so many bytes.
+-- No script is open, the actors are the console and the processors, and neither the schedule nor the input grows past
+-- what an input may have, if the text begins after this many bytes.
 pub record HasRoom (r : Reading) (start : ℕ) (history text : List ℕ) : Type 0 where
   pub unit : IsUnit r.unit
   pub processors : r.processors ≤ 64
@@ -15,8 +15,8 @@ pub record HasRoom (r : Reading) (start : ℕ) (history text : List ℕ) : Type 
   pub schedule_length : length r.schedule + length history ≤ 1000000
   pub input_length : start + length text ≤ 16777216
 
--- The text, from the line of this number on, is read as these turns more in the schedule. Nothing else changes but that the
--- header has ended.
+-- The text, from the line of this number on, is read as these further turns in the schedule. Nothing else changes,
+-- except that the header has ended.
 abbrev pub IsReadAs : ℕ → ℕ → Reading → List ℕ → List ℕ → Type 0
 IsReadAs n start r text history =
     (after : Reading) × (read_lines n start (Some r) (lines_of text) ≡ Ok (Some after)) × (after ≡ record r { schedule = r.schedule ++ history; place = after.place })

@@ -1,7 +1,7 @@
 -- The report's lines of what was counted, by the numbers that they show.
 use Rattle.std.specs.Prelude.{ℕ, List, ◌++◌, codes}
 use Rattle.std.specs.Fmt.{decimal}
-use Rattle.lot_machine.specs.Texts.{newline}
+use Rattle.lot_simulation.specs.Texts.{newline}
 
 -- a processor's line: the draws that somebody won there, the others, and the ticks used there
 abbrev pub processor_line : ℕ → ℕ → ℕ → ℕ → List ℕ

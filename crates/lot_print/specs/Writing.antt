@@ -1,6 +1,7 @@
 -- What is written.
 use Rattle.std.specs.Prelude.{◌≡◌, ℕ, Bool, true, false, Option, Result, Ok, Err, List, ◌++◌}
 use Rattle.std.specs.Io.KnownBytes.{Appends}
+use Rattle.lot_text.specs.Watching.{Watch}
 use Rattle.lot_print.specs.declared.fault.WriteFault.{WriteFault}
 
 -- some beginning of the text was written
@@ -8,6 +9,10 @@ abbrev pub Begins : Option (List ℕ) → Option (List ℕ) → List ℕ → Typ
 Begins old new text = (written left : List ℕ) × (text ≡ written ++ left) × Appends old new written
 
 -- On Ok the text was written, and the writer hasn't failed. Else it has failed, and a beginning of the text was written.
-abbrev pub Writes : {U : Type 0} → Option (List ℕ) → Option (List ℕ) → Bool → Result U WriteFault → List ℕ → Type 0
-Writes old new failed (Ok done) text = (failed ≡ false) × Appends old new text
-Writes old new failed (Err fault) text = (failed ≡ true) × Begins old new text
+abbrev pub Written : {U : Type 0} → Option (List ℕ) → Option (List ℕ) → Bool → Result U WriteFault → List ℕ → Type 0
+Written old new failed (Ok done) text = (failed ≡ false) × Appends old new text
+Written old new failed (Err fault) text = (failed ≡ true) × Begins old new text
+
+-- the same of a watched writer, of which `contents` says what it holds
+abbrev pub Writes : {T : Type 0} {U : Type 0} → (T → Option (List ℕ)) → Watch T → Watch T → Result U WriteFault → List ℕ → Type 0
+Writes contents old new result text = Written (contents old.inner) (contents new.inner) new.failed result text

@@ -1,6 +1,6 @@
 //! The lines of histories.
 ghost use Rattle.std.specs.Prelude.{◌≡◌, ◌≤◌, false, length};
-ghost use Rattle.lot_machine.specs.Report as reports;
+ghost use Rattle.lot_simulation.specs.Report as reports;
 ghost use Rattle.lot_print.specs.Writing.{Writes};
 
 use crate::WriteFault;
@@ -17,7 +17,7 @@ pub fn write_history<W: Write>(
     history: &[u8],
 ) -> Result<(), WriteFault>
     requires { writer.old.failed ≡ false }
-    ensures { Writes (W.contents writer.old.inner) (W.contents writer.new.inner) writer.new.failed result (reports.history_lines unit history.now) }
+    ensures { Writes W.contents writer.old writer.new result (reports.history_lines unit history.now) }
 {
     if unit == 1 {
         write_schedule(writer, history)
@@ -29,7 +29,7 @@ pub fn write_history<W: Write>(
 /// Writes the history in `schedule` lines of 64 actors each, the last with those that remain.
 fn write_schedule<W: Write>(writer: &mut Watched<W>, history: &[u8]) -> Result<(), WriteFault>
     requires { writer.old.failed ≡ false }
-    ensures { Writes (W.contents writer.old.inner) (W.contents writer.new.inner) writer.new.failed result (reports.schedule_lines history.now) }
+    ensures { Writes W.contents writer.old writer.new result (reports.schedule_lines history.now) }
 {
     let mut rest = history;
     while !rest.is_empty() {
@@ -44,7 +44,7 @@ fn write_schedule<W: Write>(writer: &mut Watched<W>, history: &[u8]) -> Result<(
 fn write_schedule_line<W: Write>(writer: &mut Watched<W>, actors: &[u8]) -> Result<(), WriteFault>
     requires working { writer.old.failed ≡ false }
     requires few { length actors.now ≤ 64 }
-    ensures { Writes (W.contents writer.old.inner) (W.contents writer.new.inner) writer.new.failed result (reports.schedule_line actors.now) }
+    ensures { Writes W.contents writer.old writer.new result (reports.schedule_line actors.now) }
 {
     let mut line = Line::new();
     line.push_text("schedule");

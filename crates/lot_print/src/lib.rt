@@ -1,5 +1,5 @@
-//! Outputs: what is printed of replies, listings, totals, histories and refused inputs. Each function writes one text to a
-//! writer that is watched, or a beginning of it if the writer fails, and takes no memory.
+//! Outputs: what is printed for replies, listings, totals, histories and refused inputs. Each function writes one text
+//! to a writer that is watched, or a beginning of it if the writer fails, and takes no memory.
 #![tactic(auto)]
 
 mod fault;

@@ -76,7 +76,7 @@ impl Line {
     /// Writes the line.
     pub(crate) fn write_to<W: Write>(&self, writer: &mut Watched<W>) -> Result<(), WriteFault>
         requires { writer.old.failed ≡ false }
-        ensures { Writes (W.contents writer.old.inner) (W.contents writer.new.inner) writer.new.failed result self.now }
+        ensures { Writes W.contents writer.old writer.new result self.now }
     {
         write_bytes(writer, self.bytes.as_slice())
     }
@@ -85,7 +85,7 @@ impl Line {
 /// Writes the bytes. No failed write is tried again.
 pub(crate) fn write_bytes<W: Write>(writer: &mut Watched<W>, bytes: &[u8]) -> Result<(), WriteFault>
     requires { writer.old.failed ≡ false }
-    ensures { Writes (W.contents writer.old.inner) (W.contents writer.new.inner) writer.new.failed result bytes.now }
+    ensures { Writes W.contents writer.old writer.new result bytes.now }
 {
     match writer.write_all(bytes) {
         Ok(()) => Ok(()),

@@ -1,19 +1,20 @@
-//! What is printed of refusals.
+//! What is printed for refusals.
 ghost use Rattle.std.specs.Prelude.{◌≡◌, ◌≤◌, ◌+◌, ◌++◌, codes, false, length};
 ghost use Rattle.std.specs.Fmt.{decimal};
-ghost use Rattle.lot_machine.specs.Texts.{newline, refused, refusal_code as code_of, refusal_name as name_of, trap_refusal_code as trap_code_of, trap_refusal_name as trap_name_of, input_refusal_code as input_code_of, input_refusal_name as input_name_of, fault_line};
+ghost use Rattle.lot_simulation.specs.Texts.{newline, refused, refusal_code as code_of, refusal_name as name_of, trap_refusal_code as trap_code_of, trap_refusal_name as trap_name_of, input_refusal_code as input_code_of, input_refusal_name as input_name_of, fault_line};
 ghost use Rattle.lot_print.specs.Writing.{Writes};
 
 use crate::WriteFault;
 use crate::line::Line;
-use lot_machine::{InputFault, InputRefusal, Refusal, TrapRefusal};
+use lot_machine::{Refusal, TrapRefusal};
+use lot_simulation::{InputFault, InputRefusal};
 use lot_text::Watched;
 use std::io::Write;
 
 /// Writes the one line of a refused input.
 pub fn write_fault<W: Write>(writer: &mut Watched<W>, fault: InputFault) -> Result<(), WriteFault>
     requires { writer.old.failed ≡ false }
-    ensures { Writes (W.contents writer.old.inner) (W.contents writer.new.inner) writer.new.failed result (fault_line fault) }
+    ensures { Writes W.contents writer.old writer.new result (fault_line fault) }
 {
     let mut line = Line::new();
     line.push_field("refused line ", fault.line);
@@ -55,7 +56,7 @@ fn push_code(line: &mut Line, text: &str, code: u32, name: &str)
     line.push_text(name);
 }
 
-/// The code that is printed of a refused command or event.
+/// The code that is printed for a refused command or event.
 pub(crate) fn refusal_code(refusal: Refusal) -> u32
     ensures { result ≡ code_of refusal }
 {
@@ -81,7 +82,7 @@ pub(crate) fn refusal_code(refusal: Refusal) -> u32
     }
 }
 
-/// The name that is printed of a refused command or event.
+/// The name that is printed for a refused command or event.
 pub(crate) fn refusal_name(refusal: Refusal) -> &'static str
     ensures name { result.now ≡ name_of refusal }
     ensures short { length result.now ≤ 14 }
@@ -108,7 +109,7 @@ pub(crate) fn refusal_name(refusal: Refusal) -> &'static str
     }
 }
 
-/// The code that is printed of a refused trap.
+/// The code that is printed for a refused trap.
 pub(crate) fn trap_refusal_code(refusal: TrapRefusal) -> u32
     ensures { result ≡ trap_code_of refusal }
 {
@@ -122,7 +123,7 @@ pub(crate) fn trap_refusal_code(refusal: TrapRefusal) -> u32
     }
 }
 
-/// The name that is printed of a refused trap.
+/// The name that is printed for a refused trap.
 pub(crate) fn trap_refusal_name(refusal: TrapRefusal) -> &'static str
     ensures name { result.now ≡ trap_name_of refusal }
     ensures short { length result.now ≤ 14 }
@@ -137,7 +138,7 @@ pub(crate) fn trap_refusal_name(refusal: TrapRefusal) -> &'static str
     }
 }
 
-/// The code that is printed of a refused input.
+/// The code that is printed for a refused input.
 pub(crate) fn input_refusal_code(refusal: InputRefusal) -> u32
     ensures { result ≡ input_code_of refusal }
 {
@@ -153,7 +154,7 @@ pub(crate) fn input_refusal_code(refusal: InputRefusal) -> u32
     }
 }
 
-/// The name that is printed of a refused input.
+/// The name that is printed for a refused input.
 pub(crate) fn input_refusal_name(refusal: InputRefusal) -> &'static str
     ensures name { result.now ≡ input_name_of refusal }
     ensures short { length result.now ≤ 14 }

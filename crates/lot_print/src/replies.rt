@@ -1,8 +1,8 @@
 //! The lines of turns.
 ghost use Rattle.std.specs.Prelude.{◌≡◌, ◌≤◌, ◌+◌, ◌++◌, codes, false, length};
 ghost use Rattle.std.specs.Fmt.{decimal};
-ghost use Rattle.lot_machine.specs.Texts as texts;
-ghost use Rattle.lot_machine.specs.Texts.{delivered_text, drawn_text, ends_text, newline, plain_text, refused, trap_text, trap_text_of};
+ghost use Rattle.lot_simulation.specs.Texts as texts;
+ghost use Rattle.lot_simulation.specs.Texts.{delivered_text, drawn_text, ends_text, newline, plain_text, refused, trap_text, trap_text_of};
 ghost use Rattle.lot_print.specs.Writing.{Writes};
 
 use crate::WriteFault;
@@ -22,7 +22,7 @@ pub fn write_reply<W: Write>(
     reply: Reply,
 ) -> Result<(), WriteFault>
     requires { writer.old.failed ≡ false }
-    ensures { Writes (W.contents writer.old.inner) (W.contents writer.new.inner) writer.new.failed result (decimal actor ++ (codes " " ++ plain_text event.now reply)) }
+    ensures { Writes W.contents writer.old writer.new result (decimal actor ++ (codes " " ++ plain_text event.now reply)) }
 {
     let mut line = Line::new();
     line.push_number(actor);
@@ -34,7 +34,7 @@ pub fn write_reply<W: Write>(
 /// Writes the line of a turn of the console without a command.
 pub fn write_ended<W: Write>(writer: &mut Watched<W>, actor: u32) -> Result<(), WriteFault>
     requires { writer.old.failed ≡ false }
-    ensures { Writes (W.contents writer.old.inner) (W.contents writer.new.inner) writer.new.failed result (decimal actor ++ (codes " " ++ (refused 41 (codes "Ended") ++ newline))) }
+    ensures { Writes W.contents writer.old writer.new result (decimal actor ++ (codes " " ++ (refused 41 (codes "Ended") ++ newline))) }
 {
     let mut line = Line::new();
     line.push_number(actor);
@@ -110,8 +110,8 @@ fn push_winner(line: &mut Line, thread: u32, drawn: (u128, u128), delivered: Opt
     line.push_field("draw ", number);
     line.push_field(" of ", total);
     line.push_field(" thread ", thread);
-    if let Some(received) = delivered {
-        line.push_field(" got ", received);
+    if let Some(number) = delivered {
+        line.push_field(" got ", number);
     }
     line.push_text("\n");
 }
@@ -126,7 +126,7 @@ fn push_ran(line: &mut Line, thread: u32, ticks: u32)
     line.push_field(" ticks ", ticks);
 }
 
-/// Puts what the trap that the event was came to, whether the quantum was used up, and the line's end.
+/// Puts what the event, a trap, came to, whether the quantum was used up, and the line's end.
 fn push_trap_of(line: &mut Line, event: &Event, outcome: Outcome, ends: bool)
     requires { length line.old ≤ 45 }
     ensures { line.new ≡ line.old ++ (codes " " ++ (trap_text_of event.now outcome ++ (ends_text ends ++ newline))) }

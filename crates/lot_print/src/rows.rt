@@ -1,7 +1,7 @@
-//! What is printed of listings.
+//! What is printed for listings.
 ghost use Rattle.std.specs.Prelude.{◌≡◌, ◌≤◌, ◌+◌, ◌/◌, ◌++◌, codes, false, length};
 ghost use Rattle.std.specs.Fmt.{decimal};
-ghost use Rattle.lot_machine.specs.Texts.{activity_text, currency_line, shown_value, status_text, thread_line, ticket_line};
+ghost use Rattle.lot_simulation.specs.Texts.{activity_text, currency_line, shown_value, status_text, thread_line, ticket_line};
 ghost use Rattle.lot_print.specs.Listings.{listing_line, target_text, used_text};
 ghost use Rattle.lot_print.specs.Writing.{Writes};
 
@@ -19,7 +19,7 @@ pub fn write_listing_line<W: Write>(
     rows: u32,
 ) -> Result<(), WriteFault>
     requires { writer.old.failed ≡ false }
-    ensures { Writes (W.contents writer.old.inner) (W.contents writer.new.inner) writer.new.failed result (decimal actor ++ (codes " " ++ listing_line kind rows)) }
+    ensures { Writes W.contents writer.old writer.new result (decimal actor ++ (codes " " ++ listing_line kind rows)) }
 {
     let mut line = Line::new();
     line.push_number(actor);
@@ -40,7 +40,7 @@ pub fn write_ticket<W: Write>(
     row: &TicketRow,
 ) -> Result<(), WriteFault>
     requires { writer.old.failed ≡ false }
-    ensures { Writes (W.contents writer.old.inner) (W.contents writer.new.inner) writer.new.failed result (ticket_line limits.unit number row.now) }
+    ensures { Writes W.contents writer.old writer.new result (ticket_line limits.unit number row.now) }
 {
     ticket_text(limits, number, row).write_to(writer)
 }
@@ -91,7 +91,7 @@ pub fn write_currency<W: Write>(
     row: &CurrencyRow,
 ) -> Result<(), WriteFault>
     requires { writer.old.failed ≡ false }
-    ensures { Writes (W.contents writer.old.inner) (W.contents writer.new.inner) writer.new.failed result (currency_line limits.unit number row.now) }
+    ensures { Writes W.contents writer.old writer.new result (currency_line limits.unit number row.now) }
 {
     currency_text(limits, number, row).write_to(writer)
 }
@@ -118,7 +118,7 @@ pub fn write_thread<W: Write>(
     row: &ThreadRow,
 ) -> Result<(), WriteFault>
     requires { writer.old.failed ≡ false }
-    ensures { Writes (W.contents writer.old.inner) (W.contents writer.new.inner) writer.new.failed result (thread_line limits.unit number row.now) }
+    ensures { Writes W.contents writer.old writer.new result (thread_line limits.unit number row.now) }
 {
     thread_text(limits, number, row).write_to(writer)
 }

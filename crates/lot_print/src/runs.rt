@@ -1,7 +1,7 @@
 //! Histories as runs of one actor each.
 ghost use Rattle.std.specs.Prelude.{◌≡◌, ◌<◌, ◌≤◌, ◌==◌, [], ◌∷◌, drop, false, length, take, IfSome, MatchOption};
 ghost use Rattle.std.specs.List.{flat_map, prefix_len};
-ghost use Rattle.lot_machine.specs.Report.{run_text, runs_in, runs_line, runs_lines};
+ghost use Rattle.lot_simulation.specs.Report.{run_text, runs_in, runs_line, runs_lines};
 ghost use Rattle.lot_print.specs.Writing.{Writes};
 
 use crate::WriteFault;
@@ -16,7 +16,7 @@ pub(crate) fn write_runs<W: Write>(
     history: &[u8],
 ) -> Result<(), WriteFault>
     requires { writer.old.failed ≡ false }
-    ensures { Writes (W.contents writer.old.inner) (W.contents writer.new.inner) writer.new.failed result (runs_lines history.now) }
+    ensures { Writes W.contents writer.old writer.new result (runs_lines history.now) }
 {
     let mut rest = history;
     while !rest.is_empty() {
@@ -30,7 +30,7 @@ pub(crate) fn write_runs<W: Write>(
 /// Writes a line of the first 32 runs of the history.
 fn write_runs_line<W: Write>(writer: &mut Watched<W>, history: &[u8]) -> Result<(), WriteFault>
     requires { writer.old.failed ≡ false }
-    ensures { Writes (W.contents writer.old.inner) (W.contents writer.new.inner) writer.new.failed result (runs_line (take 32 (runs_in history.now))) }
+    ensures { Writes W.contents writer.old writer.new result (runs_line (take 32 (runs_in history.now))) }
 {
     write_bytes(writer, b"runs")?;
     write_run_texts(writer, history)?;
@@ -40,7 +40,7 @@ fn write_runs_line<W: Write>(writer: &mut Watched<W>, history: &[u8]) -> Result<
 /// Writes the first 32 runs of the history, each after a space.
 fn write_run_texts<W: Write>(writer: &mut Watched<W>, history: &[u8]) -> Result<(), WriteFault>
     requires { writer.old.failed ≡ false }
-    ensures { Writes (W.contents writer.old.inner) (W.contents writer.new.inner) writer.new.failed result (flat_map run_text (take 32 (runs_in history.now))) }
+    ensures { Writes W.contents writer.old writer.new result (flat_map run_text (take 32 (runs_in history.now))) }
 {
     let mut rest = history;
     for _pair in 0..32u32 {
@@ -56,7 +56,7 @@ fn write_run_texts<W: Write>(writer: &mut Watched<W>, history: &[u8]) -> Result<
 /// Writes a run after a space.
 fn write_run<W: Write>(writer: &mut Watched<W>, actor: u8, count: usize) -> Result<(), WriteFault>
     requires { writer.old.failed ≡ false }
-    ensures { Writes (W.contents writer.old.inner) (W.contents writer.new.inner) writer.new.failed result (run_text (record { actor = actor; count = count })) }
+    ensures { Writes W.contents writer.old writer.new result (run_text (record { actor = actor; count = count })) }
 {
     let mut line = Line::new();
     line.push_field(" ", actor);
@@ -88,7 +88,7 @@ fn after_run(history: &[u8]) -> &[u8]
     }
 }
 
-/// The actor of the first turn, and how many turns in a row it has there; `None` where there is no turn.
+/// The actor of the first turn, and how many turns in a row it has there; `None` if there is no turn.
 pub(crate) fn first_run(history: &[u8]) -> Option<(u8, usize)>
     ensures run { MatchOption result (history.now ≡ []) (λ run. runs_in history.now ≡ record { actor = run.0; count = run.1 } ∷ runs_in (drop run.1 history.now)) }
     ensures within { IfSome result (λ run. (0 < run.1) × (run.1 ≤ length history.now)) }

@@ -3,245 +3,366 @@ ghost use Rattle.std.specs.Prelude.{◌≡◌, false};
 use crate::runs::{after_line, first_run};
 use crate::*;
 use lot_machine::{
-    Action, CurrencyRow, Event, InputFault, InputRefusal, Kind, Limits, Name, Outcome, Refusal,
-    Reply, Status, ThreadRow, TicketRow, TrapRefusal,
+    Action, CurrencyRow, Event, Kind, Limits, Name, Outcome, Refusal, Reply, Sizes, Status,
+    ThreadRow, TicketRow, TrapRefusal,
 };
+use lot_simulation::{InputFault, InputRefusal};
 use lot_text::Watched;
+use std::alloc::Global;
 use std::process::Abort;
 use std::test::Fail;
 
 /// Checks what was written, by a call that answered this.
 fn check(rt: &impl Abort, writer: Watched<Vec<u8>>, ended: Result<(), WriteFault>, wanted: &str) {
-    assert_eq!(rt; ended, Ok(()));
+    assert!(rt; ended.is_ok(), "{wanted}");
     let written = writer.into_inner();
-    assert_eq!(rt; written.as_slice(), wanted.as_bytes());
+    assert_eq!(rt; written.as_slice(), wanted.as_bytes(), "{wanted}");
 }
 
-/// A reply to an event that isn't a trap.
-fn plain(reply: Reply) -> (Event, Reply) {
-    (Event::Draw(1, 0), reply)
+fn name(text: &str) -> Result<Name, Fail> {
+    Ok(Name::new(text).ok_or("a name")?)
 }
 
-/// A trap, and the reply to it.
-fn trap(action: Action, outcome: Outcome, ends: bool) -> (Event, Reply) {
-    let reply = Reply::Trapped {
-        thread: 1,
-        ticks: 2,
-        outcome,
-        ends,
-    };
-    (Event::Trap(1, 1, action), reply)
+fn check_event(
+    rt: &impl Abort,
+    alloc: Global,
+    actor: u32,
+    event: &Event,
+    reply: Reply,
+    wanted: &str,
+) {
+    let mut writer = Watched::new(Vec::new(alloc));
+    let ended = write_reply(&mut writer, actor, event, reply);
+    check(rt, writer, ended, wanted);
 }
+
+/// Checks the line of a reply to an event that isn't a trap.
+fn check_reply(rt: &impl Abort, alloc: Global, actor: u32, reply: Reply, wanted: &str) {
+    check_event(rt, alloc, actor, &Event::Draw(1, 0), reply, wanted);
+}
+
+/// A reply to an event that isn't a trap, and its line.
+struct PrintedReply<'a> {
+    reply: Reply,
+    line: &'a str,
+}
+
+const REPLIES: [PrintedReply<'_>; 10] = [
+    PrintedReply {
+        reply: Reply::Ticket(1),
+        line: "1 ticket 1\n",
+    },
+    PrintedReply {
+        reply: Reply::Currency(2),
+        line: "1 currency 2\n",
+    },
+    PrintedReply {
+        reply: Reply::Thread(1),
+        line: "1 thread 1\n",
+    },
+    PrintedReply {
+        reply: Reply::Funded {
+            ticket: 8,
+            thread: 3,
+        },
+        line: "1 funded 8 3\n",
+    },
+    PrintedReply {
+        reply: Reply::Done,
+        line: "1 done\n",
+    },
+    PrintedReply {
+        reply: Reply::Winner {
+            thread: 1,
+            number: 9,
+            total: 15,
+            delivered: None,
+        },
+        line: "1 draw 9 of 15 thread 1\n",
+    },
+    PrintedReply {
+        reply: Reply::Winner {
+            thread: 1,
+            number: 5,
+            total: 100,
+            delivered: Some(41),
+        },
+        line: "1 draw 5 of 100 thread 1 got 41\n",
+    },
+    PrintedReply {
+        reply: Reply::Idle,
+        line: "1 idle\n",
+    },
+    PrintedReply {
+        reply: Reply::Expired {
+            thread: 1,
+            ticks: 100,
+        },
+        line: "1 thread 1 ticks 100 expire\n",
+    },
+    PrintedReply {
+        reply: Reply::Refused(Refusal::Full),
+        line: "1 refused 13 Full\n",
+    },
+];
 
 #[test]
 fn prints_replies(rt: HostRuntime) {
-    for ((event, reply), wanted) in [
-        (plain(Reply::Ticket(1)), "1 ticket 1\n"),
-        (plain(Reply::Currency(2)), "1 currency 2\n"),
-        (plain(Reply::Thread(1)), "1 thread 1\n"),
-        (
-            plain(Reply::Funded {
-                ticket: 8,
-                thread: 3,
-            }),
-            "1 funded 8 3\n",
-        ),
-        (plain(Reply::Done), "1 done\n"),
-        (
-            plain(Reply::Winner {
-                thread: 1,
-                number: 9,
-                total: 15,
-                delivered: None,
-            }),
-            "1 draw 9 of 15 thread 1\n",
-        ),
-        (
-            plain(Reply::Winner {
-                thread: 1,
-                number: 5,
-                total: 100,
-                delivered: Some(41),
-            }),
-            "1 draw 5 of 100 thread 1 got 41\n",
-        ),
-        (plain(Reply::Idle), "1 idle\n"),
-        (
-            plain(Reply::Expired {
-                thread: 1,
-                ticks: 100,
-            }),
-            "1 thread 1 ticks 100 expire\n",
-        ),
-        (plain(Reply::Refused(Refusal::Full)), "1 refused 13 Full\n"),
-        (
-            trap(Action::Yield, Outcome::Yielded, false),
-            "1 thread 1 ticks 2 yield\n",
-        ),
-        (
-            trap(Action::Call(3, 41), Outcome::ServedBy(4), false),
-            "1 thread 1 ticks 2 call 3 served by 4\n",
-        ),
-        (
-            trap(Action::Call(3, 41), Outcome::Queued, false),
-            "1 thread 1 ticks 2 call 3 queued\n",
-        ),
-        (
-            trap(
-                Action::Receive(3),
-                Outcome::Received {
-                    client: 5,
-                    number: 41,
-                },
-                false,
-            ),
-            "1 thread 1 ticks 2 receive 3 client 5 got 41\n",
-        ),
-        (
-            trap(Action::Receive(3), Outcome::Waits, false),
-            "1 thread 1 ticks 2 receive 3 waits\n",
-        ),
-        (
-            trap(Action::Reply(42), Outcome::Replied(5), false),
-            "1 thread 1 ticks 2 reply client 5\n",
-        ),
-        (
-            trap(Action::Lock(4), Outcome::Locked, true),
-            "1 thread 1 ticks 2 lock 4 taken ends\n",
-        ),
-        (
-            trap(Action::Lock(4), Outcome::Waits, false),
-            "1 thread 1 ticks 2 lock 4 waits\n",
-        ),
-        (
-            trap(Action::Unlock(4, 99), Outcome::Freed, false),
-            "1 thread 1 ticks 2 unlock 4 free\n",
-        ),
-        (
-            trap(
-                Action::Unlock(4, 99),
-                Outcome::Passed {
-                    to: 6,
-                    draw: Some((99, 400)),
-                },
-                false,
-            ),
-            "1 thread 1 ticks 2 unlock 4 to 6 draw 99 of 400\n",
-        ),
-        (
-            trap(
-                Action::Unlock(4, 99),
-                Outcome::Passed { to: 6, draw: None },
-                false,
-            ),
-            "1 thread 1 ticks 2 unlock 4 to 6 oldest\n",
-        ),
-        (
-            trap(Action::Exit, Outcome::Exited, false),
-            "1 thread 1 ticks 2 exit\n",
-        ),
-        (
-            trap(
-                Action::Lock(4),
-                Outcome::Refused(TrapRefusal::LockCycle),
-                true,
-            ),
-            "1 thread 1 ticks 2 refused 36 LockCycle ends\n",
-        ),
-    ] {
-        let mut writer = Watched::new(Vec::new(rt.alloc()));
-        let ended = write_reply(&mut writer, 1, &event, reply);
-        check(&rt, writer, ended, wanted);
+    for printed in &REPLIES {
+        check_reply(&rt, rt.alloc(), 1, printed.reply, printed.line);
     }
 }
 
+/// What a trap comes to, whether it ends the quantum, and its line.
+#[derive(Drop)]
+struct PrintedTrap<'a> {
+    action: Action,
+    outcome: Outcome,
+    ends: bool,
+    line: &'a str,
+}
+
+fn check_trap(rt: &impl Abort, alloc: Global, printed: &PrintedTrap<'_>) {
+    let event = Event::Trap(1, 1, printed.action);
+    let reply = Reply::Trapped {
+        thread: 1,
+        ticks: 2,
+        outcome: printed.outcome,
+        ends: printed.ends,
+    };
+    check_event(rt, alloc, 1, &event, reply, printed.line);
+}
+
+const TRAPS: [PrintedTrap<'_>; 13] = [
+    PrintedTrap {
+        action: Action::Yield,
+        outcome: Outcome::Yielded,
+        ends: false,
+        line: "1 thread 1 ticks 2 yield\n",
+    },
+    PrintedTrap {
+        action: Action::Call(3, 41),
+        outcome: Outcome::ServedBy(4),
+        ends: false,
+        line: "1 thread 1 ticks 2 call 3 served by 4\n",
+    },
+    PrintedTrap {
+        action: Action::Call(3, 41),
+        outcome: Outcome::Queued,
+        ends: false,
+        line: "1 thread 1 ticks 2 call 3 queued\n",
+    },
+    PrintedTrap {
+        action: Action::Receive(3),
+        outcome: Outcome::Received {
+            client: 5,
+            number: 41,
+        },
+        ends: false,
+        line: "1 thread 1 ticks 2 receive 3 client 5 got 41\n",
+    },
+    PrintedTrap {
+        action: Action::Receive(3),
+        outcome: Outcome::Waits,
+        ends: false,
+        line: "1 thread 1 ticks 2 receive 3 waits\n",
+    },
+    PrintedTrap {
+        action: Action::Reply(42),
+        outcome: Outcome::Replied(5),
+        ends: false,
+        line: "1 thread 1 ticks 2 reply client 5\n",
+    },
+    PrintedTrap {
+        action: Action::Lock(4),
+        outcome: Outcome::Locked,
+        ends: true,
+        line: "1 thread 1 ticks 2 lock 4 taken ends\n",
+    },
+    PrintedTrap {
+        action: Action::Lock(4),
+        outcome: Outcome::Waits,
+        ends: false,
+        line: "1 thread 1 ticks 2 lock 4 waits\n",
+    },
+    PrintedTrap {
+        action: Action::Unlock(4, 99),
+        outcome: Outcome::Freed,
+        ends: false,
+        line: "1 thread 1 ticks 2 unlock 4 free\n",
+    },
+    PrintedTrap {
+        action: Action::Unlock(4, 99),
+        outcome: Outcome::Passed {
+            to: 6,
+            draw: Some((99, 400)),
+        },
+        ends: false,
+        line: "1 thread 1 ticks 2 unlock 4 to 6 draw 99 of 400\n",
+    },
+    PrintedTrap {
+        action: Action::Unlock(4, 99),
+        outcome: Outcome::Passed { to: 6, draw: None },
+        ends: false,
+        line: "1 thread 1 ticks 2 unlock 4 to 6 oldest\n",
+    },
+    PrintedTrap {
+        action: Action::Exit,
+        outcome: Outcome::Exited,
+        ends: false,
+        line: "1 thread 1 ticks 2 exit\n",
+    },
+    PrintedTrap {
+        action: Action::Lock(4),
+        outcome: Outcome::Refused(TrapRefusal::LockCycle),
+        ends: true,
+        line: "1 thread 1 ticks 2 refused 36 LockCycle ends\n",
+    },
+];
+
+#[test]
+fn prints_traps(rt: HostRuntime) {
+    for printed in &TRAPS {
+        check_trap(&rt, rt.alloc(), printed);
+    }
+}
+
+const REFUSALS: [(Refusal, &str); 18] = [
+    (Refusal::BadName, "2 refused 1 BadName\n"),
+    (Refusal::NameTaken, "2 refused 2 NameTaken\n"),
+    (Refusal::NoCurrency, "2 refused 3 NoCurrency\n"),
+    (Refusal::NoTicket, "2 refused 4 NoTicket\n"),
+    (Refusal::NoTarget, "2 refused 5 NoTarget\n"),
+    (Refusal::BadAmount, "2 refused 6 BadAmount\n"),
+    (Refusal::InUse, "2 refused 7 InUse\n"),
+    (Refusal::Funding, "2 refused 8 Funding\n"),
+    (Refusal::NotFunding, "2 refused 9 NotFunding\n"),
+    (Refusal::Cycle, "2 refused 10 Cycle\n"),
+    (Refusal::BaseFixed, "2 refused 11 BaseFixed\n"),
+    (Refusal::DeadThread, "2 refused 12 DeadThread\n"),
+    (Refusal::Full, "2 refused 13 Full\n"),
+    (Refusal::NoScript, "2 refused 14 NoScript\n"),
+    (Refusal::BadProcessor, "2 refused 20 BadProcessor\n"),
+    (Refusal::Busy, "2 refused 21 Busy\n"),
+    (Refusal::NotRunning, "2 refused 22 NotRunning\n"),
+    (Refusal::BadTicks, "2 refused 23 BadTicks\n"),
+];
+
 #[test]
 fn prints_refusals(rt: HostRuntime) {
-    for (refusal, wanted) in [
-        (Refusal::BadName, "2 refused 1 BadName\n"),
-        (Refusal::NameTaken, "2 refused 2 NameTaken\n"),
-        (Refusal::NoCurrency, "2 refused 3 NoCurrency\n"),
-        (Refusal::NoTicket, "2 refused 4 NoTicket\n"),
-        (Refusal::NoTarget, "2 refused 5 NoTarget\n"),
-        (Refusal::BadAmount, "2 refused 6 BadAmount\n"),
-        (Refusal::InUse, "2 refused 7 InUse\n"),
-        (Refusal::Funding, "2 refused 8 Funding\n"),
-        (Refusal::NotFunding, "2 refused 9 NotFunding\n"),
-        (Refusal::Cycle, "2 refused 10 Cycle\n"),
-        (Refusal::BaseFixed, "2 refused 11 BaseFixed\n"),
-        (Refusal::DeadThread, "2 refused 12 DeadThread\n"),
-        (Refusal::Full, "2 refused 13 Full\n"),
-        (Refusal::NoScript, "2 refused 14 NoScript\n"),
-        (Refusal::BadProcessor, "2 refused 20 BadProcessor\n"),
-        (Refusal::Busy, "2 refused 21 Busy\n"),
-        (Refusal::NotRunning, "2 refused 22 NotRunning\n"),
-        (Refusal::BadTicks, "2 refused 23 BadTicks\n"),
-    ] {
-        let (event, reply) = plain(Reply::Refused(refusal));
-        let mut writer = Watched::new(Vec::new(rt.alloc()));
-        let ended = write_reply(&mut writer, 2, &event, reply);
-        check(&rt, writer, ended, wanted);
+    for (refusal, line) in &REFUSALS {
+        check_reply(&rt, rt.alloc(), 2, Reply::Refused(*refusal), line);
     }
+}
+
+const TRAP_REFUSALS: [(TrapRefusal, &str); 6] = [
+    (
+        TrapRefusal::NoPort,
+        "1 thread 1 ticks 2 refused 30 NoPort\n",
+    ),
+    (
+        TrapRefusal::NothingToReply,
+        "1 thread 1 ticks 2 refused 32 NothingToReply\n",
+    ),
+    (
+        TrapRefusal::NoMutex,
+        "1 thread 1 ticks 2 refused 33 NoMutex\n",
+    ),
+    (
+        TrapRefusal::NotOwner,
+        "1 thread 1 ticks 2 refused 34 NotOwner\n",
+    ),
+    (
+        TrapRefusal::AlreadyOwner,
+        "1 thread 1 ticks 2 refused 35 AlreadyOwner\n",
+    ),
+    (
+        TrapRefusal::LockCycle,
+        "1 thread 1 ticks 2 refused 36 LockCycle\n",
+    ),
+];
+
+fn check_trap_refusal(rt: &impl Abort, alloc: Global, refusal: TrapRefusal, line: &str) {
+    let printed = PrintedTrap {
+        action: Action::Yield,
+        outcome: Outcome::Refused(refusal),
+        ends: false,
+        line,
+    };
+    check_trap(rt, alloc, &printed);
 }
 
 #[test]
 fn prints_trap_refusals(rt: HostRuntime) {
-    for (refusal, wanted) in [
-        (
-            TrapRefusal::NoPort,
-            "1 thread 1 ticks 2 refused 30 NoPort\n",
-        ),
-        (
-            TrapRefusal::NothingToReply,
-            "1 thread 1 ticks 2 refused 32 NothingToReply\n",
-        ),
-        (
-            TrapRefusal::NoMutex,
-            "1 thread 1 ticks 2 refused 33 NoMutex\n",
-        ),
-        (
-            TrapRefusal::NotOwner,
-            "1 thread 1 ticks 2 refused 34 NotOwner\n",
-        ),
-        (
-            TrapRefusal::AlreadyOwner,
-            "1 thread 1 ticks 2 refused 35 AlreadyOwner\n",
-        ),
-        (
-            TrapRefusal::LockCycle,
-            "1 thread 1 ticks 2 refused 36 LockCycle\n",
-        ),
-    ] {
-        let (event, reply) = trap(Action::Yield, Outcome::Refused(refusal), false);
-        let mut writer = Watched::new(Vec::new(rt.alloc()));
-        let ended = write_reply(&mut writer, 1, &event, reply);
-        check(&rt, writer, ended, wanted);
+    for (refusal, line) in &TRAP_REFUSALS {
+        check_trap_refusal(&rt, rt.alloc(), *refusal, line);
     }
 }
 
+/// A refused line, why it is refused, and what is printed.
+struct PrintedFault<'a> {
+    line: u32,
+    refusal: InputRefusal,
+    text: &'a str,
+}
+
+fn check_fault(rt: &impl Abort, alloc: Global, printed: &PrintedFault<'_>) {
+    let fault = InputFault {
+        line: printed.line,
+        refusal: printed.refusal,
+    };
+    let mut writer = Watched::new(Vec::new(alloc));
+    let ended = write_fault(&mut writer, fault);
+    check(rt, writer, ended, printed.text);
+}
+
+const FAULTS: [PrintedFault<'_>; 8] = [
+    PrintedFault {
+        line: 1,
+        refusal: InputRefusal::BadHeader,
+        text: "refused line 1 50 BadHeader\n",
+    },
+    PrintedFault {
+        line: 2,
+        refusal: InputRefusal::BadLine,
+        text: "refused line 2 51 BadLine\n",
+    },
+    PrintedFault {
+        line: 2,
+        refusal: InputRefusal::BadNumber,
+        text: "refused line 2 52 BadNumber\n",
+    },
+    PrintedFault {
+        line: 3,
+        refusal: InputRefusal::UnknownName,
+        text: "refused line 3 53 UnknownName\n",
+    },
+    PrintedFault {
+        line: 2,
+        refusal: InputRefusal::OpenScript,
+        text: "refused line 2 54 OpenScript\n",
+    },
+    PrintedFault {
+        line: 11,
+        refusal: InputRefusal::TooDeep,
+        text: "refused line 11 55 TooDeep\n",
+    },
+    PrintedFault {
+        line: 2,
+        refusal: InputRefusal::TooLong,
+        text: "refused line 2 56 TooLong\n",
+    },
+    PrintedFault {
+        line: 2,
+        refusal: InputRefusal::BadActor,
+        text: "refused line 2 57 BadActor\n",
+    },
+];
+
 #[test]
 fn prints_faults(rt: HostRuntime) {
-    for (line, refusal, wanted) in [
-        (1, InputRefusal::BadHeader, "refused line 1 50 BadHeader\n"),
-        (2, InputRefusal::BadLine, "refused line 2 51 BadLine\n"),
-        (2, InputRefusal::BadNumber, "refused line 2 52 BadNumber\n"),
-        (
-            3,
-            InputRefusal::UnknownName,
-            "refused line 3 53 UnknownName\n",
-        ),
-        (
-            2,
-            InputRefusal::OpenScript,
-            "refused line 2 54 OpenScript\n",
-        ),
-        (11, InputRefusal::TooDeep, "refused line 11 55 TooDeep\n"),
-        (2, InputRefusal::TooLong, "refused line 2 56 TooLong\n"),
-        (2, InputRefusal::BadActor, "refused line 2 57 BadActor\n"),
-    ] {
-        let mut writer = Watched::new(Vec::new(rt.alloc()));
-        let ended = write_fault(&mut writer, InputFault { line, refusal });
-        check(&rt, writer, ended, wanted);
+    for printed in &FAULTS {
+        check_fault(&rt, rt.alloc(), printed);
     }
 }
 
@@ -270,7 +391,7 @@ fn write_small_report(
 #[test]
 fn prints_totals(rt: HostRuntime) -> Result<(), Fail> {
     let row = ThreadRow {
-        name: Name::new("a").ok_or("a name")?,
+        name: name("a")?,
         status: Status::Ready,
         value: 0,
         weight: 0,
@@ -297,115 +418,191 @@ fn prints_totals(rt: HostRuntime) -> Result<(), Fail> {
 }
 
 /// The largest limits, with this unit.
-fn limits(unit: u32) -> Option<Limits> {
-    Limits::new(65535, 4096, 4096, 0, 0, 1, 0, 100)?.with_unit(unit)
+fn limits(unit: u32) -> Result<Limits, Fail> {
+    let limits = Limits::new(Sizes {
+        tickets: 65535,
+        currencies: 4096,
+        threads: 4096,
+        quantum: 100,
+        unit,
+        ..Sizes::SMALLEST
+    });
+    Ok(limits.ok_or("limits")?)
 }
+
+/// What a ticket funds and whether it is active, and its line where base is worth this unit.
+struct PrintedTicket<'a> {
+    target: Option<&'a str>,
+    is_active: bool,
+    unit: u32,
+    line: &'a str,
+}
+
+fn target_of(target: Option<&str>) -> Result<Option<Name>, Fail> {
+    match target {
+        Some(text) => Ok(Some(name(text)?)),
+        None => Ok(None),
+    }
+}
+
+fn ticket_row(printed: &PrintedTicket<'_>) -> Result<TicketRow, Fail> {
+    Ok(TicketRow {
+        amount: 1000,
+        issuer: name("base")?,
+        target: target_of(printed.target)?,
+        is_active: printed.is_active,
+        value: 1000,
+    })
+}
+
+fn check_ticket(rt: &impl Abort, alloc: Global, limits: Limits, row: &TicketRow, wanted: &str) {
+    let mut writer = Watched::new(Vec::new(alloc));
+    let ended = write_ticket(&mut writer, limits, 1, row);
+    check(rt, writer, ended, wanted);
+}
+
+const TICKETS: [PrintedTicket<'_>; 3] = [
+    PrintedTicket {
+        target: Some("alice"),
+        is_active: true,
+        unit: 1,
+        line: "ticket 1 amount 1000 in base funds alice active value 1000\n",
+    },
+    PrintedTicket {
+        target: Some("alice"),
+        is_active: true,
+        unit: 256,
+        line: "ticket 1 amount 1000 in base funds alice active value 3\n",
+    },
+    PrintedTicket {
+        target: None,
+        is_active: false,
+        unit: 1,
+        line: "ticket 1 amount 1000 in base funds - inactive value 1000\n",
+    },
+];
 
 #[test]
 fn prints_tickets(rt: HostRuntime) -> Result<(), Fail> {
-    for (target, is_active, unit, wanted) in [
-        (
-            Some("alice"),
-            true,
-            1,
-            "ticket 1 amount 1000 in base funds alice active value 1000\n",
-        ),
-        (
-            Some("alice"),
-            true,
-            256,
-            "ticket 1 amount 1000 in base funds alice active value 3\n",
-        ),
-        (
-            None,
-            false,
-            1,
-            "ticket 1 amount 1000 in base funds - inactive value 1000\n",
-        ),
-    ] {
-        let row = TicketRow {
-            amount: 1000,
-            issuer: Name::new("base").ok_or("a name")?,
-            target: target.and_then(Name::new),
-            is_active,
-            value: 1000,
-        };
-        let limits = limits(unit).ok_or("limits")?;
-        let mut writer = Watched::new(Vec::new(rt.alloc()));
-        let ended = write_ticket(&mut writer, limits, 1, &row);
-        check(&rt, writer, ended, wanted);
+    for printed in &TICKETS {
+        let row = ticket_row(printed)?;
+        check_ticket(&rt, rt.alloc(), limits(printed.unit)?, &row, printed.line);
     }
     Ok(())
 }
 
+/// The number of a currency, and its line where base is worth this unit.
+struct PrintedCurrency<'a> {
+    number: u32,
+    unit: u32,
+    line: &'a str,
+}
+
+fn currency_row() -> Result<CurrencyRow, Fail> {
+    Ok(CurrencyRow {
+        name: name("base")?,
+        backing: 0,
+        issued: 2,
+        active_amount: 3000,
+        value: 3000,
+    })
+}
+
+fn check_currency(
+    rt: &impl Abort,
+    alloc: Global,
+    row: &CurrencyRow,
+    printed: &PrintedCurrency<'_>,
+) -> Result<(), Fail> {
+    let limits = limits(printed.unit)?;
+    let mut writer = Watched::new(Vec::new(alloc));
+    let ended = write_currency(&mut writer, limits, printed.number, row);
+    check(rt, writer, ended, printed.line);
+    Ok(())
+}
+
+const CURRENCIES: [PrintedCurrency<'_>; 3] = [
+    PrintedCurrency {
+        number: 0,
+        unit: 1,
+        line: "currency 0 base backing 0 issued 2 active 3000 value 3000\n",
+    },
+    PrintedCurrency {
+        number: 0,
+        unit: 256,
+        line: "currency 0 base backing 0 issued 2 active 3000 value 3000\n",
+    },
+    PrintedCurrency {
+        number: 1,
+        unit: 256,
+        line: "currency 1 base backing 0 issued 2 active 3000 value 11\n",
+    },
+];
+
 #[test]
 fn prints_currencies(rt: HostRuntime) -> Result<(), Fail> {
-    for (number, unit, wanted) in [
-        (
-            0,
-            1,
-            "currency 0 base backing 0 issued 2 active 3000 value 3000\n",
-        ),
-        (
-            0,
-            256,
-            "currency 0 base backing 0 issued 2 active 3000 value 3000\n",
-        ),
-        (
-            1,
-            256,
-            "currency 1 base backing 0 issued 2 active 3000 value 11\n",
-        ),
-    ] {
-        let row = CurrencyRow {
-            name: Name::new("base").ok_or("a name")?,
-            backing: 0,
-            issued: 2,
-            active_amount: 3000,
-            value: 3000,
-        };
-        let limits = limits(unit).ok_or("limits")?;
-        let mut writer = Watched::new(Vec::new(rt.alloc()));
-        let ended = write_currency(&mut writer, limits, number, &row);
-        check(&rt, writer, ended, wanted);
+    let row = currency_row()?;
+    for printed in &CURRENCIES {
+        check_currency(&rt, rt.alloc(), &row, printed)?;
     }
+    Ok(())
+}
+
+const STATUSES: [(Status, &str); 7] = [
+    (Status::Ready, "ready"),
+    (
+        Status::Running {
+            processor: 2,
+            used: 7,
+        },
+        "running 2 used 7",
+    ),
+    (Status::Receiving(1), "receiving 1"),
+    (Status::Queued(1), "queued 1"),
+    (Status::Served(3), "served 3"),
+    (Status::Waiting(4), "waiting 4"),
+    (Status::Dead, "dead"),
+];
+
+fn thread_row(status: Status) -> Result<ThreadRow, Fail> {
+    Ok(ThreadRow {
+        name: name("thread2")?,
+        status,
+        value: 400,
+        weight: 40000,
+        quanta: 5,
+        ticks: 6,
+    })
+}
+
+fn check_thread(rt: &impl Abort, alloc: Global, limits: Limits, row: &ThreadRow, wanted: &str) {
+    let mut writer = Watched::new(Vec::new(alloc));
+    let ended = write_thread(&mut writer, limits, 1, row);
+    check(rt, writer, ended, wanted);
+}
+
+/// Checks how a thread's line shows its status.
+fn check_status(rt: &impl Abort, alloc: Global, status: Status, shown: &str) -> Result<(), Fail> {
+    let row = thread_row(status)?;
+    let wanted = format!(in alloc;
+        "thread 1 thread2 {shown} value 400 weight 40000 quanta 5 ticks 6\n"
+    )?;
+    check_thread(rt, alloc, limits(1)?, &row, wanted.as_str());
     Ok(())
 }
 
 #[test]
 fn prints_threads(rt: HostRuntime) -> Result<(), Fail> {
-    for (status, wanted) in [
-        (Status::Ready, "ready"),
-        (
-            Status::Running {
-                processor: 2,
-                used: 7,
-            },
-            "running 2 used 7",
-        ),
-        (Status::Receiving(1), "receiving 1"),
-        (Status::Queued(1), "queued 1"),
-        (Status::Served(3), "served 3"),
-        (Status::Waiting(4), "waiting 4"),
-        (Status::Dead, "dead"),
-    ] {
-        let row = ThreadRow {
-            name: Name::new("thread2").ok_or("a name")?,
-            status,
-            value: 400,
-            weight: 40000,
-            quanta: 5,
-            ticks: 6,
-        };
-        let limits = limits(1).ok_or("limits")?;
-        let mut writer = Watched::new(Vec::new(rt.alloc()));
-        let ended = write_thread(&mut writer, limits, 1, &row);
-        let wanted = format!(in rt.alloc();
-            "thread 1 thread2 {wanted} value 400 weight 40000 quanta 5 ticks 6\n"
-        )?;
-        check(&rt, writer, ended, wanted.as_str());
+    for (status, shown) in &STATUSES {
+        check_status(&rt, rt.alloc(), *status, shown)?;
     }
     Ok(())
+}
+
+fn check_listing_line(rt: &impl Abort, alloc: Global, kind: Kind, wanted: &str) {
+    let mut writer = Watched::new(Vec::new(alloc));
+    let ended = write_listing_line(&mut writer, 0, kind, 8);
+    check(rt, writer, ended, wanted);
 }
 
 #[test]
@@ -415,52 +612,88 @@ fn prints_listing_lines(rt: HostRuntime) {
         (Kind::Currencies, "0 lscur 8\n"),
         (Kind::Threads, "0 lsthr 8\n"),
     ] {
-        let mut writer = Watched::new(Vec::new(rt.alloc()));
-        let ended = write_listing_line(&mut writer, 0, kind, 8);
-        check(&rt, writer, ended, wanted);
+        check_listing_line(&rt, rt.alloc(), kind, wanted);
     }
+}
+
+fn check_history(rt: &impl Abort, alloc: Global, unit: u32, history: &[u8], wanted: &str) {
+    let mut writer = Watched::new(Vec::new(alloc));
+    let ended = write_history(&mut writer, unit, history);
+    check(rt, writer, ended, wanted);
 }
 
 #[test]
 fn prints_histories(rt: HostRuntime) {
-    let mut long = [1; 66];
-    long[65] = 0;
-    let long_line =
-        "schedule 1 1 1 1 1 1 1 1 1 1 1 1 1 1 1 1 1 1 1 1 1 1 1 1 1 1 1 1 1 1 1 1 1 1 1 1 1 1 1 1 1 1 1 1 1 1 1 1 1 1 \
-        1 1 1 1 1 1 1 1 1 1 1 1 1 1\nschedule 1 0\n";
-    let mut mixed = [0; 34];
+    check_history(&rt, rt.alloc(), 1, &[], "");
+    check_history(&rt, rt.alloc(), 256, &[], "");
+    check_history(&rt, rt.alloc(), 1, &[0, 1, 64], "schedule 0 1 64\n");
+    check_history(&rt, rt.alloc(), 256, &[1, 1, 1], "runs 1 3\n");
+}
+
+/// 65 turns of processor 1, and one of the console.
+fn long_history() -> [u8; 66] {
+    let mut history = [1; 66];
+    history[65] = 0;
+    history
+}
+
+const LONG_LINES: &str =
+    "schedule 1 1 1 1 1 1 1 1 1 1 1 1 1 1 1 1 1 1 1 1 1 1 1 1 1 1 1 1 1 1 1 1 1 1 1 1 1 1 1 1 1 1 1 1 1 1 1 1 1 1 \
+    1 1 1 1 1 1 1 1 1 1 1 1 1 1\nschedule 1 0\n";
+
+#[test]
+fn prints_long_histories(rt: HostRuntime) {
+    let history = long_history();
+    check_history(&rt, rt.alloc(), 1, &history, LONG_LINES);
+    check_history(&rt, rt.alloc(), 256, &history, "runs 1 65 0 1\n");
+}
+
+/// Processor 64 and the console in turn.
+fn mixed_history() -> [u8; 34] {
+    let mut history = [0; 34];
     for place in 0..17 {
-        mixed[2 * place] = 64;
+        history[2 * place] = 64;
     }
-    let mixed_line =
-        "runs 64 1 0 1 64 1 0 1 64 1 0 1 64 1 0 1 64 1 0 1 64 1 0 1 64 1 0 1 64 1 0 1 64 1 0 1 64 1 0 1 64 1 0 1 64 1 0 1 \
-        64 1 0 1 64 1 0 1 64 1 0 1 64 1 0 1\nruns 64 1 0 1\n";
-    for (unit, history, wanted) in [
-        (1, [].as_slice(), ""),
-        (256, [].as_slice(), ""),
-        (1, [0, 1, 64].as_slice(), "schedule 0 1 64\n"),
-        (256, [1, 1, 1].as_slice(), "runs 1 3\n"),
-        (1, long.as_slice(), long_line),
-        (256, long.as_slice(), "runs 1 65 0 1\n"),
-        (256, mixed.as_slice(), mixed_line),
-    ] {
-        let mut writer = Watched::new(Vec::new(rt.alloc()));
-        let ended = write_history(&mut writer, unit, history);
-        check(&rt, writer, ended, wanted);
-    }
+    history
+}
+
+const MIXED_LINES: &str =
+    "runs 64 1 0 1 64 1 0 1 64 1 0 1 64 1 0 1 64 1 0 1 64 1 0 1 64 1 0 1 64 1 0 1 64 1 0 1 64 1 0 1 64 1 0 1 64 1 0 1 \
+    64 1 0 1 64 1 0 1 64 1 0 1 64 1 0 1\nruns 64 1 0 1\n";
+
+#[test]
+fn prints_mixed_histories(rt: HostRuntime) {
+    check_history(&rt, rt.alloc(), 256, &mixed_history(), MIXED_LINES);
+}
+
+fn check_first_run(rt: &impl Abort, history: &[u8], wanted: Option<(u8, usize)>) {
+    assert_eq!(rt; first_run(history), wanted);
 }
 
 #[test]
-fn runs_of_histories(rt: HostRuntime) -> Result<(), Fail> {
-    let none: &[u8] = &[];
-    assert_eq!(rt; first_run(none), None);
-    assert_eq!(rt; first_run(&[2, 2, 2, 0, 2]), Some((2, 3)));
-    assert_eq!(rt; after_line(&[1, 1, 0]), none);
-    let mut history = Vec::new(rt.alloc());
+fn first_runs_of_histories(rt: HostRuntime) {
+    check_first_run(&rt, &[], None);
+    check_first_run(&rt, &[2, 2, 2, 0, 2], Some((2, 3)));
+}
+
+fn check_after_line(rt: &impl Abort, history: &[u8], wanted: &[u8]) {
+    assert_eq!(rt; after_line(history), wanted);
+}
+
+/// 33 runs of two turns.
+fn history_of_pairs(alloc: Global) -> Result<Vec<u8>, Fail> {
+    let mut history = Vec::new(alloc);
     for run in 0..33u8 {
         history.push(run)?;
         history.push(run)?;
     }
-    assert_eq!(rt; after_line(&history), [32, 32].as_slice());
+    Ok(history)
+}
+
+#[test]
+fn histories_after_a_line(rt: HostRuntime) -> Result<(), Fail> {
+    let history = history_of_pairs(rt.alloc())?;
+    check_after_line(&rt, &[1, 1, 0], &[]);
+    check_after_line(&rt, &history, &[32, 32]);
     Ok(())
 }

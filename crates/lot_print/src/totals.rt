@@ -1,6 +1,6 @@
-//! What is printed of totals.
+//! What is printed for totals.
 ghost use Rattle.std.specs.Prelude.{◌≡◌, codes, false};
-ghost use Rattle.lot_machine.specs.Report.{thread_total};
+ghost use Rattle.lot_simulation.specs.Report.{thread_total};
 ghost use Rattle.lot_print.specs.Totals.{processor_line, total_line};
 ghost use Rattle.lot_print.specs.Writing.{Writes};
 
@@ -11,7 +11,7 @@ use lot_machine::ThreadRow;
 use lot_text::Watched;
 use std::io::Write;
 
-/// What the report has of a processor: the draws that somebody won there, the others, and the ticks used there.
+/// What the report says of a processor: the draws that somebody won there, the others, and the ticks used there.
 #[derive(Clone, Copy, Debug)]
 pub struct ProcessorTotal {
     pub processor: u32,
@@ -20,7 +20,7 @@ pub struct ProcessorTotal {
     pub ticks: u64,
 }
 
-/// What the report has at its end: how many turns were made, and what was counted in all of them.
+/// What the report says at its end: how many turns were made, and what was counted in all of them.
 #[derive(Clone, Copy, Debug)]
 pub struct WholeTotal {
     pub turns: u64,
@@ -31,7 +31,7 @@ pub struct WholeTotal {
 /// Writes the first line of the report.
 pub fn write_report_line<W: Write>(writer: &mut Watched<W>) -> Result<(), WriteFault>
     requires { writer.old.failed ≡ false }
-    ensures { Writes (W.contents writer.old.inner) (W.contents writer.new.inner) writer.new.failed result (codes "report\n") }
+    ensures { Writes W.contents writer.old writer.new result (codes "report\n") }
 {
     write_bytes(writer, b"report\n")
 }
@@ -43,7 +43,7 @@ pub fn write_thread_total<W: Write>(
     row: &ThreadRow,
 ) -> Result<(), WriteFault>
     requires { writer.old.failed ≡ false }
-    ensures { Writes (W.contents writer.old.inner) (W.contents writer.new.inner) writer.new.failed result (thread_total number row.now) }
+    ensures { Writes W.contents writer.old writer.new result (thread_total number row.now) }
 {
     let mut line = Line::new();
     push_named(&mut line, "thread ", number, &row.name);
@@ -57,7 +57,7 @@ pub fn write_processor_total<W: Write>(
     total: ProcessorTotal,
 ) -> Result<(), WriteFault>
     requires { writer.old.failed ≡ false }
-    ensures { Writes (W.contents writer.old.inner) (W.contents writer.new.inner) writer.new.failed result (processor_line total.processor total.quanta total.idles total.ticks) }
+    ensures { Writes W.contents writer.old writer.new result (processor_line total.processor total.quanta total.idles total.ticks) }
 {
     let mut line = Line::new();
     line.push_field("processor ", total.processor);
@@ -74,7 +74,7 @@ pub fn write_whole_total<W: Write>(
     total: WholeTotal,
 ) -> Result<(), WriteFault>
     requires { writer.old.failed ≡ false }
-    ensures { Writes (W.contents writer.old.inner) (W.contents writer.new.inner) writer.new.failed result (total_line total.turns total.quanta total.ticks) }
+    ensures { Writes W.contents writer.old writer.new result (total_line total.turns total.quanta total.ticks) }
 {
     let mut line = Line::new();
     line.push_field("total turns ", total.turns);

@@ -1,6 +1,6 @@
 -- What a seat has made, one call after another.
 use Rattle.std.proofs.Common.{◌≡◌, refl, ℕ, ◌+◌, ◌<◌, ◌∷◌, [], List, length, slice_index_or, Option, Some, None, inl, inr, sym, ◌∙◌, ap, subst, arith}
-use Rattle.lot_machine.specs.World.{Program}
+use Rattle.lot_simulation.specs.World.{Program}
 use Rattle.lot_script.specs.Slices.{Parts}
 use Rattle.lot_system.specs.declared.fault.TurnFault.{TurnFault}
 use Rattle.lot_system.specs.declared.turn.Answer.{Answer}
@@ -9,14 +9,14 @@ use Rattle.lot_system.specs.Fitting.{IsStale}
 use Rattle.lot_system.specs.Seen.{Seen}
 use Rattle.lot_system.specs.Turns.{Faults, IsWorkOf, Matches}
 use Rattle.lot_station.specs.BatonSeats.{Seat, IsSameSeat, Looks, Turns}
-use Rattle.lot_station.specs.BatonViews.{Begins}
+use Rattle.lot_station.specs.BatonViews.{Extends}
 use Rattle.lot_station.specs.Settings.{IsLegalIn, turns_by}
 use Rattle.lot_station.proofs.BatonShares.{starts_self, starts_more, starts_trans}
 use Rattle.lot_processors.specs.BatonWorkers.{AllMade, Continues, FirstStops, HasMade, HasMadeAll, HasStopped, HasWorked, IsFirstFault, StopsTurn}
 use Rattle.lot_processors.specs.Workers.{EachSeat, turns_for}
 use Rattle.lot_processors.proofs.SeatsWork as seats
 
-begins_trans : (z y x : Seen) → Begins z y → Begins y x → Begins z x
+begins_trans : (z y x : Seen) → Extends z y → Extends y x → Extends z x
 begins_trans z y x later before = (later.0 ∙ before.0, starts_trans z.history y.history x.history later.1 before.1)
 
 continues_trans : (a b c : Seat) → Continues a b → Continues b c → Continues a c
@@ -27,7 +27,7 @@ continues_trans a b c first then =
 pub none_made : (a : Seat) → HasMade 0 a a
 none_made a = record { continues = record { station = refl; actor = refl; begins = (refl, starts_self a.seen.history) }; turns = omega arith }
 
--- first so many turns, and then so many more
+-- first n turns, and then m more
 pub made_then : (n m : ℕ) (a b c : Seat) → HasMade n a b → HasMade m b c → HasMade (n + m) a c
 made_then n m a b c first then =
     record { continues = continues_trans a b c first.continues then.continues; turns = omega (arith, first.turns, then.turns) }
@@ -47,7 +47,7 @@ turned a b given answer same turns =
       continues = record {
         station = same.station;
         actor = same.actor;
-        begins = subst (λ (x : Seen). Begins x a.seen) (sym turns.ends) (turns.begins.0, starts_more turns.before.history (a.actor ∷ []) a.seen.history turns.begins.1);
+        begins = subst (λ (x : Seen). Extends x a.seen) (sym turns.ends) (turns.begins.0, starts_more turns.before.history (a.actor ∷ []) a.seen.history turns.begins.1);
       };
       turns = ap (λ actor. turns_by actor b.seen.history) same.actor ∙ turns.turns;
     }
@@ -80,7 +80,7 @@ module _ (program : Program) where
   pub refused_console : (a b : Seat) (fault : TurnFault) → a.actor ≡ 0 → IsSameSeat a b → Looks a b → Faults b.seen a.actor None fault → StopsTurn program b fault
   refused_console a b fault console same looks stops = refused a b None None fault (λ some. absurd (omega (arith, some, console))) tt same looks stops
 
-  -- a seat whose turn was stopped before it made so many
+  -- a seat whose turn was stopped before it made n
   pub stopped : (m n : ℕ) (fault : TurnFault) (a b : Seat) → m < n → HasMade m a b → StopsTurn program b fault → HasStopped program n fault a b
   stopped m n fault a b fewer made stops = record { made = m; fewer = fewer; turns = made; stops = stops }
 

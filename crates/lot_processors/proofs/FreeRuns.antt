@@ -2,7 +2,7 @@
 use Rattle.std.proofs.Common.{◌≡◌, ℕ, ◌+◌, ◌<◌, ◌≤◌, ◌==◌, List, [], Some, length, count_by, slice_index_or, sym, ◌∙◌, ap, subst, arith}
 use Rattle.std.specs.List.{slice_get}
 use Rattle.std.proofs.lemmas.Option.{get_or_from_slice_get, slice_get-get_or, slice_get_within}
-use Rattle.lot_machine.specs.World.{Program}
+use Rattle.lot_simulation.specs.World.{Program}
 use Rattle.lot_system.specs.Seen.{Setting, Seen}
 use Rattle.lot_station.specs.Holders.{Holder, AreDealt, CountsAgree, InOrder, dealt}
 use Rattle.lot_station.specs.Settings.{IsLegalIn, times_in}

@@ -2,8 +2,8 @@
 use Rattle.std.proofs.Common.{◌≡◌, refl, ℕ, ◌+◌, ◌<◌, ◌∷◌, ◌++◌, [], List, length, slice_index_or, Option, Some, None, inl, inr, sym, ◌∙◌, ap, subst, arith, length-append}
 use Rattle.std.proofs.lemmas.List.Elements.{All-push}
 use Rattle.std.proofs.lemmas.List.Sums.{sum_by_push}
-use Rattle.lot_machine.specs.Report.{quanta_in, ticks_in}
-use Rattle.lot_machine.specs.World.{Program}
+use Rattle.lot_simulation.specs.Report.{quanta_in, ticks_in}
+use Rattle.lot_simulation.specs.World.{Program}
 use Rattle.lot_script.specs.Slices.{Parts}
 use Rattle.lot_system.specs.declared.fault.TurnFault.{TurnFault}
 use Rattle.lot_system.specs.declared.turn.Answer.{Answer}
@@ -50,7 +50,7 @@ module _ (setting : Setting) where
     refused_console console stops =
         refused None None (record { history = stops.history; legal = stops.legal; is_so = λ some. absurd (omega (arith, some, console)) }) tt stops
 
-  -- a seat whose turn was stopped before it made so many
+  -- a seat whose turn was stopped before it made n
   pub stopped : (program : Program) (m n : ℕ) (fault : TurnFault) (a b c : Holder) → m < n → HasMade setting m a b → c ≡ b → StopsTurn setting program b.actor fault → HasStopped setting program n fault a c
   stopped program m n fault a b c fewer made same stops =
       record { made = m; fewer = fewer; turns = subst (λ (h : Holder). HasMade setting m a h) (sym same) made; stops = subst (λ actor. StopsTurn setting program actor fault) made.actor stops }

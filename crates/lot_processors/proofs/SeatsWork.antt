@@ -3,7 +3,7 @@ use Rattle.std.proofs.Common.{◌≡◌, ◌⊎◌, ℕ, ◌<◌, ap, arith, Lis
 use Rattle.lot_system.specs.declared.fault.TurnFault.{TurnFault}
 use Rattle.lot_processors.specs.Workers.{EachSeat}
 
--- Seats that may keep a fault: one that has made all keeps none, and one that was stopped is still that where its fault is
+-- Seats that may keep a fault: one that has made all keeps none, and one that was stopped is still that if its fault is
 -- taken out.
 module _ (S : Type 0) (kept : S → Option TurnFault) (freed : S → S) (Made : S → S → Type 0) (Stopped : TurnFault → S → S → Type 0)
     (keeps_none : (s t : S) → Made s t → kept t ≡ None) (frees : (s : S) → kept (freed s) ≡ None) (stays : (f : TurnFault) (s t : S) → Stopped f s t → Stopped f s (freed t)) where
@@ -54,5 +54,5 @@ module _ (S : Type 0) (kept : S → Option TurnFault) (freed : S → S) (Made : 
 
       -- and each one after it is as its worker left it
       pub later_worked : EachSeat before after (λ k s t. place < k → Worked s t)
-      later_worked k d low behind =
-          let s = slice_index_or before k d in subst (λ (t : S). Worked s t) (sym (others k d (in_mid k low) (λ at. absurd (omega (arith, at, behind))))) (each k d low)
+      later_worked k d low following =
+          let s = slice_index_or before k d in subst (λ (t : S). Worked s t) (sym (others k d (in_mid k low) (λ at. absurd (omega (arith, at, following))))) (each k d low)

@@ -1,12 +1,12 @@
 -- What workers do by the seats of a system that goes round as a baton.
 use Rattle.std.specs.Prelude.{◌≡◌, ◌⊎◌, ℕ, ◌+◌, ◌<◌, List, Option, Some, None, length}
-use Rattle.lot_machine.specs.World.{Program}
+use Rattle.lot_simulation.specs.World.{Program}
 use Rattle.lot_system.specs.declared.fault.TurnFault.{TurnFault}
 use Rattle.lot_system.specs.declared.turn.Work.{Work}
 use Rattle.lot_system.specs.Seen.{Seen}
 use Rattle.lot_system.specs.Turns.{IsWorkOf}
 use Rattle.lot_station.specs.BatonSeats.{Seat}
-use Rattle.lot_station.specs.BatonViews.{Begins}
+use Rattle.lot_station.specs.BatonViews.{Extends}
 use Rattle.lot_station.specs.Settings.{IsLegalIn, turns_by}
 use Rattle.lot_processors.specs.Workers.{EachSeat, Stops, turns_for}
 
@@ -20,9 +20,9 @@ made_by s = turns_by s.actor s.seen.history
 pub record Continues (before after : Seat) : Type 0 where
   pub station : after.station ≡ before.station
   pub actor : after.actor ≡ before.actor
-  pub begins : Begins after.seen before.seen
+  pub begins : Extends after.seen before.seen
 
--- the seat has made so many turns more
+-- the seat has made n more turns
 pub record HasMade (n : ℕ) (before after : Seat) : Type 0 where
   pub continues : Continues before after
   pub turns : made_by after ≡ made_by before + n
@@ -36,11 +36,11 @@ pub record StopsTurn (program : Program) (s : Seat) (fault : TurnFault) : Type 0
   pub earlier : Seen
   pub had : IsWorkOf earlier s.actor work
   pub legal : IsLegalIn s.seen
-  pub begins : Begins s.seen earlier
+  pub begins : Extends s.seen earlier
   pub since : turns_by s.actor s.seen.history ≡ turns_by s.actor earlier.history
   pub stops : Stops program s.actor work s.seen fault
 
--- the seat has made turns, but fewer than so many, and then the fault stopped its next turn
+-- the seat has made fewer than n turns, and then the fault stopped its next turn
 pub record HasStopped (program : Program) (n : ℕ) (fault : TurnFault) (before after : Seat) : Type 0 where
   pub made : ℕ
   pub fewer : made < n

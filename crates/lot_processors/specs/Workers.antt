@@ -1,8 +1,8 @@
 -- What workers do.
 use Rattle.std.specs.Prelude.{◌≡◌, ◌⊎◌, ℕ, ◌+◌, ◌*◌, ◌<◌, ◌≤◌, ◌==◌, All, List, [], Option, Some, None, length, count_by, sum_by, slice_index_or, if◌then◌else◌}
 use Rattle.lot_machine.specs.declared.reply.Reply.{Reply}
-use Rattle.lot_machine.specs.Report.{quanta_in, ticks_in}
-use Rattle.lot_machine.specs.World.{Program, IsLegal}
+use Rattle.lot_simulation.specs.Report.{quanta_in, ticks_in}
+use Rattle.lot_simulation.specs.World.{Program, IsLegal}
 use Rattle.lot_script.specs.Slices.{Parts}
 use Rattle.lot_system.specs.declared.fault.TurnFault.{TurnFault}
 use Rattle.lot_system.specs.declared.turn.Answer.{Answer}
@@ -14,11 +14,11 @@ use Rattle.lot_station.specs.Holders.{Holder, AreDealt, CountsAgree}
 use Rattle.lot_station.specs.Settings.{AtSome, IsLegalIn}
 use Rattle.lot_processors.specs.declared.fault.RunFault.{RunFault}
 use Rattle.lot_processors.specs.declared.fault.RunFault.TheVariants.{Turn}
-use Rattle.lot_processors.specs.declared.running.FreeRunFault.{FreeRunFault}
-use Rattle.lot_processors.specs.declared.running.FreeRunFault.TheVariants.{Memory, Run, CountsDiffer}
+use Rattle.lot_processors.specs.declared.free_runs.FreeRunFault.{FreeRunFault}
+use Rattle.lot_processors.specs.declared.free_runs.FreeRunFault.TheVariants.{Memory, Run, CountsDiffer}
 
--- how many turns a free run of the program has for this actor: the console's one for each command, a processor's as many as
--- the program says
+-- how many turns a free run of the program has for this actor: for the console one for each command, for a processor as
+-- many as the program says
 abbrev pub turns_for : Program → ℕ → ℕ
 turns_for program actor = if actor == 0 then length program.commands else program.turns
 
@@ -31,7 +31,7 @@ pub record IsReply (setting : Setting) (actor : ℕ) (reply : Reply) : Type 0 wh
   pub is : answer.reply ≡ reply
   pub turn : AtSome setting (λ x. Goes x actor given × Answers x actor answer)
 
--- The seat has made so many turns more. Each had one of these replies, in order, and the seat's quanta and ticks grew by
+-- The seat has made n more turns. Each had one of these replies, in order, and the seat's quanta and ticks grew by
 -- those of the replies.
 pub record HasMade (setting : Setting) (n : ℕ) (before after : Holder) : Type 0 where
   pub actor : after.actor ≡ before.actor
@@ -57,7 +57,7 @@ pub record StopsTurn (setting : Setting) (program : Program) (actor : ℕ) (faul
   pub had : AtSome setting (λ x. IsWorkOf x actor work)
   pub stops : AtSome setting (λ x. Stops program actor work x fault)
 
--- the seat has made turns, but fewer than so many, and then the fault stopped its next turn
+-- the seat has made fewer than n turns, and then the fault stopped its next turn
 pub record HasStopped (setting : Setting) (program : Program) (n : ℕ) (fault : TurnFault) (before after : Holder) : Type 0 where
   pub made : ℕ
   pub fewer : made < n
@@ -121,7 +121,7 @@ pub record IsFreeRun (program : Program) (history : List ℕ) : Type 0 where
   pub legal : IsLegal program (turns_in_all program) history
   pub turns : (actor : ℕ) → actor ≤ program.limits.processors → count_by (λ a. a == actor) history ≡ turns_for program actor
 
--- of the seats of a new system of the program the first that was stopped was stopped by this fault
+-- this fault stopped the first of the stopped seats of a new system of the program
 pub record IsStopped (program : Program) (fault : TurnFault) : Type 0 where
   pub before : List Holder
   pub after : List Holder
@@ -139,8 +139,8 @@ pub record HasOthers (program : Program) : Type 0 where
   pub legal : IsLegalIn closed
   pub differ : ¬ CountsAgree closed after
 
--- Why a free run has no system to give back: memory was refused, a worker was stopped, or the system's history hasn't the
--- turns that the seats have made.
+-- Why a free run has no system to give back: memory was refused, a worker was stopped, or the system's history doesn't
+-- have the turns that the seats have made.
 abbrev pub IsFaultOf : Program → FreeRunFault → Type 0
 IsFaultOf program Memory = Unit {0}
 IsFaultOf program (Run run) = IsStopped program (fault_in run)

@@ -3,14 +3,14 @@
 
 mod baton_workers;
 mod fault;
+mod free_runs;
 mod gate;
-mod running;
 mod workers;
 
 pub use baton_workers::run_all_baton;
 pub use fault::RunFault;
+pub use free_runs::{FreeRunFault, free_run};
 pub use gate::{Gate, OpenGate};
-pub use running::{FreeRunFault, free_run};
 pub use workers::run_all;
 
 #[cfg(test)]

@@ -43,7 +43,7 @@ struct Turnstile {
 }
 
 impl Turnstile {
-    /// One that holds this processor's worker, until others have come by so often.
+    /// One that holds this processor's worker, until others have come by this often.
     fn new(held: u32, wanted: u64) -> Turnstile {
         Turnstile {
             held,

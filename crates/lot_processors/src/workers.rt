@@ -11,9 +11,9 @@ use std::sync::ledger::Ledger;
 use std::thread;
 use std::thread::Threads;
 
-/// Makes the program's turns by the seats, which are all of the station's, in order: the console's one for each command,
-/// and each processor's as many as the program has turns. Each seat has a worker, on a thread of its own where one can be
-/// started, which stops at its first fault. All have stopped when this returns. It may wait.
+/// Makes the program's turns by the seats, which are all of the station's, in order: the console's makes one for each
+/// command, and each processor's as many as the program has turns. Each seat has a worker, on a thread of its own if
+/// one can be started; it stops at its first fault. All have stopped when this returns. It may wait.
 ///
 /// Answers the fault that stopped the first of the seats that were stopped, and takes it out of that seat. A later seat that
 /// was stopped keeps its own fault, until `Seat::stopped` takes it out or the next run begins.
@@ -51,7 +51,7 @@ fn first_fault<T: TurnLedger, Q: Ledger, K: Ledger>(
     ensures some { IfSome result (λ fault. IsFirstFault fault seats.old seats.new) }
 {
     for place in 0..seats.len() {
-        let fault = seats[place].stopped();
+        let fault = seats[place].take_fault();
         if fault.is_some() {
             return fault;
         }
@@ -69,7 +69,7 @@ fn work_for<T: TurnLedger, Q: Ledger, K: Ledger>(
 )
     ensures { HasWorked station.now program.now seat.old seat.new }
 {
-    let _ = seat.stopped();
+    let _ = seat.take_fault();
     match actor_turns(rt, station, program, gate, seat) {
         Ok(()) => {}
         Err(fault) => seat.stop(fault),

@@ -1,4 +1,4 @@
--- What becomes of the queues where one of the lists changes.
+-- What becomes of the queues if one of the lists changes.
 use Rattle.std.proofs.Common.{◌≡◌, ℕ, ◌+◌, ◌-◌, ◌<◌, ◌≤◌, ◌⊎◌, inl, inr, Option, List, [], Contains, length, map, set, ap, ap₂, sym, ◌∙◌, refl, subst, arith, length-set, get_or-set_other}
 use Rattle.std.proofs.lemmas.Bool.{cases_eq}
 use Rattle.std.proofs.lemmas.List.{get_or-set_same}
@@ -56,8 +56,8 @@ module _ (f : Fields) (laid : IsLaidOut f) (list : ℕ) (nodes : List ℕ) where
   ports-same : (list < f.layout.room) ⊎ (f.layout.room + f.layout.ports + f.layout.ports ≤ list) → table (port_in (with_lists f (relisted f.lists list nodes))) f.layout.ports ≡ table (port_in f) f.layout.ports
   ports-same (inl before) = table-same (port_in f) (port_in (with_lists f (relisted f.lists list nodes))) f.layout.ports (λ p first last.
       port-same p (λ same. absurd (omega (arith, same, before))) (λ same. absurd (omega (arith, same, before))))
-  ports-same (inr behind) = table-same (port_in f) (port_in (with_lists f (relisted f.lists list nodes))) f.layout.ports (λ p first last.
-      port-same p (λ same. absurd (omega (arith, same, behind, first, last))) (λ same. absurd (omega (arith, same, behind, first, last))))
+  ports-same (inr following) = table-same (port_in f) (port_in (with_lists f (relisted f.lists list nodes))) f.layout.ports (λ p first last.
+      port-same p (λ same. absurd (omega (arith, same, following, first, last))) (λ same. absurd (omega (arith, same, following, first, last))))
 
   mutexes-same : list < f.layout.room + f.layout.ports + f.layout.ports → table (mutex_in (with_lists f (relisted f.lists list nodes))) f.layout.mutexes ≡ table (mutex_in f) f.layout.mutexes
   mutexes-same before = table-same (mutex_in f) (mutex_in (with_lists f (relisted f.lists list nodes))) f.layout.mutexes (λ m first last.
@@ -131,7 +131,7 @@ module _ (f : Fields) (laid : IsLaidOut f) (list : ℕ) (nodes : List ℕ) where
     ];
   }
 
--- What a thread that is in no list sent last is nothing to the queues.
+-- What a thread that is in no list sent last doesn't matter to the queues.
 pub sent-kept : (f : Fields) (node number : ℕ) → IsFree f.lists node → seen (record f { sent = set f.sent node number }) ≡ seen f
 unfolding seen
 sent-kept f node number free =

@@ -53,7 +53,7 @@ pub map-push : {A B : Type 0} (f : A → B) (xs : List A) (x : A) → map f (xs 
 map-push f [] x = refl
 map-push f (y ∷ xs) x = ap (λ ys. f y ∷ ys) (map-push f xs x)
 
--- a number that another node sent is nothing to these calls
+-- a number that another node sent doesn't matter to these calls
 pub calls-kept : (sent nodes : List ℕ) (node number : ℕ) → ¬ Contains nodes node → map (call_of (set sent node number)) nodes ≡ map (call_of sent) nodes
 calls-kept sent [] node number absent = refl
 calls-kept sent (n ∷ nodes) node number absent =

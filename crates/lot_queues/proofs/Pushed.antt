@@ -1,4 +1,4 @@
--- A thread that is put behind those of a queue.
+-- A thread that is put after those of a queue.
 use Rattle.std.proofs.Common.{◌≡◌, ℕ, ◌+◌, ◌-◌, ◌<◌, inl, inr, List, [], ◌∷◌, ◌++◌, Contains, map, set, ap, ap₂, sym, ◌∙◌, subst, arith, length-set, slice_index}
 use Rattle.std.proofs.lemmas.List.{get_or-set_same}
 use Rattle.std.proofs.lemmas.List.Elements.{Contains-push_cases}

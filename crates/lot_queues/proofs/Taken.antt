@@ -89,7 +89,7 @@ module _ {f : Fields} {q : QueueLists} (held : Holds f q) where
   first-within list w below is other node c =
       relisted-within f.lists list (drop 1 (nodes_of f.lists list)) below (λ n d. contains-drop (nodes_of f.lists list) 1 n d) other node (subst (λ (v : NodeLists). Contains (nodes_of v other) node) is c)
 
-  -- ---- what holds then, where the fields `with_lists f w` hold r
+  -- ---- what holds then, if the fields `with_lists f w` hold r
 
   module _ {w : NodeLists} {r : QueueLists} (after : Holds (with_lists f w) r) where
     pub taken-there : (list : ℕ) (o t : Option ℕ) → o ≡ node_at f.lists list 0 → t ≡ option_map (λ n. n + 1) o → IfSome t (IsThere r.clients)

@@ -81,5 +81,5 @@ pub record IsLaidOut (f : Fields) : Type 0 where
   pub threads : f.threads ≤ f.layout.room
   -- those in a list are threads that there are
   pub made : (list node : ℕ) → Contains (nodes_of f.lists list) node → node < f.threads
-  -- a thread that there isn't serves nobody
+  -- a thread that isn't there serves nobody
   pub unused : (list node : ℕ) → list < f.layout.room → Contains (nodes_of f.lists list) node → list < f.threads

@@ -5,7 +5,7 @@ use Rattle.lot_machine.specs.State.{Port, Mutex, QueuedCall}
 use Rattle.lot_machine.specs.Ports.{port_at, clients_of}
 use Rattle.lot_machine.specs.Mutexes.{mutex_at}
 
--- Whom each thread serves, and who waits at each port and for each mutex: the machine's fields of these names (4.6, 6.1).
+-- Whom each thread serves, and who waits at each port and mutex: the machine's fields of these names (4.6, 6.1).
 pub record QueueLists : Type 0 where
   pub clients : List (List ℕ)
   pub ports : List Port

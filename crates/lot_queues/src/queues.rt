@@ -45,9 +45,9 @@ impl Model for Queues {
 }
 
 impl Queues {
-    /// Empty ports, free mutexes, and room for so many threads, of which there are none yet.
+    /// Empty ports, free mutexes, and room for this many threads, of which there are none yet.
     ///
-    /// `AllocError` where memory runs out, or where the queues and the threads together are more than a `u32` can number.
+    /// `AllocError` if memory runs out, or if the queues and the threads together are more than a `u32` can number.
     pub fn new(alloc: Global, ports: u32, mutexes: u32, threads: u32) -> Result<Self, AllocError>
         ensures { IfOk result (λ made. made ≡ empty_queues ports mutexes threads) }
     {
@@ -93,7 +93,7 @@ impl Queues {
         self.layout.mutexes
     }
 
-    /// One thread more, which serves nobody.
+    /// Adds a thread, which serves nobody.
     pub fn add_thread(&mut self)
         requires room { length self.old.clients < self.old.room }
         ensures { self.new ≡ record self.old { clients = self.old.clients ++ [] ∷ [] } }
@@ -101,7 +101,7 @@ impl Queues {
         self.threads += 1;
     }
 
-    /// Whether a thread stands in no queue: the test of what the calls that put it into one require.
+    /// Whether a thread stands in no queue, as the calls that put it into one require.
     pub fn is_nowhere(&self, thread: u32) -> bool
         requires { IsThere self.now.clients thread }
         ensures { IsTrue result ↔ IsNowhere self.now thread }
@@ -109,7 +109,7 @@ impl Queues {
         self.lists.list_of(node_of(thread)).is_none()
     }
 
-    /// Puts a thread's call behind those that wait at a port.
+    /// Puts a thread's call after those that wait at a port.
     pub fn push_call(&mut self, port: u32, caller: u32, number: u32)
         requires port_there { IsThere self.old.ports port }
         requires thread_there { IsThere self.old.clients caller }
@@ -121,7 +121,7 @@ impl Queues {
         self.sent[node] = number;
     }
 
-    /// Takes the call that has waited longest at a port, or `None` where none waits.
+    /// Takes the call that has waited longest at a port, or `None` if none waits.
     pub fn take_call(&mut self, port: u32) -> Option<TakenCall>
         requires port_there { IsThere self.old.ports port }
         ensures first { option_map queued_call result ≡ slice_get (port_at self.old.ports port).calls 0 }
@@ -135,7 +135,7 @@ impl Queues {
         taken_call(&self.sent, node)
     }
 
-    /// Puts a thread behind those that wait at a port to receive.
+    /// Puts a thread after those that wait at a port to receive.
     pub fn push_receiver(&mut self, port: u32, thread: u32)
         requires port_there { IsThere self.old.ports port }
         requires thread_there { IsThere self.old.clients thread }
@@ -146,7 +146,7 @@ impl Queues {
             .push_back(self.layout.receivers(port), node_of(thread));
     }
 
-    /// Takes the thread that has waited longest at a port to receive, or `None` where none waits.
+    /// Takes the thread that has waited longest at a port to receive, or `None` if none waits.
     pub fn take_receiver(&mut self, port: u32) -> Option<u32>
         requires port_there { IsThere self.old.ports port }
         ensures first { result ≡ slice_get (port_at self.old.ports port).receivers 0 }
@@ -160,7 +160,7 @@ impl Queues {
         thread_of(node)
     }
 
-    /// The client that a thread answers next, which was taken first, or `None` where it serves nobody.
+    /// The client that a thread answers next, which was taken first, or `None` if it serves nobody.
     pub fn first_client(&self, server: u32) -> Option<u32>
         requires { IsThere self.now.clients server }
         ensures { result ≡ machine.first_client self.now.clients server }
@@ -178,7 +178,7 @@ impl Queues {
         self.lists.push_back(node_of(server), node_of(thread));
     }
 
-    /// Takes the first client of a server, or `None` where it serves nobody.
+    /// Takes the first client of a server, or `None` if it serves nobody.
     pub fn take_client(&mut self, server: u32) -> Option<u32>
         requires server_there { IsThere self.old.clients server }
         ensures first { result ≡ machine.first_client self.old.clients server }
@@ -192,7 +192,7 @@ impl Queues {
         thread_of(node)
     }
 
-    /// Who owns a mutex, or `None` where it is free.
+    /// Who owns a mutex, or `None` if it is free.
     pub fn owner(&self, mutex: u32) -> Option<u32>
         requires { IsThere self.now.mutexes mutex }
         ensures { result ≡ (mutex_at self.now.mutexes mutex).owner }
@@ -215,7 +215,7 @@ impl Queues {
         self.owners[mutex as usize - 1] = owner;
     }
 
-    /// Puts a thread behind those that wait for a mutex.
+    /// Puts a thread after those that wait for a mutex.
     pub fn push_waiter(&mut self, mutex: u32, thread: u32)
         requires mutex_there { IsThere self.old.mutexes mutex }
         requires thread_there { IsThere self.old.clients thread }

@@ -48,7 +48,7 @@ module _ (f : Funding) (live : List Bool) (currencies threads : ℕ) (backed : L
   ticket-active k q same c None within = refl
   ticket-active k q same c (Some t) within = ap (λ b. (t.issuer == c) && b) (target-active k q same t.target within.1)
 
-  -- a currency leads on where what funds it is active
+  -- a currency leads on if what funds it is active
   pub leads-active : AreWithin currencies threads f.tickets → (k c : ℕ) → leads_within k None f.tickets backed c ≡ activates_within k f live (Currency c)
   leads-active within zero c = refl
   leads-active within (suc k) c =

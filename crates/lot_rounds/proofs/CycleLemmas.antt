@@ -24,7 +24,7 @@ module _ (f : Funding) (backed : List Bool) (none : (place : ℕ) → flagged ba
   ticket-reaches k q same c None = refl
   ticket-reaches k q same c (Some t) = ap (λ b. (t.issuer == c) && b) (target-reaches k q same t.target)
 
-  -- where no thread is listed as backed, currencies lead on to the end alone
+  -- if no thread is listed as backed, currencies lead on to the end alone
   leads-reaches : (k c : ℕ) → leads_within k (Some end) f.tickets backed c ≡ reaches_within k f c end
   leads-reaches zero c = refl
   leads-reaches (suc k) c =

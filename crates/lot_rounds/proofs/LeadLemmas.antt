@@ -21,7 +21,7 @@ ticket-same n threads backed p q same c None within = refl
 ticket-same n threads backed p q same c (Some t) within = ap (λ b. (t.issuer == c) && b) (target-same n threads backed p q same t.target within.1)
 
 module _ (n threads : ℕ) (to : Option ℕ) (tickets : List (Option Ticket)) (backed : List Bool) (within : AreWithin n threads tickets) where
-  -- of each currency it is listed whether it leads on over so many tickets
+  -- of each currency it is listed whether it leads on over this many tickets
   abbrev pub IsLed : ℕ → List Bool → Type 0
   IsLed k table = (c : ℕ) → c < n → flagged table c ≡ leads_within k to tickets backed c
 
@@ -40,7 +40,7 @@ module _ (n threads : ℕ) (to : Option ℕ) (tickets : List (Option Ticket)) (b
       found ∙ ap (λ xs. before || list_any (ticket_leads backed (flagged xs) c) tickets) same ∙ ap (λ b. b || list_any (ticket_leads backed (flagged table) c) tickets) begins
       ∙ led-next k table led c ∙ ap (λ n. leads_within n to tickets backed c) (sym one)
 
-  -- where one ticket more changes nothing, no more of them does
+  -- if one ticket more changes nothing, no more of them does
   pub led-stays : (k : ℕ) (table : List Bool) → IsLed k table → IsLed (k + 1) table → (m : ℕ) → k ≤ m → IsLed m table
   led-stays k table led next m more =
       let e : m ≡ (m - k) + k = omega (arith, more) in

@@ -48,7 +48,7 @@ module _ (f : Funding) (s t amount : ℕ) where
       at true e = rw e (omega arith)
       at false e = rw e (omega arith)
 
-  -- and to nobody else where it lends to nobody
+  -- and to nobody else if it lends to nobody
   pub lead-alone : (k : ℕ) → borrower_of f s ≡ None → cond (lends_lead_within k f s t) amount 0 ≡ cond (s == t) amount 0
   lead-alone zero none = refl
   lead-alone (suc k) none = rw none (at (s == t))

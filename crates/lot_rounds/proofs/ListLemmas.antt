@@ -11,7 +11,7 @@ any-same p q same [] = refl
 any-same p q same (x ∷ xs) = rw (same x, any-same p q same xs) refl
 
 module _ {A : Type 0} (P : A → Type 0) where
-  -- tests that agree where the property holds
+  -- tests that agree if the property holds
   pub any-on_all : (p q : A → Bool) → ((x : A) → P x → p x ≡ q x) → (xs : List A) → All P xs → list_any p xs ≡ list_any q xs
   any-on_all p q same [] all = refl
   any-on_all p q same (x ∷ xs) all = rw (same x (All-head P x xs all), any-on_all p q same xs (All-tail P x xs all)) refl

@@ -1,4 +1,4 @@
--- What the tests need: where tickets fund only later currencies, and threads lend only to later ones, nothing makes a cycle.
+-- What the tests need: if tickets fund only later currencies, and threads lend only to later ones, there is no cycle.
 use Rattle.std.proofs.Common.{◌≡◌, ℕ, zero, suc, ◌+◌, ◌*◌, ◌/◌, ◌<◌, ◌≤◌, ◌==◌, ◌^◌, Bool, true, false, Option, Some, None, List, [], ◌∷◌, All, IfSome, is_some, length, map, slice_get, slice_index, option_map, if◌then◌else◌, subst, sym, refl, ◌∙◌, arith}
 use Rattle.std.proofs.Math.Nat.{mul-le-mul_right, mul-le-mul_left, div-zero, mul-div_cancel}
 use Rattle.std.proofs.lemmas.List.{length-map}

@@ -67,7 +67,7 @@ module _ (f : Funding) (live : List Bool) (unit n : ℕ) (a : Activity) (listed 
           let some : n ≡ suc (n - 1) = omega (arith, low) in
           worth c low ∙ ap (λ k. worth_after k unit a f.tickets c) some ∙ worth-is (n - 1) c
 
-      -- where as many rounds were made as there are currencies, or more, a ticket's share is its value
+      -- if as many rounds were made as there are currencies, or more, a ticket's share is its value
       pub share-is : (t : Ticket) → t.issuer < n → is_listed_active a t ≡ is_active f live t → share unit a (slice_index worths) t ≡ ticket_value unit f live t
       share-is t low is =
           let some : suc (n - 1) ≡ n = omega (arith, low) in

@@ -17,7 +17,7 @@ added-same n threads unit a p q same c None within = refl
 added-same n threads unit a p q same c (Some t) within = ap (λ w. if is_currency c t.target then w else 0) (share-same unit a p q t (same t.issuer within.0))
 
 module _ (n threads unit : ℕ) (a : Activity) (tickets : List (Option Ticket)) (within : AreWithin n threads tickets) where
-  -- of each currency it is listed what it is worth over chains of fewer than so many currencies
+  -- of each currency it is listed what it is worth over chains of fewer than this many currencies
   abbrev pub IsWorth : ℕ → List ℕ → Type 0
   IsWorth k table = (c : ℕ) → c < n → slice_index table c ≡ worth_after k unit a tickets c
 
@@ -33,7 +33,7 @@ module _ (n threads unit : ℕ) (a : Activity) (tickets : List (Option Ticket)) 
       let one : k + 1 ≡ suc k = omega arith in
       found ∙ ap (λ (xs : List ℕ). sum_by (added_to_currency unit a (slice_index xs) c) tickets) same ∙ worth-next k table worth c ∙ ap (λ m. worth_after m unit a tickets c) (sym one)
 
-  -- where one currency more changes nothing, no more of them do
+  -- if one currency more changes nothing, no more of them do
   pub worth-stays : (k : ℕ) (table : List ℕ) → IsWorth k table → IsWorth (k + 1) table → (m : ℕ) → k ≤ m → IsWorth m table
   worth-stays k table worth next m more =
       let e : m ≡ (m - k) + k = omega (arith, more) in

@@ -1,5 +1,5 @@
--- What `settle` lists of a funding, and that it is what the definitions say (4.4). A caller reads this module, and of Tables
--- only what its conditions name.
+-- What `settle` lists of a funding, and that it is what the definitions say (4.4). A caller reads this module, and of
+-- Tables only what its conditions name.
 use Rattle.std.specs.Prelude.{◌≡◌, ℕ, ◌+◌, ◌*◌, ◌/◌, ◌==◌, ◌<◌, Bool, Some, List, length, slice_index, if◌then◌else◌}
 use Rattle.lot_machine.specs.declared.ticket.Ticket.{Ticket}
 use Rattle.lot_machine.specs.Funding.{Funding, ticket_at}
@@ -20,16 +20,16 @@ pub record Listed : Type 0 where
 abbrev pub listed_active : Listed → Ticket → Bool
 listed_active l t = target_leads l.backed (flagged l.active) t.target
 
--- What the ticket is worth, by what is listed: 0 where it isn't active, in base its amount times the unit, and else its part of
--- what its issuer is worth, rounded down.
+-- What the ticket is worth, by what is listed: 0 if it isn't active, in base its amount times the unit, and else its
+-- part of what its issuer is worth, rounded down.
 abbrev pub listed_value : ℕ → Listed → Ticket → ℕ
 listed_value unit l t =
     if listed_active l t
     then (if t.issuer == 0 then t.amount * unit else slice_index l.worths t.issuer * t.amount / slice_index l.amounts t.issuer)
     else 0
 
--- What is listed is what the definitions say: which tickets are active and what they are worth, of each currency the active
--- amount and what it is worth, and what each thread is worth.
+-- What is listed is what the definitions say: which tickets are active and what they are worth, for each currency its
+-- active amount and what it is worth, and what each thread is worth.
 pub record IsSettled (f : Funding) (live : List Bool) (unit : ℕ) (l : Listed) : Type 0 where
   pub active : (n : ℕ) (t : Ticket) → ticket_at f n ≡ Some t → listed_active l t ≡ is_active f live t
   pub tickets : (n : ℕ) (t : Ticket) → ticket_at f n ≡ Some t → listed_value unit l t ≡ ticket_value unit f live t

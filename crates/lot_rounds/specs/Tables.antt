@@ -15,17 +15,17 @@ use Rattle.lot_rounds.specs.declared.shares.Activity.{Activity}
 abbrev pub funding_in : List (Option (List ℕ)) → List (Option Ticket) → List Record → List (Option ℕ) → Funding
 funding_in currencies tickets records owners = record { currencies = map is_some currencies; tickets = tickets; lends = map (λ r. lend_of r.status) records; owners = owners }
 
--- what is lent in it is what these threads lend, where the mutexes have these owners
+-- the funding's threads lend what these lend, and its mutexes have these owners
 abbrev pub LendsAre : Funding → List Record → List (Option ℕ) → Type 0
 LendsAre f records owners = (f.lends ≡ map (λ r. lend_of r.status) records) × (f.owners ≡ owners)
 
--- the target, if it is a currency or a thread, is one of so many
+-- the target, if it is a currency or a thread, is one of this many
 abbrev pub IsTargetWithin : ℕ → ℕ → Target → Type 0
 IsTargetWithin currencies threads Unfunded = ⊤
 IsTargetWithin currencies threads (Currency c) = c < currencies
 IsTargetWithin currencies threads (Thread t) = (0 < t) × (t ≤ threads)
 
--- the ticket is issued in one of so many currencies, and funds one of them, one of so many threads or nothing
+-- the ticket is issued in one of this many currencies, and funds one of them, one of this many threads or nothing
 abbrev pub IsTicketWithin : ℕ → ℕ → Ticket → Type 0
 IsTicketWithin currencies threads t = (t.issuer < currencies) × IsTargetWithin currencies threads t.target
 
@@ -39,7 +39,7 @@ AreWithin currencies threads tickets = All (λ o. IfSome o (IsTicketWithin curre
 abbrev pub flagged : List Bool → ℕ → Bool
 flagged flags n = slice_index_or flags n false
 
--- whether the target leads on: a backed thread does, and a currency as it is said of it
+-- whether the target leads on: a backed thread does, and a currency if `leads` says so
 abbrev pub target_leads : List Bool → (ℕ → Bool) → Target → Bool
 target_leads backed leads Unfunded = false
 target_leads backed leads (Currency c) = leads c
@@ -50,7 +50,7 @@ abbrev pub ticket_leads : List Bool → (ℕ → Bool) → ℕ → Option Ticket
 ticket_leads backed leads c None = false
 ticket_leads backed leads c (Some t) = (t.issuer == c) && target_leads backed leads t.target
 
--- whether a chain of at most so many tickets leads from the currency to the given currency, or to a backed thread
+-- whether a chain of at most this many tickets leads from the currency to the given currency, or to a backed thread
 abbrev pub leads_within : ℕ → Option ℕ → List (Option Ticket) → List Bool → ℕ → Bool
 leads_within zero to tickets backed c = option_any (λ d. c == d) to
 leads_within (suc k) to tickets backed c = option_any (λ d. c == d) to || list_any (ticket_leads backed (λ d. leads_within k to tickets backed d) c) tickets
@@ -66,7 +66,7 @@ amount_added backed active c (Some t) = if (t.issuer == c) && target_leads backe
 abbrev pub is_listed_active : Activity → Ticket → Bool
 is_listed_active a t = target_leads a.backed.items (flagged a.active.items) t.target
 
--- what the ticket is worth, where activity is listed and it is known what currencies are worth
+-- what the ticket is worth, given the lists of activity and what currencies are worth
 abbrev pub share : ℕ → Activity → (ℕ → ℕ) → Ticket → ℕ
 share unit a worth t =
     if is_listed_active a t
@@ -83,18 +83,18 @@ abbrev pub added_to_thread : ℕ → Activity → (ℕ → ℕ) → ℕ → Opti
 added_to_thread unit a worth u None = 0
 added_to_thread unit a worth u (Some t) = if is_thread u t.target then share unit a worth t else 0
 
--- what the currency is worth over chains of fewer than so many currencies
+-- what the currency is worth over chains of fewer than this many currencies
 abbrev pub worth_after : ℕ → ℕ → Activity → List (Option Ticket) → ℕ → ℕ
 worth_after zero unit a tickets c = 0
 worth_after (suc k) unit a tickets c = sum_by (added_to_currency unit a (λ d. worth_after k unit a tickets d) c) tickets
 
--- the lists of activity are of so many currencies and threads
+-- the lists of activity are of this many currencies and threads
 abbrev pub IsOfSize : Activity → ℕ → ℕ → Type 0
 IsOfSize a currencies threads = (vec_len a.active ≡ currencies) × (vec_len a.amounts ≡ currencies) × (vec_len a.backed ≡ threads)
 
 -- ---- what is lent
 
--- the funding in which these threads lend, where the mutexes have these owners, without tickets
+-- the funding in which these threads lend and the mutexes have these owners, without tickets
 abbrev pub lends_in : List Record → List (Option ℕ) → Funding
 lends_in records owners = record { currencies = []; tickets = []; lends = map (λ r. lend_of r.status) records; owners = owners }
 

@@ -7,7 +7,7 @@ ghost use Rattle.lot_rounds.specs.Tables as tables;
 
 use lot_machine::{Target, Ticket};
 
-/// Lists the currencies from which a chain of tickets leads to a backed thread, or to the currency that is given. What is found
+/// Lists the currencies from which a chain of tickets leads to a backed thread, or to the given currency. What is found
 /// in one round leads to more in the next, until a round finds nothing more.
 pub(crate) fn list_leading(
     tickets: &[Option<Ticket>],
@@ -52,7 +52,7 @@ fn are_same(flags: &[bool], others: &[bool]) -> bool
     flags == others
 }
 
-/// One round: flags besides the currencies that issue a ticket whose target leads on.
+/// One round: also flags the currencies that issue a ticket whose target leads on.
 fn find_leading(tickets: &[Option<Ticket>], backed: &[bool], leading: &[bool], next: &mut Vec<bool>)
     requires within { AreWithin (length leading.now) (length backed.now) tickets.now }
     requires same { vec_len next.old ≡ length leading.now }

@@ -68,8 +68,8 @@ fn is_backed(records: &[Record], owners: &[Option<u32>], thread: u32) -> bool
 
 /// Whether a chain of one lend or more leads from one thread to another (6.1).
 ///
-/// A lock that would wait for an owner whose lends lead to the caller would make a cycle. The chain is followed, a step
-/// for each thread at most.
+/// A lock that would wait for an owner whose lends lead to the caller would make a cycle. The chain is followed for at
+/// most one step per thread.
 pub fn lends_on_to(records: &[Record], owners: &[Option<u32>], from: u32, to: u32) -> bool
     ensures { (f : Funding) → LendsAre f records.now owners.now → result ≡ lends.lends_on_to f from to }
 {
@@ -109,7 +109,7 @@ pub(crate) fn list_backed(records: &[Record], owners: &[Option<u32>], backed: &m
     }
 }
 
-/// Lists what each thread is worth, where it is listed what each owns: what a thread owns goes to each to which a chain of
+/// Lists what each thread is worth, given what each owns: what a thread owns goes to each thread to which a chain of
 /// lends, perhaps empty, leads from it.
 pub(crate) fn list_values(
     records: &[Record],
@@ -130,7 +130,7 @@ pub(crate) fn list_values(
     }
 }
 
-/// Adds the amount to what the thread is worth, and to what each is worth to which a chain of lends leads from it.
+/// Adds the amount to the worth of the thread, and of each thread to which a chain of lends leads from it.
 fn add_along(
     records: &[Record],
     owners: &[Option<u32>],

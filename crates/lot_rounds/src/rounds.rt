@@ -18,8 +18,8 @@ use std::marker::Model;
 
 /// What is active and what everything is worth in a funding, listed from scratch by `settle` (4.4).
 ///
-/// Currencies are numbered from 0, which is base, and threads from 1. Values are in base tickets times the unit. Nothing but
-/// `new` takes memory.
+/// Currencies are numbered from 0, which is base, and threads from 1. Values are in base tickets times the unit.
+/// Nothing but `new` takes memory.
 #[derive(Drop)]
 pub struct Rounds {
     activity: Activity,
@@ -56,7 +56,7 @@ impl Model for Rounds {
 }
 
 impl Rounds {
-    /// Room for so many currencies, base among them, and so many threads. It fails only for want of memory.
+    /// Room for this many currencies, base among them, and this many threads. It fails only if memory runs out.
     pub fn new(alloc: Global, currencies: usize, threads: usize) -> Result<Rounds, AllocError>
         ensures currencies { IfOk result (λ r. length r.worths ≡ currencies) }
         ensures threads { IfOk result (λ r. length r.values ≡ threads) }
@@ -75,11 +75,11 @@ impl Rounds {
         })
     }
 
-    /// Lists what is active and what everything is worth in the funding that has these parts, by rounds over the tickets: for
-    /// activity and for values at most one each for each currency that there is room for.
+    /// Lists what is active and what everything is worth in the funding that has these parts, by rounds over the
+    /// tickets: at most one for activity and one for values for each currency that there is room for.
     ///
-    /// The room must do for all currencies and threads. Nothing may make a cycle, tickets fund only what is there, and base's
-    /// active tickets are worth less than 2 ^ 56 together: so no value passes 64 bits.
+    /// There must be room for all currencies and threads. Nothing may make a cycle, tickets may fund only what is
+    /// there, and base's active tickets together must be worth less than 2 ^ 56, so that no value passes 64 bits.
     pub fn settle(
         &mut self,
         currencies: &[Option<Name>],
@@ -142,8 +142,8 @@ impl Rounds {
         );
     }
 
-    /// Whether it would make a cycle if a ticket of this issuer funded the currency: it is the issuer, or a chain of tickets
-    /// leads from it to the issuer. What was listed is lost: `settle` lists it anew.
+    /// Whether it would make a cycle if a ticket of this issuer funded the currency: it is the issuer, or a chain of
+    /// tickets leads from it to the issuer. What was listed is lost: `settle` lists it anew.
     pub fn would_cycle(&mut self, tickets: &[Option<Ticket>], issuer: u32, currency: u32) -> bool
         requires issuer { issuer < length self.old.worths }
         requires currency { currency < length self.old.worths }
@@ -172,7 +172,7 @@ impl Rounds {
         target_leads(&self.activity.backed, &self.activity.active, ticket.target)
     }
 
-    /// What the ticket is worth, by what is listed, at the unit that was settled with: 0 where it isn't active.
+    /// What the ticket is worth, by what is listed, at the unit that was settled with: 0 if it isn't active.
     pub fn ticket_value(&self, unit: u32, ticket: Ticket) -> u64
         requires within { IsTicketWithin (length self.now.worths) (length self.now.values) ticket }
         requires small { listed_value unit self.now ticket < 2 ^ 64 }

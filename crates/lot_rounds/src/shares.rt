@@ -14,8 +14,8 @@ pub(crate) struct Activity {
     pub(crate) amounts: Vec<u64>,
 }
 
-/// Lists what currencies are worth, by rounds: what is worth something so far hands out shares in the next, until a round
-/// changes nothing.
+/// Lists what currencies are worth, by rounds: what is worth something after one round hands out shares in the next,
+/// until a round changes nothing.
 pub(crate) fn list_worths(
     tickets: &[Option<Ticket>],
     activity: &Activity,
@@ -131,7 +131,7 @@ fn add_to_thread(
     }
 }
 
-/// What a ticket is worth, where what currencies are worth is listed.
+/// What a ticket is worth, given the list of what currencies are worth.
 pub(crate) fn share(activity: &Activity, unit: u32, worths: &[u64], ticket: Ticket) -> u64
     requires sizes { IsOfSize activity.now (length worths.now) (vec_len activity.now.backed) }
     requires within { IsTicketWithin (length worths.now) (vec_len activity.now.backed) ticket }
@@ -148,7 +148,7 @@ pub(crate) fn share(activity: &Activity, unit: u32, worths: &[u64], ticket: Tick
     part(worths[issuer], ticket.amount, activity.amounts[issuer])
 }
 
-/// A whole times the amount, divided by the total and rounded down; nothing where the total is 0.
+/// A whole times the amount, divided by the total and rounded down; nothing if the total is 0.
 fn part(whole: u64, amount: u32, total: u64) -> u64
     requires { whole * amount / total < 2 ^ 64 }
     ensures { result ≡ whole * amount / total }

@@ -59,7 +59,7 @@ fn running(processor: u32) -> Status {
     Status::Running { processor, used: 0 }
 }
 
-/// So many currencies, all there.
+/// This many currencies, all there.
 fn currencies_there(alloc: Global, count: usize) -> Result<Vec<Option<Name>>, Fail> {
     let mut currencies = Vec::new(alloc);
     for _ in 0..count {
@@ -82,7 +82,7 @@ fn records_of(alloc: Global, statuses: &[Status]) -> Result<Vec<Record>, AllocEr
     Ok(records)
 }
 
-/// Whether the ticket, if there is one, funds a later currency than its issuer, one of so many threads, or nothing.
+/// Whether the ticket, if there is one, funds a later currency than its issuer, one of this many threads, or nothing.
 fn is_in_order(currencies: &[Option<Name>], threads: usize, ticket: Option<Ticket>) -> bool
     ensures within { result ≡ true → IfSome ticket (IsTicketWithin (length currencies.now) threads) }
     ensures later { result ≡ true → IfSome ticket (λ t. (c : ℕ) → t.target ≡ to.Currency c → (t.issuer < c) × (slice_get (map is_some currencies.now) c ≡ Some true)) }

@@ -7,16 +7,16 @@ use Rattle.lot_script.specs.declared.open_loops.OpenLoop.{OpenLoop}
 use Rattle.lot_script.specs.Places.{IsCopy, AreCopies}
 use Rattle.lot_script.proofs.Lists.{take-more}
 
--- one more in front of both
+-- one more before both
 pub copies-more : (xs ys : List OpenLoop) (x y : OpenLoop) → AreCopies (reverse xs) (reverse ys) → IsCopy x y → AreCopies (reverse (xs ++ x ∷ [])) (reverse (ys ++ y ∷ []))
 copies-more xs ys x y copies copy = rw (reverse-append xs (x ∷ []), reverse-append ys (y ∷ [])) (copy, copies)
 
--- those in front of two that aren't copies of each other
-copies-behind : (xs ys : List OpenLoop) (x y : OpenLoop) (front others : List OpenLoop) → length front ≡ length others → AreCopies (front ++ x ∷ xs) (others ++ y ∷ ys) → IsCopy x y
-copies-behind xs ys x y [] [] same copies = copies.0
-copies-behind xs ys x y [] (o ∷ others) same copies = absurd (omega (arith, same))
-copies-behind xs ys x y (f ∷ front) [] same copies = absurd (omega (arith, same))
-copies-behind xs ys x y (f ∷ front) (o ∷ others) same copies = copies-behind xs ys x y front others (omega (arith, same)) copies.1
+-- those before two that aren't copies of each other
+copies-after : (xs ys : List OpenLoop) (x y : OpenLoop) (front others : List OpenLoop) → length front ≡ length others → AreCopies (front ++ x ∷ xs) (others ++ y ∷ ys) → IsCopy x y
+copies-after xs ys x y [] [] same copies = copies.0
+copies-after xs ys x y [] (o ∷ others) same copies = absurd (omega (arith, same))
+copies-after xs ys x y (f ∷ front) [] same copies = absurd (omega (arith, same))
+copies-after xs ys x y (f ∷ front) (o ∷ others) same copies = copies-after xs ys x y front others (omega (arith, same)) copies.1
 
 pub copies-length : (loops firsts : List OpenLoop) → AreCopies loops firsts → length loops ≡ length firsts
 copies-length [] [] copies = refl
@@ -24,7 +24,7 @@ copies-length [] (f ∷ firsts) copies = absurd copies
 copies-length (o ∷ loops) [] copies = absurd copies
 copies-length (o ∷ loops) (f ∷ firsts) copies = ap suc (copies-length loops firsts copies.1)
 
--- as many, where they are copies
+-- as many, if they are copies
 pub copies-as_many : (loops firsts : List OpenLoop) → AreCopies (reverse loops) (reverse firsts) → length loops ≡ length firsts
 copies-as_many loops firsts copies = sym (length-reverse loops) ∙ copies-length (reverse loops) (reverse firsts) copies ∙ length-reverse firsts
 
@@ -41,9 +41,9 @@ around (y ∷ xs) (suc i) x is = ap (λ zs. y ∷ zs) (around xs i x is)
 pub copies-element : (xs ys : List OpenLoop) (i : ℕ) (x y : OpenLoop) → AreCopies (reverse xs) (reverse ys) → slice_get xs i ≡ Some x → slice_get ys i ≡ Some y → IsCopy x y
 copies-element xs ys i x y copies first second =
     let count : length xs ≡ length ys = copies-as_many xs ys copies in
-    let behind : length (reverse (drop (suc i) xs)) ≡ length (reverse (drop (suc i) ys)) =
+    let following : length (reverse (drop (suc i) xs)) ≡ length (reverse (drop (suc i) ys)) =
     length-reverse (drop (suc i) xs) ∙ length-drop (suc i) xs ∙ ap (λ n. n - suc i) count ∙ sym (length-drop (suc i) ys) ∙ sym (length-reverse (drop (suc i) ys)) in
-    copies-behind (reverse (take i xs)) (reverse (take i ys)) x y (reverse (drop (suc i) xs)) (reverse (drop (suc i) ys)) behind
+    copies-after (reverse (take i xs)) (reverse (take i ys)) x y (reverse (drop (suc i) xs)) (reverse (drop (suc i) ys)) following
     (rw (reverse-around xs i x (around xs i x first), reverse-around ys i y (around ys i y second)) at copies)
 
 -- the copies so far, and one more
@@ -54,7 +54,7 @@ copies-next xs ys i d copies first second copy =
     rw (next, take-more xs i (get_or xs i d) (slice_get-get_or xs i d first), take-more ys i (get_or ys i d) (slice_get-get_or ys i d second))
     (copies-more (take i xs) (take i ys) (get_or xs i d) (get_or ys i d) copies copy)
 
--- where one isn't a copy, they aren't
+-- if one isn't a copy, they aren't
 pub copies-there : (xs ys : List OpenLoop) (i : ℕ) (d : OpenLoop) → i < length xs → i < length ys → AreCopies (reverse xs) (reverse ys) → IsCopy (get_or xs i d) (get_or ys i d)
 copies-there xs ys i d first second copies = copies-element xs ys i (get_or xs i d) (get_or ys i d) copies (slice_get-get_or xs i d first) (slice_get-get_or ys i d second)
 

@@ -1,4 +1,4 @@
--- Lists, their fronts and what is behind them.
+-- Lists, their fronts and what comes after them.
 use Rattle.std.proofs.Common.{◌≡◌, ◌≤◌, ◌+◌, ◌-◌, ℕ, zero, suc, sym, ◌∙◌, Some, None, List, [], ◌∷◌, ◌++◌, length, take, drop, replicate, fold, refl, ap, arith, subst, Bool, true, false, cond}
 use Rattle.std.specs.Prelude.{slice_get, All}
 use Rattle.std.specs.List.{prefix_len}
@@ -6,8 +6,8 @@ use Rattle.std.proofs.lemmas.List.{drop-drop, take-append-le, drop-append-le, dr
 use Rattle.std.proofs.Math.Seq.{take-add}
 use Rattle.std.proofs.lemmas.List.Sums.{fold-append}
 use Rattle.std.proofs.lemmas.Option.{slice_get_within, get_or_from_slice_get}
-use Rattle.lot_machine.specs.Script.{Item, is_mark, accumulated}
-use Rattle.lot_machine.specs.Script.Item.{Work}
+use Rattle.lot_simulation.specs.Script.{Item, is_mark, accumulated}
+use Rattle.lot_simulation.specs.Script.Item.{Work}
 
 -- past the end there is no element
 pub slice_get_none : {X : Type 0} (xs : List X) (i : ℕ) → slice_get xs i ≡ None → length xs ≤ i
@@ -15,7 +15,7 @@ slice_get_none [] i is = omega arith
 slice_get_none (x ∷ xs) zero is = cc
 slice_get_none (x ∷ xs) (suc i) is = omega (arith, slice_get_none xs i is)
 
--- what is behind the first elements of the rest
+-- what comes after the first elements of the rest
 pub drop-add : {X : Type 0} (j k : ℕ) (xs : List X) → drop (j + k) xs ≡ drop k (drop j xs)
 drop-add j k xs = sym (drop-drop k j xs)
 
@@ -24,7 +24,7 @@ pub fold-take-add : {A B : Type 0} (f : B → A → B) (a : B) (j k : ℕ) (xs :
     → fold f a (take (j + k) xs) ≡ fold f (fold f a (take j xs)) (take k (drop j xs))
 fold-take-add f a j k xs = rw take-add (fold-append f a (take j xs) (take k (drop j xs)))
 
--- those that pass in front, and then those that pass behind them
+-- those that pass at the front, and then those that pass after them
 pub prefix_len_then : {X : Type 0} (p : X → Bool) (j k : ℕ) (xs : List X) → j ≤ prefix_len p xs → k ≤ prefix_len p (drop j xs) → j + k ≤ prefix_len p xs
 prefix_len_then p zero k xs first then = omega (arith, then)
 prefix_len_then p (suc j) k [] first then = absurd (omega (arith, first))
@@ -34,7 +34,7 @@ prefix_len_then {X} p (suc j) k (x ∷ xs) first then = at (λ fewer. prefix_len
     at others true h = let fewer : j ≤ prefix_len p xs = omega (arith, h) in omega (arith, others fewer)
     at others false h = absurd (omega (arith, h))
 
--- the first that doesn't pass ends those that pass in front
+-- the first that doesn't pass ends those that pass at the front
 pub prefix_len-stops : {X : Type 0} (p : X → Bool) (k : ℕ) (xs : List X) (x : X) (ys : List X) → drop k xs ≡ x ∷ ys → p x ≡ false → k ≤ prefix_len p xs → prefix_len p xs ≡ k
 prefix_len-stops p zero [] x ys is stops some = refl
 prefix_len-stops p zero (z ∷ xs) x ys is stops some = let same : z ≡ x = cc in rw (same, stops) refl
@@ -52,11 +52,11 @@ slice_get-drop zero (z ∷ xs) x ys is = let same : z ≡ x = cc in rw same refl
 slice_get-drop (suc k) [] x ys is = cc
 slice_get-drop (suc k) (z ∷ xs) x ys is = slice_get-drop k xs x ys is
 
--- an element is one that passes, where all do
+-- an element is one that passes, if all do
 pub All-element : {X : Type 0} (P : X → Type 0) (xs : List X) (i : ℕ) (x : X) → All P xs → slice_get xs i ≡ Some x → P x
 All-element P xs i x all is = subst P (get_or_from_slice_get xs i x x is) (all i x (slice_get_within xs i x is))
 
--- an element, and what is behind it
+-- an element, and what comes after it
 pub drop-element : {X : Type 0} (xs : List X) (i : ℕ) (x : X) → slice_get xs i ≡ Some x → drop i xs ≡ x ∷ drop (suc i) xs
 drop-element [] i x is = cc
 drop-element (y ∷ xs) zero x is = let same : y ≡ x = cc in rw same refl
@@ -68,15 +68,15 @@ take-more [] i x is = cc
 take-more (y ∷ xs) zero x is = let same : y ≡ x = cc in rw same refl
 take-more (y ∷ xs) (suc i) x is = ap (λ zs. y ∷ zs) (take-more xs i x is)
 
--- the first element behind some
-pub slice_get-behind : {X : Type 0} (k : ℕ) (xs : List X) → slice_get (drop k xs) 0 ≡ slice_get xs k
-slice_get-behind zero xs = refl
-slice_get-behind (suc k) [] = refl
-slice_get-behind (suc k) (x ∷ xs) = slice_get-behind k xs
+-- the first element after some
+pub slice_get-after : {X : Type 0} (k : ℕ) (xs : List X) → slice_get (drop k xs) 0 ≡ slice_get xs k
+slice_get-after zero xs = refl
+slice_get-after (suc k) [] = refl
+slice_get-after (suc k) (x ∷ xs) = slice_get-after k xs
 
 -- ---- marks of work
 
--- work in front is all marks
+-- work at the front is all marks
 pub marks_front : (m : ℕ) (xs : List Item) → m ≤ prefix_len is_mark (replicate m Work ++ xs)
 marks_front zero xs = omega arith
 marks_front (suc m) xs = omega (arith, marks_front m xs)
@@ -86,13 +86,13 @@ pub fold-work : (k a : ℕ) → fold accumulated a (replicate k Work) ≡ a
 fold-work zero a = refl
 fold-work (suc k) a = fold-work k a
 
--- the first marks of the work in front
+-- the first marks of the work at the front
 pub take-work : (k m : ℕ) (xs : List Item) → k ≤ m → take k (replicate m Work ++ xs) ≡ replicate k Work
 take-work k m xs h =
     let within : k ≤ length (replicate m Work) = rw length-replicate h in
     take-append-le k (replicate m Work) xs within ∙ take-replicate k m Work h
 
--- what is behind the first marks of the work in front
+-- what comes after the first marks of the work at the front
 pub drop-work : (k m : ℕ) (xs : List Item) → k ≤ m → drop k (replicate m Work ++ xs) ≡ replicate (m - k) Work ++ xs
 drop-work k m xs h =
     let within : k ≤ length (replicate m Work) = rw length-replicate h in

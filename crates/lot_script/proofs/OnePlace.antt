@@ -4,17 +4,17 @@ use Rattle.std.specs.Prelude.{slice_get, ⊤}
 use Rattle.std.proofs.lemmas.List.{take_all, drop_all}
 use Rattle.std.proofs.lemmas.Option.{slice_get_within}
 use Rattle.std.proofs.lemmas.Bool.{cases_lt}
-use Rattle.lot_machine.specs.declared.script.Line.{Line}
-use Rattle.lot_machine.specs.declared.script.Line.TheVariants as line
-use Rattle.lot_machine.specs.declared.script.ScriptTrap.TheVariants.{Yield, Call, Receive, Reply, Lock, Unlock, Exit}
-use Rattle.lot_machine.specs.Script.{unrolled}
-use Rattle.lot_machine.specs.Script.Item.{Traps}
+use Rattle.lot_simulation.specs.declared.script.Line.{Line}
+use Rattle.lot_simulation.specs.declared.script.Line.TheVariants as line
+use Rattle.lot_simulation.specs.declared.script.ScriptTrap.TheVariants.{Yield, Call, Receive, Reply, Lock, Unlock, Exit}
+use Rattle.lot_simulation.specs.Script.{unrolled}
+use Rattle.lot_simulation.specs.Script.Item.{Traps}
 use Rattle.lot_script.specs.declared.open_loops.OpenLoop.{OpenLoop}
-use Rattle.lot_script.specs.Drafts.{loops_behind, IsScript}
+use Rattle.lot_script.specs.Drafts.{loops_after, IsScript}
 use Rattle.lot_script.specs.Places.{Place, CanBeDone, AreCopies, Fits, Stands, first_place, open_after, open_at, rest_at, context_at}
 use Rattle.lot_script.proofs.Lists.{slice_get_none, drop-element, drop-add}
-use Rattle.lot_script.proofs.Opened.{open_at-next, encloses-there, copies-first, length-open_behind}
-use Rattle.lot_script.proofs.Passed.{stands-nests, stands-done, Fits-line, Passes-some, Passes-whole, Passes-set, Passes-add, Passes-loop, Passes-behind, Passes-again, Makes-line}
+use Rattle.lot_script.proofs.Opened.{open_at-next, encloses-there, copies-first, length-open_after_lines}
+use Rattle.lot_script.proofs.Passed.{stands-nests, stands-done, Fits-line, Passes-some, Passes-whole, Passes-set, Passes-add, Passes-loop, Passes-after, Passes-again, MakesTrap-line}
 use Rattle.lot_script.proofs.Reached.{some-there}
 
 first_same : {x y : OpenLoop} {xs ys : List OpenLoop} → x ∷ xs ≡ y ∷ ys → x ≡ y
@@ -305,7 +305,7 @@ stepped-end lines p (o ∷ outer) at is = of_left o.left refl
 
     of_left : (left : ℕ) → o.left ≡ left → (q : Place) × IsStepped lines p q
     of_left zero none =
-        let passes = Passes-behind lines p o outer at is none in
+        let passes = Passes-after lines p o outer at is none in
         (record p { line = p.line + 1; done = 0; loops = outer }, left_line lines p (record p { line = p.line + 1; done = 0; loops = outer }) line.End at.next refl refl (begun, (o, is, none)) passes.fits passes.rest)
     of_left (suc left) some =
         let passes = Passes-again lines p o outer at is (omega (arith, some)) in
@@ -330,34 +330,34 @@ stepped lines p (line.Add n) at =
     (_, left_line lines p _ (line.Add n) at.next refl refl (stands-done lines p (line.Add n) at, refl) passes.fits passes.rest)
 stepped lines p line.Yield at =
     let q : Place = record p { line = p.line + 1; done = 0 } in
-    let makes = Makes-line lines p line.Yield Yield at refl in
+    let makes = MakesTrap-line lines p line.Yield Yield at refl in
     (q, left_line lines p q line.Yield at.next refl refl (stands-done lines p line.Yield at, refl) makes.fits makes.rest)
 stepped lines p (line.Call n) at =
     let q : Place = record p { line = p.line + 1; done = 0 } in
-    let makes = Makes-line lines p (line.Call n) (Call n) at refl in
+    let makes = MakesTrap-line lines p (line.Call n) (Call n) at refl in
     (q, left_line lines p q (line.Call n) at.next refl refl (stands-done lines p (line.Call n) at, refl) makes.fits makes.rest)
 stepped lines p (line.Receive n) at =
     let q : Place = record p { line = p.line + 1; done = 0 } in
-    let makes = Makes-line lines p (line.Receive n) (Receive n) at refl in
+    let makes = MakesTrap-line lines p (line.Receive n) (Receive n) at refl in
     (q, left_line lines p q (line.Receive n) at.next refl refl (stands-done lines p (line.Receive n) at, refl) makes.fits makes.rest)
 stepped lines p line.Reply at =
     let q : Place = record p { line = p.line + 1; done = 0 } in
-    let makes = Makes-line lines p line.Reply Reply at refl in
+    let makes = MakesTrap-line lines p line.Reply Reply at refl in
     (q, left_line lines p q line.Reply at.next refl refl (stands-done lines p line.Reply at, refl) makes.fits makes.rest)
 stepped lines p (line.Lock n) at =
     let q : Place = record p { line = p.line + 1; done = 0 } in
-    let makes = Makes-line lines p (line.Lock n) (Lock n) at refl in
+    let makes = MakesTrap-line lines p (line.Lock n) (Lock n) at refl in
     (q, left_line lines p q (line.Lock n) at.next refl refl (stands-done lines p (line.Lock n) at, refl) makes.fits makes.rest)
 stepped lines p (line.Unlock n) at =
     let q : Place = record p { line = p.line + 1; done = 0 } in
-    let makes = Makes-line lines p (line.Unlock n) (Unlock n) at refl in
+    let makes = MakesTrap-line lines p (line.Unlock n) (Unlock n) at refl in
     (q, left_line lines p q (line.Unlock n) at.next refl refl (stands-done lines p (line.Unlock n) at, refl) makes.fits makes.rest)
 
 -- ---- the last place
 
 -- after the last line no loop is open
 none-open : (lines : List Line) (i : ℕ) → IsScript lines → length lines ≤ i → length (open_at lines i) ≡ 0
-none-open lines i script past = length-open_behind 0 [] (take i lines) ∙ ap (λ ls. fold loops_behind 0 ls) (take_all i lines past) ∙ script.closed
+none-open lines i script past = length-open_after_lines 0 [] (take i lines) ∙ ap (λ ls. fold loops_after 0 ls) (take_all i lines past) ∙ script.closed
 
 no-copies : (loops firsts : List OpenLoop) → AreCopies loops firsts → length firsts ≡ 0 → loops ≡ []
 no-copies [] firsts copies none = refl
@@ -389,7 +389,7 @@ same-spot lines (suc n) p r script fits other one two =
     fewer : (q s : Place) → IsStepped lines q s → length (rest_at lines q) ≡ suc n → length (rest_at lines s) ≡ n
     fewer q s next count = ap length next.rest ∙ length-drop 1 (rest_at lines q) ∙ omega (arith, count)
 
-    -- of two places where as much is left, one is last only if the other is
+    -- of two places with as much left, one is last only if the other is
     ended : (q s t : Place) → IsLast lines q → IsStepped lines s t → length (rest_at lines q) ≡ suc n → length (rest_at lines s) ≡ suc n → ⊥
     ended q s t last next a b = omega (arith, ap length last.rest, a, fewer s t next b, some-there lines t script next.fits)
 

@@ -2,17 +2,17 @@
 use Rattle.std.proofs.Common.{◌≡◌, ◌≤◌, ◌+◌, ℕ, zero, suc, ◌∙◌, Option, Some, None, List, [], ◌∷◌, length, take, drop, fold, refl, ap, arith}
 use Rattle.std.specs.Prelude.{slice_get, ⊤}
 use Rattle.std.proofs.lemmas.Option.{slice_get_within}
-use Rattle.lot_machine.specs.declared.script.Line.{Line}
-use Rattle.lot_machine.specs.declared.script.Line.TheVariants as line
-use Rattle.lot_machine.specs.Script.{Item, pieces}
+use Rattle.lot_simulation.specs.declared.script.Line.{Line}
+use Rattle.lot_simulation.specs.declared.script.Line.TheVariants as line
+use Rattle.lot_simulation.specs.Script.{Item, pieces}
 use Rattle.lot_script.specs.declared.open_loops.OpenLoop.{OpenLoop}
-use Rattle.lot_script.specs.Drafts.{loops_behind, CanNest, IsScript}
-use Rattle.lot_script.specs.Places.{open_after, open_behind, open_at, IsCopy, AreCopies}
+use Rattle.lot_script.specs.Drafts.{loops_after, CanNest, IsScript}
+use Rattle.lot_script.specs.Places.{open_after, open_after_lines, open_at, IsCopy, AreCopies}
 use Rattle.lot_script.proofs.Lists.{drop-element, slice_get_none}
 use Rattle.lot_script.proofs.Nesting.{Nests-line}
 
 -- as many are open as are counted
-length-open_after : (i : ℕ) (l : Line) (loops : List OpenLoop) → length (open_after i l loops) ≡ loops_behind (length loops) l
+length-open_after : (i : ℕ) (l : Line) (loops : List OpenLoop) → length (open_after i l loops) ≡ loops_after (length loops) l
 length-open_after i (line.Loop n) loops = omega arith
 length-open_after i line.End [] = refl
 length-open_after i line.End (o ∷ loops) = omega arith
@@ -26,37 +26,37 @@ length-open_after i line.Reply loops = refl
 length-open_after i (line.Lock n) loops = refl
 length-open_after i (line.Unlock n) loops = refl
 
-pub length-open_behind : (i : ℕ) (loops : List OpenLoop) (lines : List Line) → length (open_behind i loops lines) ≡ fold loops_behind (length loops) lines
-length-open_behind i loops [] = refl
-length-open_behind i loops (l ∷ lines) =
-    length-open_behind (i + 1) (open_after i l loops) lines ∙ ap (λ count. fold loops_behind count lines) (length-open_after i l loops)
+pub length-open_after_lines : (i : ℕ) (loops : List OpenLoop) (lines : List Line) → length (open_after_lines i loops lines) ≡ fold loops_after (length loops) lines
+length-open_after_lines i loops [] = refl
+length-open_after_lines i loops (l ∷ lines) =
+    length-open_after_lines (i + 1) (open_after i l loops) lines ∙ ap (λ count. fold loops_after count lines) (length-open_after i l loops)
 
 -- each line nests in the loops that are open there
 pub nests-there : (lines : List Line) (i : ℕ) (l : Line) → IsScript lines → slice_get lines i ≡ Some l → CanNest (length (open_at lines i)) l
-nests-there lines i l script is = rw (length-open_behind 0 [] (take i lines)) (Nests-line 0 lines i l script.nests is)
+nests-there lines i l script is = rw (length-open_after_lines 0 [] (take i lines)) (Nests-line 0 lines i l script.nests is)
 
 -- one line further
-open_behind-next : (k : ℕ) (loops : List OpenLoop) (lines : List Line) (i : ℕ) (l : Line) → slice_get lines i ≡ Some l
-    → open_behind k loops (take (suc i) lines) ≡ open_after (k + i) l (open_behind k loops (take i lines))
-open_behind-next k loops [] i l is = cc
-open_behind-next k loops (x ∷ lines) zero l is =
+open_after_lines-next : (k : ℕ) (loops : List OpenLoop) (lines : List Line) (i : ℕ) (l : Line) → slice_get lines i ≡ Some l
+    → open_after_lines k loops (take (suc i) lines) ≡ open_after (k + i) l (open_after_lines k loops (take i lines))
+open_after_lines-next k loops [] i l is = cc
+open_after_lines-next k loops (x ∷ lines) zero l is =
     let same : x ≡ l = cc in
     let here : k + 0 ≡ k = omega arith in
     rw (same, here) refl
-open_behind-next k loops (x ∷ lines) (suc i) l is =
+open_after_lines-next k loops (x ∷ lines) (suc i) l is =
     let here : k + 1 + i ≡ k + suc i = omega arith in
-    open_behind-next (k + 1) (open_after k x loops) lines i l is ∙ ap (λ j. open_after j l (open_behind (k + 1) (open_after k x loops) (take i lines))) here
+    open_after_lines-next (k + 1) (open_after k x loops) lines i l is ∙ ap (λ j. open_after j l (open_after_lines (k + 1) (open_after k x loops) (take i lines))) here
 
 first : (i : ℕ) → 0 + i ≡ i
 first i = omega arith
 
 pub open_at-next : (lines : List Line) (i j : ℕ) (l : Line) → slice_get lines i ≡ Some l → j ≡ i + 1 → open_at lines j ≡ open_after i l (open_at lines i)
 open_at-next lines i j l is next =
-    let behind : j ≡ suc i = omega (arith, next) in
-    rw behind (open_behind-next 0 [] lines i l is ∙ ap (λ k. open_after k l (open_at lines i)) (first i))
+    let following : j ≡ suc i = omega (arith, next) in
+    rw following (open_after_lines-next 0 [] lines i l is ∙ ap (λ k. open_after k l (open_at lines i)) (first i))
 
--- The loops enclose a place in front of which these pieces are still to come: behind the body of each the same pieces come,
--- it begins within the lines, and there it and those around it are open.
+-- The loops enclose a place at which these pieces are still to come: after the body of each the same pieces come, it
+-- begins within the lines, and there it and those around it are open.
 abbrev pub Encloses : List Line → List (List Item) → List OpenLoop → Type 0
 Encloses lines others [] = ⊤
 Encloses lines others (o ∷ loops) =

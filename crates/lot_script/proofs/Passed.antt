@@ -5,15 +5,15 @@ use Rattle.std.specs.List.{prefix_len}
 use Rattle.std.proofs.lemmas.List.{drop_all}
 use Rattle.std.proofs.lemmas.Option.{slice_get_within}
 use Rattle.std.proofs.lemmas.Bool.{cases_lt}
-use Rattle.lot_machine.specs.declared.script.Line.{Line}
-use Rattle.lot_machine.specs.declared.script.Line.TheVariants as line
-use Rattle.lot_machine.specs.declared.script.ScriptTrap.{ScriptTrap}
-use Rattle.lot_machine.specs.declared.script.ScriptTrap.TheVariants.{Yield, Call, Receive, Reply, Lock, Unlock, Exit}
-use Rattle.lot_machine.specs.Script.{Item, pieces, items_of, is_mark, rest_after, accumulated}
-use Rattle.lot_machine.specs.Script.Item.{Work, Set, Add, Traps}
+use Rattle.lot_simulation.specs.declared.script.Line.{Line}
+use Rattle.lot_simulation.specs.declared.script.Line.TheVariants as line
+use Rattle.lot_simulation.specs.declared.script.ScriptTrap.{ScriptTrap}
+use Rattle.lot_simulation.specs.declared.script.ScriptTrap.TheVariants.{Yield, Call, Receive, Reply, Lock, Unlock, Exit}
+use Rattle.lot_simulation.specs.Script.{Item, pieces, items_of, is_mark, rest_after, accumulated}
+use Rattle.lot_simulation.specs.Script.Item.{Work, Set, Add, Traps}
 use Rattle.lot_script.specs.declared.open_loops.OpenLoop.{OpenLoop}
 use Rattle.lot_script.specs.Drafts.{IsLine, CanNest, IsScript}
-use Rattle.lot_script.specs.Places.{Place, CanBeDone, IsCopy, AreCopies, Fits, Stands, Passes, Makes, open_at, left_of, rest_at}
+use Rattle.lot_script.specs.Places.{Place, CanBeDone, IsCopy, AreCopies, Fits, Stands, Passes, MakesTrap, open_at, left_of, rest_at}
 use Rattle.lot_script.proofs.Lists.{slice_get_none, drop-element, All-element, drop-add, fold-take-add, prefix_len_then, marks_front, fold-work, take-work, drop-work}
 use Rattle.lot_script.proofs.Copies.{copies-length}
 use Rattle.lot_script.proofs.Opened.{open_at-next, nests-there, encloses-there, copies-first}
@@ -57,7 +57,7 @@ Fits-line lines i a loops script within copies = record {
   loops = copies;
 }
 
--- behind a plain line the same loops are open
+-- after a plain line the same loops are open
 open_at-plain : (lines : List Line) (p : Place) (l : Line) → IsPlain l → Stands lines p l → open_at lines (p.line + 1) ≡ open_at lines p.line
 open_at-plain lines p (line.Loop n) plain at = absurd plain
 open_at-plain lines p line.End plain at = absurd plain
@@ -74,10 +74,10 @@ open_at-plain lines p (line.Unlock n) plain at = open_at-next lines p.line (p.li
 next-within : (lines : List Line) (p : Place) (l : Line) → Stands lines p l → p.line + 1 ≤ length lines
 next-within lines p l at = omega (arith, slice_get_within lines p.line l at.next)
 
--- the beginning of the line behind a plain one fits
-Fits-behind : (lines : List Line) (p : Place) (l : Line) (a : ℕ) → IsPlain l → Stands lines p l
+-- the beginning of the line after a plain one fits
+Fits-after : (lines : List Line) (p : Place) (l : Line) (a : ℕ) → IsPlain l → Stands lines p l
     → Fits lines (record { line = p.line + 1; done = 0; loops = p.loops; accumulator = a })
-Fits-behind lines p l a plain at = Fits-line lines (p.line + 1) a p.loops at.script (next-within lines p l at) (rw (open_at-plain lines p l plain at) at.fits.loops)
+Fits-after lines p l a plain at = Fits-line lines (p.line + 1) a p.loops at.script (next-within lines p l at) (rw (open_at-plain lines p l plain at) at.fits.loops)
 
 -- ---- what is left
 
@@ -86,10 +86,10 @@ pub rest_at-begun : (lines : List Line) (p : Place) (l : Line) → Stands lines 
     → rest_at lines p ≡ left_of lines (pieces (l ∷ drop (suc p.line) lines)) p.loops
 rest_at-begun lines p l at none = rw (none, drop-element lines p.line l at.next) refl
 
--- what is left behind it
-rest_at-behind : (lines : List Line) (i a : ℕ) (loops : List OpenLoop)
+-- what is left after it
+rest_at-after : (lines : List Line) (i a : ℕ) (loops : List OpenLoop)
     → rest_at lines (record { line = i + 1; done = 0; loops = loops; accumulator = a }) ≡ left_of lines (pieces (drop (suc i) lines)) loops
-rest_at-behind lines i a loops = let next : i + 1 ≡ suc i = omega arith in rw next refl
+rest_at-after lines i a loops = let next : i + 1 ≡ suc i = omega arith in rw next refl
 
 -- what is left at a plain line
 pub rest_at-plain : (lines : List Line) (p : Place) (l : Line) → IsPlain l → Stands lines p l → p.done ≡ 0
@@ -101,10 +101,10 @@ pub rest_at-compute : (lines : List Line) (p : Place) (n : ℕ) → slice_get li
     → rest_at lines p ≡ replicate (n - p.done) Work ++ left_of lines (pieces (drop (suc p.line) lines)) p.loops
 rest_at-compute lines p n is some =
     let within : p.done ≤ n = omega arith in
-    let behind : List Line = drop (suc p.line) lines in
+    let following : List Line = drop (suc p.line) lines in
     ap (λ ls. drop p.done (left_of lines (pieces ls) p.loops)) (drop-element lines p.line (line.Compute n) is)
-    ∙ ap (λ items. drop p.done items) (left_of-plain lines (line.Compute n) behind p.loops tt)
-    ∙ drop-work p.done n (left_of lines (pieces behind) p.loops) within
+    ∙ ap (λ items. drop p.done items) (left_of-plain lines (line.Compute n) following p.loops tt)
+    ∙ drop-work p.done n (left_of lines (pieces following) p.loops) within
 
 -- ---- marks
 
@@ -138,15 +138,15 @@ Passes-one lines p q item fits rest mark accumulator = record {
 pub Passes-set : (lines : List Line) (p : Place) (n : ℕ) → Stands lines p (line.Set n)
     → Passes lines p (record p { line = p.line + 1; done = 0; accumulator = n }) 1
 Passes-set lines p n at =
-    Passes-one lines p (record p { line = p.line + 1; done = 0; accumulator = n }) (Set n) (Fits-behind lines p (line.Set n) n tt at)
-    (rest_at-plain lines p (line.Set n) tt at (stands-done lines p (line.Set n) at) ∙ ap (λ items. Set n ∷ items) (sym (rest_at-behind lines p.line n p.loops))) refl refl
+    Passes-one lines p (record p { line = p.line + 1; done = 0; accumulator = n }) (Set n) (Fits-after lines p (line.Set n) n tt at)
+    (rest_at-plain lines p (line.Set n) tt at (stands-done lines p (line.Set n) at) ∙ ap (λ items. Set n ∷ items) (sym (rest_at-after lines p.line n p.loops))) refl refl
 
 pub Passes-add : (lines : List Line) (p : Place) (n : ℕ) → Stands lines p (line.Add n)
     → Passes lines p (record p { line = p.line + 1; done = 0; accumulator = (p.accumulator + n) % 4294967296 }) 1
 Passes-add lines p n at =
     let sum : ℕ = (p.accumulator + n) % 4294967296 in
-    Passes-one lines p (record p { line = p.line + 1; done = 0; accumulator = sum }) (Add n) (Fits-behind lines p (line.Add n) sum tt at)
-    (rest_at-plain lines p (line.Add n) tt at (stands-done lines p (line.Add n) at) ∙ ap (λ items. Add n ∷ items) (sym (rest_at-behind lines p.line sum p.loops))) refl refl
+    Passes-one lines p (record p { line = p.line + 1; done = 0; accumulator = sum }) (Add n) (Fits-after lines p (line.Add n) sum tt at)
+    (rest_at-plain lines p (line.Add n) tt at (stands-done lines p (line.Add n) at) ∙ ap (λ items. Add n ∷ items) (sym (rest_at-after lines p.line sum p.loops))) refl refl
 
 -- a loop is entered
 pub Passes-loop : (lines : List Line) (p : Place) (n : ℕ) → Stands lines p (line.Loop n)
@@ -161,13 +161,13 @@ Passes-loop lines p n at =
     (Fits-line lines (p.line + 1) p.accumulator (o ∷ p.loops) at.script (next-within lines p (line.Loop n) at) copies)
     (rest_at-begun lines p (line.Loop n) at (stands-done lines p (line.Loop n) at)
     ∙ left_of-loop lines n (drop (suc p.line) lines) o p.loops (ap (λ i. drop i lines) next) count
-    ∙ ap (λ items. Work ∷ items) (sym (rest_at-behind lines p.line p.accumulator (o ∷ p.loops))))
+    ∙ ap (λ items. Work ∷ items) (sym (rest_at-after lines p.line p.accumulator (o ∷ p.loops))))
     refl refl
 
 -- a loop is left
-pub Passes-behind : (lines : List Line) (p : Place) (o : OpenLoop) (outer : List OpenLoop) → Stands lines p line.End → p.loops ≡ o ∷ outer → o.left ≡ 0
+pub Passes-after : (lines : List Line) (p : Place) (o : OpenLoop) (outer : List OpenLoop) → Stands lines p line.End → p.loops ≡ o ∷ outer → o.left ≡ 0
     → Passes lines p (record p { line = p.line + 1; done = 0; loops = outer }) 1
-Passes-behind lines p o outer at loops none =
+Passes-after lines p o outer at loops none =
     let first = copies-first o outer (open_at lines p.line) (subst (λ l. AreCopies l (open_at lines p.line)) loops at.fits.loops) in
     let copies : AreCopies outer (open_at lines (p.line + 1)) = rw (open_at-next lines p.line (p.line + 1) line.End at.next refl, first.2) first.4 in
     Passes-one lines p (record p { line = p.line + 1; done = 0; loops = outer }) Work
@@ -175,7 +175,7 @@ Passes-behind lines p o outer at loops none =
     (rest_at-begun lines p line.End at (stands-done lines p line.End at)
     ∙ ap (λ l. left_of lines (pieces (line.End ∷ drop (suc p.line) lines)) l) loops
     ∙ left_of-end lines (drop (suc p.line) lines) o outer none
-    ∙ ap (λ items. Work ∷ items) (sym (rest_at-behind lines p.line p.accumulator outer)))
+    ∙ ap (λ items. Work ∷ items) (sym (rest_at-after lines p.line p.accumulator outer)))
     refl refl
 
 -- a loop goes round again
@@ -203,16 +203,16 @@ pub Passes-some : (lines : List Line) (p : Place) (n k : ℕ) → Stands lines p
     → Passes lines p (record p { done = p.done + k }) k
 Passes-some lines p n k at within =
     let left : p.done < n = omega arith in
-    let behind : List Item = left_of lines (pieces (drop (suc p.line) lines)) p.loops in
-    let old_rest : rest_at lines p ≡ replicate (n - p.done) Work ++ behind = rest_at-compute lines p n at.next left in
-    let new_rest : rest_at lines (record p { done = p.done + k }) ≡ replicate (n - (p.done + k)) Work ++ behind = rest_at-compute lines (record p { done = p.done + k }) n at.next within in
+    let following : List Item = left_of lines (pieces (drop (suc p.line) lines)) p.loops in
+    let old_rest : rest_at lines p ≡ replicate (n - p.done) Work ++ following = rest_at-compute lines p n at.next left in
+    let new_rest : rest_at lines (record p { done = p.done + k }) ≡ replicate (n - (p.done + k)) Work ++ following = rest_at-compute lines (record p { done = p.done + k }) n at.next within in
     let fewer : k ≤ n - p.done = omega arith in
     let less : n - p.done - k ≡ n - (p.done + k) = omega arith in
     record {
       fits = record { line = at.fits.line; done = rw at.next within; loops = at.fits.loops };
-      marks = rw old_rest (omega (arith, marks_front (n - p.done) behind));
-      rest = rw (old_rest, new_rest, drop-work k (n - p.done) behind fewer, less) refl;
-      accumulator = rw (old_rest, take-work k (n - p.done) behind fewer, fold-work k p.accumulator) refl;
+      marks = rw old_rest (omega (arith, marks_front (n - p.done) following));
+      rest = rw (old_rest, new_rest, drop-work k (n - p.done) following fewer, less) refl;
+      accumulator = rw (old_rest, take-work k (n - p.done) following fewer, fold-work k p.accumulator) refl;
     }
 
 -- the rest of a `compute` is passed
@@ -220,15 +220,15 @@ pub Passes-whole : (lines : List Line) (p : Place) (n : ℕ) → Stands lines p 
     → Passes lines p (record p { line = p.line + 1; done = 0 }) (n - p.done)
 Passes-whole lines p n at =
     let left : p.done < n = stands-done lines p (line.Compute n) at in
-    let behind : List Item = left_of lines (pieces (drop (suc p.line) lines)) p.loops in
-    let old_rest : rest_at lines p ≡ replicate (n - p.done) Work ++ behind = rest_at-compute lines p n at.next left in
+    let following : List Item = left_of lines (pieces (drop (suc p.line) lines)) p.loops in
+    let old_rest : rest_at lines p ≡ replicate (n - p.done) Work ++ following = rest_at-compute lines p n at.next left in
     let all : n - p.done ≤ n - p.done = omega arith in
     let none : n - p.done - (n - p.done) ≡ 0 = omega arith in
     record {
-      fits = Fits-behind lines p (line.Compute n) p.accumulator tt at;
-      marks = rw old_rest (marks_front (n - p.done) behind);
-      rest = rw (old_rest, drop-work (n - p.done) (n - p.done) behind all, none) (rest_at-behind lines p.line p.accumulator p.loops);
-      accumulator = rw (old_rest, take-work (n - p.done) (n - p.done) behind all, fold-work (n - p.done) p.accumulator) refl;
+      fits = Fits-after lines p (line.Compute n) p.accumulator tt at;
+      marks = rw old_rest (marks_front (n - p.done) following);
+      rest = rw (old_rest, drop-work (n - p.done) (n - p.done) following all, none) (rest_at-after lines p.line p.accumulator p.loops);
+      accumulator = rw (old_rest, take-work (n - p.done) (n - p.done) following all, fold-work (n - p.done) p.accumulator) refl;
     }
 
 -- ---- traps
@@ -262,37 +262,37 @@ trap-done (line.Lock n) t done is can = can
 trap-done (line.Unlock n) t done is can = can
 
 -- it is passed
-trap-behind : (l : Line) (t : ScriptTrap) (rest : List Item) → items_of l ≡ Traps t ∷ [] → rest_after (Traps t ∷ rest) (Some t) ≡ rest
-trap-behind (line.Compute zero) t rest is = cc
-trap-behind (line.Compute (suc n)) t rest is = cc
-trap-behind (line.Loop n) t rest is = cc
-trap-behind line.End t rest is = cc
-trap-behind (line.Set n) t rest is = cc
-trap-behind (line.Add n) t rest is = cc
-trap-behind line.Yield t rest is = let same : t ≡ Yield = cc in rw same refl
-trap-behind (line.Call n) t rest is = let same : t ≡ Call n = cc in rw same refl
-trap-behind (line.Receive n) t rest is = let same : t ≡ Receive n = cc in rw same refl
-trap-behind line.Reply t rest is = let same : t ≡ Reply = cc in rw same refl
-trap-behind (line.Lock n) t rest is = let same : t ≡ Lock n = cc in rw same refl
-trap-behind (line.Unlock n) t rest is = let same : t ≡ Unlock n = cc in rw same refl
+trap-after : (l : Line) (t : ScriptTrap) (rest : List Item) → items_of l ≡ Traps t ∷ [] → rest_after (Traps t ∷ rest) (Some t) ≡ rest
+trap-after (line.Compute zero) t rest is = cc
+trap-after (line.Compute (suc n)) t rest is = cc
+trap-after (line.Loop n) t rest is = cc
+trap-after line.End t rest is = cc
+trap-after (line.Set n) t rest is = cc
+trap-after (line.Add n) t rest is = cc
+trap-after line.Yield t rest is = let same : t ≡ Yield = cc in rw same refl
+trap-after (line.Call n) t rest is = let same : t ≡ Call n = cc in rw same refl
+trap-after (line.Receive n) t rest is = let same : t ≡ Receive n = cc in rw same refl
+trap-after line.Reply t rest is = let same : t ≡ Reply = cc in rw same refl
+trap-after (line.Lock n) t rest is = let same : t ≡ Lock n = cc in rw same refl
+trap-after (line.Unlock n) t rest is = let same : t ≡ Unlock n = cc in rw same refl
 
 -- the trap of a line is made
-pub Makes-line : (lines : List Line) (p : Place) (l : Line) (t : ScriptTrap) → Stands lines p l → items_of l ≡ Traps t ∷ []
-    → Makes lines p (record p { line = p.line + 1; done = 0 }) t
-Makes-line lines p l t at is =
+pub MakesTrap-line : (lines : List Line) (p : Place) (l : Line) (t : ScriptTrap) → Stands lines p l → items_of l ≡ Traps t ∷ []
+    → MakesTrap lines p (record p { line = p.line + 1; done = 0 }) t
+MakesTrap-line lines p l t at is =
     let plain : IsPlain l = trap-plain l t is in
-    let behind : List Item = left_of lines (pieces (drop (suc p.line) lines)) p.loops in
-    let here : rest_at lines p ≡ Traps t ∷ behind = rest_at-plain lines p l plain at (trap-done l t p.done is (stands-done lines p l at)) ∙ ap (λ items. items ++ behind) is in
+    let following : List Item = left_of lines (pieces (drop (suc p.line) lines)) p.loops in
+    let here : rest_at lines p ≡ Traps t ∷ following = rest_at-plain lines p l plain at (trap-done l t p.done is (stands-done lines p l at)) ∙ ap (λ items. items ++ following) is in
     record {
-      fits = Fits-behind lines p l p.accumulator plain at;
+      fits = Fits-after lines p l p.accumulator plain at;
       stands = rw here refl;
-      rest = rest_at-behind lines p.line p.accumulator p.loops ∙ sym (ap (λ items. rest_after items (Some t)) here ∙ trap-behind l t behind is);
+      rest = rest_at-after lines p.line p.accumulator p.loops ∙ sym (ap (λ items. rest_after items (Some t)) here ∙ trap-after l t following is);
       accumulator = refl;
     }
 
--- behind the last line the exit is made
-pub Makes-exit : (lines : List Line) (p : Place) → Fits lines p → slice_get lines p.line ≡ None → Makes lines p p Exit
-Makes-exit lines p fits none =
+-- after the last line the exit is made
+pub MakesTrap-exit : (lines : List Line) (p : Place) → Fits lines p → slice_get lines p.line ≡ None → MakesTrap lines p p Exit
+MakesTrap-exit lines p fits none =
     let past : length lines ≤ p.line = slice_get_none lines p.line none in
     let undone : p.done ≡ 0 = subst (λ l. CanBeDone l p.done) none fits.done in
     let exit = left_of-exit lines p.loops in
@@ -301,7 +301,7 @@ Makes-exit lines p fits none =
 
 -- ---- what is made or passed at a line, for the code's own goals
 
--- of a `compute` as much as is left, and at most so much
+-- of a `compute` as much as is left, and at most this much
 pub Passes-compute : (lines : List Line) (p q : Place) (n most k : ℕ) → Stands lines p (line.Compute n) → k ≡ min most (n - p.done)
     → (most < n - p.done → q ≡ record p { done = p.done + most }) → (n - p.done ≤ most → q ≡ record p { line = p.line + 1; done = 0 }) → Passes lines p q k
 Passes-compute lines p q n most k at count some all = either (cases_lt most (n - p.done))
@@ -318,13 +318,13 @@ Passes-compute lines p q n most k at count some all = either (cases_lt most (n -
 pub Passes-end : (lines : List Line) (p q : Place) → Stands lines p line.End
     → ((o : OpenLoop) (outer : List OpenLoop) → p.loops ≡ o ∷ outer → 0 < o.left → q ≡ record p { line = o.body; done = 0; loops = record o { left = o.left - 1 } ∷ outer })
     → ((o : OpenLoop) (outer : List OpenLoop) → p.loops ≡ o ∷ outer → o.left ≡ 0 → q ≡ record p { line = p.line + 1; done = 0; loops = outer }) → Passes lines p q 1
-Passes-end lines p q at again behind = of_loops p.loops refl
+Passes-end lines p q at again following = of_loops p.loops refl
   where
     of_left : (o : OpenLoop) (outer : List OpenLoop) → p.loops ≡ o ∷ outer → (0 < o.left) ⊎ (o.left ≤ 0) → Passes lines p q 1
     of_left o outer loops (inl some) = rw (again o outer loops some) (Passes-again lines p o outer at loops some)
     of_left o outer loops (inr none) =
         let zero_left : o.left ≡ 0 = omega (arith, none) in
-        rw (behind o outer loops zero_left) (Passes-behind lines p o outer at loops zero_left)
+        rw (following o outer loops zero_left) (Passes-after lines p o outer at loops zero_left)
 
     of_loops : (loops : List OpenLoop) → p.loops ≡ loops → Passes lines p q 1
     of_loops [] none = let some : 0 < length p.loops = stands-nests lines p line.End at in absurd (omega (arith, some, ap length none))

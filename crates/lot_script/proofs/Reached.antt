@@ -2,26 +2,26 @@
 use Rattle.std.proofs.Common.{◌≡◌, ◌<◌, ◌≤◌, ◌+◌, ◌-◌, ℕ, zero, suc, ◌∙◌, Option, Some, None, List, [], ◌∷◌, ◌++◌, length, take, drop, refl, ap, arith, subst, append_assoc, length-append, option_and_then}
 use Rattle.std.specs.Prelude.{slice_get}
 use Rattle.std.proofs.lemmas.List.{take-append-drop, length-replicate}
-use Rattle.lot_machine.specs.declared.script.Line.{Line}
-use Rattle.lot_machine.specs.declared.script.Line.TheVariants as line
-use Rattle.lot_machine.specs.declared.script.ScriptTrap.{ScriptTrap}
-use Rattle.lot_machine.specs.declared.script.ScriptTrap.TheVariants.{Yield, Call, Receive, Reply, Lock, Unlock, Exit}
-use Rattle.lot_machine.specs.Script.{Item, Pieces, pieces, items_of, trap_of, unrolled}
-use Rattle.lot_machine.specs.Script.Item.{Work, Set, Add, Traps}
+use Rattle.lot_simulation.specs.declared.script.Line.{Line}
+use Rattle.lot_simulation.specs.declared.script.Line.TheVariants as line
+use Rattle.lot_simulation.specs.declared.script.ScriptTrap.{ScriptTrap}
+use Rattle.lot_simulation.specs.declared.script.ScriptTrap.TheVariants.{Yield, Call, Receive, Reply, Lock, Unlock, Exit}
+use Rattle.lot_simulation.specs.Script.{Item, Pieces, pieces, items_of, trap_of, unrolled}
+use Rattle.lot_simulation.specs.Script.Item.{Work, Set, Add, Traps}
 use Rattle.lot_script.specs.declared.open_loops.OpenLoop.{OpenLoop}
 use Rattle.lot_script.specs.Drafts.{IsLine, IsScript}
 use Rattle.lot_script.specs.Places.{Place, Fits, Stands, AreCopies, IsRestOf, open_after, open_at, left_of, rest_at}
 use Rattle.lot_script.proofs.Lists.{slice_get_none, drop-element, All-element}
 use Rattle.lot_script.proofs.Opened.{open_at-next, nests-there}
-use Rattle.lot_script.proofs.Passed.{stands-done, stands-good, stands-nests, rest_at-begun, rest_at-plain, rest_at-compute, Makes-exit}
+use Rattle.lot_script.proofs.Passed.{stands-done, stands-good, stands-nests, rest_at-begun, rest_at-plain, rest_at-compute, MakesTrap-exit}
 use Rattle.lot_script.proofs.Rests.{IsPlain, left_of-plain, left_of-loop, left_of-end, left_of-copy}
 
--- what is behind the front of a rest is a rest
-rest-behind : (front items whole : List Item) → IsRestOf (front ++ items) whole → IsRestOf items whole
-rest-behind front items whole rest = (rest.0 ++ front, append_assoc rest.0 front items ∙ rest.1)
+-- what comes after the front of a rest is a rest
+rest-after : (front items whole : List Item) → IsRestOf (front ++ items) whole → IsRestOf items whole
+rest-after front items whole rest = (rest.0 ++ front, append_assoc rest.0 front items ∙ rest.1)
 
 rest-drop : (k : ℕ) (items whole : List Item) → IsRestOf items whole → IsRestOf (drop k items) whole
-rest-drop k items whole rest = rest-behind (take k items) (drop k items) whole (rw (take-append-drop k items) rest)
+rest-drop k items whole rest = rest-after (take k items) (drop k items) whole (rw (take-append-drop k items) rest)
 
 -- with some of a loop's copies passed, what is left is a rest of what was
 rest-copies : (lines : List Line) (p : Pieces) (o : OpenLoop) (outer : List OpenLoop) (whole : List Item) (more : ℕ) → (pieces (drop o.body lines)).first ≡ p.first
@@ -33,12 +33,12 @@ rest-copies lines p o outer whole (suc more) body rest =
     let some : suc more + o.left ≡ suc (more + o.left) = omega arith in
     let fewer : OpenLoop = record o { left = more + o.left } in
     let first : left_of lines p (record o { left = suc more + o.left } ∷ outer) ≡ (p.first ++ Work ∷ []) ++ left_of lines p (fewer ∷ outer) = rw some (left_of-copy lines p fewer outer body) in
-    rest-copies lines p o outer whole more body (rest-behind (p.first ++ Work ∷ []) (left_of lines p (fewer ∷ outer)) whole (subst (λ items. IsRestOf items whole) first rest))
+    rest-copies lines p o outer whole more body (rest-after (p.first ++ Work ∷ []) (left_of lines p (fewer ∷ outer)) whole (subst (λ items. IsRestOf items whole) first rest))
 
 rest-plain : (lines : List Line) (i : ℕ) (l : Line) (loops : List OpenLoop) (whole : List Item) → IsPlain l
     → IsRestOf (left_of lines (pieces (l ∷ drop (suc i) lines)) loops) whole → IsRestOf (left_of lines (pieces (drop (suc i) lines)) loops) whole
 rest-plain lines i l loops whole plain before =
-    rest-behind (items_of l) _ whole (subst (λ items. IsRestOf items whole) (left_of-plain lines l (drop (suc i) lines) loops plain) before)
+    rest-after (items_of l) _ whole (subst (λ items. IsRestOf items whole) (left_of-plain lines l (drop (suc i) lines) loops plain) before)
 
 -- one line further
 rest-next : (lines : List Line) (i : ℕ) (l : Line) (loops : List OpenLoop) (whole : List Item) → IsScript lines → slice_get lines i ≡ Some l
@@ -52,7 +52,7 @@ rest-next lines i (line.Loop n) (o ∷ outer) whole script is copies before =
     let next : i + 1 ≡ suc i = omega arith in
     let count : n ≡ suc (n - 1) = omega (arith, good.0) in
     let entered : IsRestOf (left_of lines (pieces (drop (suc i) lines)) (first ∷ outer)) whole =
-    rest-behind (Work ∷ []) _ whole (subst (λ items. IsRestOf items whole) (left_of-loop lines n (drop (suc i) lines) first outer (ap (λ j. drop j lines) next) count) (before outer copies.1)) in
+    rest-after (Work ∷ []) _ whole (subst (λ items. IsRestOf items whole) (left_of-loop lines n (drop (suc i) lines) first outer (ap (λ j. drop j lines) next) count) (before outer copies.1)) in
     let more : n - 1 - o.left + o.left ≡ n - 1 = omega (arith, copies.0.left) in
     let body : (pieces (drop o.body lines)).first ≡ (pieces (drop (suc i) lines)).first = rw (copies.0.body, next) refl in
     let same : first ≡ record o { left = n - 1 - o.left + o.left } = rw (more, copies.0.body) refl in
@@ -63,9 +63,9 @@ rest-next lines i line.End loops whole script is copies before = of_open (open_a
     of_open [] none = let some : 0 < length (open_at lines i) = nests-there lines i line.End script is in absurd (omega (arith, some, ap length none))
     of_open (f ∷ firsts) here =
         let last : OpenLoop = record f { left = 0 } in
-        let behind : AreCopies loops firsts = subst (λ fs. AreCopies loops (drop 1 fs)) here copies in
-        let there : AreCopies (last ∷ loops) (open_at lines i) = rw here (record { body = refl; left = omega arith }, behind) in
-        rest-behind (Work ∷ []) _ whole (subst (λ items. IsRestOf items whole) (left_of-end lines (drop (suc i) lines) last loops refl) (before (last ∷ loops) there))
+        let following : AreCopies loops firsts = subst (λ fs. AreCopies loops (drop 1 fs)) here copies in
+        let there : AreCopies (last ∷ loops) (open_at lines i) = rw here (record { body = refl; left = omega arith }, following) in
+        rest-after (Work ∷ []) _ whole (subst (λ items. IsRestOf items whole) (left_of-end lines (drop (suc i) lines) last loops refl) (before (last ∷ loops) there))
 rest-next lines i (line.Compute n) loops whole script is copies before = rest-plain lines i (line.Compute n) loops whole tt (before loops copies)
 rest-next lines i (line.Set n) loops whole script is copies before = rest-plain lines i (line.Set n) loops whole tt (before loops copies)
 rest-next lines i (line.Add n) loops whole script is copies before = rest-plain lines i (line.Add n) loops whole tt (before loops copies)
@@ -109,7 +109,7 @@ some-plain lines p l x plain at none is = rw (rest_at-plain lines p l plain at n
 some-compute : (lines : List Line) (p : Place) (n : ℕ) → Stands lines p (line.Compute n) → 0 < length (rest_at lines p)
 some-compute lines p n at =
     let left : p.done < n = stands-done lines p (line.Compute n) at in
-    let behind : List Item = left_of lines (pieces (drop (suc p.line) lines)) p.loops in
+    let following : List Item = left_of lines (pieces (drop (suc p.line) lines)) p.loops in
     rw (rest_at-compute lines p n at.next left, length-append, length-replicate) (omega arith)
 
 some-end : (lines : List Line) (p : Place) (loops : List OpenLoop) → p.loops ≡ loops → Stands lines p line.End → 0 < length (rest_at lines p)
@@ -140,5 +140,5 @@ pub some-there : (lines : List Line) (place : Place) → IsScript lines → Fits
 some-there lines place script fits = at_line (slice_get lines place.line) refl
   where
     at_line : (o : Option Line) → slice_get lines place.line ≡ o → 0 < length (rest_at lines place)
-    at_line None none = some-trap (rest_at lines place) Exit (Makes-exit lines place fits none).stands
+    at_line None none = some-trap (rest_at lines place) Exit (MakesTrap-exit lines place fits none).stands
     at_line (Some l) is = some-line lines place l (record { script = script; fits = fits; next = is })

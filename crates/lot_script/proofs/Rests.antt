@@ -2,13 +2,13 @@
 use Rattle.std.proofs.Common.{◌≡◌, ℕ, suc, sym, ◌∙◌, List, [], ◌∷◌, ◌++◌, drop, refl, ap, append_assoc}
 use Rattle.std.specs.Prelude.{⊤}
 use Rattle.std.specs.List.{repeat}
-use Rattle.lot_machine.specs.declared.script.Line.{Line}
-use Rattle.lot_machine.specs.declared.script.Line.TheVariants as line
-use Rattle.lot_machine.specs.declared.script.ScriptTrap.TheVariants.{Exit}
-use Rattle.lot_machine.specs.Script.{Item, Pieces, pieces, items_of, first_of_list}
-use Rattle.lot_machine.specs.Script.Item.{Work, Traps}
+use Rattle.lot_simulation.specs.declared.script.Line.{Line}
+use Rattle.lot_simulation.specs.declared.script.Line.TheVariants as line
+use Rattle.lot_simulation.specs.declared.script.ScriptTrap.TheVariants.{Exit}
+use Rattle.lot_simulation.specs.Script.{Item, Pieces, pieces, items_of, first_of_list}
+use Rattle.lot_simulation.specs.Script.Item.{Work, Traps}
 use Rattle.lot_script.specs.declared.open_loops.OpenLoop.{OpenLoop}
-use Rattle.lot_script.specs.Places.{behind_end, left_of}
+use Rattle.lot_script.specs.Places.{after_end, left_of}
 
 -- neither a loop nor its end
 abbrev pub IsPlain : Line → Type 0
@@ -36,9 +36,9 @@ left_of-front lines items p [] = refl
 left_of-front lines items p (o ∷ outer) = append_assoc items p.first _
 
 -- what is left at a line that is no loop and no end
-pub left_of-plain : (lines : List Line) (l : Line) (behind : List Line) (loops : List OpenLoop) → IsPlain l
-    → left_of lines (pieces (l ∷ behind)) loops ≡ items_of l ++ left_of lines (pieces behind) loops
-left_of-plain lines l behind loops plain = rw (plain-pieces l behind plain) (left_of-front lines (items_of l) (pieces behind) loops)
+pub left_of-plain : (lines : List Line) (l : Line) (following : List Line) (loops : List OpenLoop) → IsPlain l
+    → left_of lines (pieces (l ∷ following)) loops ≡ items_of l ++ left_of lines (pieces following) loops
+left_of-plain lines l following loops plain = rw (plain-pieces l following plain) (left_of-front lines (items_of l) (pieces following) loops)
 
 regrouped : (b xs ys : List Item) → ((b ++ Work ∷ []) ++ xs) ++ ys ≡ b ++ Work ∷ (xs ++ ys)
 regrouped b xs ys = append_assoc (b ++ Work ∷ []) xs ys ∙ append_assoc b (Work ∷ []) (xs ++ ys)
@@ -51,42 +51,42 @@ left_of-looped lines n p o [] body count =
     rw (count, body) (ap (λ xs. Work ∷ xs) (regrouped p.first (repeat o.left (p.first ++ Work ∷ [])) (first_of_list p.others)))
 left_of-looped lines n p o (next ∷ outer) body count =
     let copies : List Item = repeat o.left (p.first ++ Work ∷ []) in
-    let rest : List Item = Work ∷ (repeat next.left ((pieces (drop next.body lines)).first ++ Work ∷ []) ++ left_of lines (behind_end (behind_end p)) outer) in
+    let rest : List Item = Work ∷ (repeat next.left ((pieces (drop next.body lines)).first ++ Work ∷ []) ++ left_of lines (after_end (after_end p)) outer) in
     rw (count, body) (ap (λ xs. Work ∷ xs) (ap (λ xs. xs ++ rest) (regrouped p.first copies (first_of_list p.others))
     ∙ append_assoc p.first (Work ∷ (copies ++ first_of_list p.others)) rest
     ∙ ap (λ xs. p.first ++ Work ∷ xs) (append_assoc copies (first_of_list p.others) rest)))
 
-pub left_of-loop : (lines : List Line) (n : ℕ) (behind : List Line) (o : OpenLoop) (outer : List OpenLoop) → drop o.body lines ≡ behind → n ≡ suc o.left
-    → left_of lines (pieces (line.Loop n ∷ behind)) outer ≡ Work ∷ left_of lines (pieces behind) (o ∷ outer)
-left_of-loop lines n behind o outer body count = left_of-looped lines n (pieces behind) o outer (ap (λ ls. (pieces ls).first) body) count
+pub left_of-loop : (lines : List Line) (n : ℕ) (following : List Line) (o : OpenLoop) (outer : List OpenLoop) → drop o.body lines ≡ following → n ≡ suc o.left
+    → left_of lines (pieces (line.Loop n ∷ following)) outer ≡ Work ∷ left_of lines (pieces following) (o ∷ outer)
+left_of-loop lines n following o outer body count = left_of-looped lines n (pieces following) o outer (ap (λ ls. (pieces ls).first) body) count
 
 -- a loop goes round again
 left_of-round : (lines : List Line) (p : Pieces) (o again : OpenLoop) (outer : List OpenLoop) → p.first ≡ [] → p.others ≡ (pieces (drop o.body lines)).others
     → again.body ≡ o.body → o.left ≡ suc again.left → left_of lines p (o ∷ outer) ≡ Work ∷ left_of lines (pieces (drop o.body lines)) (again ∷ outer)
 left_of-round lines p o again outer none same_ends same_body count =
-    let rest : List Item = left_of lines (behind_end (pieces (drop o.body lines))) outer in
+    let rest : List Item = left_of lines (after_end (pieces (drop o.body lines))) outer in
     rw (none, count, same_body, same_ends) (ap (λ xs. Work ∷ xs) (regrouped (pieces (drop o.body lines)).first (repeat again.left ((pieces (drop o.body lines)).first ++ Work ∷ [])) rest))
 
-pub left_of-again : (lines : List Line) (behind : List Line) (o again : OpenLoop) (outer : List OpenLoop)
-    → (pieces (line.End ∷ behind)).others ≡ (pieces (drop o.body lines)).others → again.body ≡ o.body → o.left ≡ suc again.left
-    → left_of lines (pieces (line.End ∷ behind)) (o ∷ outer) ≡ Work ∷ left_of lines (pieces (drop again.body lines)) (again ∷ outer)
-left_of-again lines behind o again outer same_ends same_body count =
-    left_of-round lines (pieces (line.End ∷ behind)) o again outer refl same_ends same_body count
+pub left_of-again : (lines : List Line) (following : List Line) (o again : OpenLoop) (outer : List OpenLoop)
+    → (pieces (line.End ∷ following)).others ≡ (pieces (drop o.body lines)).others → again.body ≡ o.body → o.left ≡ suc again.left
+    → left_of lines (pieces (line.End ∷ following)) (o ∷ outer) ≡ Work ∷ left_of lines (pieces (drop again.body lines)) (again ∷ outer)
+left_of-again lines following o again outer same_ends same_body count =
+    left_of-round lines (pieces (line.End ∷ following)) o again outer refl same_ends same_body count
     ∙ ap (λ b. Work ∷ left_of lines (pieces (drop b lines)) (again ∷ outer)) (sym same_body)
 
 -- one copy more is left
 pub left_of-copy : (lines : List Line) (p : Pieces) (o : OpenLoop) (outer : List OpenLoop) → (pieces (drop o.body lines)).first ≡ p.first
     → left_of lines p (record o { left = suc o.left } ∷ outer) ≡ (p.first ++ Work ∷ []) ++ left_of lines p (o ∷ outer)
 left_of-copy lines p o outer body =
-    let rest : List Item = left_of lines (behind_end p) outer in
+    let rest : List Item = left_of lines (after_end p) outer in
     rw body (ap (λ xs. p.first ++ Work ∷ xs) (regrouped p.first (repeat o.left (p.first ++ Work ∷ [])) rest) ∙ sym (append_assoc p.first (Work ∷ []) _))
 
 -- a loop is left
-pub left_of-end : (lines : List Line) (behind : List Line) (o : OpenLoop) (outer : List OpenLoop) → o.left ≡ 0
-    → left_of lines (pieces (line.End ∷ behind)) (o ∷ outer) ≡ Work ∷ left_of lines (pieces behind) outer
-left_of-end lines behind o outer none = rw none refl
+pub left_of-end : (lines : List Line) (following : List Line) (o : OpenLoop) (outer : List OpenLoop) → o.left ≡ 0
+    → left_of lines (pieces (line.End ∷ following)) (o ∷ outer) ≡ Work ∷ left_of lines (pieces following) outer
+left_of-end lines following o outer none = rw none refl
 
--- behind the last line the exit comes next
+-- after the last line the exit comes next
 pub left_of-exit : (lines : List Line) (loops : List OpenLoop) → (rest : List Item) × (left_of lines (pieces []) loops ≡ Traps Exit ∷ rest)
 left_of-exit lines [] = ([], refl)
 left_of-exit lines (o ∷ outer) = (_, refl)

@@ -1,25 +1,25 @@
 -- Which lines make a script.
 use Rattle.std.specs.Prelude.{◌≡◌, ℕ, ◌+◌, ◌-◌, ◌<◌, ◌≤◌, ◌==◌, nat_lt, nat_le, Bool, ◌||◌, ⊤, List, [], ◌∷◌, ◌++◌, length, fold, All}
-use Rattle.lot_machine.specs.declared.script.Line.{Line}
-use Rattle.lot_machine.specs.declared.script.Line.TheVariants as line
-use Rattle.lot_machine.specs.declared.input.InputRefusal.{InputRefusal}
-use Rattle.lot_machine.specs.declared.input.InputRefusal.TheVariants.{BadLine, BadNumber, TooDeep, TooLong}
+use Rattle.lot_simulation.specs.declared.script.Line.{Line}
+use Rattle.lot_simulation.specs.declared.script.Line.TheVariants as line
+use Rattle.lot_simulation.specs.declared.input.InputRefusal.{InputRefusal}
+use Rattle.lot_simulation.specs.declared.input.InputRefusal.TheVariants.{BadLine, BadNumber, TooDeep, TooLong}
 use Rattle.lot_machine.specs.Bounds.{IsBetween}
 
--- the lines of a script so far, and how many loops are open behind them
+-- the lines of a script so far, and how many loops are open after them
 pub record Draft : Type 0 where
   pub lines : List Line
   pub loops : ℕ
 
--- how many loops are open behind a line, where so many are open in front of it
-abbrev pub loops_behind : ℕ → Line → ℕ
-loops_behind loops (line.Loop n) = loops + 1
-loops_behind loops line.End = loops - 1
-loops_behind loops other = loops
+-- how many loops are open after a line, given how many are open before it
+abbrev pub loops_after : ℕ → Line → ℕ
+loops_after loops (line.Loop n) = loops + 1
+loops_after loops line.End = loops - 1
+loops_after loops other = loops
 
--- one line more
+-- one more line
 abbrev pub pushed : Draft → Line → Draft
-pushed d l = record { lines = d.lines ++ l ∷ []; loops = loops_behind d.loops l }
+pushed d l = record { lines = d.lines ++ l ∷ []; loops = loops_after d.loops l }
 
 -- a `compute` has a tick or more, and a `loop` 1 to 65535 copies
 abbrev pub IsLine : Line → Type 0
@@ -33,16 +33,16 @@ CanNest loops (line.Loop n) = loops < 8
 CanNest loops line.End = 0 < loops
 CanNest loops other = ⊤
 
--- each of the lines nests, where so many loops are open in front of the first
+-- each of the lines nests, given how many loops are open before the first
 abbrev pub Nests : ℕ → List Line → Type 0
 Nests loops [] = ⊤
-Nests loops (l ∷ lines) = CanNest loops l × Nests (loops_behind loops l) lines
+Nests loops (l ∷ lines) = CanNest loops l × Nests (loops_after loops l) lines
 
--- how many loops are open behind the lines
+-- how many loops are open after the lines
 abbrev pub open_count : List Line → ℕ
-open_count lines = fold loops_behind 0 lines
+open_count lines = fold loops_after 0 lines
 
--- the lines may begin a script, and so many loops are open behind them
+-- the lines may begin a script, and this many loops are open after them
 pub record IsDraft (d : Draft) : Type 0 where
   pub count : length d.lines ≤ 1024
   pub lines : All IsLine d.lines

@@ -1,17 +1,17 @@
 -- Where a thread is in its script, and what is left of the script there.
 use Rattle.std.specs.Prelude.{◌≡◌, ℕ, ◌+◌, ◌-◌, ◌<◌, ◌≤◌, ⊤, Option, Some, List, [], ◌∷◌, ◌++◌, length, take, drop, fold, slice_get, option_and_then}
 use Rattle.std.specs.List.{repeat, prefix_len}
-use Rattle.lot_machine.specs.declared.script.Line.{Line}
-use Rattle.lot_machine.specs.declared.script.Line.TheVariants as line
-use Rattle.lot_machine.specs.declared.script.ScriptTrap.{ScriptTrap}
-use Rattle.lot_machine.specs.Script.{Item, Pieces, Context, pieces, first_of_list, is_mark, trap_of, rest_after, accumulated}
-use Rattle.lot_machine.specs.Script.Item.{Work}
+use Rattle.lot_simulation.specs.declared.script.Line.{Line}
+use Rattle.lot_simulation.specs.declared.script.Line.TheVariants as line
+use Rattle.lot_simulation.specs.declared.script.ScriptTrap.{ScriptTrap}
+use Rattle.lot_simulation.specs.Script.{Item, Pieces, Context, pieces, first_of_list, is_mark, trap_of, rest_after, accumulated}
+use Rattle.lot_simulation.specs.Script.Item.{Work}
 use Rattle.lot_script.specs.Drafts.{IsScript}
 use Rattle.lot_script.specs.declared.open_loops.OpenLoop.{OpenLoop}
 use Rattle.lot_script.specs.declared.passing.Advance.{Advance}
 use Rattle.lot_script.specs.declared.passing.Advance.TheVariants as advance
 
--- the line that comes next, the ticks that are done of it where it is a `compute`, the loops that are open, innermost
+-- the line that comes next, the ticks that are done of it if it is a `compute`, the loops that are open, innermost
 -- first, and the accumulator
 pub record Place : Type 0 where
   pub line : ℕ
@@ -25,26 +25,26 @@ first_place = record { line = 0; done = 0; loops = []; accumulator = 0 }
 
 -- ---- which places are those of a script
 
--- so many ticks may be done of the line that comes next: fewer than a `compute` has, and none of any other
+-- this many ticks may be done of the line that comes next: fewer than a `compute` has, and none of any other
 abbrev pub CanBeDone : Option Line → ℕ → Type 0
 CanBeDone (Some (line.Compute n)) done = done < n
 CanBeDone other done = done ≡ 0
 
--- The loops that are open behind the line of this number, where these are open in front of it. A loop begins with its
--- first copy, behind which all the others are left.
+-- The loops that are open after the line of this number, if these are open before it. A loop begins with its first
+-- copy, after which all the others are left.
 abbrev pub open_after : ℕ → Line → List OpenLoop → List OpenLoop
 open_after i (line.Loop n) loops = record { body = i + 1; left = n - 1 } ∷ loops
 open_after i line.End loops = drop 1 loops
 open_after i other loops = loops
 
--- the loops that are open behind lines of which the first has this number
-abbrev pub open_behind : ℕ → List OpenLoop → List Line → List OpenLoop
-open_behind i loops [] = loops
-open_behind i loops (l ∷ lines) = open_behind (i + 1) (open_after i l loops) lines
+-- the loops that are open after these lines, of which the first has this number, if these are open before them
+abbrev pub open_after_lines : ℕ → List OpenLoop → List Line → List OpenLoop
+open_after_lines i loops [] = loops
+open_after_lines i loops (l ∷ lines) = open_after_lines (i + 1) (open_after i l loops) lines
 
--- the loops that are open in front of the line of this number, each in its first copy, innermost first
+-- the loops that are open before the line of this number, each in its first copy, innermost first
 abbrev pub open_at : List Line → ℕ → List OpenLoop
-open_at lines i = open_behind 0 [] (take i lines)
+open_at lines i = open_after_lines 0 [] (take i lines)
 
 -- it is the same loop, in its first copy or a later one
 pub record IsCopy (loop first : OpenLoop) : Type 0 where
@@ -71,15 +71,15 @@ pub record Stands (lines : List Line) (place : Place) (l : Line) : Type 0 where
 
 -- ---- what is left there
 
--- what stands behind the next `end`
-abbrev pub behind_end : Pieces → Pieces
-behind_end p = record { first = first_of_list p.others; others = drop 1 p.others }
+-- what comes after the next `end`
+abbrev pub after_end : Pieces → Pieces
+after_end p = record { first = first_of_list p.others; others = drop 1 p.others }
 
--- What is left where the pieces stand from here on and the loops are open: the rest of the innermost body and a mark, the
--- copies that are left of it, with a mark behind each, and what is left behind its `end`.
+-- What is left if these are the pieces from here on and these loops are open: the rest of the innermost body and a
+-- mark, the copies of it that are left, with a mark after each, and what is left after its `end`.
 abbrev pub left_of : List Line → Pieces → List OpenLoop → List Item
 left_of lines p [] = p.first
-left_of lines p (o ∷ outer) = p.first ++ Work ∷ (repeat o.left ((pieces (drop o.body lines)).first ++ Work ∷ []) ++ left_of lines (behind_end p) outer)
+left_of lines p (o ∷ outer) = p.first ++ Work ∷ (repeat o.left ((pieces (drop o.body lines)).first ++ Work ∷ []) ++ left_of lines (after_end p) outer)
 
 -- what is left of the unrolled list at a place of a script of these lines
 abbrev pub rest_at : List Line → Place → List Item
@@ -89,21 +89,21 @@ rest_at lines place = drop place.done (left_of lines (pieces (drop place.line li
 abbrev pub context_at : List Line → Place → Context
 context_at lines place = record { rest = rest_at lines place; accumulator = place.accumulator }
 
--- it is what stands behind some front of the whole list
+-- it is what comes after some beginning of the whole list
 abbrev pub IsRestOf : List Item → List Item → Type 0
 IsRestOf rest whole = (front : List Item) × (front ++ rest ≡ whole)
 
 -- ---- from place to place
 
--- From the old place to the new, so many marks are passed, and no trap.
+-- From the old place to the new, this many marks are passed, and no trap.
 pub record Passes (lines : List Line) (old new : Place) (count : ℕ) : Type 0 where
   pub fits : Fits lines new
   pub marks : count ≤ prefix_len is_mark (rest_at lines old)
   pub rest : rest_at lines new ≡ drop count (rest_at lines old)
   pub accumulator : new.accumulator ≡ fold accumulated old.accumulator (take count (rest_at lines old))
 
--- The trap stands at the old place. The new place is behind it, or the same where it is an exit.
-pub record Makes (lines : List Line) (old new : Place) (trap : ScriptTrap) : Type 0 where
+-- The trap stands at the old place. The new place is after it, or the same if it is an exit.
+pub record MakesTrap (lines : List Line) (old new : Place) (trap : ScriptTrap) : Type 0 where
   pub fits : Fits lines new
   pub stands : option_and_then trap_of (slice_get (rest_at lines old) 0) ≡ Some trap
   pub rest : rest_at lines new ≡ rest_after (rest_at lines old) (Some trap)
@@ -118,7 +118,7 @@ IsMarked (line.Loop n) = ⊤
 IsMarked line.End = ⊤
 IsMarked other = ⊥
 
--- from the old place to the new, a mark or more are passed, and at most so many; or the trap is made
+-- from the old place to the new, at least one mark and at most this many are passed; or the trap is made
 abbrev pub Advances : List Line → Place → Place → ℕ → Advance → Type 0
 Advances lines old new most (advance.Marks count) = (0 < count) × (count ≤ most) × Passes lines old new count
-Advances lines old new most (advance.Trap trap) = Makes lines old new trap
+Advances lines old new most (advance.Trap trap) = MakesTrap lines old new trap

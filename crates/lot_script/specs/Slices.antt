@@ -1,9 +1,9 @@
 -- What a slice of a script keeps.
 use Rattle.std.specs.Prelude.{◌≡◌, ℕ, Option, List}
-use Rattle.lot_machine.specs.declared.script.Line.{Line}
-use Rattle.lot_machine.specs.declared.script.ScriptTrap.{ScriptTrap}
+use Rattle.lot_simulation.specs.declared.script.Line.{Line}
+use Rattle.lot_simulation.specs.declared.script.ScriptTrap.{ScriptTrap}
 use Rattle.lot_machine.specs.Bounds.{IsBetween}
-use Rattle.lot_machine.specs.Script.{slice}
+use Rattle.lot_simulation.specs.Script.{slice}
 use Rattle.lot_script.specs.Places.{Place, Fits, context_at}
 
 -- a script's lines, where a thread began and with which budget, the ticks of work that it did and the trap that followed,
@@ -24,7 +24,7 @@ pub record IsSlice (parts : Parts) : Type 0 where
   pub end_fits : Fits parts.lines parts.end
 
 -- slices of scripts with the same lines, from the same place, with the same budget
-pub record IsSame (one other : Parts) : Type 0 where
+pub record IsSameSlice (one other : Parts) : Type 0 where
   pub lines : one.lines ≡ other.lines
   pub start : one.start ≡ other.start
   pub budget : one.budget ≡ other.budget

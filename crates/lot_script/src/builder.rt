@@ -1,14 +1,14 @@
 //! Scripts as they are written.
 ghost use Rattle.std.specs.Prelude.{◌≡◌, ◌<◌, ◌≤◌, [], length, OnOk, OnErr};
-ghost use Rattle.lot_machine.specs.Reading.{checked};
-ghost use Rattle.lot_script.specs.Drafts.{IsLine, CanNest, line_checks, loops_behind, pushed};
+ghost use Rattle.lot_simulation.specs.Reading.{checked};
+ghost use Rattle.lot_script.specs.Drafts.{IsLine, CanNest, line_checks, loops_after, pushed};
 
 use crate::Script;
-use lot_machine::{InputRefusal, Line};
+use lot_simulation::{InputRefusal, Line};
 use std::alloc::{AllocError, Global};
 use std::marker::Model;
 
-/// The lines of a script so far, of which there may be 1024, with 8 loops open at once.
+/// The lines of a script so far: at most 1024, with at most 8 loops open at once.
 #[derive(Debug, Drop)]
 pub struct ScriptBuilder {
     lines: Vec<Line>,
@@ -26,6 +26,9 @@ impl Model for ScriptBuilder {
 }
 
 impl ScriptBuilder {
+    /// How many lines a script may have.
+    pub const MOST_LINES: usize = 1024;
+
     /// No line yet. It takes no memory.
     pub fn new(alloc: Global) -> Self
         ensures { result ≡ record { lines = []; loops = 0 } }
@@ -70,13 +73,13 @@ impl ScriptBuilder {
             Line::End if self.open_loops == 0 => return Err(InputRefusal::BadLine),
             _ => {}
         }
-        if 1024 <= self.lines.len() {
+        if Self::MOST_LINES <= self.lines.len() {
             return Err(InputRefusal::TooLong);
         }
         Ok(())
     }
 
-    /// One line more. Want of memory changes nothing.
+    /// One more line. Want of memory changes nothing.
     pub fn push(&mut self, line: Line) -> Result<(), AllocError>
         requires number { IsLine line }
         requires nesting { CanNest self.old.loops line }
@@ -84,7 +87,7 @@ impl ScriptBuilder {
         ensures ok { OnOk result (self.new ≡ pushed self.old line) }
         ensures err { OnErr result (self.new ≡ self.old) }
     {
-        let open_loops = loops_behind(self.open_loops, line);
+        let open_loops = loops_after(self.open_loops, line);
         self.lines.push(line)?;
         self.open_loops = open_loops;
         Ok(())
@@ -103,10 +106,10 @@ impl ScriptBuilder {
     }
 }
 
-/// How many loops are open behind a line, where so many are open in front of it.
-fn loops_behind(open_loops: u32, line: Line) -> u32
+/// How many loops are open after a line, given how many are open before it.
+fn loops_after(open_loops: u32, line: Line) -> u32
     requires { CanNest open_loops line }
-    ensures { result ≡ loops_behind open_loops line }
+    ensures { result ≡ loops_after open_loops line }
 {
     match line {
         Line::Loop(_) => open_loops + 1,

@@ -1,7 +1,7 @@
 //! What places in scripts come to: laws of the definitions, with nothing to run.
 ghost use Rattle.std.specs.Prelude.{◌≡◌, ℕ, ◌<◌, List, drop, length};
-ghost use Rattle.lot_machine.specs.declared.script.Line.{Line};
-ghost use Rattle.lot_machine.specs.Script.{unrolled};
+ghost use Rattle.lot_simulation.specs.declared.script.Line.{Line};
+ghost use Rattle.lot_simulation.specs.Script.{unrolled};
 ghost use Rattle.lot_script.specs.Drafts.{IsScript};
 ghost use Rattle.lot_script.specs.Places.{Fits, Place, context_at, rest_at};
 

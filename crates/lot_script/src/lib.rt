@@ -1,20 +1,20 @@
 //! Scripts of simulated threads, and what a processor does of one at a time.
 //!
-//! A `Script` means a list of marks, each worth one tick, and of traps, that ends with an exit trap. Its loops are unrolled
-//! in that list and never in memory. A `Context` is a thread's place in the list, with its accumulator. A `Slice` is what
-//! the thread does from there with a budget of ticks.
+//! A `Script` means a list of marks, each worth one tick, and of traps. It ends with an exit trap. Loops are unrolled
+//! in that list and never in memory. A `Place` is a thread's place in the list, with its accumulator. A `Slice` is
+//! what the thread does from there with a budget of ticks.
 #![tactic(auto)]
 
 mod builder;
-mod context;
 pub mod laws;
 mod open_loops;
 mod passing;
+mod place;
 mod script;
 mod slice;
 
 pub use builder::ScriptBuilder;
-pub use context::Context;
+pub use place::Place;
 pub use script::Script;
 pub use slice::Slice;
 

@@ -4,7 +4,7 @@ ghost use Rattle.lot_script.specs.Drafts.{CanNest, IsLine};
 ghost use Rattle.lot_script.specs.Places.{AreCopies, IsCopy, open_after};
 
 use arrayvec::ArrayVec;
-use lot_machine::Line;
+use lot_simulation::Line;
 use std::marker::Model;
 
 /// A loop that a thread is in.
@@ -12,7 +12,7 @@ use std::marker::Model;
 pub(crate) struct OpenLoop {
     /// The line at which its body begins.
     pub(crate) body: usize,
-    /// How many copies of the body come behind this one.
+    /// How many copies of the body come after this one.
     pub(crate) left: u32,
 }
 
@@ -92,7 +92,7 @@ impl OpenLoops {
         self.stack.pop().unwrap()
     }
 
-    /// Goes past the line of this number: a loop is opened by a `loop`, in its first copy, and closed by an `end`.
+    /// Goes past the line of this number: a `loop` opens a loop, in its first copy, and an `end` closes one.
     pub(crate) fn follow(&mut self, number: usize, line: Line)
         requires line { IsLine line }
         requires nests { CanNest (length self.old) line }

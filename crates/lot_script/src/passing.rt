@@ -1,17 +1,17 @@
 //! A thread's way through its script, line by line.
 ghost use Rattle.std.specs.Prelude.{◌≡◌, ◌<◌, ◌≤◌, [], ◌∷◌, length, slice_get, IfSome, IfNone, Some};
-ghost use Rattle.lot_machine.specs.Script.{items_of};
-ghost use Rattle.lot_machine.specs.Script.Item.{Traps};
+ghost use Rattle.lot_simulation.specs.Script.{items_of};
+ghost use Rattle.lot_simulation.specs.Script.Item.{Traps};
 ghost use Rattle.lot_script.specs.Drafts.{IsScript};
 ghost use Rattle.lot_script.specs.Places.{Advances, Fits, IsMarked, Passes, Stands};
 
-use crate::{Context, Script};
-use lot_machine::{Line, ScriptTrap};
+use crate::{Place, Script};
+use lot_simulation::{Line, ScriptTrap};
 
 /// What a thread does next.
 #[derive(Clone, Copy, Debug)]
 pub(crate) enum Advance {
-    /// It passes so many marks.
+    /// It passes this many marks.
     Marks(u32),
     Trap(ScriptTrap),
 }
@@ -33,48 +33,48 @@ fn trap_on(line: Line) -> Option<ScriptTrap>
 }
 
 impl Script {
-    /// Passes marks at the context, one at least and at most `most`; or makes the trap that stands there.
-    pub(crate) fn advance(&self, context: &mut Context, most: u32) -> Advance
-        requires fits { Fits self.now context.old }
+    /// Passes marks at the place, at least one and at most `most`; or makes the trap that stands there.
+    pub(crate) fn advance(&self, place: &mut Place, most: u32) -> Advance
+        requires fits { Fits self.now place.old }
         requires some { 0 < most }
-        ensures { Advances self.now context.old context.new most result }
+        ensures { Advances self.now place.old place.new most result }
     {
-        let Some(line) = self.next_line(context) else {
+        let Some(line) = self.next_line(place) else {
             return Advance::Trap(ScriptTrap::Exit);
         };
         if let Some(trap) = trap_on(line) {
-            context.leave_line();
+            place.leave_line();
             return Advance::Trap(trap);
         }
-        Advance::Marks(self.pass(context, line, most))
+        Advance::Marks(self.pass(place, line, most))
     }
 
-    /// Passes marks of the line at the context, one at least and at most `most`. Answers how many.
-    fn pass(&self, context: &mut Context, line: Line, most: u32) -> u32
-        requires stands { Stands self.now context.old line }
+    /// Passes marks of the line at the place, at least one and at most `most`. Answers how many.
+    fn pass(&self, place: &mut Place, line: Line, most: u32) -> u32
+        requires stands { Stands self.now place.old line }
         requires marked { IsMarked line }
         requires some { 0 < most }
         ensures some { 0 < result }
         ensures most { result ≤ most }
-        ensures passes { Passes self.now context.old context.new result }
+        ensures passes { Passes self.now place.old place.new result }
     {
         match line {
-            Line::Compute(ticks) => return context.work(ticks, most),
-            Line::Set(number) => context.set(number),
-            Line::Add(number) => context.add(number),
-            Line::Loop(times) => context.enter(times),
-            Line::End => context.end_copy(),
+            Line::Compute(ticks) => return place.work(ticks, most),
+            Line::Set(number) => place.set(number),
+            Line::Add(number) => place.add(number),
+            Line::Loop(times) => place.enter(times),
+            Line::End => place.end_copy(),
             _ => unreachable!(),
         }
         1
     }
 
-    /// The line that comes next, or `None` behind the last.
-    pub(crate) fn next_line(&self, context: &Context) -> Option<Line>
-        ensures line { result ≡ slice_get self.now context.now.line }
+    /// The line that comes next, or `None` after the last.
+    pub(crate) fn next_line(&self, place: &Place) -> Option<Line>
+        ensures line { result ≡ slice_get self.now place.now.line }
         ensures legal { IsScript self.now }
     {
         let lines = self.lines();
-        lines.get(context.line).copied()
+        lines.get(place.line).copied()
     }
 }

@@ -1,12 +1,12 @@
 //! Scripts.
 ghost use Rattle.std.specs.Prelude.{◌≡◌, ◌↔◌, ◌<◌, ◌≤◌, length, IfOk, IsTrue};
-ghost use Rattle.lot_machine.specs.Script.{start as whole_context, unrolled};
+ghost use Rattle.lot_simulation.specs.Script.{start as whole_context, unrolled};
 ghost use Rattle.lot_script.specs.Drafts.{IsScript};
 ghost use Rattle.lot_script.specs.Places.{CanBeDone, Fits, IsRestOf, context_at, first_place, open_at, rest_at};
 
-use crate::Context;
+use crate::Place;
 use crate::open_loops::OpenLoops;
-use lot_machine::Line;
+use lot_simulation::Line;
 use std::alloc::{AllocError, Global};
 use std::marker::Model;
 
@@ -18,8 +18,8 @@ pub struct Script {
 
 impl Model for Script {
     ghost use Rattle.std.specs.Prelude.{List};
-    ghost use Rattle.lot_machine.specs.declared.script.Line.{Line};
-    ghost use Rattle.lot_machine.specs.Script.{start as whole_context, unrolled};
+    ghost use Rattle.lot_simulation.specs.declared.script.Line.{Line};
+    ghost use Rattle.lot_simulation.specs.Script.{start as whole_context, unrolled};
     ghost use Rattle.lot_script.specs.Drafts.{IsScript};
 
     ghost Value = { List Line };
@@ -54,13 +54,13 @@ impl Script {
     }
 
     /// Where a thread begins: at the first line, with accumulator 0.
-    pub fn start(&self) -> Context
+    pub fn start(&self) -> Place
         ensures first { result ≡ first_place }
         ensures whole { context_at self.now result ≡ whole_context self.now }
         ensures fits { Fits self.now result }
     {
         let _ = &self.lines;
-        Context {
+        Place {
             line: 0,
             done: 0,
             loops: OpenLoops::new(),
@@ -68,18 +68,18 @@ impl Script {
         }
     }
 
-    /// Whether the context is one of a script with these lines.
-    pub fn fits(&self, context: &Context) -> bool
-        ensures fits { IsTrue result ↔ Fits self.now context.now }
-        ensures rest { Fits self.now context.now → IsRestOf (rest_at self.now context.now) (unrolled self.now) }
-        ensures some { Fits self.now context.now → 0 < length (rest_at self.now context.now) }
+    /// Whether the place is one of a script with these lines.
+    pub fn fits(&self, place: &Place) -> bool
+        ensures fits { IsTrue result ↔ Fits self.now place.now }
+        ensures rest { Fits self.now place.now → IsRestOf (rest_at self.now place.now) (unrolled self.now) }
+        ensures some { Fits self.now place.now → 0 < length (rest_at self.now place.now) }
     {
-        context.line <= self.lines.len()
-            && can_be_done(self.next_line(context), context.done)
-            && context.loops.are_copies(&self.open_at(context.line))
+        place.line <= self.lines.len()
+            && can_be_done(self.next_line(place), place.done)
+            && place.loops.are_copies(&self.open_at(place.line))
     }
 
-    /// The loops that are open in front of a line, each in its first copy.
+    /// The loops that are open before a line, each in its first copy.
     fn open_at(&self, line: usize) -> OpenLoops
         requires { line ≤ length self.now }
         ensures { result ≡ open_at self.now line }
@@ -92,7 +92,7 @@ impl Script {
     }
 }
 
-/// Whether so many ticks may be done of the line.
+/// Whether this many ticks may be done of the line.
 fn can_be_done(line: Option<Line>, done: u32) -> bool
     ensures { IsTrue result ↔ CanBeDone line done }
 {

@@ -2,22 +2,22 @@
 ghost use Rattle.std.specs.Prelude.{◌≡◌, ◌↔◌, ◌<◌, ◌≤◌, IsTrue};
 ghost use Rattle.lot_machine.specs.Bounds.{IsBetween};
 ghost use Rattle.lot_script.specs.Places.{Fits};
-ghost use Rattle.lot_script.specs.Slices.{IsSlice, IsSame};
+ghost use Rattle.lot_script.specs.Slices.{IsSlice, IsSameSlice};
 
 use crate::passing::Advance;
-use crate::{Context, Script};
-use lot_machine::ScriptTrap;
+use crate::{Place, Script};
+use lot_simulation::ScriptTrap;
 use std::marker::Model;
 
 /// What a thread does of its script with a budget of ticks: ticks of work, and then a trap or the end of the budget.
 #[derive(Debug, Drop)]
 pub struct Slice<'a> {
     script: &'a Script,
-    start: Context,
+    start: Place,
     budget: u32,
     ticks: u32,
     trap: Option<ScriptTrap>,
-    end: Context,
+    end: Place,
 }
 
 impl<'a> Model for Slice<'a> {
@@ -39,7 +39,7 @@ impl<'a> Slice<'a> {
     }
 
     /// Where the thread began.
-    pub fn start(&self) -> &Context
+    pub fn start(&self) -> &Place
         ensures { result.now ≡ self.now.start }
     {
         &self.start
@@ -54,7 +54,7 @@ impl<'a> Slice<'a> {
 
     /// Whether the other is the same slice: one of a script with the same lines, from the same place, with the same budget.
     pub fn is_same(&self, other: &Slice<'_>) -> bool
-        ensures same { IsTrue result ↔ IsSame self.now other.now }
+        ensures same { IsTrue result ↔ IsSameSlice self.now other.now }
         ensures does { IsTrue result → (self.now.ticks ≡ other.now.ticks) × (self.now.trap ≡ other.now.trap) }
     {
         self.script.is_same(other.script)
@@ -70,7 +70,7 @@ impl<'a> Slice<'a> {
         self.ticks
     }
 
-    /// The trap that it made, or `None` where the budget was used up before one.
+    /// The trap that it made, or `None` if the budget was used up before one.
     pub fn trap(&self) -> Option<ScriptTrap>
         ensures trap { result ≡ self.now.trap }
         ensures exact { IsSlice self.now }
@@ -78,8 +78,8 @@ impl<'a> Slice<'a> {
         self.trap
     }
 
-    /// Where it is then: behind the trap, but an exit is never passed.
-    pub fn end(&self) -> &Context
+    /// Where it is then: after the trap, but an exit is never passed.
+    pub fn end(&self) -> &Place
         ensures end { result.now ≡ self.now.end }
         ensures exact { IsSlice self.now }
     {
@@ -90,7 +90,7 @@ impl<'a> Slice<'a> {
 impl Script {
     /// What a thread of this script does from `start` with a budget of 1 to 1000 ticks. It takes no memory, and as many
     /// steps as lines are passed.
-    pub fn slice(&self, start: Context, budget: u32) -> Slice<'_>
+    pub fn slice(&self, start: Place, budget: u32) -> Slice<'_>
         requires fits { Fits self.now start }
         requires budget { IsBetween 1 1000 budget }
         ensures lines { result.lines ≡ self.now }

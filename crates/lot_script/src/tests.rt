@@ -1,6 +1,6 @@
 //! Worked scripts. What is expected follows from their lists, unrolled by hand.
 use super::*;
-use lot_machine::{InputRefusal, Line, ScriptTrap};
+use lot_simulation::{InputRefusal, Line, ScriptTrap};
 use std::alloc::{AllocError, Global};
 use std::process::Abort;
 use std::test::Fail;
@@ -23,15 +23,15 @@ fn slices_in_turn(
     script: &Script,
     slices: &[(u32, u32, Option<ScriptTrap>, u32)],
 ) {
-    let mut context = script.start();
+    let mut place = script.start();
     for (budget, ticks, trap, accumulator) in slices {
-        assert!(rt; script.fits(&context));
+        assert!(rt; script.fits(&place));
         assert!(rt; 1 <= *budget && *budget <= 1000);
-        let slice = script.slice(context, *budget);
+        let slice = script.slice(place, *budget);
         assert_eq!(rt; slice.ticks(), *ticks, "with budget {budget}");
         assert_eq!(rt; slice.trap(), *trap, "with budget {budget}");
-        context = slice.end().copied();
-        assert_eq!(rt; context.accumulator(), *accumulator, "with budget {budget}");
+        place = slice.end().copied();
+        assert_eq!(rt; place.accumulator(), *accumulator, "with budget {budget}");
     }
 }
 
@@ -222,7 +222,7 @@ fn refused_lines(rt: HostRuntime) -> Result<(), Fail> {
 }
 
 #[test]
-fn contexts_of_other_scripts(rt: HostRuntime) -> Result<(), Fail> {
+fn places_in_other_scripts(rt: HostRuntime) -> Result<(), Fail> {
     let lines = [Line::Loop(3), Line::Compute(4), Line::End];
     let script = script_of(&rt, rt.alloc(), &lines)?;
     let fewer = script_of(
@@ -236,8 +236,8 @@ fn contexts_of_other_scripts(rt: HostRuntime) -> Result<(), Fail> {
         assert!(&rt; script.fits(&start) && fewer.fits(&start) && other.fits(&start));
         let slice = script.slice(start, budget);
         assert!(&rt; script.fits(slice.end()));
-        assert_eq!(&rt; fewer.fits(slice.end()), in_fewer, "behind {budget}");
-        assert_eq!(&rt; other.fits(slice.end()), in_other, "behind {budget}");
+        assert_eq!(&rt; fewer.fits(slice.end()), in_fewer, "after {budget}");
+        assert_eq!(&rt; other.fits(slice.end()), in_other, "after {budget}");
     }
     Ok(())
 }

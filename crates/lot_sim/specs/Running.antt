@@ -1,11 +1,12 @@
 -- What a free run comes to.
 use Rattle.std.specs.Prelude.{◌≡◌, ℕ, Bool, true, false, Option, Result, Ok, Err, List}
 use Rattle.std.specs.Io.KnownBytes.{Appends, Keeps}
-use Rattle.lot_machine.specs.declared.input.InputFault.{InputFault}
-use Rattle.lot_machine.specs.Grammar.{program_in}
-use Rattle.lot_machine.specs.Output.{end_text}
-use Rattle.lot_machine.specs.Texts.{fault_line}
-use Rattle.lot_machine.specs.World.{Program}
+use Rattle.lot_simulation.specs.declared.input.InputFault.{InputFault}
+use Rattle.lot_simulation.specs.Grammar.{program_in}
+use Rattle.lot_simulation.specs.Output.{end_text}
+use Rattle.lot_simulation.specs.Texts.{fault_line}
+use Rattle.lot_simulation.specs.World.{Program}
+use Rattle.lot_text.specs.Watching.{Watch}
 use Rattle.lot_processors.specs.Workers.{IsFreeRun}
 use Rattle.lot_system.specs.declared.playing.Played.{Played}
 use Rattle.lot_system.specs.declared.playing.Played.TheVariants.{Done, Refused}
@@ -25,13 +26,21 @@ abbrev pub HasBegun : Result Program InputFault → Option (List ℕ) → Option
 HasBegun (Ok program) old new = (history : List ℕ) × IsFreeRun program history × Begins old new (end_text program history)
 HasBegun (Err fault) old new = Begins old new (fault_line fault)
 
--- On Ok a free run was written; where the writer has failed a beginning of one; and with any other fault nothing was.
-abbrev pub Runs : Result Program InputFault → Option (List ℕ) → Option (List ℕ) → Bool → Result Played RunStop → Type 0
-Runs input old new failed (Ok played) = (failed ≡ false) × HasRun input old new played
-Runs input old new failed (Err (Play Write)) = (failed ≡ true) × HasBegun input old new
-Runs input old new failed (Err other) = (failed ≡ false) × Keeps old new
+-- On Ok a free run was written; if the writer has failed, a beginning of one; and with any other fault nothing was.
+abbrev pub EndsRun : Result Program InputFault → Option (List ℕ) → Option (List ℕ) → Bool → Result Played RunStop → Type 0
+EndsRun input old new failed (Ok played) = (failed ≡ false) × HasRun input old new played
+EndsRun input old new failed (Err (Play Write)) = (failed ≡ true) × HasBegun input old new
+EndsRun input old new failed (Err other) = (failed ≡ false) × Keeps old new
+
+-- the same of a watched writer, of which `contents` says what it holds
+abbrev pub Runs : {T : Type 0} → Result Program InputFault → (T → Option (List ℕ)) → Watch T → Watch T → Result Played RunStop → Type 0
+Runs input contents old new result = EndsRun input (contents old.inner) (contents new.inner) new.failed result
 
 -- What a fault leaves: with Write a beginning of a free run of what was read was written, and else nothing was.
-abbrev pub Leaves : Option (List ℕ) → Option (List ℕ) → Option (List ℕ) → Option (List ℕ) → RunStop → Type 0
-Leaves left rest old new (Play Write) = (bytes : List ℕ) × HasRead left rest bytes × HasBegun (program_in bytes) old new
-Leaves left rest old new other = Keeps old new
+abbrev pub HasLeft : Option (List ℕ) → Option (List ℕ) → Option (List ℕ) → Option (List ℕ) → RunStop → Type 0
+HasLeft left rest old new (Play Write) = (bytes : List ℕ) × HasRead left rest bytes × HasBegun (program_in bytes) old new
+HasLeft left rest old new other = Keeps old new
+
+-- the same of a watched reader and a watched writer
+abbrev pub RunLeaves : {S : Type 0} {T : Type 0} → (S → Option (List ℕ)) → Watch S → Watch S → (T → Option (List ℕ)) → Watch T → Watch T → RunStop → Type 0
+RunLeaves remaining reader after contents old new stop = HasLeft (remaining reader.inner) (remaining after.inner) (contents old.inner) (contents new.inner) stop

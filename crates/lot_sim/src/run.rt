@@ -1,8 +1,8 @@
 //! A free run: the turns of an input's program, made by workers.
 ghost use Rattle.std.specs.Prelude.{◌≡◌, ℕ, List, false, true, IfErr, IfOk, OnOk};
-ghost use Rattle.lot_machine.specs.Grammar.{program_in};
-ghost use Rattle.lot_system.specs.Reading.{HasRead};
-ghost use Rattle.lot_sim.specs.Running.{HasRun, Leaves, Runs};
+ghost use Rattle.lot_simulation.specs.Grammar.{program_in};
+ghost use Rattle.lot_system.specs.Reading.{Reads};
+ghost use Rattle.lot_sim.specs.Running.{HasRun, RunLeaves, Runs};
 
 use lot_processors::{FreeRunFault, OpenGate, free_run};
 use lot_system::{PlayFault, Played, read_input, refuse, write_end};
@@ -24,8 +24,8 @@ pub(crate) enum RunStop {
     Workers(FreeRunFault),
 }
 
-/// Reads an input, has its commands run and its processors' turns made by workers, and writes the report and the history;
-/// or one line, where the input is refused. Its schedule is ignored. It may wait.
+/// Reads an input, has its commands run and its processors' turns made by workers, and writes the report and the
+/// history; or one line, if the input is refused. Its schedule is ignored. It may wait.
 pub(crate) fn run<R: Read, W: Write, H: Threads + Wait + Sync>(
     rt: &H,
     alloc: Global,
@@ -34,8 +34,8 @@ pub(crate) fn run<R: Read, W: Write, H: Threads + Wait + Sync>(
 ) -> Result<Played, RunStop>
     requires { (reader.old.failed ≡ false) × (writer.old.failed ≡ false) }
     ensures flushed { OnOk result (writer.new.flushed ≡ true) }
-    ensures output { IfOk result (λ played. (bytes : List ℕ) × HasRead (R.remaining reader.old.inner) (R.remaining reader.new.inner) bytes × HasRun (program_in bytes) (W.contents writer.old.inner) (W.contents writer.new.inner) played) }
-    ensures fault { IfErr result (λ stop. Leaves (R.remaining reader.old.inner) (R.remaining reader.new.inner) (W.contents writer.old.inner) (W.contents writer.new.inner) stop) }
+    ensures output { IfOk result (λ played. (bytes : List ℕ) × Reads R.remaining reader.old reader.new bytes × HasRun (program_in bytes) (W.contents writer.old.inner) (W.contents writer.new.inner) played) }
+    ensures fault { IfErr result (λ stop. RunLeaves R.remaining reader.old reader.new W.contents writer.old writer.new stop) }
 {
     match read_input(alloc, reader) {
         Ok(bytes) => run_bytes(rt, alloc, &bytes, writer),
@@ -52,7 +52,7 @@ fn run_bytes<W: Write, H: Threads + Wait + Sync>(
 ) -> Result<Played, RunStop>
     requires { writer.old.failed ≡ false }
     ensures flushed { OnOk result (writer.new.flushed ≡ true) }
-    ensures run { Runs (program_in bytes.now) (W.contents writer.old.inner) (W.contents writer.new.inner) writer.new.failed result }
+    ensures run { Runs (program_in bytes.now) W.contents writer.old writer.new result }
 {
     match parse(alloc, bytes) {
         Ok(program) => run_program(rt, alloc, &program, writer),
@@ -73,7 +73,7 @@ fn run_program<W: Write, H: Threads + Wait + Sync>(
 ) -> Result<Played, RunStop>
     requires { writer.old.failed ≡ false }
     ensures flushed { OnOk result (writer.new.flushed ≡ true) }
-    ensures run { Runs (Ok program.now) (W.contents writer.old.inner) (W.contents writer.new.inner) writer.new.failed result }
+    ensures run { Runs (Ok program.now) W.contents writer.old writer.new result }
 {
     let mut system = match free_run(rt, alloc, program, &OpenGate) {
         Ok(system) => system,

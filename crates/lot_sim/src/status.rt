@@ -31,11 +31,11 @@ pub(crate) fn status<
     W: Write + Drop,
     E: Write + Drop,
 >(rt: &H, alloc: Global, words: &[S], reader: R, output: W, errors: E) -> u8 {
-    // A buffer tries a failed write again, when it is dropped too. What lies between it and the output lets none through.
+    // A buffer tries a failed write again, also when dropped. What lies between it and the output lets none through.
     let output = Watched::new(output);
     match request_of(alloc, words) {
         Ok(request) => request_status(rt, alloc, request, reader, output),
-        Err(error) => told(&error, output, Watched::new(errors)),
+        Err(error) => say_error(&error, output, Watched::new(errors)),
     }
 }
 
@@ -64,7 +64,7 @@ fn request_status<H: Threads + Wait + Sync, R: Read + Drop, W: Write + Drop>(
 }
 
 /// Writes the text of a refused command line to the errors, or the help that was asked for to the output.
-fn told<W: Write + Drop, E: Write + Drop>(
+fn say_error<W: Write + Drop, E: Write + Drop>(
     error: &Error,
     output: Watched<W>,
     errors: Watched<E>,

@@ -1,5 +1,5 @@
 mod outputs;
-mod running;
+mod runs;
 
 use crate::status::status;
 use lot_system::{PlayFault, Played, play};
@@ -298,7 +298,7 @@ processor 1 quanta 4 idle 1 ticks 9
 total turns 12 quanta 4 ticks 9
 ";
 
-/// A loop of 9 ticks and the exit behind it, in quanta of 9 ticks.
+/// A loop of 9 ticks and the exit after it, in quanta of 9 ticks.
 const LOOP_IN_TWO: &str = "lottery 1
 quantum 9
 script s
@@ -556,7 +556,7 @@ struct FailingCall {
 }
 
 impl FailingCall {
-    /// Counts one call more, and fails if it is to.
+    /// Counts one more call, and fails if it is to.
     fn call(&mut self) -> io::Result<()> {
         self.calls = self.calls.saturating_add(1);
         match self.kind {
@@ -634,7 +634,7 @@ fn first_unmade_write(
     0
 }
 
-/// The input with tables of these limits, which stand behind its first so many bytes.
+/// The input with tables of these limits, which come after this front of it.
 fn with_limits(alloc: Global, input: &str, front: &str, limits: &str) -> Result<String, Fail> {
     let rest = input.strip_prefix(front).ok_or("a first line")?;
     Ok(format!(in alloc; "{front}limits {limits}\n{rest}")?)

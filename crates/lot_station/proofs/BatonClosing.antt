@@ -7,7 +7,7 @@ use Rattle.lot_system.specs.declared.fault.TurnFault.{TurnFault}
 use Rattle.lot_system.specs.Seen.{Seen}
 use Rattle.lot_station.specs.declared.baton.view.View.{View}
 use Rattle.lot_station.specs.BatonViews.{claim, resting, together, SeesAll}
-use Rattle.lot_station.specs.BatonSeats.{Seat, Baton, IsSeatOf, InOrder, seat, claim_of, Dealt, Shows}
+use Rattle.lot_station.specs.BatonSeats.{Seat, Baton, IsSeatOf, HasEachSeat, seat, claim_of, Dealt, Shows}
 
 pub all_at : (P : Seat → Type 0) (l : List Seat) → All P l → (k : ℕ) (s : Seat) → slice_get l k ≡ Some s → P s
 all_at P l all k s e = subst P (get_or_from_slice_get l k s s e) (all k s (slice_get_within l k s e))
@@ -78,7 +78,7 @@ removed b (x ∷ xs) m y all some e rest =
     (subst (IsSeatOf b) (sym e) (all 0 x (omega arith)), subst (λ l. All (IsSeatOf b) l) (sym rest) (λ k d low. all (suc k) d (omega (arith, low))))
 
 -- the last actor is that of the program
-pub last_actor : (b : Baton) (x : Seen) (l : List Seat) → All (IsSeatOf b) l → InOrder b.processors l → All (Shows x) l → b.processors ≡ x.setting.program.limits.processors
+pub last_actor : (b : Baton) (x : Seen) (l : List Seat) → All (IsSeatOf b) l → HasEachSeat b.processors l → All (Shows x) l → b.processors ≡ x.setting.program.limits.processors
 last_actor b x [] all order shows = absurd (omega (arith, order.0))
 last_actor b x (y ∷ ys) all order shows =
     sym (all 0 y (omega arith)).1 ∙ sym (ap (λ z. z.program.limits.processors) (shows 0 y (omega arith)).begins.0)

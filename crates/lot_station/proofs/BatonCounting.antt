@@ -4,8 +4,8 @@ use Rattle.std.specs.Prelude.{All, slice_get, if◌then◌else◌}
 use Rattle.std.proofs.Math.Bool.{cond}
 use Rattle.std.proofs.lemmas.List.Sums.{sum_by-cons}
 use Rattle.lot_machine.specs.declared.reply.Reply.{Reply}
-use Rattle.lot_machine.specs.Report.{ActorTurn, beside, turns_made, turns_of, total_of, count_in, quanta_in, idles_in, ticks_in}
-use Rattle.lot_machine.specs.World.{Program, World, opening_world, sys, sys_answers}
+use Rattle.lot_simulation.specs.Report.{ActorTurn, beside, turns_made, turns_of, total_of, count_in, quanta_in, idles_in, ticks_in}
+use Rattle.lot_simulation.specs.World.{Program, World, opening_world, system_turn, system_answers}
 use Rattle.lot_system.specs.Seen.{Seen}
 use Rattle.lot_station.specs.BatonSeats.{Seat, Shows}
 use Rattle.lot_station.proofs.BatonClosing.{all_at}
@@ -13,26 +13,26 @@ use Rattle.lot_station.specs.BatonSums.{summed, summed_by, share, AddUp, CountsA
 
 -- the turns that these actors make from this world
 turns_from : Program → World → List ℕ → List ActorTurn
-turns_from program w h = beside h (sys_answers program w h)
+turns_from program w h = beside h (system_answers program w h)
 
 -- what is counted in the actor's turn in this world
 counted_at : (Reply → ℕ) → Program → World → ℕ → ℕ
-counted_at count program w a = count_in count (sys program w a).answer
+counted_at count program w a = count_in count (system_turn program w a).answer
 
 all_counted : (count : Reply → ℕ) (program : Program) (w : World) (h : List ℕ) → summed (counted_at count program) program w h ≡ total_of count (turns_from program w h)
 unfolding turns_from counted_at
 all_counted count program w [] = refl
 all_counted count program w (a ∷ rest) =
-    let first : ActorTurn = record { actor = a; answer = (sys program w a).answer } in
-    let behind = turns_from program (sys program w a).world rest in
-    omega (arith, all_counted count program (sys program w a).world rest, sum_by-cons (λ turn. count_in count turn.answer) first behind)
+    let first : ActorTurn = record { actor = a; answer = (system_turn program w a).answer } in
+    let following = turns_from program (system_turn program w a).world rest in
+    omega (arith, all_counted count program (system_turn program w a).world rest, sum_by-cons (λ turn. count_in count turn.answer) first following)
 
 own_counted : (count : Reply → ℕ) (program : Program) (b : ℕ) (w : World) (h : List ℕ) → summed_by (counted_at count program) program b w h ≡ total_of count (turns_of b (turns_from program w h))
 unfolding turns_from counted_at
 own_counted count program b w [] = refl
 own_counted count program b w (a ∷ rest) =
-    kept (a == b) (record { actor = a; answer = (sys program w a).answer }) (turns_of b (turns_from program (sys program w a).world rest)) (summed_by (counted_at count program) program b (sys program w a).world rest)
-    (own_counted count program b (sys program w a).world rest)
+    kept (a == b) (record { actor = a; answer = (system_turn program w a).answer }) (turns_of b (turns_from program (system_turn program w a).world rest)) (summed_by (counted_at count program) program b (system_turn program w a).world rest)
+    (own_counted count program b (system_turn program w a).world rest)
   where
     kept : (t : Bool) (turn : ActorTurn) (others : List ActorTurn) (n : ℕ) → n ≡ total_of count others → (if t then count_in count turn.answer else 0) + n ≡ total_of count (cond t (turn ∷ others) others)
     kept true turn others n is = omega (arith, is, sum_by-cons (λ y. count_in count y.answer) turn others)
@@ -41,14 +41,14 @@ own_counted count program b w (a ∷ rest) =
 all_made : (program : Program) (w : World) (h : List ℕ) → summed (λ w a. 1) program w h ≡ length (turns_from program w h)
 unfolding turns_from
 all_made program w [] = refl
-all_made program w (a ∷ rest) = omega (arith, all_made program (sys program w a).world rest)
+all_made program w (a ∷ rest) = omega (arith, all_made program (system_turn program w a).world rest)
 
 own_made : (program : Program) (b : ℕ) (w : World) (h : List ℕ) → summed_by (λ w a. 1) program b w h ≡ length (turns_of b (turns_from program w h))
 unfolding turns_from
 own_made program b w [] = refl
 own_made program b w (a ∷ rest) =
-    kept (a == b) (record { actor = a; answer = (sys program w a).answer }) (turns_of b (turns_from program (sys program w a).world rest)) (summed_by (λ w a. 1) program b (sys program w a).world rest)
-    (own_made program b (sys program w a).world rest)
+    kept (a == b) (record { actor = a; answer = (system_turn program w a).answer }) (turns_of b (turns_from program (system_turn program w a).world rest)) (summed_by (λ w a. 1) program b (system_turn program w a).world rest)
+    (own_made program b (system_turn program w a).world rest)
   where
     kept : (t : Bool) (turn : ActorTurn) (others : List ActorTurn) (n : ℕ) → n ≡ length others → (if t then 1 else 0) + n ≡ length (cond t (turn ∷ others) others)
     kept true turn others n is = omega (arith, is)

@@ -1,28 +1,28 @@
 -- What is counted of an actor's turns while a history grows.
 use Rattle.std.proofs.Common.{◌≡◌, ℕ, ◌+◌, ◌==◌, Bool, true, false, cond, List, [], ◌∷◌, ◌++◌, refl, sym, ap, ◌∙◌, arith}
 use Rattle.std.specs.Prelude.{if◌then◌else◌}
-use Rattle.lot_machine.specs.Report.{ActorTurn, beside, turns_made, turns_of}
-use Rattle.lot_machine.specs.World.{Program, World, opening_world, sys, sys_answers}
+use Rattle.lot_simulation.specs.Report.{ActorTurn, beside, turns_made, turns_of}
+use Rattle.lot_simulation.specs.World.{Program, World, opening_world, system_turn, system_answers}
 use Rattle.lot_system.specs.declared.turn.Answer.{Answer}
 use Rattle.lot_system.specs.Counted.{counted, counted_with}
 use Rattle.lot_system.specs.Seen.{Seen, after_turn}
 use Rattle.lot_system.specs.Turns.{Answers}
 use Rattle.lot_system.proofs.CountFacts.{counted-own_more}
 use Rattle.lot_station.specs.Settings.{counts_in, turns_by}
-use Rattle.lot_station.specs.BatonViews.{Begins}
+use Rattle.lot_station.specs.BatonViews.{Extends}
 use Rattle.lot_station.proofs.BatonShares.{turns_by-append, turns_by-cons}
 
 -- the turns of one actor among those that these actors make from this world
 own_turns : Program → ℕ → World → List ℕ → List ActorTurn
-own_turns program b w h = turns_of b (beside h (sys_answers program w h))
+own_turns program b w h = turns_of b (beside h (system_answers program w h))
 
 -- an actor that isn't there has none
 own_turns-none : (program : Program) (b : ℕ) (w : World) (h : List ℕ) → turns_by b h ≡ 0 → own_turns program b w h ≡ []
 unfolding own_turns
 own_turns-none program b w [] none = refl
 own_turns-none program b w (a ∷ h) none =
-    kept (a == b) (turns_by b h) (record { actor = a; answer = (sys program w a).answer }) (turns_of b (beside h (sys_answers program (sys program w a).world h))) (sym (turns_by-cons b a h) ∙ none)
-    (λ rest. own_turns-none program b (sys program w a).world h rest)
+    kept (a == b) (turns_by b h) (record { actor = a; answer = (system_turn program w a).answer }) (turns_of b (beside h (system_answers program (system_turn program w a).world h))) (sym (turns_by-cons b a h) ∙ none)
+    (λ rest. own_turns-none program b (system_turn program w a).world h rest)
   where
     kept : (t : Bool) (n : ℕ) (turn : ActorTurn) (others : List ActorTurn) → (if t then 1 else 0) + n ≡ 0 → (n ≡ 0 → others ≡ []) → cond t (turn ∷ others) others ≡ []
     kept true n turn others sum none = absurd (omega (arith, sum))
@@ -33,11 +33,11 @@ own_turns-still : (program : Program) (b : ℕ) (w : World) (h rest : List ℕ) 
 unfolding own_turns
 own_turns-still program b w [] rest none = own_turns-none program b w rest none
 own_turns-still program b w (a ∷ h) rest none =
-    let first : ActorTurn = record { actor = a; answer = (sys program w a).answer } in
-    ap (λ l. cond (a == b) (first ∷ l) l) (own_turns-still program b (sys program w a).world h rest none)
+    let first : ActorTurn = record { actor = a; answer = (system_turn program w a).answer } in
+    ap (λ l. cond (a == b) (first ∷ l) l) (own_turns-still program b (system_turn program w a).world h rest none)
 
 -- while an actor has no turn, what is counted of its turns stays
-pub counts-still : (x s : Seen) (actor : ℕ) → Begins x s → turns_by actor x.history ≡ turns_by actor s.history → counts_in x actor ≡ counts_in s actor
+pub counts-still : (x s : Seen) (actor : ℕ) → Extends x s → turns_by actor x.history ≡ turns_by actor s.history → counts_in x actor ≡ counts_in s actor
 unfolding own_turns
 counts-still x s actor begins turns =
     let rest = begins.1.0 in

@@ -11,7 +11,7 @@ use Rattle.lot_station.specs.declared.baton.view.Claim.{Claim}
 use Rattle.lot_station.specs.declared.baton.view.View.{View}
 use Rattle.lot_station.specs.BatonViews.{claim, StartsWith, Sees, SeesAll}
 use Rattle.lot_station.specs.Settings.{turns_by}
-use Rattle.lot_station.specs.BatonRule.{Fits, AllFit}
+use Rattle.lot_station.specs.BatonRule.{IsClaimOf, AllFit}
 
 -- how many turns of the actor there are, a turn at a time
 counted : ℕ → List ℕ → ℕ
@@ -71,14 +71,14 @@ views_set F views port w mine others j u e =
     (λ (x : (j ≢ port) × (get_elem? views j ≡ some u)). others j u x.0 x.1)
     (at_set views port j w u e)
 
--- at the new system, where those whose actor is another's see no turn of their own
+-- at the new system, if those whose actor is another's see no turn of their own
 pub record Moved (owner : ℕ → ℕ) (now x : Seen) (port : ℕ) : Type 0 where
   pub setting : x.setting ≡ now.setting
   pub rest : List ℕ
   pub longer : x.history ≡ now.history ++ rest
   pub others : (a : ℕ) → owner a ≢ port → turns_by a rest ≡ 0
 
-fit_moved : (owner : ℕ → ℕ) (now x : Seen) (port j : ℕ) → Moved owner now x port → j ≢ port → (c : Claim) → Fits owner now j c → Fits owner x j c
+fit_moved : (owner : ℕ → ℕ) (now x : Seen) (port j : ℕ) → Moved owner now x port → j ≢ port → (c : Claim) → IsClaimOf owner now j c → IsClaimOf owner x j c
 fit_moved owner now x port j m apart c f =
     let start : StartsWith x.history c.seen.history =
     subst (λ h. StartsWith h c.seen.history) (sym m.longer) (starts_more now.history m.rest c.seen.history f.0.0.1) in

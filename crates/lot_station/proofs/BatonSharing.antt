@@ -4,10 +4,10 @@ use Rattle.std.specs.Prelude.{slice_get, if◌then◌else◌}
 use Rattle.std.proofs.lemmas.List.Sums.{sum_by-cons}
 use mathlib.Core.Logic.{dite}
 use native.Mathlib.Decide.{ℕ_discrete}
-use Rattle.lot_machine.specs.World.{Program, World, opening_world, sys, sys_after}
+use Rattle.lot_simulation.specs.World.{Program, World, opening_world, system_turn, system_after}
 use Rattle.lot_system.specs.Seen.{Seen}
 use Rattle.lot_station.specs.Settings.{turns_by}
-use Rattle.lot_station.specs.BatonSeats.{Seat, InOrder, Shows}
+use Rattle.lot_station.specs.BatonSeats.{Seat, HasEachSeat, Shows}
 use Rattle.lot_station.specs.BatonSums.{summed, summed_by, share, AddUp}
 use Rattle.lot_station.proofs.BatonClosing.{all_at}
 use Rattle.lot_station.proofs.BatonShares.{turns_by-append, turns_by-cons}
@@ -49,20 +49,20 @@ point a k j (suc n) low high =
 by_actors : (f : World → ℕ → ℕ) (program : Program) (p : ℕ) (w : World) (h : List ℕ) → All (λ a. a ≤ p) h → from_on (λ b. summed_by f program b w h) 0 (p + 1) ≡ summed f program w h
 by_actors f program p w [] all = from_on-zero 0 (p + 1)
 by_actors f program p w (a ∷ rest) all =
-    let next = (sys program w a).world in
+    let next = (system_turn program w a).world in
     let first : a ≤ p = all 0 0 (omega arith) in
     let others : All (λ b. b ≤ p) rest = λ k d low. all (suc k) d (omega (arith, low)) in
     from_on-add (λ b. if a == b then f w a else 0) (λ b. summed_by f program b next rest) 0 (p + 1)
     ∙ (λ i. point a (f w a) 0 (p + 1) (omega arith) (omega (arith, first)) i + by_actors f program p next rest others i)
 
-summed_by-append : (f : World → ℕ → ℕ) (program : Program) (b : ℕ) (w : World) (h rest : List ℕ) → summed_by f program b w (h ++ rest) ≡ summed_by f program b w h + summed_by f program b (sys_after program w h) rest
+summed_by-append : (f : World → ℕ → ℕ) (program : Program) (b : ℕ) (w : World) (h rest : List ℕ) → summed_by f program b w (h ++ rest) ≡ summed_by f program b w h + summed_by f program b (system_after program w h) rest
 summed_by-append f program b w [] rest = omega arith
-summed_by-append f program b w (a ∷ h) rest = omega (arith, summed_by-append f program b (sys program w a).world h rest)
+summed_by-append f program b w (a ∷ h) rest = omega (arith, summed_by-append f program b (system_turn program w a).world h rest)
 
 none_of_it : (f : World → ℕ → ℕ) (program : Program) (b : ℕ) (w : World) (h : List ℕ) → turns_by b h ≡ 0 → summed_by f program b w h ≡ 0
 none_of_it f program b w [] e = refl
 none_of_it f program b w (a ∷ h) e =
-    both (a == b) (turns_by b h) (summed_by f program b (sys program w a).world h) (f w a) (sym (turns_by-cons b a h) ∙ e) (none_of_it f program b (sys program w a).world h)
+    both (a == b) (turns_by b h) (summed_by f program b (system_turn program w a).world h) (f w a) (sym (turns_by-cons b a h) ∙ e) (none_of_it f program b (system_turn program w a).world h)
   where
     both : (t : Bool) (n m k : ℕ) → (if t then 1 else 0) + n ≡ 0 → (n ≡ 0 → m ≡ 0) → (if t then k else 0) + m ≡ 0
     both true n m k e f = absurd (omega (arith, e))
@@ -79,7 +79,7 @@ still f x s shows =
     let quiet : turns_by s.actor rest ≡ 0 = omega (arith, turns_by-append s.actor h rest, sym (ap (turns_by s.actor) same) ∙ shows.turns) in
     let here : summed_by f program s.actor w x.history ≡ summed_by f program s.actor w h =
     ap (summed_by f program s.actor w) same ∙ summed_by-append f program s.actor w h rest
-    ∙ omega (arith, none_of_it f program s.actor (sys_after program w h) rest quiet) in
+    ∙ omega (arith, none_of_it f program s.actor (system_after program w h) rest quiet) in
     sym (here ∙ ap (λ p. summed_by f p s.actor (opening_world p) h) (ap (λ y. y.program) shows.begins.0))
 
 in_a_row : (f : Seat → ℕ) (g : ℕ → ℕ) (j : ℕ) (seats : List Seat) → ((k : ℕ) (s : Seat) → slice_get seats k ≡ Some s → f s ≡ g (j + k)) → sum_by f seats ≡ from_on g j (length seats)
@@ -90,7 +90,7 @@ in_a_row f g j (s ∷ seats) same =
     let rest = in_a_row f g (j + 1) seats (λ k y e. same (suc k) y e ∙ ap g (omega arith)) in
     omega (arith, sum_by-cons f s seats, first, rest)
 
-pub adds_up : (x : Seen) (p : ℕ) (seats : List Seat) → p ≡ x.setting.program.limits.processors → InOrder p seats → All (λ a. a ≤ x.setting.program.limits.processors) x.history → All (Shows x) seats → AddUp x seats
+pub adds_up : (x : Seen) (p : ℕ) (seats : List Seat) → p ≡ x.setting.program.limits.processors → HasEachSeat p seats → All (λ a. a ≤ x.setting.program.limits.processors) x.history → All (Shows x) seats → AddUp x seats
 adds_up x p seats is order all shows f =
     let program = x.setting.program in
     let g : ℕ → ℕ = λ b. summed_by f program b (opening_world program) x.history in

@@ -11,7 +11,7 @@ use Rattle.lot_system.specs.Seen.{Seen}
 use Rattle.lot_station.specs.declared.baton.view.Claim.{Claim}
 use Rattle.lot_station.specs.declared.baton.view.View.{View}
 use Rattle.lot_station.specs.BatonViews.{claim, all_actors, newcomer, resting, holding, SeesAll, first_only, took, gave, Next, all_but_first, first_actor, note_of, together}
-use Rattle.lot_station.specs.BatonRule.{AllFit, ViewFits, content, IsHeld, Opened, Kept}
+use Rattle.lot_station.specs.BatonRule.{AllFit, ViewFits, content, HoldsSystem, Opened, Kept}
 use Rattle.lot_station.proofs.BatonShares.{turns_by-other, sees_self, at_end, views_set, Moved, all_moved, all_owned, all_both, all_noted, all_seen}
 
 single : (j : ℕ) (u : View) → get_elem? (newcomer ∷ []) j ≡ some u → (j ≡ 0) × (u ≡ newcomer)
@@ -224,7 +224,7 @@ joins port v other u old empty items views h at apart there =
     let of_port : (a : ℕ) → o.0 a ≡ port → owner a ≡ port = λ a e. of_else a (λ x. apart (sym x ∙ e)) ∙ e in
     let joined : ViewFits owner o.1 o.2 o.3 port both =
     (mine.0, all_both owner o.1 port v.claims u.claims (all_owned o.0 owner o.1 port port of_port v.claims mine.1) (all_owned o.0 owner o.1 other port of_other u.claims theirs.1), mine.2) in
-    let held : o.2 ≡ true → IsHeld o.3 (set (set views port both) other (resting [])) =
+    let held : o.2 ≡ true → HoldsSystem o.3 (set (set views port both) other (resting [])) =
     λ out.
     let h = o.5 out in
     let away = not_here views other u h.0 h.1 o.3 empty was h.2 h.3 in

@@ -9,13 +9,13 @@ use Rattle.lot_system.specs.Seen.{Seen, after_turn}
 use Rattle.lot_system.specs.Turns.{Answers, Faults, Goes}
 use Rattle.lot_station.specs.declared.baton.view.Claim.{Claim}
 use Rattle.lot_station.specs.declared.baton.view.View.{View}
-use Rattle.lot_station.specs.BatonViews.{claim, resting, holding, took, gave, note_of, together, Begins, Sees, Next}
+use Rattle.lot_station.specs.BatonViews.{claim, resting, holding, took, gave, note_of, together, Extends, Sees, Next}
 use Rattle.lot_station.specs.Settings.{IsLegalIn, counts_in, turns_by}
 use Rattle.lot_station.specs.BatonSeats.{Seat, Looks, Turns}
 use Rattle.lot_station.proofs.BatonCounts.{counts-still, counts-more}
 use Rattle.lot_station.proofs.BatonShares.{turns_by-append, turns_by-own}
 
--- the clauses of the system's `turn`, where its answer is Ok, and where it is Err
+-- the clauses of the system's `turn`, if its answer is Ok, and if it is Err
 abbrev pub TurnOk : ℕ → Option Parts → Seen → Seen → Answer → Type 0
 TurnOk a given was x answer = Goes was a given × (x ≡ after_turn was a) × Answers was a answer
 
@@ -40,7 +40,7 @@ pub looks : (old new : Seat) (was : Seen) → new.seen ≡ was → Sees was (cla
 looks old new was is sees legal =
     record {
       legal = subst (λ (y : Seen). IsLegalIn y) (sym is) legal;
-      begins = subst (λ (y : Seen). Begins y old.seen) (sym is) sees.0;
+      begins = subst (λ (y : Seen). Extends y old.seen) (sym is) sees.0;
       turns = ap (λ (y : Seen). turns_by old.actor y.history) is ∙ sees.1 old.actor (omega arith) (omega arith);
       counts = ap (λ (y : Seen). counts_in y old.actor) is ∙ counts-still was old.seen old.actor sees.0 (sees.1 old.actor (omega arith) (omega arith));
     }

@@ -1,18 +1,18 @@
 -- How often an actor stands in a history.
 use Rattle.std.proofs.Common.{◌≡◌, ℕ, ◌+◌, ◌==◌, cond, List, [], ◌∷◌, length, count_by, refl, sym, ◌∙◌, ap}
 use Rattle.std.proofs.lemmas.List.Sums.{sum_by-cons, length-filter}
-use Rattle.lot_machine.specs.Report.{ActorTurn, beside, turns_of}
-use Rattle.lot_machine.specs.World.{Program, World, opening_world, sys, sys_answers}
+use Rattle.lot_simulation.specs.Report.{ActorTurn, beside, turns_of}
+use Rattle.lot_simulation.specs.World.{Program, World, opening_world, system_turn, system_answers}
 use Rattle.lot_system.specs.Seen.{Seen}
 use Rattle.lot_station.specs.Settings.{times_in, turns_in}
 
 -- an actor has as many turns as it stands among the actors
-count-beside : (program : Program) (actor : ℕ) (w : World) (actors : List ℕ) → count_by (λ turn. turn.actor == actor) (beside actors (sys_answers program w actors)) ≡ count_by (λ a. a == actor) actors
+count-beside : (program : Program) (actor : ℕ) (w : World) (actors : List ℕ) → count_by (λ turn. turn.actor == actor) (beside actors (system_answers program w actors)) ≡ count_by (λ a. a == actor) actors
 count-beside program actor w [] = refl
 count-beside program actor w (a ∷ actors) =
-    let made : ActorTurn = record { actor = a; answer = (sys program w a).answer } in
-    let behind = beside actors (sys_answers program (sys program w a).world actors) in
-    sum_by-cons (λ (turn : ActorTurn). cond (turn.actor == actor) 1 0) made behind ∙ ap (λ n. cond (a == actor) 1 0 + n) (count-beside program actor (sys program w a).world actors) ∙ sym (sum_by-cons (λ x. cond (x == actor) 1 0) a actors)
+    let made : ActorTurn = record { actor = a; answer = (system_turn program w a).answer } in
+    let following = beside actors (system_answers program (system_turn program w a).world actors) in
+    sum_by-cons (λ (turn : ActorTurn). cond (turn.actor == actor) 1 0) made following ∙ ap (λ n. cond (a == actor) 1 0 + n) (count-beside program actor (system_turn program w a).world actors) ∙ sym (sum_by-cons (λ x. cond (x == actor) 1 0) a actors)
 
 pub length-turns_of : (x : Seen) (actor : ℕ) → length (turns_of actor (turns_in x)) ≡ times_in x actor
 length-turns_of x actor =

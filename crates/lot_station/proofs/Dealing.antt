@@ -3,9 +3,9 @@ use Rattle.std.proofs.Common.{◌≡◌, ◌⊎◌, ℕ, zero, suc, ◌+◌, ◌
 use Rattle.std.specs.List.{range_with_len}
 use Rattle.std.proofs.lemmas.List.Sums.{sum_by-cons}
 use Rattle.lot_machine.specs.declared.reply.Reply.{Reply}
-use Rattle.lot_machine.specs.Report.{quanta_in, ticks_in, total_of, turns_of}
-use Rattle.lot_machine.specs.World.{IsLegal}
-use Rattle.lot_machine.proofs.ActorCounts.{counts-add_up, lengths-add_up, turns_made-actors, turns_made-length}
+use Rattle.lot_simulation.specs.Report.{quanta_in, ticks_in, total_of, turns_of}
+use Rattle.lot_simulation.specs.World.{IsLegal}
+use Rattle.lot_simulation.proofs.ActorCounts.{counts-add_up, lengths-add_up, turns_made-actors, turns_made-length}
 use Rattle.lot_machine.proofs.Sums.{sum-same}
 use Rattle.lot_system.specs.Seen.{Seen}
 use Rattle.lot_station.specs.Holders.{Holder, dealt}
@@ -29,7 +29,7 @@ left-enough f k n (suc parts) amount taken left some is =
     last zero all none = omega (arith, all)
     last (suc m) all none = absurd (omega (arith, none))
 
--- and then what the actors behind it have is left
+-- and then what the actors after it have is left
 pub left-next : (f : ℕ → ℕ) (k n parts amount parts' amount' taken : ℕ) → IsLeft f k n parts amount → taken ≡ f k → parts' + 1 ≡ parts → amount' + taken ≡ amount → IsLeft f (k + 1) n parts' amount'
 left-next f k n zero amount parts' amount' taken left is less_parts less = absurd (omega (arith, less_parts))
 left-next f k n (suc parts) amount parts' amount' taken left is less_parts less =

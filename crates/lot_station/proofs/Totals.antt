@@ -2,8 +2,8 @@
 use Rattle.std.proofs.Common.{◌≡◌, ℕ, ◌+◌, ◌≤◌, ◌==◌, List, [], ◌∷◌, ◌++◌, cond, Option, Some, refl, sym, ◌∙◌, ap, subst, arith, length-append}
 use Rattle.std.proofs.lemmas.List.Elements.{All-pop}
 use Rattle.std.proofs.lemmas.List.Sums.{sum_by_push}
-use Rattle.lot_machine.specs.Report.{quanta_in, ticks_in, total_of}
-use Rattle.lot_machine.specs.World.{Program, IsLegal}
+use Rattle.lot_simulation.specs.Report.{quanta_in, ticks_in, total_of}
+use Rattle.lot_simulation.specs.World.{Program, IsLegal}
 use Rattle.lot_system.specs.declared.counts.Counts.{Counts}
 use Rattle.lot_system.specs.declared.turn.Answer.{Answer}
 use Rattle.lot_system.specs.declared.fault.TurnFault.{TurnFault}

@@ -10,7 +10,7 @@ use Rattle.lot_system.specs.Seen.{Seen, after_turn}
 use Rattle.lot_system.specs.Turns.{Answers, Goes}
 use Rattle.lot_station.specs.declared.baton.view.Claim.{Claim}
 use Rattle.lot_station.specs.Settings.{IsLegalIn, counts_in, nothing_seen, turns_by}
-use Rattle.lot_station.specs.BatonViews.{claim, Begins}
+use Rattle.lot_station.specs.BatonViews.{claim, Extends}
 
 -- ---- seats and stations
 
@@ -65,16 +65,16 @@ pub record IsSameSeat (old new : Seat) : Type 0 where
 -- its own, so what is counted of its turns stays.
 pub record Looks (old new : Seat) : Type 0 where
   pub legal : IsLegalIn new.seen
-  pub begins : Begins new.seen old.seen
+  pub begins : Extends new.seen old.seen
   pub turns : turns_by old.actor new.seen.history ≡ turns_by old.actor old.seen.history
   pub counts : counts_in new.seen old.actor ≡ seat_counts old
 
--- It has seen a legal history of the same program and room that begins with what it had seen and ends with this turn, the
--- one turn more of its own. The answer is the one there, and what is counted of its turns grows by it.
+-- It has seen a legal history of the same program and room that begins with what it had seen and ends with this turn,
+-- the only further one of its own. The answer is the one there, and what is counted of its turns grows by it.
 pub record Turns (old : Seat) (given : Option Parts) (answer : Answer) (new : Seat) : Type 0 where
   pub legal : IsLegalIn new.seen
   pub before : Seen
-  pub begins : Begins before old.seen
+  pub begins : Extends before old.seen
   pub goes : Goes before old.actor given
   pub ends : new.seen ≡ after_turn before old.actor
   pub answered : Answers before old.actor answer
@@ -83,16 +83,16 @@ pub record Turns (old : Seat) (given : Option Parts) (answer : Answer) (new : Se
 
 -- the system begins with what the seat has seen, and has its actor as often
 pub record Shows (x : Seen) (s : Seat) : Type 0 where
-  pub begins : Begins x s.seen
+  pub begins : Extends x s.seen
   pub turns : turns_by s.actor x.history ≡ turns_by s.actor s.seen.history
 
 -- ---- lists of seats
 
--- a seat for each actor from 0 on, in order, who all have seen this
+-- a seat for each actor from 0 on, in order, each of which has seen this
 abbrev pub Dealt : TableId → Seen → List Seat → Type 0
 Dealt station seen seats = (k : ℕ) (s : Seat) → slice_get seats k ≡ Some s → s ≡ seat station k seen None
 
 -- each seat once, in order
-abbrev pub InOrder : ℕ → List Seat → Type 0
-InOrder processors seats =
+abbrev pub HasEachSeat : ℕ → List Seat → Type 0
+HasEachSeat processors seats =
     (length seats ≡ processors + 1) × ((k : ℕ) (s : Seat) → slice_get seats k ≡ Some s → s.actor ≡ k)

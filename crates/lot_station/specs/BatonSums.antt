@@ -1,6 +1,6 @@
 -- Sums over the turns of a history, and over those of one actor.
 use Rattle.std.specs.Prelude.{◌≡◌, ℕ, ◌+◌, List, [], ◌∷◌, sum_by, if◌then◌else◌, ◌==◌}
-use Rattle.lot_machine.specs.World.{Program, World, opening_world, sys}
+use Rattle.lot_simulation.specs.World.{Program, World, opening_world, system_turn}
 use Rattle.lot_system.specs.Seen.{Seen}
 use Rattle.lot_station.specs.BatonSeats.{Seat, seat_counts}
 use Rattle.lot_station.specs.Settings.{counts_of}
@@ -8,12 +8,12 @@ use Rattle.lot_station.specs.Settings.{counts_of}
 -- a number for each turn, added up
 abbrev pub summed : (World → ℕ → ℕ) → Program → World → List ℕ → ℕ
 summed f program w [] = 0
-summed f program w (a ∷ rest) = f w a + summed f program (sys program w a).world rest
+summed f program w (a ∷ rest) = f w a + summed f program (system_turn program w a).world rest
 
 -- a number for each turn of one actor, added up
 abbrev pub summed_by : (World → ℕ → ℕ) → Program → ℕ → World → List ℕ → ℕ
 summed_by f program b w [] = 0
-summed_by f program b w (a ∷ rest) = (if a == b then f w a else 0) + summed_by f program b (sys program w a).world rest
+summed_by f program b w (a ∷ rest) = (if a == b then f w a else 0) + summed_by f program b (system_turn program w a).world rest
 
 -- what a seat has of such a number: that of its actor's turns in the history that it has seen
 abbrev pub share : (World → ℕ → ℕ) → Seat → ℕ

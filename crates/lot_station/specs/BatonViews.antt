@@ -38,12 +38,12 @@ abbrev pub StartsWith : List ℕ → List ℕ → Type 0
 StartsWith history seen = (rest : List ℕ) × (history ≡ seen ++ rest)
 
 -- a system has the program and the room that were seen, and its history begins with the one that was
-abbrev pub Begins : Seen → Seen → Type 0
-Begins x seen = (x.setting ≡ seen.setting) × StartsWith x.history seen.history
+abbrev pub Extends : Seen → Seen → Type 0
+Extends x seen = (x.setting ≡ seen.setting) × StartsWith x.history seen.history
 
 -- the system is as it was seen, and then turns of others
 abbrev pub Sees : Seen → Claim → Type 0
-Sees x c = Begins x c.seen × ((a : ℕ) → c.from ≤ a → a < c.to → turns_by a x.history ≡ turns_by a c.seen.history)
+Sees x c = Extends x c.seen × ((a : ℕ) → c.from ≤ a → a < c.to → turns_by a x.history ≡ turns_by a c.seen.history)
 
 -- the same of each claim
 abbrev pub SeesAll : Seen → List Claim → Type 0
@@ -70,7 +70,7 @@ abbrev pub Next : Claim → Seen → Seen → Type 0
 Next c was x =
     (x.setting ≡ was.setting) × ((x.history ≡ was.history) ⊎ ((x.history ≡ was.history ++ c.from ∷ []) × (c.from < c.to)))
 
--- where the first actor goes to a new pass: what is left
+-- what is left if the first actor goes to a new pass
 abbrev pub all_but_first : View → View
 all_but_first v = known v.fresh v.held (map (λ c. claim (c.from + 1) c.to c.seen) v.claims)
 

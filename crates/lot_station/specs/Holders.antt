@@ -1,12 +1,12 @@
 -- What seats have of a system's turns.
 use Rattle.std.specs.Prelude.{◌≡◌, ℕ, ◌+◌, Option, Some, None, List, length, sum_by, slice_get}
 use Rattle.lot_machine.specs.declared.reply.Reply.{Reply}
-use Rattle.lot_machine.specs.Report.{quanta_in, ticks_in, total_of, turns_of}
+use Rattle.lot_simulation.specs.Report.{quanta_in, ticks_in, total_of, turns_of}
 use Rattle.lot_system.specs.declared.fault.TurnFault.{TurnFault}
 use Rattle.lot_system.specs.Seen.{Seen}
 use Rattle.lot_station.specs.Settings.{times_in, turns_in}
 
--- a seat: its actor, its shares of the totals of all turns, quanta and ticks, and the fault that stopped who used it
+-- a seat: its actor, its shares of the totals of all turns, quanta and ticks, and the fault that stopped its user
 pub record Holder : Type 0 where
   pub actor : ℕ
   pub turns : ℕ
@@ -14,7 +14,7 @@ pub record Holder : Type 0 where
   pub ticks : ℕ
   pub stopped : Option TurnFault
 
--- the seat with one turn more, that was answered so
+-- the seat with one more turn, which got this reply
 abbrev pub with_turn : Holder → Reply → Holder
 with_turn seat r = record seat { turns = seat.turns + 1; quanta = seat.quanta + quanta_in r; ticks = seat.ticks + ticks_in r }
 

@@ -1,7 +1,7 @@
 -- Systems of a program and a room.
 use Rattle.std.specs.Prelude.{ℕ, ◌==◌, List, [], count_by}
-use Rattle.lot_machine.specs.Report.{ActorTurn, turns_made, turns_of}
-use Rattle.lot_machine.specs.World.{IsLegal}
+use Rattle.lot_simulation.specs.Report.{ActorTurn, turns_made, turns_of}
+use Rattle.lot_simulation.specs.World.{IsLegal}
 use Rattle.lot_system.specs.declared.counts.Counts.{Counts}
 use Rattle.lot_system.specs.Counted.{counted}
 use Rattle.lot_system.specs.Seen.{Setting, Seen}

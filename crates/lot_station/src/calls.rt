@@ -11,8 +11,8 @@ use std::sync::Wait;
 use std::sync::ledger::Ledger;
 
 impl<T: TurnLedger, Q: Ledger, K: Ledger> Station<T, Q, K> {
-    /// Makes the turn of the seat's actor, as `System::turn` does. The seat's shares grow by one turn, by one quantum where
-    /// somebody won a draw, and by the turn's ticks; a fault leaves the seat as it was. It may wait.
+    /// Makes the turn of the seat's actor, as `System::turn` does. The seat's shares grow by one turn, by one quantum
+    /// if somebody won a draw, and by the turn's ticks; a fault leaves the seat as it was. It may wait.
     ///
     /// The answer, the work that it hands on and the fault are such as the system's program has after some legal history.
     pub fn turn(

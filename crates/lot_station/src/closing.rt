@@ -14,8 +14,8 @@ impl<T: TurnLedger, Q: Ledger, K: Ledger> Station<T, Q, K> {
     /// Takes the seats in, and gives the system back. Its history has each actor as often as its seat made turns, and as many
     /// turns, quanta and ticks as all seats' shares together.
     ///
-    /// Answers `SeatMissing` exactly where the seats aren't one for each actor, in order, and else `CountsDiffer` exactly
-    /// where a share of turns isn't its actor's count in the history.
+    /// It fails if and only if one of these is so: the seats aren't one for each actor, in order (`SeatMissing`); or
+    /// they are, but a share of turns isn't its actor's count in the history (`CountsDiffer`).
     pub fn close(self, seats: Vec<Seat<T, Q, K>>) -> Result<System, CloseFault<T, Q, K>>
         requires { (T.parts ≡ self.program.limits.processors + 1) × (Q.parts ≡ self.program.limits.processors + 1) × (K.parts ≡ self.program.limits.processors + 1) }
         ensures setting { IfOk result (λ x. x.setting ≡ self) }

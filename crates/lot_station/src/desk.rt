@@ -1,7 +1,7 @@
 //! What lies under the lock.
 ghost use Rattle.std.specs.Prelude.{◌≡◌, length, IfOk, IfErr, OnErr};
-ghost use Rattle.lot_machine.specs.Report as report;
-ghost use Rattle.lot_machine.specs.Report.{total_of};
+ghost use Rattle.lot_simulation.specs.Report as report;
+ghost use Rattle.lot_simulation.specs.Report.{total_of};
 ghost use Rattle.lot_system.specs.Seen.{Setting};
 ghost use Rattle.lot_system.specs.Turns.{Answers, Faults, Goes, IsWorkOf};
 ghost use Rattle.lot_station.specs.Holders.{with_turn};
@@ -66,7 +66,7 @@ impl<T: TurnLedger, Q: Ledger, K: Ledger> Desk<T, Q, K> {
     }
 }
 
-/// 1 where a draw was won.
+/// 1 if a draw was won.
 fn quanta_in(reply: Reply) -> u64
     ensures { result ≡ report.quanta_in reply }
 {

@@ -43,7 +43,7 @@ impl<L: Ledger> Holding<L> {
         self.amount
     }
 
-    /// Enters so much more in the book and in the part. The book then has this total.
+    /// Enters this much more in the book and in the part. The book then has this total.
     pub(crate) fn add(&mut self, book: &mut Book<L>, more: u64, total: u64)
         requires { book.old.total + more ≡ total }
         ensures amount { self.new ≡ self.old + more }

@@ -1,7 +1,7 @@
 //! Opening a station.
 ghost use Rattle.std.specs.Prelude.{◌≡◌, ◌+◌, ◌<◌, length, IfOk};
-ghost use Rattle.lot_machine.specs.Report.{quanta_in, ticks_in, total_of};
-ghost use Rattle.lot_machine.specs.World.{IsLegal};
+ghost use Rattle.lot_simulation.specs.Report.{quanta_in, ticks_in, total_of};
+ghost use Rattle.lot_simulation.specs.World.{IsLegal};
 ghost use Rattle.lot_station.specs.Holders.{AreDealt};
 ghost use Rattle.lot_station.specs.Settings.{turns_in};
 

@@ -8,7 +8,7 @@ use std::marker::Model;
 use std::sync::ledger::Ledger;
 
 /// The right of one actor to make turns, with its shares of the totals of all turns, and a place for the fault that
-/// stopped who used it.
+/// stopped its user.
 #[derive(Drop)]
 pub struct Seat<T: TurnLedger, Q: Ledger, K: Ledger> {
     pub(crate) actor: u32,
@@ -58,15 +58,15 @@ impl<T: TurnLedger, Q: Ledger, K: Ledger> Seat<T, Q, K> {
         self.ticks.amount()
     }
 
-    /// Keeps the fault that stopped who used the seat, in place of any that it had.
+    /// Keeps the fault that stopped the seat's user, in place of any that it had.
     pub fn stop(&mut self, fault: TurnFault)
         ensures { self.new ≡ record self.old { stopped = Some fault } }
     {
         self.stopped = Some(fault);
     }
 
-    /// Takes out the fault that stopped who used the seat, if one did.
-    pub fn stopped(&mut self) -> Option<TurnFault>
+    /// Takes out the fault that stopped the seat's user, if one did.
+    pub fn take_fault(&mut self) -> Option<TurnFault>
         ensures fault { result ≡ self.old.stopped }
         ensures taken { self.new ≡ record self.old { stopped = None } }
     {

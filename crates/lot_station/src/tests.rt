@@ -31,7 +31,7 @@ pub(crate) type Shares = (u64, u64, u64);
 /// What the seats have after these turns.
 pub(crate) const ENDED: [Shares; 3] = [(1, 0, 0), (2, 1, 100), (2, 1, 0)];
 
-/// The program of an input, and a system of it with room for so many turns.
+/// The program of an input, and a system of it with room for this many turns.
 fn opened(alloc: Global, input: &str, room: u32) -> Option<(Program, System)> {
     let program = parse(alloc, input.as_bytes()).ok()?;
     let system = System::open(alloc, &program, room).ok()?;

@@ -3,20 +3,20 @@ use Rattle.std.proofs.Common.{◌≡◌, ◌≢◌, ℕ, ◌+◌, ◌==◌, Bool
 use Rattle.std.proofs.lemmas.List.Sums.{sum_by_push}
 use Rattle.lot_machine.specs.declared.event.Event.{Event}
 use Rattle.lot_machine.specs.declared.reply.Reply.{Reply}
-use Rattle.lot_machine.specs.Report.{ActorTurn, beside, turns_made, turns_of, count_in, quanta_in, idles_in, ticks_in}
-use Rattle.lot_machine.specs.World.{Program, World, Answer, opening_world, sys, sys_after, sys_answers, sysrun}
-use Rattle.lot_machine.specs.World.Answer.{Answered}
+use Rattle.lot_simulation.specs.Report.{ActorTurn, beside, turns_made, turns_of, count_in, quanta_in, idles_in, ticks_in}
+use Rattle.lot_simulation.specs.World.{Program, World, Answer, opening_world, system_turn, system_after, system_answers, system_run}
+use Rattle.lot_simulation.specs.World.Answer.{Answered}
 use Rattle.lot_system.specs.declared.counts.Counts.{Counts}
 use Rattle.lot_system.specs.Counted.{counted, counted_with, IsSmall, IsCount, AreCounts}
 
 -- ---- turns made
 
-turns-one_more : (program : Program) (w : World) (actors : List ℕ) (actor : ℕ) → beside (actors ++ actor ∷ []) (sys_answers program w (actors ++ actor ∷ []))
-    ≡ beside actors (sys_answers program w actors) ++ record { actor = actor; answer = (sys program (sys_after program w actors) actor).answer } ∷ []
+turns-one_more : (program : Program) (w : World) (actors : List ℕ) (actor : ℕ) → beside (actors ++ actor ∷ []) (system_answers program w (actors ++ actor ∷ []))
+    ≡ beside actors (system_answers program w actors) ++ record { actor = actor; answer = (system_turn program (system_after program w actors) actor).answer } ∷ []
 turns-one_more program w [] actor = refl
-turns-one_more program w (a ∷ actors) actor = ap (λ ts. record { actor = a; answer = (sys program w a).answer } ∷ ts) (turns-one_more program (sys program w a).world actors actor)
+turns-one_more program w (a ∷ actors) actor = ap (λ ts. record { actor = a; answer = (system_turn program w a).answer } ∷ ts) (turns-one_more program (system_turn program w a).world actors actor)
 
-pub turns_made-one_more : (program : Program) (history : List ℕ) (actor : ℕ) → turns_made program (history ++ actor ∷ []) ≡ turns_made program history ++ record { actor = actor; answer = (sys program (sysrun program history) actor).answer } ∷ []
+pub turns_made-one_more : (program : Program) (history : List ℕ) (actor : ℕ) → turns_made program (history ++ actor ∷ []) ≡ turns_made program history ++ record { actor = actor; answer = (system_turn program (system_run program history) actor).answer } ∷ []
 turns_made-one_more program history actor = turns-one_more program (opening_world program) history actor
 
 -- ---- the turns of one actor
@@ -50,7 +50,7 @@ module _ (turns : List ActorTurn) (actor : ℕ) (e : Event) (r : Reply) where
 
 -- ---- one turn more, as callers of `turn` know it: the sums of all turns, and those of each actor
 
-module _ (program : Program) (history : List ℕ) (actor : ℕ) (e : Event) (r : Reply) (is : (sys program (sysrun program history) actor).answer ≡ Answered e r) where
+module _ (program : Program) (history : List ℕ) (actor : ℕ) (e : Event) (r : Reply) (is : (system_turn program (system_run program history) actor).answer ≡ Answered e r) where
   pub turns_made-answered : turns_made program (history ++ actor ∷ []) ≡ turns_made program history ++ record { actor = actor; answer = Answered e r } ∷ []
   turns_made-answered =
       turns_made-one_more program history actor ∙ ap (λ (a : Answer). turns_made program history ++ record { actor = actor; answer = a } ∷ []) is
@@ -72,7 +72,7 @@ module _ (program : Program) (history : List ℕ) (actor : ℕ) (e : Event) (r :
 
 -- ---- after a turn
 
-module _ (program : Program) (history : List ℕ) (actor : ℕ) (e : Event) (r : Reply) (is : (sys program (sysrun program history) actor).answer ≡ Answered e r) where
+module _ (program : Program) (history : List ℕ) (actor : ℕ) (e : Event) (r : Reply) (is : (system_turn program (system_run program history) actor).answer ≡ Answered e r) where
   turns-now : turns_made program (history ++ actor ∷ []) ≡ turns_made program history ++ record { actor = actor; answer = Answered e r } ∷ []
   turns-now = turns_made-answered program history actor e r is
 

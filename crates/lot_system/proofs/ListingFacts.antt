@@ -12,7 +12,7 @@ use Rattle.lot_machine.specs.declared.command.Kind.TheVariants.{Tickets, Currenc
 use Rattle.lot_machine.specs.Numbered.{at_number}
 use Rattle.lot_machine.specs.State.{State}
 use Rattle.lot_machine.specs.Rows.{row_of_thread}
-use Rattle.lot_machine.specs.Texts.{newline, listing_text}
+use Rattle.lot_simulation.specs.Texts.{newline, listing_text}
 use Rattle.lot_machine.proofs.Tickets.{at_number-suc}
 use Rattle.lot_print.specs.Listings.{listing_line}
 use Rattle.lot_system.specs.Listing.{first_number, given_count, is_there, row_line, rows_among}
@@ -25,7 +25,7 @@ module _ (test : ℕ → Bool) (a k : ℕ) where
   filter-push : filter test (range_with_len a (k + 1)) ≡ filter test (range_with_len a k) ++ filter test ((a + k) ∷ [])
   filter-push = let e : k + 1 ≡ suc k = omega arith in ap (λ n. filter test (range_with_len a n)) e ∙ ap (filter test) (numbers-push a k) ∙ filter-append test (range_with_len a k) ((a + k) ∷ [])
 
-  -- one number more counts where it passes, and else not
+  -- one more number counts if it passes, and else not
   pub passing-there : test (a + k) ≡ true → length (filter test (range_with_len a (k + 1))) ≡ length (filter test (range_with_len a k)) + 1
   passing-there is =
       let one : filter test ((a + k) ∷ []) ≡ (a + k) ∷ [] = rw is refl in
@@ -36,7 +36,7 @@ module _ (test : ℕ → Bool) (a k : ℕ) where
       let none : filter test ((a + k) ∷ []) ≡ [] = rw is refl in
       ap length filter-push ∙ ap (λ ns. length (filter test (range_with_len a k) ++ ns)) none ∙ ap length (append-nil (filter test (range_with_len a k)))
 
--- where each of the numbers passes, they all count
+-- if each of the numbers passes, they all count
 passing-all : (test : ℕ → Bool) (a k : ℕ) → ((i : ℕ) → i < k → test (a + i) ≡ true) → length (filter test (range_with_len a k)) ≡ k
 passing-all test a zero all = refl
 passing-all test a (suc k) all =
@@ -72,10 +72,10 @@ line-is Tickets n lines = ap (λ xs. codes "lstkt " ++ xs) (append_assoc (decima
 line-is Currencies n lines = ap (λ xs. codes "lscur " ++ xs) (append_assoc (decimal n) newline lines)
 line-is Threads n lines = ap (λ xs. codes "lsthr " ++ xs) (append_assoc (decimal n) newline lines)
 
--- the same behind the actor
-pub listed-behind : (s : State) (kind : Kind) (actor rows : ℕ) → rows ≡ rows_among s kind (given_count s kind)
+-- the same after the actor
+pub listed-after : (s : State) (kind : Kind) (actor rows : ℕ) → rows ≡ rows_among s kind (given_count s kind)
     → (decimal actor ++ (codes " " ++ listing_line kind rows)) ++ flat_map (row_line s kind) (range_with_len (first_number kind) (given_count s kind)) ≡ decimal actor ++ (codes " " ++ listing_text s kind)
-listed-behind s kind actor rows count =
+listed-after s kind actor rows count =
     let lines = flat_map (row_line s kind) (range_with_len (first_number kind) (given_count s kind)) in
     append_assoc (decimal actor) (codes " " ++ listing_line kind rows) lines
     ∙ ap (λ xs. decimal actor ++ (codes " " ++ xs)) (line-is kind rows lines ∙ ap (λ n. word_of kind ++ (decimal n ++ (newline ++ lines))) count ∙ sym (listing-is s kind))

@@ -5,16 +5,16 @@ use Rattle.std.specs.List.{slice_get, slice_set}
 use Rattle.std.specs.Option.{unwrap_or}
 use Rattle.std.proofs.lemmas.Option.{unwrap_or-slice_get, slice_get-get_or}
 use Rattle.lot_machine.specs.declared.record.Thread.{Thread}
-use Rattle.lot_machine.specs.Script.{Context, start}
-use Rattle.lot_machine.specs.World.{Program}
+use Rattle.lot_simulation.specs.Script.{Context, start}
+use Rattle.lot_simulation.specs.World.{Program}
 use Rattle.lot_machine.specs.State.{State}
 use Rattle.lot_machine.specs.Bounds.{IsBetween}
 use Rattle.lot_machine.specs.Numbered.{at_number}
-use Rattle.lot_machine.specs.World.{handed, new_contexts}
+use Rattle.lot_simulation.specs.World.{delivered_to, new_contexts}
 use Rattle.lot_machine.proofs.Tickets.{at_number-suc}
 use Rattle.lot_script.specs.Places.{Place}
 use Rattle.lot_system.specs.Held.{script_lines, IsAt, AreAt}
-use Rattle.lot_system.specs.Steps.{OneMore, handed_place}
+use Rattle.lot_system.specs.Steps.{OneMore, delivered_to_place}
 
 -- the element with a number stands at the place before it
 pub number-or : {A : Type 0} (xs : List A) (n : ℕ) (d : A) → 1 ≤ n → unwrap_or (at_number xs n) d ≡ get_or xs (n - 1) d
@@ -27,9 +27,9 @@ number-some xs (suc i) d within =
     let place : suc i - 1 ≡ i = omega arith in at_number-suc xs i ∙ slice_get-get_or xs i d (omega (arith, within)) ∙ ap (λ k. Some (get_or xs k d)) (sym place)
 
 -- a number that is handed over changes the accumulator alone
-pub at-handed : (program : Program) (t : Thread) (p : Place) (c : Context) (number : Option ℕ) → IsAt program t p c → IsAt program t (handed_place number p) (handed number c)
-at-handed program t p c None at = at
-at-handed program t p c (Some n) at =
+pub at-delivered_to : (program : Program) (t : Thread) (p : Place) (c : Context) (number : Option ℕ) → IsAt program t p c → IsAt program t (delivered_to_place number p) (delivered_to number c)
+at-delivered_to program t p c None at = at
+at-delivered_to program t p c (Some n) at =
     record { script = at.script; fits = record { line = at.fits.line; done = at.fits.done; loops = at.fits.loops }; means = ap (λ (d : Context). record d { accumulator = n }) at.means }
 
 module _ (program : Program) where

@@ -5,22 +5,22 @@ use Rattle.std.specs.Io.KnownBytes.{Appends}
 use Rattle.std.proofs.lemmas.List.{take_more}
 use Rattle.lot_machine.specs.declared.event.Event.{Event}
 use Rattle.lot_machine.specs.declared.reply.Reply.{Reply}
-use Rattle.lot_machine.specs.Output.{answer_text, turn_text, turn_texts}
-use Rattle.lot_machine.specs.Report.{report}
-use Rattle.lot_machine.specs.Texts.{reply_text}
-use Rattle.lot_machine.specs.World.{Program, World, Answer, Turn, opening_world, sys, sys_after, sysrun}
-use Rattle.lot_machine.specs.World.Answer.{Answered}
+use Rattle.lot_simulation.specs.Output.{answer_text, turn_text, turn_texts}
+use Rattle.lot_simulation.specs.Report.{report}
+use Rattle.lot_simulation.specs.Texts.{reply_text}
+use Rattle.lot_simulation.specs.World.{Program, World, Answer, Turn, opening_world, system_turn, system_after, system_run}
+use Rattle.lot_simulation.specs.World.Answer.{Answered}
 use Rattle.lot_system.specs.Playing.{HasPlayed, IsPlayed, turn_in}
 use Rattle.lot_system.specs.Seen.{Seen, Setting, world_of, after_turn}
 use Rattle.lot_print.specs.Writing.{Begins}
-use Rattle.lot_system.proofs.Runs.{sysrun-one_more, past-more}
-use Rattle.lot_print.proofs.WritingFacts.{appends-both, begins-front, begins-behind}
+use Rattle.lot_system.proofs.Runs.{system_run-one_more, past-more}
+use Rattle.lot_print.proofs.WritingFacts.{appends-both, begins-front, begins-after}
 
 -- ---- a turn that goes
 
 module _ (old : Seen) (actor : ℕ) (e : Event) (r : Reply) (is : (turn_in old actor).answer ≡ Answered e r) where
   world-after : world_of (after_turn old actor) ≡ (turn_in old actor).world
-  world-after = sysrun-one_more old.setting.program old.history actor
+  world-after = system_run-one_more old.setting.program old.history actor
 
   pub played-after : IsPlayed old actor (after_turn old actor)
   played-after =
@@ -28,7 +28,7 @@ module _ (old : Seen) (actor : ℕ) (e : Event) (r : Reply) (is : (turn_in old a
         setting = refl;
         world = world-after;
         past = λ past. past-more old.setting.program old.history actor e r past is;
-        few = omega (arith, length-append old.history (actor ∷ []));
+        bounded = omega (arith, length-append old.history (actor ∷ []));
       }
 
   pub text-after : decimal actor ++ (codes " " ++ reply_text (world_of (after_turn old actor)).state e r) ≡ turn_text actor (turn_in old actor)
@@ -39,31 +39,31 @@ module _ (old : Seen) (actor : ℕ) (e : Event) (r : Reply) (is : (turn_in old a
 -- ---- turns one after another
 
 module _ (program : Program) (actors : List ℕ) (old : Seen) (has : HasPlayed program actors old) (actor : ℕ) where
-  pub turn-is : turn_in old actor ≡ sys program (sysrun program actors) actor
-  turn-is = ap (λ (p : Program). sys p (world_of old) actor) has.program_is ∙ ap (λ (w : World). sys program w actor) has.world
+  pub turn-is : turn_in old actor ≡ system_turn program (system_run program actors) actor
+  turn-is = ap (λ (p : Program). system_turn p (world_of old) actor) has.program_is ∙ ap (λ (w : World). system_turn program w actor) has.world
 
   pub played-more : (now : Seen) → IsPlayed old actor now → HasPlayed program (actors ++ actor ∷ []) now
   played-more now is =
       record {
         program_is = ap (λ (x : Setting). x.program) is.setting ∙ has.program_is;
-        world = is.world ∙ ap (λ (t : Turn). t.world) turn-is ∙ sym (sysrun-one_more program actors actor);
+        world = is.world ∙ ap (λ (t : Turn). t.world) turn-is ∙ sym (system_run-one_more program actors actor);
         past = is.past has.past;
-        few = omega (arith, length-append actors (actor ∷ []), is.few, has.few);
+        bounded = omega (arith, length-append actors (actor ∷ []), is.bounded, has.bounded);
       }
 
-texts-one_more : (program : Program) (w : World) (actors : List ℕ) (actor : ℕ) → turn_texts program w (actors ++ actor ∷ []) ≡ turn_texts program w actors ++ turn_text actor (sys program (sys_after program w actors) actor)
-texts-one_more program w [] actor = append-nil (turn_text actor (sys program w actor))
+texts-one_more : (program : Program) (w : World) (actors : List ℕ) (actor : ℕ) → turn_texts program w (actors ++ actor ∷ []) ≡ turn_texts program w actors ++ turn_text actor (system_turn program (system_after program w actors) actor)
+texts-one_more program w [] actor = append-nil (turn_text actor (system_turn program w actor))
 texts-one_more program w (a ∷ actors) actor =
-    ap (λ xs. turn_text a (sys program w a) ++ xs) (texts-one_more program (sys program w a).world actors actor)
-    ∙ sym (append_assoc (turn_text a (sys program w a)) (turn_texts program (sys program w a).world actors) (turn_text actor (sys program (sys_after program (sys program w a).world actors) actor)))
+    ap (λ xs. turn_text a (system_turn program w a) ++ xs) (texts-one_more program (system_turn program w a).world actors actor)
+    ∙ sym (append_assoc (turn_text a (system_turn program w a)) (turn_texts program (system_turn program w a).world actors) (turn_text actor (system_turn program (system_after program (system_turn program w a).world actors) actor)))
 
-texts-both : (program : Program) (w : World) (actors others : List ℕ) → turn_texts program w (actors ++ others) ≡ turn_texts program w actors ++ turn_texts program (sys_after program w actors) others
+texts-both : (program : Program) (w : World) (actors others : List ℕ) → turn_texts program w (actors ++ others) ≡ turn_texts program w actors ++ turn_texts program (system_after program w actors) others
 texts-both program w [] others = refl
 texts-both program w (a ∷ actors) others =
-    ap (λ xs. turn_text a (sys program w a) ++ xs) (texts-both program (sys program w a).world actors others)
-    ∙ sym (append_assoc (turn_text a (sys program w a)) (turn_texts program (sys program w a).world actors) (turn_texts program (sys_after program (sys program w a).world actors) others))
+    ap (λ xs. turn_text a (system_turn program w a) ++ xs) (texts-both program (system_turn program w a).world actors others)
+    ∙ sym (append_assoc (turn_text a (system_turn program w a)) (turn_texts program (system_turn program w a).world actors) (turn_texts program (system_after program (system_turn program w a).world actors) others))
 
--- the place n of a list, what is in front of it, and what is behind
+-- the place n of a list, what is before it, and what is after it
 split-at : (xs : List ℕ) (n d : ℕ) → n < length xs → xs ≡ (take n xs ++ get_or xs n d ∷ []) ++ drop (suc n) xs
 split-at [] n d below = absurd (omega arith)
 split-at (x ∷ xs) zero d below = refl
@@ -91,14 +91,14 @@ module _ (program : Program) (xs : List ℕ) (n d actor : ℕ) (below : n < leng
   pub texts-stop : Begins mid new (turn_text actor (turn_in seen actor)) → Begins old new (turn_texts program (opening_world program) xs)
   texts-stop two =
       let front = turn_texts program (opening_world program) (take n xs) in
-      let behind = turn_texts program (sys_after program (opening_world program) (take n xs ++ actor ∷ [])) (drop (suc n) xs) in
+      let following = turn_texts program (system_after program (opening_world program) (take n xs ++ actor ∷ [])) (drop (suc n) xs) in
       let whole : xs ≡ (take n xs ++ actor ∷ []) ++ drop (suc n) xs = split-at xs n d below ∙ ap (λ ts. ts ++ drop (suc n) xs) (sym next) in
-      let texts : (front ++ turn_text actor (turn_in seen actor)) ++ behind ≡ turn_texts program (opening_world program) xs =
-      ap (λ ts. ts ++ behind) texts-here ∙ sym (texts-both program (opening_world program) (take n xs ++ actor ∷ []) (drop (suc n) xs)) ∙ ap (turn_texts program (opening_world program)) (sym whole) in
+      let texts : (front ++ turn_text actor (turn_in seen actor)) ++ following ≡ turn_texts program (opening_world program) xs =
+      ap (λ ts. ts ++ following) texts-here ∙ sym (texts-both program (opening_world program) (take n xs ++ actor ∷ []) (drop (suc n) xs)) ∙ ap (turn_texts program (opening_world program)) (sym whole) in
       subst (Begins old new) texts
-      (begins-front old new (front ++ turn_text actor (turn_in seen actor)) behind (begins-behind old mid new front (turn_text actor (turn_in seen actor)) one two))
+      (begins-front old new (front ++ turn_text actor (turn_in seen actor)) following (begins-after old mid new front (turn_text actor (turn_in seen actor)) one two))
 
 -- the report of a system is that of the history that the turns left
-pub report-is : (program : Program) (seen : Seen) → HasPlayed program program.schedule seen → report seen.setting.program seen.history ≡ report program (sysrun program program.schedule).history
+pub report-is : (program : Program) (seen : Seen) → HasPlayed program program.schedule seen → report seen.setting.program seen.history ≡ report program (system_run program program.schedule).history
 report-is program seen has =
     ap (λ (p : Program). report p seen.history) has.program_is ∙ ap (report program) (sym has.past ∙ ap (λ (w : World). w.history) has.world)

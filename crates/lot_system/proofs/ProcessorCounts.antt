@@ -9,9 +9,9 @@ use Rattle.lot_machine.specs.declared.refusal.Refusal.{Refusal}
 use Rattle.lot_machine.specs.declared.reply.Reply.{Reply}
 use Rattle.lot_machine.specs.State.{State}
 use Rattle.lot_machine.specs.Commands.{Step, command_effect, command_step, unless_refused}
-use Rattle.lot_machine.specs.World.{Program, World, IsLegal, console_turn, opening_world, sys, sys_answers}
-use Rattle.lot_machine.specs.Report.{ActorTurn, beside, turns_made, quanta_in, idles_in, ticks_in, count_in, total_of, turns_of}
-use Rattle.lot_machine.proofs.ActorCounts.{counts-add_up, turns_made-actors}
+use Rattle.lot_simulation.specs.World.{Program, World, IsLegal, console_turn, opening_world, system_turn, system_answers}
+use Rattle.lot_simulation.specs.Report.{ActorTurn, beside, turns_made, quanta_in, idles_in, ticks_in, count_in, total_of, turns_of}
+use Rattle.lot_simulation.proofs.ActorCounts.{counts-add_up, turns_made-actors}
 
 -- nothing is counted in the reply
 abbrev IsSilent : Reply → Type 0
@@ -37,15 +37,15 @@ module _ (count : Reply → ℕ) (silent : (s : State) (c : Command) → count (
   console-silent w [] = refl
   console-silent w (c ∷ cs) = silent w.state c
 
-  turns-silent : (w : World) (actors : List ℕ) → total_of count (turns_of 0 (beside actors (sys_answers program w actors))) ≡ 0
+  turns-silent : (w : World) (actors : List ℕ) → total_of count (turns_of 0 (beside actors (system_answers program w actors))) ≡ 0
   turns-silent w [] = refl
   turns-silent w (zero ∷ actors) =
-      let others = beside actors (sys_answers program (sys program w 0).world actors) in
-      omega (arith, sum_by-cons (λ (t : ActorTurn). count_in count t.answer) (record { actor = 0; answer = (sys program w 0).answer }) (turns_of 0 others), console-silent w w.commands, turns-silent (sys program w 0).world actors)
+      let others = beside actors (system_answers program (system_turn program w 0).world actors) in
+      omega (arith, sum_by-cons (λ (t : ActorTurn). count_in count t.answer) (record { actor = 0; answer = (system_turn program w 0).answer }) (turns_of 0 others), console-silent w w.commands, turns-silent (system_turn program w 0).world actors)
   turns-silent w (suc n ∷ actors) =
-      let turn : ActorTurn = record { actor = suc n; answer = (sys program w (suc n)).answer } in
-      let others = turns_of 0 (beside actors (sys_answers program (sys program w (suc n)).world actors)) in
-      ap (λ b. total_of count (cond b (turn ∷ others) others)) (eqb-suc-zero n) ∙ turns-silent (sys program w (suc n)).world actors
+      let turn : ActorTurn = record { actor = suc n; answer = (system_turn program w (suc n)).answer } in
+      let others = turns_of 0 (beside actors (system_answers program (system_turn program w (suc n)).world actors)) in
+      ap (λ b. total_of count (cond b (turn ∷ others) others)) (eqb-suc-zero n) ∙ turns-silent (system_turn program w (suc n)).world actors
 
   processors-add_up : (room : ℕ) (history : List ℕ) → IsLegal program room history
       → sum_by (λ p. total_of count (turns_of p (turns_made program history))) (range_with_len 1 program.limits.processors) ≡ total_of count (turns_made program history)

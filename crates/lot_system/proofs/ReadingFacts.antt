@@ -11,7 +11,7 @@ consumes-both (Some xs) None new a b one two = absurd one
 consumes-both (Some xs) (Some ys) None a b one two = absurd two
 consumes-both (Some xs) (Some ys) (Some zs) a b one two = one ∙ ap (λ ws. a ++ ws) two ∙ sym (append_assoc a b zs)
 
--- where nothing was read
+-- if nothing was read
 pub consumes-none : (known : Option (List ℕ)) → Consumes known known []
 consumes-none None = tt
 consumes-none (Some xs) = refl

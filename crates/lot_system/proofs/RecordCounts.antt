@@ -29,9 +29,9 @@ use Rattle.lot_machine.specs.Ports.{port_at, call, receive, reply}
 use Rattle.lot_machine.specs.Mutexes.{mutex_at, lock, unlock}
 use Rattle.lot_machine.specs.Step.{Effect, is_bad_processor, started, draw, expire, trap, trap_refusal, trap_effect, checked_effect, thread_there, used_there, event_effect, step}
 use Rattle.lot_machine.specs.Order.{IsInOrder}
-use Rattle.lot_machine.specs.World.{Program, World, Turn, console_turn, processor_turn, processor_event, opening_world, sys, sys_after, sys_answers, sysrun}
-use Rattle.lot_machine.specs.World.Answer.{Answered}
-use Rattle.lot_machine.specs.Report.{ActorTurn, beside, turns_made, count_in, quanta_in, ticks_in, total_of}
+use Rattle.lot_simulation.specs.World.{Program, World, Turn, console_turn, processor_turn, processor_event, opening_world, system_turn, system_after, system_answers, system_run}
+use Rattle.lot_simulation.specs.World.Answer.{Answered}
+use Rattle.lot_simulation.specs.Report.{ActorTurn, beside, turns_made, count_in, quanta_in, ticks_in, total_of}
 use Rattle.lot_machine.proofs.OrderKept.{opening-order, step-order}
 use Rattle.lot_machine.proofs.CommandsKept.{all-pass, some-of}
 use Rattle.lot_machine.proofs.RecordsKept.{found-runs}
@@ -40,7 +40,7 @@ use Rattle.lot_system.proofs.PlaceFacts.{number-some}
 use Rattle.lot_system.proofs.ReplyFacts.{numbered, drawn-names}
 use Rattle.lot_system.proofs.StepFacts.{effect-same, checked-same}
 
--- what stands for a record where there is none
+-- what stands for a record if there is none
 nobody : Record
 nobody = record { status = status.Ready; compensation = None; delivered = None; quanta = 0; ticks = 0 }
 
@@ -92,7 +92,7 @@ ticks_of records = sum_by (λ (r : Record). r.ticks) records
 record Adds (s : State) (done : Step) : Type 0 where
   pub quanta : quanta_of done.state.records ≡ quanta_of s.records + quanta_in done.reply
   pub ticks : ticks_of done.state.records ≡ ticks_of s.records + ticks_in done.reply
-  pub few : quanta_in done.reply ≤ 1
+  pub bounded : quanta_in done.reply ≤ 1
   pub short : ticks_in done.reply ≤ s.limits.quantum
 
 -- no sum is near the greatest u64
@@ -102,14 +102,14 @@ record HasSpace (s : State) : Type 0 where
 
 unless-adds : (s : State) (o : Option Refusal) (next : Step) → (o ≡ None → Adds s next) → Adds s (unless_refused s o next)
 unless-adds s None next adds = adds refl
-unless-adds s (Some refusal) next adds = record { quanta = omega arith; ticks = omega arith; few = omega arith; short = omega arith }
+unless-adds s (Some refusal) next adds = record { quanta = omega arith; ticks = omega arith; bounded = omega arith; short = omega arith }
 
 -- ---- commands
 
 -- the records stay as they are
 stays : (s : State) (c : Command) → (command_effect s c).state.records ≡ s.records → quanta_in (command_effect s c).reply ≡ 0 → ticks_in (command_effect s c).reply ≡ 0 → Adds s (command_effect s c)
 stays s c same quanta ticks =
-    record { quanta = omega (arith, ap quanta_of same, quanta); ticks = omega (arith, ap ticks_of same, ticks); few = omega (arith, quanta); short = omega (arith, ticks) }
+    record { quanta = omega (arith, ap quanta_of same, quanta); ticks = omega (arith, ap ticks_of same, ticks); bounded = omega (arith, quanta); short = omega (arith, ticks) }
 
 -- one thread more, which has won and used nothing
 grows : (s : State) (c : Command) (name : List ℕ) (script : ℕ) → (command_effect s c).state.records ≡ (with_thread s name script).records → quanta_in (command_effect s c).reply ≡ 0 → ticks_in (command_effect s c).reply ≡ 0 → Adds s (command_effect s c)
@@ -118,7 +118,7 @@ grows s c name script same quanta ticks =
     record {
       quanta = omega (arith, ap quanta_of same, sum_by_push (λ (r : Record). r.quanta) s.records new, quanta);
       ticks = omega (arith, ap ticks_of same, sum_by_push (λ (r : Record). r.ticks) s.records new, ticks);
-      few = omega (arith, quanta);
+      bounded = omega (arith, quanta);
       short = omega (arith, ticks);
     }
 
@@ -151,12 +151,12 @@ draw-adds s p d space = at (winner (map (weight_of s) (ready_threads s.records))
         rw is (record {
           quanta = omega (arith, more, one);
           ticks = omega (arith, change-leaves (λ (x : Record). x.ticks) (started p) s.records t (λ x. refl));
-          few = omega arith;
+          bounded = omega arith;
           short = omega arith;
         })
 
     at : (o : Option Drawn) → winner (map (weight_of s) (ready_threads s.records)) d ≡ o → Adds s (draw s p d)
-    at None is = rw is (record { quanta = omega arith; ticks = omega arith; few = omega arith; short = omega arith })
+    at None is = rw is (record { quanta = omega arith; ticks = omega arith; bounded = omega arith; short = omega arith })
     at (Some w) is = won w is
 
 -- ---- expiries
@@ -173,7 +173,7 @@ expire-adds : (s : State) (t used : ℕ) (r : Record) → at_number s.records t 
 expire-adds s t used r there space = record {
   quanta = omega (arith, change-leaves (λ (x : Record). x.quanta) (λ x. with_ticks (s.limits.quantum - used) (record x { status = status.Ready; compensation = None })) s.records t (λ x. refl));
   ticks = ticks-added s.records t (s.limits.quantum - used) (λ x. record x { status = status.Ready; compensation = None }) r there (λ x. refl) (omega (arith, space.ticks));
-  few = omega arith;
+  bounded = omega arith;
   short = omega arith;
 }
 
@@ -251,7 +251,7 @@ trap-adds s p t used ran action named enough space =
     record {
       quanta = change-leaves (λ r. r.quanta) (λ r. with_ticks (ran + 1) (change r)) effect.state.records t (after-even (λ r. r.quanta) quanta-even effect.after p (used + ran + 1) s.limits.quantum) ∙ omega (arith, quanta);
       ticks = ticks-added effect.state.records t (ran + 1) change _ there (after-even (λ r. r.ticks) ticks-even effect.after p (used + ran + 1) s.limits.quantum) (omega (arith, space.ticks, enough, ticks)) ∙ omega (arith, ticks);
-      few = omega arith;
+      bounded = omega arith;
       short = omega (arith, enough);
     }
 
@@ -282,13 +282,13 @@ step-adds s (event.Trap p ran action) space =
 record AddsTurn (w : World) (turn : Turn) : Type 0 where
   pub quanta : quanta_of turn.world.state.records ≡ quanta_of w.state.records + count_in quanta_in turn.answer
   pub ticks : ticks_of turn.world.state.records ≡ ticks_of w.state.records + count_in ticks_in turn.answer
-  pub few : count_in quanta_in turn.answer ≤ 1
+  pub bounded : count_in quanta_in turn.answer ≤ 1
   pub short : count_in ticks_in turn.answer ≤ w.state.limits.quantum
   pub order : IsInOrder turn.world.state
 
 module _ (program : Program) where
-  sys-adds : (w : World) (actor : ℕ) → IsInOrder w.state → HasSpace w.state → AddsTurn w (sys program w actor)
-  sys-adds w actor order space = at (actor == 0)
+  system_turn-adds : (w : World) (actor : ℕ) → IsInOrder w.state → HasSpace w.state → AddsTurn w (system_turn program w actor)
+  system_turn-adds w actor order space = at (actor == 0)
     where
       of_step : (e : Event) (turn : Turn) → turn.world.state ≡ (step w.state e).state → turn.answer ≡ Answered e (step w.state e).reply → AddsTurn w turn
       of_step e turn state answer =
@@ -296,13 +296,13 @@ module _ (program : Program) where
           record {
             quanta = ap (λ (s : State). quanta_of s.records) state ∙ adds.quanta ∙ ap (λ a. quanta_of w.state.records + count_in quanta_in a) (sym answer);
             ticks = ap (λ (s : State). ticks_of s.records) state ∙ adds.ticks ∙ ap (λ a. ticks_of w.state.records + count_in ticks_in a) (sym answer);
-            few = omega (arith, adds.few, ap (count_in quanta_in) answer);
+            bounded = omega (arith, adds.bounded, ap (count_in quanta_in) answer);
             short = omega (arith, adds.short, ap (count_in ticks_in) answer);
             order = subst IsInOrder (sym state) (step-order w.state e order);
           }
 
       console : (commands : List Command) → AddsTurn w (console_turn program w commands)
-      console [] = record { quanta = omega arith; ticks = omega arith; few = omega arith; short = omega arith; order = order }
+      console [] = record { quanta = omega arith; ticks = omega arith; bounded = omega arith; short = omega arith; order = order }
       console (c ∷ cs) = of_step (event.Command c) (console_turn program w (c ∷ cs)) refl refl
 
       at : (b : Bool) → AddsTurn w (if b then console_turn program w w.commands else processor_turn w actor (processor_event w actor))
@@ -311,26 +311,26 @@ module _ (program : Program) where
 
   -- after k turns, and with less than 2 ^ 32 in all
   run-adds : (w : World) (k : ℕ) (actors : List ℕ) → IsInOrder w.state → quanta_of w.state.records ≤ k → ticks_of w.state.records ≤ k * 1000 → k + length actors < 2 ^ 32
-      → (quanta_of (sys_after program w actors).state.records ≡ quanta_of w.state.records + total_of quanta_in (beside actors (sys_answers program w actors)))
-      × (ticks_of (sys_after program w actors).state.records ≡ ticks_of w.state.records + total_of ticks_in (beside actors (sys_answers program w actors)))
-  run-adds w k [] order quanta ticks few = (omega arith, omega arith)
-  run-adds w k (actor ∷ actors) order quanta ticks few =
+      → (quanta_of (system_after program w actors).state.records ≡ quanta_of w.state.records + total_of quanta_in (beside actors (system_answers program w actors)))
+      × (ticks_of (system_after program w actors).state.records ≡ ticks_of w.state.records + total_of ticks_in (beside actors (system_answers program w actors)))
+  run-adds w k [] order quanta ticks bounded = (omega arith, omega arith)
+  run-adds w k (actor ∷ actors) order quanta ticks bounded =
       let most : w.state.limits.quantum ≤ 1000 = order.bounds.of_quantum.1 in
-      let turn = sys program w actor in
-      let adds = sys-adds w actor order (record { quanta = omega (arith, quanta, few); ticks = omega (arith, ticks, few, most) }) in
-      let later = run-adds turn.world (k + 1) actors adds.order (omega (arith, adds.quanta, adds.few, quanta)) (omega (arith, adds.ticks, adds.short, most, ticks)) (omega (arith, few)) in
-      let others = beside actors (sys_answers program turn.world actors) in
+      let turn = system_turn program w actor in
+      let adds = system_turn-adds w actor order (record { quanta = omega (arith, quanta, bounded); ticks = omega (arith, ticks, bounded, most) }) in
+      let later = run-adds turn.world (k + 1) actors adds.order (omega (arith, adds.quanta, adds.bounded, quanta)) (omega (arith, adds.ticks, adds.short, most, ticks)) (omega (arith, bounded)) in
+      let others = beside actors (system_answers program turn.world actors) in
       let first : ActorTurn = record { actor = actor; answer = turn.answer } in (
         later.0 ∙ omega (arith, adds.quanta, sum_by-cons (λ (t : ActorTurn). count_in quanta_in t.answer) first others),
         later.1 ∙ omega (arith, adds.ticks, sum_by-cons (λ (t : ActorTurn). count_in ticks_in t.answer) first others),
       )
 
-  module _ (history : List ℕ) (bounds : IsWithinBounds program.limits) (few : length history < 2 ^ 32) where
-    abbrev sums : (quanta_of (sysrun program history).state.records ≡ 0 + total_of quanta_in (turns_made program history)) × (ticks_of (sysrun program history).state.records ≡ 0 + total_of ticks_in (turns_made program history))
-    sums = run-adds (opening_world program) 0 history (opening-order program.limits bounds) (omega arith) (omega arith) (omega (arith, few))
+  module _ (history : List ℕ) (bounds : IsWithinBounds program.limits) (bounded : length history < 2 ^ 32) where
+    abbrev sums : (quanta_of (system_run program history).state.records ≡ 0 + total_of quanta_in (turns_made program history)) × (ticks_of (system_run program history).state.records ≡ 0 + total_of ticks_in (turns_made program history))
+    sums = run-adds (opening_world program) 0 history (opening-order program.limits bounds) (omega arith) (omega arith) (omega (arith, bounded))
 
-    pub quanta-add_up : sum_by (λ (r : Record). r.quanta) (sysrun program history).state.records ≡ total_of quanta_in (turns_made program history)
+    pub quanta-add_up : sum_by (λ (r : Record). r.quanta) (system_run program history).state.records ≡ total_of quanta_in (turns_made program history)
     quanta-add_up = omega (arith, sums.0)
 
-    pub ticks-add_up : sum_by (λ (r : Record). r.ticks) (sysrun program history).state.records ≡ total_of ticks_in (turns_made program history)
+    pub ticks-add_up : sum_by (λ (r : Record). r.ticks) (system_run program history).state.records ≡ total_of ticks_in (turns_made program history)
     ticks-add_up = omega (arith, sums.1)

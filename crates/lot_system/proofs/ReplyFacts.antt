@@ -23,7 +23,7 @@ use Rattle.lot_machine.specs.Step.{draw, thread_there, event_refusal, event_effe
 use Rattle.lot_machine.proofs.CommandsKept.{all-pass}
 use Rattle.lot_machine.proofs.Draws.{winner-is}
 use Rattle.lot_machine.proofs.Tickets.{at_number-suc}
-use Rattle.lot_system.specs.Steps.{IsSame, OneMore, Makes, OfDraw, OfRun}
+use Rattle.lot_system.specs.Steps.{KeepsThreads, OneMore, MakesThread, OfDraw, OfRun}
 
 -- ---- commands
 
@@ -41,14 +41,14 @@ with_thread-more s name script known room =
       count = omega (arith, free);
     }
 
-kept-same : (s : State) (c : Command) (o : Option Refusal) (next : Step) → IsSame s s → ((o ≡ None) → Makes s next.state next.reply) → Makes s (unless_refused s o next).state (unless_refused s o next).reply
+kept-same : (s : State) (c : Command) (o : Option Refusal) (next : Step) → KeepsThreads s s → ((o ≡ None) → MakesThread s next.state next.reply) → MakesThread s (unless_refused s o next).state (unless_refused s o next).reply
 kept-same s c None next none made = made refl
 kept-same s c (Some refusal) next none made = none
 
-unchanged : (s : State) → IsSame s s
+unchanged : (s : State) → KeepsThreads s s
 unchanged s = record { threads = refl; records = refl; limits = refl }
 
-pub command-makes : (s : State) (c : Command) → Makes s (command_step s c).state (command_step s c).reply
+pub command-makes : (s : State) (c : Command) → MakesThread s (command_step s c).state (command_step s c).reply
 command-makes s (MakeTicket amount currency) = kept-same s (MakeTicket amount currency) _ (command_effect s (MakeTicket amount currency)) (unchanged s) (λ _. record { threads = refl; records = refl; limits = refl })
 command-makes s (RemoveTicket n) = kept-same s (RemoveTicket n) _ (command_effect s (RemoveTicket n)) (unchanged s) (λ _. record { threads = refl; records = refl; limits = refl })
 command-makes s (MakeCurrency name) = kept-same s (MakeCurrency name) _ (command_effect s (MakeCurrency name)) (unchanged s) (λ _. record { threads = refl; records = refl; limits = refl })

@@ -12,12 +12,12 @@ use Rattle.lot_machine.specs.Numbered.{at_number}
 use Rattle.lot_machine.specs.Lottery.{winner}
 use Rattle.lot_machine.specs.State.{State, QueuedCall, Port, Mutex, change_record, ready_threads, value_of, weight_of}
 use Rattle.lot_machine.specs.Commands.{Step, unless_refused}
-use Rattle.lot_system.specs.Steps.{IsSame}
+use Rattle.lot_system.specs.Steps.{KeepsThreads}
 use Rattle.lot_machine.specs.Ports.{port_at, call, receive, reply}
 use Rattle.lot_machine.specs.Mutexes.{mutex_at, lock, unlock}
 use Rattle.lot_machine.specs.Step.{Effect, draw, expire, trap, trap_refusal, trap_effect, checked_effect, thread_there, used_there, event_refusal, event_effect, step}
 
-pub same : (s : State) → IsSame s s
+pub same : (s : State) → KeepsThreads s s
 same s = record { threads = refl; records = refl; limits = refl }
 
 pub length-change_record : (change : Record → Record) (records : List Record) (t : ℕ) → length (change_record change records t) ≡ length records
@@ -61,7 +61,7 @@ module _ (records : List Record) where
       at [] is = rw is refl
       at (w ∷ ws) is = rw is (length-change_record _ records _)
 
-pub effect-same : (s : State) (t : ℕ) (action : Action) → IsSame s (trap_effect s t action).state
+pub effect-same : (s : State) (t : ℕ) (action : Action) → KeepsThreads s (trap_effect s t action).state
 effect-same s t Yield = same s
 effect-same s t (Call port number) = record { threads = refl; records = call-records s.records s.clients s.ports t port number; limits = refl }
 effect-same s t (Receive port) = record { threads = refl; records = receive-records s.records s.clients s.ports t port; limits = refl }
@@ -70,36 +70,36 @@ effect-same s t (Lock m) = record { threads = refl; records = lock-records s.rec
 effect-same s t (Unlock m d) = record { threads = refl; records = unlock-records s.records s.mutexes (value_of s) m d; limits = refl }
 effect-same s t Exit = same s
 
-pub checked-same : (s : State) (o : Option TrapRefusal) (effect : Effect) → IsSame s effect.state → IsSame s (checked_effect s o effect).state
+pub checked-same : (s : State) (o : Option TrapRefusal) (effect : Effect) → KeepsThreads s effect.state → KeepsThreads s (checked_effect s o effect).state
 checked-same s None effect is = is
 checked-same s (Some refusal) effect is = same s
 
-trap-same : (s : State) (p t used ran : ℕ) (action : Action) → IsSame s (trap s p t used ran action).state
+trap-same : (s : State) (p t used ran : ℕ) (action : Action) → KeepsThreads s (trap s p t used ran action).state
 trap-same s p t used ran action =
     let is = checked-same s (trap_refusal s t action) (trap_effect s t action) (effect-same s t action) in
     record { threads = is.threads; records = length-change_record _ (checked_effect s (trap_refusal s t action) (trap_effect s t action)).state.records t ∙ is.records; limits = is.limits }
 
 -- ---- events of processors
 
-draw-same : (s : State) (p d : ℕ) → IsSame s (draw s p d).state
+draw-same : (s : State) (p d : ℕ) → KeepsThreads s (draw s p d).state
 draw-same s p d = at (winner (map (weight_of s) (ready_threads s.records)) d) refl
   where
-    at : (o : Option Drawn) → winner (map (weight_of s) (ready_threads s.records)) d ≡ o → IsSame s (draw s p d).state
+    at : (o : Option Drawn) → winner (map (weight_of s) (ready_threads s.records)) d ≡ o → KeepsThreads s (draw s p d).state
     at None is = rw is (same s)
     at (Some w) is = rw is (record { threads = refl; records = length-change_record _ s.records _; limits = refl })
 
-expire-same : (s : State) (t used : ℕ) → IsSame s (expire s t used).state
+expire-same : (s : State) (t used : ℕ) → KeepsThreads s (expire s t used).state
 expire-same s t used = record { threads = refl; records = length-change_record _ s.records t; limits = refl }
 
-refused-same : (s : State) (o : Option Refusal) (next : Step) → IsSame s next.state → IsSame s (unless_refused s o next).state
+refused-same : (s : State) (o : Option Refusal) (next : Step) → KeepsThreads s next.state → KeepsThreads s (unless_refused s o next).state
 refused-same s None next is = is
 refused-same s (Some refusal) next is = same s
 
-pub draws-same : (s : State) (p d : ℕ) → IsSame s (step s (event.Draw p d)).state
+pub draws-same : (s : State) (p d : ℕ) → KeepsThreads s (step s (event.Draw p d)).state
 draws-same s p d = refused-same s (event_refusal s (event.Draw p d)) (draw s p d) (draw-same s p d)
 
-pub expires-same : (s : State) (p : ℕ) → IsSame s (step s (event.Expire p)).state
+pub expires-same : (s : State) (p : ℕ) → KeepsThreads s (step s (event.Expire p)).state
 expires-same s p = refused-same s (event_refusal s (event.Expire p)) (event_effect s (event.Expire p)) (expire-same s (thread_there s p) (used_there s p))
 
-pub traps-same : (s : State) (p ran : ℕ) (action : Action) → IsSame s (step s (event.Trap p ran action)).state
+pub traps-same : (s : State) (p ran : ℕ) (action : Action) → KeepsThreads s (step s (event.Trap p ran action)).state
 traps-same s p ran action = refused-same s (event_refusal s (event.Trap p ran action)) (event_effect s (event.Trap p ran action)) (trap-same s p (thread_there s p) (used_there s p) ran action)

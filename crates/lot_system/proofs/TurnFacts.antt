@@ -10,7 +10,7 @@ use Rattle.std.specs.Option.{IfSome}
 use Rattle.lot_machine.specs.declared.record.Record.{Record}
 use Rattle.lot_machine.specs.declared.record.Thread.{Thread}
 use Rattle.lot_machine.specs.declared.record.Status.TheVariants.{Running}
-use Rattle.lot_machine.specs.declared.script.ScriptTrap.{ScriptTrap}
+use Rattle.lot_simulation.specs.declared.script.ScriptTrap.{ScriptTrap}
 use Rattle.lot_machine.specs.declared.command.Command.{Command}
 use Rattle.lot_machine.specs.declared.command.Command.TheVariants.{List as Listing}
 use Rattle.lot_machine.specs.declared.command.Kind.TheVariants.{Threads}
@@ -21,22 +21,22 @@ use Rattle.lot_machine.specs.declared.reply.Reply.TheVariants as reply
 use Rattle.lot_machine.specs.Bounds.{IsBetween}
 use Rattle.lot_machine.specs.Lottery.{drawn_number, seed_after_number}
 use Rattle.lot_machine.specs.Numbered.{at_number, set_number}
-use Rattle.lot_machine.specs.Script.{Context, slice}
+use Rattle.lot_simulation.specs.Script.{Context, slice}
 use Rattle.lot_machine.specs.State.{State, thread_on, used_by}
 use Rattle.lot_machine.specs.Step.{step, thread_there, used_there}
-use Rattle.lot_machine.specs.World.{Program, World, action_of, event_of_slice, generator_of, context_of, slice_on, processor_event, takes_number, handed, number_received, contexts_after, new_contexts, console_turn, processor_turn, sys, IsLegal}
-use Rattle.lot_machine.specs.World.Answer.{Answered}
+use Rattle.lot_simulation.specs.World.{Program, World, action_of, event_of_slice, generator_of, context_of, slice_on, processor_event, takes_number, delivered_to, number_delivered, contexts_after, new_contexts, console_turn, processor_turn, system_turn, IsLegal}
+use Rattle.lot_simulation.specs.World.Answer.{Answered}
 use Rattle.lot_machine.proofs.RecordsKept.{found-runs}
 use Rattle.lot_script.specs.Drafts.{IsScript}
 use Rattle.lot_script.specs.Places.{Place, context_at, first_place}
 use Rattle.lot_script.specs.Slices.{Parts, IsSlice}
 use Rattle.lot_system.specs.declared.turn.Work.{Work}
 use Rattle.lot_system.specs.Held.{script_lines, IsAt, AreAt, IsKept, IsHeld}
-use Rattle.lot_system.specs.Steps.{IsSame, MakesIn, Makes, made_thread, OfDraw, OfRun, OfGiven, done_of, event_given, handed_place, place_of, places_after}
+use Rattle.lot_system.specs.Steps.{KeepsThreads, MakesIn, MakesThread, made_thread, OfDraw, OfRun, OfGiven, done_of, event_given, delivered_to_place, place_of, places_after}
 use Rattle.lot_system.specs.Turns.{IsWork, IsWorkIn, IsSliceOf, Matches}
 use Rattle.lot_system.proofs.StepFacts.{draws-same, expires-same, traps-same}
 use Rattle.lot_system.proofs.ReplyFacts.{command-makes, numbered, draw-names, expire-names, trap-names}
-use Rattle.lot_system.proofs.PlaceFacts.{number-or, number-some, at-handed, at-lengths, at-place, at-set}
+use Rattle.lot_system.proofs.PlaceFacts.{number-or, number-some, at-delivered_to, at-lengths, at-place, at-set}
 
 -- ---- what is kept
 
@@ -49,13 +49,13 @@ kept-in program s after (Some n) kept is =
     let room : length s.threads + 1 ≤ after.limits.threads = rw is.limits is.count in
     record { limits = is.limits ∙ kept.limits; records = is.records ∙ ap (λ n. n + 1) kept.records ∙ sym threads; count = rw threads room }
 
-pub kept-made : (program : Program) (s after : State) (r : Reply) → IsKept program s → Makes s after r → IsKept program after
+pub kept-made : (program : Program) (s after : State) (r : Reply) → IsKept program s → MakesThread s after r → IsKept program after
 kept-made program s after r kept makes = kept-in program s after (made_thread r) kept makes
 
 -- ---- the console
 
 module _ (program : Program) (w : World) (s : State) (places : List Place) (seeds : List ℕ) (spent : ℕ) (held : IsHeld program w s places seeds spent) where
-  -- a command is left where the world has one
+  -- a command is left if the world has one
   pub command-left : ¬ (◌≡◌ {A = ℕ} 0 0 × (w.commands ≡ [])) → spent < length program.commands
   command-left some = at (nat_lt spent (length program.commands)) refl
     where
@@ -63,7 +63,7 @@ module _ (program : Program) (w : World) (s : State) (places : List Place) (seed
       at true is = ltb-true spent (length program.commands) is
       at false is = absurd (some (refl, sym held.commands ∙ drop_of_length-le program.commands (ltb-false spent (length program.commands) is)))
 
-  -- no command is left where as many were run as there are
+  -- no command is left if and only if as many were run as there are
   pub commands-ended : (commands : List Command) → commands ≡ program.commands → (actor : ℕ) → actor ≡ 0 → (length commands ≤ spent) ↔ ((actor ≡ 0) × (w.commands ≡ []))
   commands-ended commands same actor zero_is = (
     λ most. (zero_is, sym held.commands ∙ drop_of_length-le program.commands (omega (arith, most, ap length same))),
@@ -86,15 +86,15 @@ module _ (program : Program) (w : World) (s : State) (places : List Place) (seed
       sym held.commands ∙ drop-cons program.commands spent d below ∙ ap (λ (x : Command). x ∷ drop (suc spent) program.commands) (sym first) ∙ ap (λ n. c ∷ drop n program.commands) (sym next)
 
   module _ (c : Command) (cs : List Command) (is : w.commands ≡ c ∷ cs) (after : State) (r : Reply) (state : after ≡ (step s (event.Command c)).state) (replied : r ≡ (step s (event.Command c)).reply) where
-    pub command-made : Makes s after r
+    pub command-made : MakesThread s after r
     command-made = rw (state, replied) (command-makes s c)
 
-    pub command-answer : (sys program w 0).answer ≡ Answered (event.Command c) r
-    command-answer = let world : sys program w 0 ≡ console_turn program w (c ∷ cs) = rw is refl in rw (world, replied, held.state) refl
+    pub command-answer : (system_turn program w 0).answer ≡ Answered (event.Command c) r
+    command-answer = let world : system_turn program w 0 ≡ console_turn program w (c ∷ cs) = rw is refl in rw (world, replied, held.state) refl
 
-    pub command-held : cs ≡ drop (spent + 1) program.commands → (now : List Place) → AreAt program after.threads now (w.contexts ++ new_contexts program s after) → IsHeld program (sys program w 0).world after now seeds (spent + 1)
+    pub command-held : cs ≡ drop (spent + 1) program.commands → (now : List Place) → AreAt program after.threads now (w.contexts ++ new_contexts program s after) → IsHeld program (system_turn program w 0).world after now seeds (spent + 1)
     command-held left now at =
-        let world : sys program w 0 ≡ console_turn program w (c ∷ cs) = rw is refl in
+        let world : system_turn program w 0 ≡ console_turn program w (c ∷ cs) = rw is refl in
         let ends : after ≡ (step w.state (event.Command c)).state = state ∙ ap (λ (x : State). (step x (event.Command c)).state) held.state in
         rw world (record {
           state = ends;
@@ -106,14 +106,14 @@ module _ (program : Program) (w : World) (s : State) (places : List Place) (seed
 
 -- ---- processors
 
-pub sys-processor : (program : Program) (w : World) (p : ℕ) → 0 < p → sys program w p ≡ processor_turn w p (processor_event w p)
-sys-processor program w p some = let no : (p == 0) ≡ false = ne_eqb p 0 (λ e. omega arith) in rw no refl
+pub system_turn-processor : (program : Program) (w : World) (p : ℕ) → 0 < p → system_turn program w p ≡ processor_turn w p (processor_event w p)
+system_turn-processor program w p some = let no : (p == 0) ≡ false = ne_eqb p 0 (λ e. omega arith) in rw no refl
 
 -- what the thread on a processor does is what the slice of its work does
 slice-done : (program : Program) (w : World) (p : ℕ) (work : Work) (given : Parts) → IsWork program w p work → IsSliceOf program work given → IsSlice given → slice_on w p work.thread ≡ done_of given
 slice-done program w p work given is of exact =
     let context : context_of w work.thread ≡ context_at given.lines given.start =
-    sym is.means ∙ ap (λ lines. context_at lines work.context) (sym of.lines) ∙ ap (λ place. context_at given.lines place) (sym of.start) in
+    sym is.means ∙ ap (λ lines. context_at lines work.place) (sym of.lines) ∙ ap (λ place. context_at given.lines place) (sym of.start) in
     let budget = sym is.budget ∙ sym of.budget in
     ap (λ b. slice (context_of w work.thread) b) budget ∙ ap (λ x. slice x given.budget) context ∙ exact.sliced
 
@@ -128,11 +128,11 @@ event-is program w p drawn (Some work) (Some given) some is matches exact e = rw
 there-between : (records : List Record) (p t : ℕ) → thread_on records p ≡ Some t → IsBetween 1 (length records) t
 there-between records p t runs = let found = found-runs records p t runs in numbered records t (Running p found.0) found.1
 
-slice-same : (s : State) (p drawn : ℕ) (given : Parts) (trap : Option ScriptTrap) → given.trap ≡ trap → IsSame s (step s (event_of_slice p drawn (done_of given))).state
+slice-same : (s : State) (p drawn : ℕ) (given : Parts) (trap : Option ScriptTrap) → given.trap ≡ trap → KeepsThreads s (step s (event_of_slice p drawn (done_of given))).state
 slice-same s p drawn given None is = rw is (expires-same s p)
 slice-same s p drawn given (Some trap) is = rw is (traps-same s p given.ticks (action_of trap given.end.accumulator drawn))
 
-pub given-same : (s : State) (p drawn : ℕ) (given : Option Parts) → IsSame s (step s (event_given p drawn given)).state
+pub given-same : (s : State) (p drawn : ℕ) (given : Option Parts) → KeepsThreads s (step s (event_given p drawn given)).state
 given-same s p drawn None = draws-same s p drawn
 given-same s p drawn (Some given) = slice-same s p drawn given given.trap refl
 
@@ -158,7 +158,7 @@ module _ (program : Program) (w : World) (s : State) (places : List Place) (seed
       rw (← number) at.script
 
   pub work-is : (work : Work) (used : ℕ) → thread_on s.records p ≡ Some work.thread → used_by s.records p work.thread ≡ Some used → IsBetween 1 (length s.records) work.thread → used < s.limits.quantum
-      → s.limits.quantum ≤ 1000 → option_map (λ t. t.script) (at_number s.threads work.thread) ≡ Some work.script → (d : Place) → work.context ≡ get_or places (work.thread - 1) d → work.budget ≡ s.limits.quantum - used
+      → s.limits.quantum ≤ 1000 → option_map (λ t. t.script) (at_number s.threads work.thread) ≡ Some work.script → (d : Place) → work.place ≡ get_or places (work.thread - 1) d → work.budget ≡ s.limits.quantum - used
       → IsScript (script_lines program work.script) → IsWork program w p work
   work-is work used runs there between below most script d context budget legal =
       let none : Thread = record { name = []; script = 0 } in
@@ -169,7 +169,7 @@ module _ (program : Program) (w : World) (s : State) (places : List Place) (seed
       at-place program s.threads places w.contexts (work.thread - 1) none d start held.places_at (omega (arith, count)) in
       let same : Some (get_or s.threads (work.thread - 1) none).script ≡ Some work.script = ap (option_map (λ (t : Thread). t.script)) (sym numbered) ∙ script in
       let number : (get_or s.threads (work.thread - 1) none).script ≡ work.script = cc in
-      let here : IsAt program (get_or s.threads (work.thread - 1) none) work.context (context_of w work.thread) =
+      let here : IsAt program (get_or s.threads (work.thread - 1) none) work.place (context_of w work.thread) =
       rw (context, number-or w.contexts work.thread start between.0) at in
       let spent_there : used_there s p ≡ used = rw (runs, there) refl in
       let left : work.budget ≡ w.state.limits.quantum - used_there w.state p = budget ∙ ap (λ n. s.limits.quantum - n) (sym spent_there) ∙ ap (λ (x : State). x.limits.quantum - used_there x p) held.state in
@@ -202,7 +202,7 @@ module _ (program : Program) (w : World) (s : State) (p : ℕ) (state : s ≡ w.
       (work.thread, (rw state between, subst (λ t. OfRun t (step s (event_given p drawn (Some given))).reply) (there-is work.thread is.1.runs) named))
 
 module _ (program : Program) (w : World) (p : ℕ) (threads : List Thread) (places : List Place) (at : AreAt program threads places w.contexts) where
-  -- the thread's place, where it is elsewhere then
+  -- the thread's place, if it is elsewhere then
   moved : (t : ℕ) (place : Place) (context : Context) → ((d : Thread) → IsAt program (get_or threads (t - 1) d) place context) → AreAt program threads (set_number places t place) (set_number w.contexts t context)
   moved t place context now = from threads refl
     where
@@ -213,8 +213,8 @@ module _ (program : Program) (w : World) (p : ℕ) (threads : List Thread) (plac
   draw-follows : (r : Reply) → OfDraw (length threads) r → AreAt program threads (places_after places None r) (contexts_after w p r)
   draw-follows (reply.Winner t number total delivered) of =
       let lengths = at-lengths program threads places w.contexts at in
-      moved t (handed_place delivered (place_of places t)) (handed delivered (context_of w t)) (λ d.
-      at-handed program (get_or threads (t - 1) d) (place_of places t) (context_of w t) delivered
+      moved t (delivered_to_place delivered (place_of places t)) (delivered_to delivered (context_of w t)) (λ d.
+      at-delivered_to program (get_or threads (t - 1) d) (place_of places t) (context_of w t) delivered
       (rw (number-or places t first_place of.0, number-or w.contexts t (record { rest = []; accumulator = 0 }) of.0)
       (at-place program threads places w.contexts (t - 1) d first_place (record { rest = []; accumulator = 0 }) at (omega (arith, of.0, of.1)))))
   draw-follows reply.Idle of = at
@@ -246,8 +246,8 @@ module _ (program : Program) (w : World) (p : ℕ) (threads : List Thread) (plac
     slice-follows : (r : Reply) → OfRun work.thread r → AreAt program threads (places_after places (Some given) r) (contexts_after w p r)
     slice-follows (reply.Expired t ticks) names = rw names (moved work.thread given.end (slice_on w p work.thread).end end-at)
     slice-follows (reply.Trapped t ticks outcome ends) names =
-        rw names (moved work.thread (handed_place (number_received outcome) given.end) (handed (number_received outcome) (slice_on w p work.thread).end) (λ d.
-        at-handed program (get_or threads (work.thread - 1) d) given.end (slice_on w p work.thread).end (number_received outcome) (end-at d)))
+        rw names (moved work.thread (delivered_to_place (number_delivered outcome) given.end) (delivered_to (number_delivered outcome) (slice_on w p work.thread).end) (λ d.
+        at-delivered_to program (get_or threads (work.thread - 1) d) given.end (slice_on w p work.thread).end (number_delivered outcome) (end-at d)))
     slice-follows (reply.Refused why) names = at
     slice-follows (reply.Winner t number total delivered) names = absurd names
     slice-follows reply.Idle names = absurd names
@@ -265,10 +265,10 @@ module _ (program : Program) (w : World) (s : State) (places : List Place) (seed
       its-event =
           event-is program w p drawn work given some is matches exact (number ∙ ap (λ (ns : List ℕ). drawn_number (unwrap_or (at_number ns p) 0)) held.seeds) ∙ sym event_is
 
-      its-turn : sys program w p ≡ processor_turn w p e
-      its-turn = sys-processor program w p some ∙ ap (processor_turn w p) its-event
+      its-turn : system_turn program w p ≡ processor_turn w p e
+      its-turn = system_turn-processor program w p some ∙ ap (processor_turn w p) its-event
 
-      pub turn-answer : (sys program w p).answer ≡ Answered e r
+      pub turn-answer : (system_turn program w p).answer ≡ Answered e r
       turn-answer = rw (its-turn, replied, held.state) refl
 
       -- whom the reply names
@@ -278,7 +278,7 @@ module _ (program : Program) (w : World) (s : State) (places : List Place) (seed
           let count : length s.records ≡ length places = held.kept.records ∙ sym (at-lengths program s.threads places w.contexts held.places_at).0 in
           (names.0, rw (replied, event_is, ← count) names.1)
 
-      same-threads : IsSame s after
+      same-threads : KeepsThreads s after
       same-threads = rw (state, event_is) (given-same s p drawn given)
 
       turn-places : AreAt program s.threads (places_after places given r) (contexts_after w p r)
@@ -298,7 +298,7 @@ module _ (program : Program) (w : World) (s : State) (places : List Place) (seed
               (rw told (subst (λ t. OfRun t (step s (event_given p drawn (Some g))).reply) (there-is program w s p held.state wk.thread a.1.runs) named))
 
       pub turn-held : (now : List Place) (passed : List ℕ) → now ≡ places_after places given r → passed ≡ (if takes_number e then set_number seeds p (seed_after_number (unwrap_or (at_number seeds p) 0)) else seeds)
-          → IsHeld program (sys program w p).world after now passed spent
+          → IsHeld program (system_turn program w p).world after now passed spent
       turn-held now passed at numbers =
           let replies : r ≡ (step w.state e).reply = replied ∙ ap (λ (x : State). (step x e).reply) held.state in
           let places_now : AreAt program after.threads now (contexts_after w p r) = rw (at, same-threads.threads) turn-places in

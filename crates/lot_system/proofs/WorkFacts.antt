@@ -3,7 +3,7 @@ use Rattle.std.proofs.Common.{◌≡◌, ℕ, Option, Some, None, refl, sym, ◌
 use Rattle.std.specs.Option.{option_map}
 use Rattle.lot_machine.specs.declared.record.Thread.{Thread}
 use Rattle.lot_machine.specs.Numbered.{at_number}
-use Rattle.lot_machine.specs.World.{Program, World, context_of}
+use Rattle.lot_simulation.specs.World.{Program, World, context_of}
 use Rattle.lot_script.specs.Places.{Fits, Place, context_at}
 use Rattle.lot_script.specs.Slices.{Parts}
 use Rattle.lot_script.proofs.OnePlace.{one-place}
@@ -14,16 +14,16 @@ use Rattle.lot_system.specs.Turns.{IsFresh, IsWork, IsWorkOf, Matches}
 
 -- the work with these parts
 work-of : ℕ → ℕ → Place → ℕ → Work
-work-of thread script place budget = record { thread = thread; script = script; context = place; budget = budget }
+work-of thread script place budget = record { thread = thread; script = script; place = place; budget = budget }
 
 -- two works with the same parts are the same
-same-work : (a b : Work) → a.thread ≡ b.thread → a.script ≡ b.script → a.context ≡ b.context → a.budget ≡ b.budget → a ≡ b
+same-work : (a b : Work) → a.thread ≡ b.thread → a.script ≡ b.script → a.place ≡ b.place → a.budget ≡ b.budget → a ≡ b
 unfolding work-of
 same-work a b thread script context budget =
-    let one : work-of a.thread a.script a.context a.budget ≡ work-of b.thread a.script a.context a.budget = ap (λ n. work-of n a.script a.context a.budget) thread in
-    let two : work-of b.thread a.script a.context a.budget ≡ work-of b.thread b.script a.context a.budget = ap (λ n. work-of b.thread n a.context a.budget) script in
-    let three : work-of b.thread b.script a.context a.budget ≡ work-of b.thread b.script b.context a.budget = ap (λ p. work-of b.thread b.script p a.budget) context in
-    let four : work-of b.thread b.script b.context a.budget ≡ work-of b.thread b.script b.context b.budget = ap (λ n. work-of b.thread b.script b.context n) budget in
+    let one : work-of a.thread a.script a.place a.budget ≡ work-of b.thread a.script a.place a.budget = ap (λ n. work-of n a.script a.place a.budget) thread in
+    let two : work-of b.thread a.script a.place a.budget ≡ work-of b.thread b.script a.place a.budget = ap (λ n. work-of b.thread n a.place a.budget) script in
+    let three : work-of b.thread b.script a.place a.budget ≡ work-of b.thread b.script b.place a.budget = ap (λ p. work-of b.thread b.script p a.budget) context in
+    let four : work-of b.thread b.script b.place a.budget ≡ work-of b.thread b.script b.place b.budget = ap (λ n. work-of b.thread b.script b.place n) budget in
     one ∙ two ∙ three ∙ four
 
 module _ (program : Program) (w : World) (p : ℕ) (a b : Work) (one : IsWork program w p a) (other : IsWork program w p b) where
@@ -34,12 +34,12 @@ module _ (program : Program) (w : World) (p : ℕ) (a b : Work) (one : IsWork pr
   script-one =
       let both : Some a.script ≡ Some b.script = sym one.script ∙ ap (λ t. option_map (λ (d : Thread). d.script) (at_number w.state.threads t)) thread-one ∙ other.script in cc
 
-  place-one : a.context ≡ b.context
+  place-one : a.place ≡ b.place
   place-one =
       let lines = script_lines program a.script in
-      let fits : Fits lines b.context = subst (λ n. Fits (script_lines program n) b.context) (sym script-one) other.fits in
-      let means : context_at lines b.context ≡ context_of w b.thread = subst (λ n. context_at (script_lines program n) b.context ≡ context_of w b.thread) (sym script-one) other.means in
-      one-place lines a.context b.context one.legal one.fits fits (one.means ∙ ap (context_of w) thread-one ∙ sym means)
+      let fits : Fits lines b.place = subst (λ n. Fits (script_lines program n) b.place) (sym script-one) other.fits in
+      let means : context_at lines b.place ≡ context_of w b.thread = subst (λ n. context_at (script_lines program n) b.place ≡ context_of w b.thread) (sym script-one) other.means in
+      one-place lines a.place b.place one.legal one.fits fits (one.means ∙ ap (context_of w) thread-one ∙ sym means)
 
   same-one : a ≡ b
   same-one = same-work a b thread-one script-one place-one (one.budget ∙ sym other.budget)

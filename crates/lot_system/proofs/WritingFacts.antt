@@ -3,14 +3,14 @@ use Rattle.std.proofs.Common.{◌≡◌, ℕ, zero, suc, ◌+◌, ◌-◌, ◌<�
 use Rattle.std.specs.List.{flat_map, range_with_len}
 use Rattle.std.specs.Io.KnownBytes.{Appends}
 use Rattle.lot_print.specs.Writing.{Begins}
-use Rattle.lot_print.proofs.WritingFacts.{appends-both, begins-front, begins-behind}
+use Rattle.lot_print.proofs.WritingFacts.{appends-both, begins-front, begins-after}
 use Rattle.lot_system.specs.declared.fault.PlayFault.{PlayFault}
-use Rattle.lot_system.specs.Writing.{Writes}
+use Rattle.lot_system.specs.Writing.{Written}
 
--- what is written behind what was written already
-pub writes-behind : {U : Type 0} (old mid new : Option (List ℕ)) (failed : Bool) (r : Result U PlayFault) (a b : List ℕ) → Appends old mid a → Writes mid new failed r b → Writes old new failed r (a ++ b)
-writes-behind old mid new failed (Ok done) a b one two = (two.0, appends-both old mid new a b one two.1)
-writes-behind old mid new failed (Err fault) a b one two = (two.0, two.1, begins-behind old mid new a b one two.2)
+-- what is written after what was written already
+pub writes-after : {U : Type 0} (old mid new : Option (List ℕ)) (failed : Bool) (r : Result U PlayFault) (a b : List ℕ) → Appends old mid a → Written mid new failed r b → Written old new failed r (a ++ b)
+writes-after old mid new failed (Ok done) a b one two = (two.0, appends-both old mid new a b one two.1)
+writes-after old mid new failed (Err fault) a b one two = (two.0, two.1, begins-after old mid new a b one two.2)
 
 -- ---- texts of the numbers of a range
 
@@ -42,8 +42,8 @@ range-stops old mid new f a k n j below is one given =
     let split = range-front f a (suc k) (n - suc k) in
     let whole : flat_map f (range_with_len a n) ≡ (flat_map f (range_with_len a k) ++ f (a + k)) ++ split.0 =
     ap (λ m. flat_map f (range_with_len a m)) (sym e) ∙ split.1 ∙ ap (λ xs. xs ++ split.0) (range-push f a k) in
-    subst (Begins old new) (sym whole) (begins-front old new (flat_map f (range_with_len a k) ++ f (a + k)) split.0 (begins-behind old mid new (flat_map f (range_with_len a k)) (f (a + k)) one two))
+    subst (Begins old new) (sym whole) (begins-front old new (flat_map f (range_with_len a k) ++ f (a + k)) split.0 (begins-after old mid new (flat_map f (range_with_len a k)) (f (a + k)) one two))
 
 -- flushing writes nothing more
-pub writes-flushed : {U : Type 0} (old mid new : Option (List ℕ)) (failed : Bool) (r : Result U PlayFault) (a : List ℕ) → Appends old mid a → Writes mid new failed r [] → Writes old new failed r a
-writes-flushed old mid new failed r a one two = subst (Writes old new failed r) (append-nil a) (writes-behind old mid new failed r a [] one two)
+pub writes-flushed : {U : Type 0} (old mid new : Option (List ℕ)) (failed : Bool) (r : Result U PlayFault) (a : List ℕ) → Appends old mid a → Written mid new failed r [] → Written old new failed r a
+writes-flushed old mid new failed r a one two = subst (Written old new failed r) (append-nil a) (writes-after old mid new failed r a [] one two)

@@ -1,15 +1,15 @@
 -- How a system's fields hold the world of its history.
 use Rattle.std.specs.Prelude.{◌≡◌, ℕ, ◌≤◌, ⊤, List, [], ◌∷◌, length, drop, unwrap_or}
-use Rattle.lot_machine.specs.declared.script.Line.{Line}
+use Rattle.lot_simulation.specs.declared.script.Line.{Line}
 use Rattle.lot_machine.specs.declared.record.Thread.{Thread}
 use Rattle.lot_machine.specs.Bounds.{IsBetween}
 use Rattle.lot_machine.specs.Numbered.{at_number}
-use Rattle.lot_machine.specs.Script.{Context}
+use Rattle.lot_simulation.specs.Script.{Context}
 use Rattle.lot_machine.specs.State.{State}
-use Rattle.lot_machine.specs.World.{Program, World}
+use Rattle.lot_simulation.specs.World.{Program, World}
 use Rattle.lot_script.specs.Places.{Place, Fits, context_at}
 
--- the lines of the program's script with this number; none where there is no such script
+-- the lines of the program's script with this number; none if there is no such script
 abbrev pub script_lines : Program → ℕ → List Line
 script_lines program script = unwrap_or (at_number program.scripts script) []
 

@@ -6,7 +6,7 @@ use Rattle.lot_machine.specs.declared.command.Kind.{Kind}
 use Rattle.lot_machine.specs.declared.command.Kind.TheVariants.{Tickets, Currencies, Threads}
 use Rattle.lot_machine.specs.State.{State}
 use Rattle.lot_machine.specs.Rows.{ticket_row, currency_row, thread_row}
-use Rattle.lot_machine.specs.Texts.{ticket_line, currency_line, thread_line}
+use Rattle.lot_simulation.specs.Texts.{ticket_line, currency_line, thread_line}
 
 -- the first number of the kind
 abbrev pub first_number : Kind → ℕ
@@ -32,6 +32,6 @@ row_line s Tickets n = option_map_or (ticket_line s.limits.unit n) (ticket_row s
 row_line s Currencies n = option_map_or (currency_line s.limits.unit n) (currency_row s n) []
 row_line s Threads n = option_map_or (thread_line s.limits.unit n) (thread_row s n) []
 
--- how many of the first so many numbers have a row
+-- how many of the first `count` numbers have a row
 abbrev pub rows_among : State → Kind → ℕ → ℕ
 rows_among s kind count = length (filter (is_there s kind) (range_with_len (first_number kind) count))

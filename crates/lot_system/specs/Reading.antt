@@ -1,6 +1,7 @@
 -- What is read.
 use Rattle.std.specs.Prelude.{◌≡◌, ℕ, ◌≤◌, ◌<◌, Option, List, ◌++◌, length}
 use Rattle.std.specs.Io.KnownBytes.{Consumes, IsAtEnd}
+use Rattle.lot_text.specs.Watching.{Watch}
 
 -- The bytes that were read of those that were left: all of them, or one more than an input may have.
 pub record HasRead (left rest : Option (List ℕ)) (bytes : List ℕ) : Type 0 where
@@ -8,7 +9,11 @@ pub record HasRead (left rest : Option (List ℕ)) (bytes : List ℕ) : Type 0 w
   pub most : length bytes ≤ 16777217
   pub whole : length bytes < 16777217 → IsAtEnd rest
 
--- so many bytes were read, none only at the end, and are behind those that were there
+-- the same of a watched reader, of which `remaining` says what is left
+abbrev pub Reads : {T : Type 0} → (T → Option (List ℕ)) → Watch T → Watch T → List ℕ → Type 0
+Reads remaining old new bytes = HasRead (remaining old.inner) (remaining new.inner) bytes
+
+-- this many bytes were read, none only at the end, and they come after those that were there
 pub record HasTaken (left rest : Option (List ℕ)) (old now : List ℕ) (count : ℕ) : Type 0 where
   pub taken : List ℕ
   pub count_is : length taken ≡ count

@@ -7,21 +7,21 @@ use Rattle.lot_machine.specs.declared.reply.Reply.{Reply}
 use Rattle.lot_machine.specs.declared.reply.Reply.TheVariants as reply
 use Rattle.lot_machine.specs.Bounds.{IsBetween}
 use Rattle.lot_machine.specs.Numbered.{at_number, set_number}
-use Rattle.lot_machine.specs.Script.{Slice}
+use Rattle.lot_simulation.specs.Script.{Slice}
 use Rattle.lot_machine.specs.State.{State}
-use Rattle.lot_machine.specs.World.{event_of_slice, number_received}
+use Rattle.lot_simulation.specs.World.{event_of_slice, number_delivered}
 use Rattle.lot_script.specs.Places.{Place, first_place, context_at}
 use Rattle.lot_script.specs.Slices.{Parts}
 
 -- ---- the threads after an event
 
 -- the same threads, as many records, and the same sizes
-pub record IsSame (s after : State) : Type 0 where
+pub record KeepsThreads (s after : State) : Type 0 where
   pub threads : after.threads ≡ s.threads
   pub records : length after.records ≡ length s.records
   pub limits : after.limits ≡ s.limits
 
--- one thread more, which has this number and a script that there is
+-- one more thread, which has this number and one of the scripts
 pub record OneMore (s after : State) (n : ℕ) : Type 0 where
   pub number : n ≡ length s.threads + 1
   pub thread : Thread
@@ -39,14 +39,14 @@ made_thread other = None
 
 -- a command that made no thread leaves the threads as they are
 abbrev pub MakesIn : State → State → Option ℕ → Type 0
-MakesIn s after None = IsSame s after
+MakesIn s after None = KeepsThreads s after
 MakesIn s after (Some n) = OneMore s after n
 
 -- the reply to a command names the thread that was made, if one was
-abbrev pub Makes : State → State → Reply → Type 0
-Makes s after r = MakesIn s after (made_thread r)
+abbrev pub MakesThread : State → State → Reply → Type 0
+MakesThread s after r = MakesIn s after (made_thread r)
 
--- the reply to a draw names one of so many threads, if any
+-- the reply to a draw names one of this many threads, if any
 abbrev pub OfDraw : ℕ → Reply → Type 0
 OfDraw count (reply.Winner t number total delivered) = IsBetween 1 count t
 OfDraw count reply.Idle = ⊤
@@ -71,7 +71,7 @@ abbrev pub event_given : ℕ → ℕ → Option Parts → Event
 event_given p drawn None = event.Draw p drawn
 event_given p drawn (Some given) = event_of_slice p drawn (done_of given)
 
--- the reply is one to such an event: to a draw among so many threads, or to the slice of one of them
+-- the reply is one to such an event: to a draw among this many threads, or to the slice of one of them
 abbrev pub OfGiven : ℕ → ℕ → Option Parts → Reply → Type 0
 OfGiven count t None r = OfDraw count r
 OfGiven count t (Some given) r = IsBetween 1 count t × OfRun t r
@@ -79,9 +79,9 @@ OfGiven count t (Some given) r = IsBetween 1 count t × OfRun t r
 -- ---- places
 
 -- the place, with the number that was handed over as its accumulator
-abbrev pub handed_place : Option ℕ → Place → Place
-handed_place None place = place
-handed_place (Some number) place = record place { accumulator = number }
+abbrev pub delivered_to_place : Option ℕ → Place → Place
+delivered_to_place None place = place
+delivered_to_place (Some number) place = record place { accumulator = number }
 
 -- where the thread is
 abbrev pub place_of : List Place → ℕ → Place
@@ -90,7 +90,7 @@ place_of places t = unwrap_or (at_number places t) first_place
 -- The places after a turn: a winner has what was delivered to it, and the thread that ran is at its slice's end, and has
 -- what it received.
 abbrev pub places_after : List Place → Option Parts → Reply → List Place
-places_after places None (reply.Winner t number total delivered) = set_number places t (handed_place delivered (place_of places t))
-places_after places (Some given) (reply.Trapped t ticks outcome ends) = set_number places t (handed_place (number_received outcome) given.end)
+places_after places None (reply.Winner t number total delivered) = set_number places t (delivered_to_place delivered (place_of places t))
+places_after places (Some given) (reply.Trapped t ticks outcome ends) = set_number places t (delivered_to_place (number_delivered outcome) given.end)
 places_after places (Some given) (reply.Expired t ticks) = set_number places t given.end
 places_after places given other = places

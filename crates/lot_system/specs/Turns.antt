@@ -4,8 +4,8 @@ use Rattle.lot_machine.specs.Bounds.{IsBetween}
 use Rattle.lot_machine.specs.Numbered.{at_number}
 use Rattle.lot_machine.specs.State.{thread_on}
 use Rattle.lot_machine.specs.Step.{used_there}
-use Rattle.lot_machine.specs.World.{Program, World, context_of, sys}
-use Rattle.lot_machine.specs.World.Answer.{Answered}
+use Rattle.lot_simulation.specs.World.{Program, World, context_of, system_turn}
+use Rattle.lot_simulation.specs.World.Answer.{Answered}
 use Rattle.lot_script.specs.Drafts.{IsScript}
 use Rattle.lot_script.specs.Places.{Fits, context_at}
 use Rattle.lot_script.specs.Slices.{Parts}
@@ -18,19 +18,19 @@ use Rattle.lot_system.specs.Held.{script_lines}
 
 -- ---- what an actor has to do
 
--- The thread that runs on the processor in this world, its script's number, where it is there, and what is left of its
--- quantum. Its script is one that was built.
+-- The thread that runs on the processor in this world, its script's number, its place in the script, and what is left
+-- of its quantum. Its script is one that was built.
 pub record IsWork (program : Program) (w : World) (p : ℕ) (work : Work) : Type 0 where
   pub runs : thread_on w.state.records p ≡ Some work.thread
   pub script : option_map (λ t. t.script) (at_number w.state.threads work.thread) ≡ Some work.script
   pub there : IsBetween 1 (length program.scripts) work.script
   pub legal : IsScript (script_lines program work.script)
-  pub fits : Fits (script_lines program work.script) work.context
-  pub means : context_at (script_lines program work.script) work.context ≡ context_of w work.thread
+  pub fits : Fits (script_lines program work.script) work.place
+  pub means : context_at (script_lines program work.script) work.place ≡ context_of w work.thread
   pub budget : work.budget ≡ w.state.limits.quantum - used_there w.state p
   pub some_left : IsBetween 1 1000 work.budget
 
--- the actor's work, or that it has none: the console never has one, and a processor has one where a thread runs there
+-- the actor's work, or that it has none: the console never has one, and a processor has one if a thread runs there
 abbrev pub IsWorkIn : Program → World → ℕ → Option Work → Type 0
 IsWorkIn program w actor None = 0 < actor → thread_on w.state.records actor ≡ None
 IsWorkIn program w actor (Some work) = (0 < actor) × IsWork program w actor work
@@ -44,10 +44,10 @@ IsWorkOf seen actor work = IsWorkIn seen.setting.program (world_of seen) actor w
 -- it is one of the work's script, from the work's place, with the work's budget
 pub record IsSliceOf (program : Program) (work : Work) (given : Parts) : Type 0 where
   pub lines : given.lines ≡ script_lines program work.script
-  pub start : given.start ≡ work.context
+  pub start : given.start ≡ work.place
   pub budget : given.budget ≡ work.budget
 
--- there is no slice where there is no work, and else the slice of the work
+-- there is no slice if there is no work, and else the slice is that of the work
 abbrev pub Matches : Program → Option Work → Option Parts → Type 0
 Matches program None None = ⊤
 Matches program (Some work) (Some given) = IsSliceOf program work given
@@ -84,5 +84,5 @@ IfStale HistoryFull fact = ⊤
 
 -- the event and the reply are those of the actor's next turn, and what it has to do next is its work after it
 pub record Answers (seen : Seen) (actor : ℕ) (answer : Answer) : Type 0 where
-  pub turn : (sys seen.setting.program (world_of seen) actor).answer ≡ Answered answer.event answer.reply
+  pub turn : (system_turn seen.setting.program (world_of seen) actor).answer ≡ Answered answer.event answer.reply
   pub next : IsWorkOf (after_turn seen actor) actor answer.next

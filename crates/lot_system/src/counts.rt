@@ -1,8 +1,8 @@
 //! What is counted of turns.
 ghost use Rattle.std.specs.Prelude.{◌≡◌, ◌+◌, ◌<◌, ◌++◌, [], ◌∷◌, ℕ, List, IfOk, vec_len};
 ghost use Rattle.lot_machine.specs.declared.event.Event.{Event as EventRecord};
-ghost use Rattle.lot_machine.specs.Report.{ActorTurn};
-ghost use Rattle.lot_machine.specs.World.Answer.{Answered};
+ghost use Rattle.lot_simulation.specs.Report.{ActorTurn};
+ghost use Rattle.lot_simulation.specs.World.Answer.{Answered};
 ghost use Rattle.lot_system.specs.Counted.{AreCounts, IsCount, IsSmall, counted_with};
 
 use lot_machine::Reply;
@@ -11,7 +11,7 @@ use std::alloc::{AllocError, Global};
 /// What is counted of some turns.
 #[derive(Clone, Copy, Debug, PartialEq, Eq)]
 pub struct Counts {
-    /// How many they are, refused commands and traps included.
+    /// How many there are, refused commands and traps included.
     pub turns: u64,
     /// The draws among them that somebody won.
     pub quanta: u64,
@@ -30,7 +30,7 @@ impl Counts {
         ticks: 0,
     };
 
-    /// With one turn more, that was answered so.
+    /// With one more turn, which got this reply.
     pub(crate) fn with_turn(self, reply: Reply) -> Counts
         requires { (n : ℕ) × (n < 4294967295) × IsSmall n self }
         ensures exact { result ≡ counted_with self reply }
@@ -58,7 +58,7 @@ impl Counts {
     }
 }
 
-/// The counts of so many actors that have had no turn.
+/// The counts of this many actors that have had no turn.
 pub(crate) fn no_counts(alloc: Global, actors: usize) -> Result<Vec<Counts>, AllocError>
     ensures none { IfOk result (λ counts. AreCounts [] 0 counts.items) }
     ensures count { IfOk result (λ counts. vec_len counts ≡ actors) }
@@ -66,10 +66,10 @@ pub(crate) fn no_counts(alloc: Global, actors: usize) -> Result<Vec<Counts>, All
     vec![in alloc; Counts::NONE; actors]
 }
 
-/// Counts an actor's turn that was answered so.
+/// Counts an actor's turn that got this reply.
 pub(crate) fn count_turn(counts: &mut Vec<Counts>, actor: u32, reply: Reply)
     requires there { actor < vec_len counts.old }
-    requires few { (turns : List ActorTurn) × (n : ℕ) × (n < 4294967295) × AreCounts turns n counts.old.items }
+    requires bounded { (turns : List ActorTurn) × (n : ℕ) × (n < 4294967295) × AreCounts turns n counts.old.items }
     ensures exact { (turns : List ActorTurn) (n : ℕ) (e : EventRecord) → AreCounts turns n counts.old.items → AreCounts (turns ++ record { actor = actor; answer = Answered e reply } ∷ []) (n + 1) counts.new.items }
     ensures count { vec_len counts.new ≡ vec_len counts.old }
 {

@@ -1,6 +1,6 @@
 //! What is written at the end of a run: the report, and the history as lines that give it back.
 ghost use Rattle.std.specs.Prelude.{◌≡◌, false, true, OnOk};
-ghost use Rattle.lot_machine.specs.Output.{end_text};
+ghost use Rattle.lot_simulation.specs.Output.{end_text};
 ghost use Rattle.lot_system.specs.Writing.{Writes};
 
 use crate::report::write_report;
@@ -16,7 +16,7 @@ pub fn write_end<W: Write>(system: &mut System, writer: &mut Watched<W>) -> Resu
     requires { writer.old.failed ≡ false }
     ensures same { system.new ≡ system.old }
     ensures flushed { OnOk result (writer.new.flushed ≡ true) }
-    ensures text { Writes (W.contents writer.old.inner) (W.contents writer.new.inner) writer.new.failed result (end_text system.old.setting.program system.old.history) }
+    ensures text { Writes W.contents writer.old writer.new result (end_text system.old.setting.program system.old.history) }
 {
     write_texts(system, writer)?;
     flush(writer)
@@ -26,7 +26,7 @@ pub fn write_end<W: Write>(system: &mut System, writer: &mut Watched<W>) -> Resu
 fn write_texts<W: Write>(system: &mut System, writer: &mut Watched<W>) -> Result<(), PlayFault>
     requires { writer.old.failed ≡ false }
     ensures same { system.new ≡ system.old }
-    ensures text { Writes (W.contents writer.old.inner) (W.contents writer.new.inner) writer.new.failed result (end_text system.old.setting.program system.old.history) }
+    ensures text { Writes W.contents writer.old writer.new result (end_text system.old.setting.program system.old.history) }
 {
     write_report(system, writer)?;
     write_history(writer, system.unit(), system.history())?;

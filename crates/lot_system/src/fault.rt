@@ -9,7 +9,7 @@ use thiserror::Error;
 /// Why a turn isn't made. It then changes nothing.
 #[derive(Debug, Drop, Error)]
 pub enum TurnFault {
-    /// The slice isn't the one of the actor's work, which is this.
+    /// The slice isn't that of the actor's work, which the fault carries.
     #[error("the slice isn't that of the actor's work")]
     Stale(Option<Work>),
     /// The actor is the console, and no command is left.

@@ -3,7 +3,7 @@ ghost use Rattle.std.specs.Prelude.{◌≡◌, IfOk, length, unwrap_or, vec_len,
 ghost use Rattle.lot_machine.specs.Bounds.{IsBetween};
 ghost use Rattle.lot_machine.specs.Lottery.{drawn_number, seed_after_number};
 ghost use Rattle.lot_machine.specs.Numbered.{at_number, set_number};
-ghost use Rattle.lot_machine.specs.World as world;
+ghost use Rattle.lot_simulation.specs.World as world;
 
 use crate::turn::takes_number;
 use lot_draw::ParkMiller;
@@ -23,7 +23,7 @@ pub(crate) fn generators_of(alloc: Global, program: &Program) -> Result<Vec<Park
     Ok(generators)
 }
 
-/// The processor's next number, which is still its next one then.
+/// The processor's next number, which stays its next one.
 pub(crate) fn next_number(generators: &[ParkMiller], processor: u32) -> u64
     requires { IsBetween 1 (length generators.now) processor }
     ensures { result ≡ drawn_number (unwrap_or (at_number generators.now processor) 0) }
@@ -32,7 +32,7 @@ pub(crate) fn next_number(generators: &[ParkMiller], processor: u32) -> u64
     generator.number()
 }
 
-/// Takes the processor's next number, where the event takes one.
+/// Takes the processor's next number, if the event takes one.
 pub(crate) fn pass_number(generators: &mut Vec<ParkMiller>, processor: u32, event: &Event)
     requires { IsBetween 1 (vec_len generators.old) processor }
     ensures values { generators.new.items ≡ (if world.takes_number event.now then set_number generators.old.items processor (seed_after_number (unwrap_or (at_number generators.old.items processor) 0)) else generators.old.items) }

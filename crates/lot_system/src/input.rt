@@ -1,6 +1,6 @@
 //! Reading an input.
 ghost use Rattle.std.specs.Prelude.{◌≡◌, ◌<◌, ◌≤◌, false, length, IfOk, IfErr, OnOk};
-ghost use Rattle.lot_system.specs.Reading.{HasRead, HasTaken};
+ghost use Rattle.lot_system.specs.Reading.{Reads, HasTaken};
 ghost use Rattle.lot_system.specs.Writing.{IsReadFault};
 
 use crate::PlayFault;
@@ -17,7 +17,7 @@ const PIECE: usize = 65536;
 /// Reads to the end of the input, or to its byte 16777217, and leaves the rest unread.
 pub fn read_input<R: Read>(alloc: Global, reader: &mut Watched<R>) -> Result<Vec<u8>, PlayFault>
     requires { reader.old.failed ≡ false }
-    ensures read { IfOk result (λ bytes. HasRead (R.remaining reader.old.inner) (R.remaining reader.new.inner) bytes.items) }
+    ensures read { IfOk result (λ bytes. Reads R.remaining reader.old reader.new bytes.items) }
     ensures ok { OnOk result (reader.new.failed ≡ false) }
     ensures err { IfErr result (λ fault. IsReadFault fault reader.new.failed) }
 {
@@ -37,7 +37,7 @@ pub fn read_input<R: Read>(alloc: Global, reader: &mut Watched<R>) -> Result<Vec
     Ok(bytes)
 }
 
-/// Reads once, puts what it read behind the bytes, and answers how much that was: nothing only at the end.
+/// Reads once, puts what it read after the bytes, and answers how much that was: nothing only at the end.
 fn read_piece<R: Read>(
     reader: &mut Watched<R>,
     room: &mut [u8],

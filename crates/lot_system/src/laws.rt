@@ -2,21 +2,22 @@
 ghost use Rattle.std.specs.Prelude.{◌≡◌, ◌<◌, ◌^◌, ℕ, List, Option, sum_by};
 ghost use Rattle.std.specs.List.{range_with_len};
 ghost use Rattle.lot_machine.specs.Bounds.{IsWithinBounds};
-ghost use Rattle.lot_machine.specs.Report.{idles_in, quanta_in, ticks_in, total_of, turns_made, turns_of};
-ghost use Rattle.lot_machine.specs.World.{IsLegal, Program, sysrun};
+ghost use Rattle.lot_simulation.specs.Report.{idles_in, quanta_in, ticks_in, total_of, turns_made, turns_of};
+ghost use Rattle.lot_simulation.specs.World.{IsLegal, Program, system_run};
 ghost use Rattle.lot_script.specs.Slices.{Parts};
 ghost use Rattle.lot_system.specs.declared.fault.TurnFault.TheVariants.{Stale};
 ghost use Rattle.lot_system.specs.declared.turn.Work.{Work};
 ghost use Rattle.lot_system.specs.Seen.{Seen};
 ghost use Rattle.lot_system.specs.Turns.{Faults, IsFresh, IsWorkOf, Matches};
 
-/// The quanta and the ticks of the threads, as the world that a legal history leads to has them, add up to those that are
-/// counted in its turns. A thread's stop at the greatest u64; no history of less than 2 ^ 32 turns comes there.
+/// The quanta and the ticks of the threads, as the world that a legal history leads to has them, add up to those that
+/// are counted in its turns. Those of a thread stop at the greatest u64; no history of fewer than 2 ^ 32 turns gets
+/// there.
 pub fn threads_add_up()
     ensures quanta { (program : Program) (room : ℕ) (history : List ℕ) → IsWithinBounds program.limits → IsLegal program room history → room < 2 ^ 32
-        → sum_by (λ r. r.quanta) (sysrun program history).state.records ≡ total_of quanta_in (turns_made program history) }
+        → sum_by (λ r. r.quanta) (system_run program history).state.records ≡ total_of quanta_in (turns_made program history) }
     ensures ticks { (program : Program) (room : ℕ) (history : List ℕ) → IsWithinBounds program.limits → IsLegal program room history → room < 2 ^ 32
-        → sum_by (λ r. r.ticks) (sysrun program history).state.records ≡ total_of ticks_in (turns_made program history) }
+        → sum_by (λ r. r.ticks) (system_run program history).state.records ≡ total_of ticks_in (turns_made program history) }
 {}
 
 /// What the report has of the processors adds up to what is counted in all turns of a legal history: the console wins no
@@ -30,8 +31,8 @@ pub fn processors_add_up()
         → sum_by (λ p. total_of ticks_in (turns_of p (turns_made program history))) (range_with_len 1 program.limits.processors) ≡ total_of ticks_in (turns_made program history) }
 {}
 
-/// An actor has one work in a system. So whoever gives the slice of the actor's work is never answered Stale, and who gives
-/// anything else is: what is given is fresh exactly where it is the slice of this work.
+/// An actor has one work in a system. So whoever gives the slice of the actor's work is never answered Stale, and
+/// whoever gives anything else is: what is given is fresh if and only if it is the slice of this work.
 pub fn works_are_one()
     ensures one { (seen : Seen) (actor : ℕ) (work other : Option Work) → IsWorkOf seen actor work → IsWorkOf seen actor other → work ≡ other }
     ensures fresh { (seen : Seen) (actor : ℕ) (work : Option Work) (given : Option Parts) → IsWorkOf seen actor work → IsFresh seen actor given → Matches seen.setting.program work given }

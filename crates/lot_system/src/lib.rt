@@ -2,7 +2,6 @@
 //! makes the turns of a schedule.
 #![tactic(auto)]
 
-mod contexts;
 mod counts;
 mod ending;
 mod fault;
@@ -10,6 +9,7 @@ mod generators;
 mod input;
 pub mod laws;
 mod listing;
+mod places;
 mod playing;
 mod report;
 mod slices;

@@ -3,7 +3,7 @@ ghost use Rattle.std.specs.Prelude.{◌≡◌, ◌≤◌, ◌++◌, [], codes, f
 ghost use Rattle.std.specs.Fmt.{decimal};
 ghost use Rattle.std.specs.Option.{option_map_or};
 ghost use Rattle.std.specs.List.{flat_map, range_with_len};
-ghost use Rattle.lot_machine.specs.Texts as texts;
+ghost use Rattle.lot_simulation.specs.Texts as texts;
 ghost use Rattle.lot_machine.specs.Rows as rows;
 ghost use Rattle.lot_system.specs.Seen.{world_of};
 ghost use Rattle.lot_system.specs.Listing as listing;
@@ -26,7 +26,7 @@ pub(crate) fn write_listing<W: Write>(
 ) -> Result<(), PlayFault>
     requires { writer.old.failed ≡ false }
     ensures same { system.new ≡ system.old }
-    ensures text { Writes (W.contents writer.old.inner) (W.contents writer.new.inner) writer.new.failed result (decimal actor ++ (codes " " ++ texts.listing_text (world_of system.old).state kind)) }
+    ensures text { Writes W.contents writer.old writer.new result (decimal actor ++ (codes " " ++ texts.listing_text (world_of system.old).state kind)) }
 {
     let rows = count_rows(system, kind);
     write_listing_line(writer, actor, kind, rows)?;
@@ -78,7 +78,7 @@ fn write_rows<W: Write>(
 ) -> Result<(), PlayFault>
     requires { writer.old.failed ≡ false }
     ensures same { system.new ≡ system.old }
-    ensures text { Writes (W.contents writer.old.inner) (W.contents writer.new.inner) writer.new.failed result (flat_map (row_line (world_of system.old).state kind) (range_with_len (listing.first_number kind) (given_count (world_of system.old).state kind))) }
+    ensures text { Writes W.contents writer.old writer.new result (flat_map (row_line (world_of system.old).state kind) (range_with_len (listing.first_number kind) (given_count (world_of system.old).state kind))) }
 {
     let first = first_number(kind);
     for place in 0..system.given_count(kind) {
@@ -96,7 +96,7 @@ fn write_row<W: Write>(
 ) -> Result<(), PlayFault>
     requires { writer.old.failed ≡ false }
     ensures same { system.new ≡ system.old }
-    ensures text { Writes (W.contents writer.old.inner) (W.contents writer.new.inner) writer.new.failed result (row_line (world_of system.old).state kind number) }
+    ensures text { Writes W.contents writer.old writer.new result (row_line (world_of system.old).state kind number) }
 {
     match kind {
         Kind::Tickets => write_ticket_row(system, number, writer),
@@ -113,7 +113,7 @@ fn write_ticket_row<W: Write>(
 ) -> Result<(), PlayFault>
     requires { writer.old.failed ≡ false }
     ensures same { system.new ≡ system.old }
-    ensures text { Writes (W.contents writer.old.inner) (W.contents writer.new.inner) writer.new.failed result (option_map_or (texts.ticket_line (world_of system.old).state.limits.unit number) (rows.ticket_row (world_of system.old).state number) []) }
+    ensures text { Writes W.contents writer.old writer.new result (option_map_or (texts.ticket_line (world_of system.old).state.limits.unit number) (rows.ticket_row (world_of system.old).state number) []) }
 {
     let limits = system.limits();
     if let Some(row) = system.ticket_row(number) {
@@ -130,7 +130,7 @@ fn write_currency_row<W: Write>(
 ) -> Result<(), PlayFault>
     requires { writer.old.failed ≡ false }
     ensures same { system.new ≡ system.old }
-    ensures text { Writes (W.contents writer.old.inner) (W.contents writer.new.inner) writer.new.failed result (option_map_or (texts.currency_line (world_of system.old).state.limits.unit number) (rows.currency_row (world_of system.old).state number) []) }
+    ensures text { Writes W.contents writer.old writer.new result (option_map_or (texts.currency_line (world_of system.old).state.limits.unit number) (rows.currency_row (world_of system.old).state number) []) }
 {
     let limits = system.limits();
     if let Some(row) = system.currency_row(number) {
@@ -147,7 +147,7 @@ fn write_thread_row<W: Write>(
 ) -> Result<(), PlayFault>
     requires { writer.old.failed ≡ false }
     ensures same { system.new ≡ system.old }
-    ensures text { Writes (W.contents writer.old.inner) (W.contents writer.new.inner) writer.new.failed result (option_map_or (texts.thread_line (world_of system.old).state.limits.unit number) (rows.thread_row (world_of system.old).state number) []) }
+    ensures text { Writes W.contents writer.old writer.new result (option_map_or (texts.thread_line (world_of system.old).state.limits.unit number) (rows.thread_row (world_of system.old).state number) []) }
 {
     let limits = system.limits();
     if let Some(row) = system.thread_row(number) {

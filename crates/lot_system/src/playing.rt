@@ -3,16 +3,16 @@ ghost use Rattle.std.specs.Prelude.{◌≡◌, ℕ, ◌<◌, ◌≤◌, List, �
 ghost use Rattle.std.specs.Fmt.{decimal};
 ghost use Rattle.std.specs.Io.KnownBytes.{Appends};
 ghost use Rattle.lot_machine.specs.Bounds.{IsBetween};
-ghost use Rattle.lot_machine.specs.Grammar.{program_in};
-ghost use Rattle.lot_machine.specs.Output.{output, scheduled_output, turn_text, turn_texts};
-ghost use Rattle.lot_machine.specs.Texts.{fault_line, reply_text};
-ghost use Rattle.lot_machine.specs.World.{opening_world};
+ghost use Rattle.lot_simulation.specs.Grammar.{program_in};
+ghost use Rattle.lot_simulation.specs.Output.{output, scheduled_output, turn_text, turn_texts};
+ghost use Rattle.lot_simulation.specs.Texts.{fault_line, reply_text};
+ghost use Rattle.lot_simulation.specs.World.{opening_world};
 ghost use Rattle.lot_script.specs.Places.{Fits};
 ghost use Rattle.lot_system.specs.Held.{script_lines};
 ghost use Rattle.lot_system.specs.Playing.{HasPlayed, IsOpened, IsPlayed, turn_in};
-ghost use Rattle.lot_system.specs.Played.{Leaves, Plays, came_of};
+ghost use Rattle.lot_system.specs.Played.{PlayLeaves, Plays, came_of};
 ghost use Rattle.lot_system.specs.declared.playing.Played.TheVariants.{Done, Refused};
-ghost use Rattle.lot_system.specs.Reading.{HasRead};
+ghost use Rattle.lot_system.specs.Reading.{Reads};
 ghost use Rattle.lot_system.specs.Seen.{world_of};
 ghost use Rattle.lot_system.specs.Turns.{IsFresh};
 ghost use Rattle.lot_system.specs.Writing.{IsFaultOf, Writes};
@@ -22,9 +22,10 @@ use crate::report::write_report;
 use crate::slices::slice_of;
 use crate::writing::flush;
 use crate::{PlayFault, System, TurnFault, read_input};
-use lot_machine::{Event, InputFault, Reply};
+use lot_machine::{Event, Reply};
 use lot_print::{write_ended, write_fault, write_reply};
 use lot_script::Slice;
+use lot_simulation::InputFault;
 use lot_text::{ParseFault, Program, Watched, parse};
 use std::alloc::Global;
 use std::io::{Read, Write};
@@ -38,8 +39,8 @@ pub enum Played {
     Refused,
 }
 
-/// Reads an input, makes the turns of its schedule, and writes a line for each turn and then the report; or one line, where
-/// the input is refused.
+/// Reads an input, makes the turns of its schedule, and writes a line for each turn and then the report; or one line,
+/// if the input is refused.
 pub fn play<R: Read, W: Write>(
     alloc: Global,
     reader: &mut Watched<R>,
@@ -49,8 +50,8 @@ pub fn play<R: Read, W: Write>(
     ensures ok { OnOk result ((reader.new.failed ≡ false) × (writer.new.failed ≡ false)) }
     ensures flushed { OnOk result (writer.new.flushed ≡ true) }
     ensures err { IfErr result (λ fault. IsFaultOf fault reader.new.failed writer.new.failed) }
-    ensures output { IfOk result (λ played. (bytes : List ℕ) × HasRead (R.remaining reader.old.inner) (R.remaining reader.new.inner) bytes × (played ≡ came_of (program_in bytes)) × Appends (W.contents writer.old.inner) (W.contents writer.new.inner) (output bytes)) }
-    ensures fault { IfErr result (λ fault. Leaves (R.remaining reader.old.inner) (R.remaining reader.new.inner) (W.contents writer.old.inner) (W.contents writer.new.inner) fault) }
+    ensures output { IfOk result (λ played. (bytes : List ℕ) × Reads R.remaining reader.old reader.new bytes × (played ≡ came_of (program_in bytes)) × Appends (W.contents writer.old.inner) (W.contents writer.new.inner) (output bytes)) }
+    ensures fault { IfErr result (λ fault. PlayLeaves R.remaining reader.old reader.new W.contents writer.old writer.new fault) }
 {
     let bytes = read_input(alloc, reader)?;
     play_bytes(alloc, &bytes, writer)
@@ -64,7 +65,7 @@ fn play_bytes<W: Write>(
 ) -> Result<Played, PlayFault>
     requires { writer.old.failed ≡ false }
     ensures flushed { OnOk result (writer.new.flushed ≡ true) }
-    ensures played { Plays (W.contents writer.old.inner) (W.contents writer.new.inner) writer.new.failed result (came_of (program_in bytes.now)) (output bytes.now) }
+    ensures played { Plays W.contents writer.old writer.new result (came_of (program_in bytes.now)) (output bytes.now) }
 {
     match parse(alloc, bytes) {
         Ok(program) => play_program(alloc, &program, writer),
@@ -77,7 +78,7 @@ fn play_bytes<W: Write>(
 pub fn refuse<W: Write>(fault: InputFault, writer: &mut Watched<W>) -> Result<Played, PlayFault>
     requires { writer.old.failed ≡ false }
     ensures flushed { OnOk result (writer.new.flushed ≡ true) }
-    ensures played { Plays (W.contents writer.old.inner) (W.contents writer.new.inner) writer.new.failed result Refused (fault_line fault) }
+    ensures played { Plays W.contents writer.old writer.new result Refused (fault_line fault) }
 {
     write_fault(writer, fault)?;
     flush(writer)?;
@@ -92,7 +93,7 @@ fn play_program<W: Write>(
 ) -> Result<Played, PlayFault>
     requires { writer.old.failed ≡ false }
     ensures flushed { OnOk result (writer.new.flushed ≡ true) }
-    ensures played { Plays (W.contents writer.old.inner) (W.contents writer.new.inner) writer.new.failed result Done (scheduled_output program.now) }
+    ensures played { Plays W.contents writer.old writer.new result Done (scheduled_output program.now) }
 {
     let room = program.schedule().len() as u32;
     let Ok(mut system) = System::open(alloc, program, room) else {
@@ -111,7 +112,7 @@ fn play_schedule<W: Write>(
     requires opened { IsOpened program.now system.old }
     requires working { writer.old.failed ≡ false }
     ensures flushed { OnOk result (writer.new.flushed ≡ true) }
-    ensures text { Writes (W.contents writer.old.inner) (W.contents writer.new.inner) writer.new.failed result (scheduled_output program.now) }
+    ensures text { Writes W.contents writer.old writer.new result (scheduled_output program.now) }
 {
     play_turns(program, system, writer)?;
     write_report(system, writer)?;
@@ -127,7 +128,7 @@ fn play_turns<W: Write>(
     requires opened { IsOpened program.now system.old }
     requires working { writer.old.failed ≡ false }
     ensures played { OnOk result (HasPlayed program.now program.now.schedule system.new) }
-    ensures text { Writes (W.contents writer.old.inner) (W.contents writer.new.inner) writer.new.failed result (turn_texts program.now (opening_world program.now) program.now.schedule) }
+    ensures text { Writes W.contents writer.old writer.new result (turn_texts program.now (opening_world program.now) program.now.schedule) }
 {
     for actor in program.schedule() {
         play_turn(program, system, u32::from(*actor), writer)?;
@@ -147,7 +148,7 @@ fn play_turn<W: Write>(
     requires room { length system.old.history < system.old.setting.room }
     requires working { writer.old.failed ≡ false }
     ensures played { IsPlayed system.old actor system.new }
-    ensures text { Writes (W.contents writer.old.inner) (W.contents writer.new.inner) writer.new.failed result (turn_text actor (turn_in system.old actor)) }
+    ensures text { Writes W.contents writer.old writer.new result (turn_text actor (turn_in system.old actor)) }
 {
     let slice = slice_in(system, program, actor);
     match system.turn(actor, slice) {
@@ -179,7 +180,7 @@ fn write_answer<W: Write>(
 ) -> Result<(), PlayFault>
     requires { writer.old.failed ≡ false }
     ensures same { system.new ≡ system.old }
-    ensures text { Writes (W.contents writer.old.inner) (W.contents writer.new.inner) writer.new.failed result (decimal actor ++ (codes " " ++ reply_text (world_of system.old).state event.now reply)) }
+    ensures text { Writes W.contents writer.old writer.new result (decimal actor ++ (codes " " ++ reply_text (world_of system.old).state event.now reply)) }
 {
     match reply {
         Reply::List(kind) => write_listing(system, actor, kind, writer),

@@ -8,11 +8,12 @@ ghost use Rattle.lot_system.specs.Turns.{IsSliceOf, Matches};
 ghost use Rattle.lot_system.specs.Fitting.{FitsIn, IsStale};
 
 use crate::{TurnFault, Work};
+use lot_machine::Sizes;
 use lot_script::{Script, Slice};
 use lot_text::Program;
 
-/// The slice of the work, which `System::turn` asks for, in a program that is at hand; none where there is no work. Answers
-/// Stale with the work where it doesn't fit the program.
+/// The slice of the work, as `System::turn` asks for it, in a program at hand; none if there is no work. Answers Stale
+/// with the work if that doesn't fit the program.
 pub fn slice_for(program: &Program, work: Option<Work>) -> Result<Option<Slice<'_>>, TurnFault>
     ensures ok { IfOk result (λ slice. Matches program.now work slice) }
     ensures err { IfErr result (λ fault. IsStale program.now work fault) }
@@ -31,7 +32,7 @@ pub(crate) fn slice_of(program: &Program, work: Work) -> Slice<'_>
     requires { FitsIn program.now work }
     ensures { IsSliceOf program.now work result }
 {
-    script_numbered(program, work.script).slice(work.context, work.budget)
+    script_numbered(program, work.script).slice(work.place, work.budget)
 }
 
 /// Whether the program has the work's script, its place is one of that script, and its budget is 1 to 1000 ticks.
@@ -39,8 +40,8 @@ fn fits(program: &Program, work: &Work) -> bool
     ensures { IsTrue result ↔ FitsIn program.now work.now }
 {
     has_script(program, work.script)
-        && script_numbered(program, work.script).fits(&work.context)
-        && (1..=1000).contains(&work.budget)
+        && script_numbered(program, work.script).fits(&work.place)
+        && (1..=Sizes::LARGEST.quantum).contains(&work.budget)
 }
 
 /// Whether the program has a script with this number.

@@ -3,24 +3,24 @@ ghost use Rattle.std.specs.Prelude.{◌≡◌, ◌↔◌, ◌<◌, ◌≤◌, �
 ghost use Rattle.lot_machine.specs.Bounds.{IsBetween};
 ghost use Rattle.lot_machine.specs.Rows as rows;
 ghost use Rattle.lot_machine.specs.State.{sizes_of};
-ghost use Rattle.lot_machine.specs.World.Answer.{Answered};
-ghost use Rattle.lot_machine.specs.World.{IsLegal, sys};
-ghost use Rattle.lot_machine.specs.Report.{turns_made, turns_of};
+ghost use Rattle.lot_simulation.specs.World.Answer.{Answered};
+ghost use Rattle.lot_simulation.specs.World.{IsLegal, system_turn};
+ghost use Rattle.lot_simulation.specs.Report.{turns_made, turns_of};
 ghost use Rattle.lot_system.specs.Counted.{counted};
 ghost use Rattle.lot_system.specs.Listing.{given_count};
 ghost use Rattle.lot_system.specs.Seen.{after_turn, world_of};
 ghost use Rattle.lot_system.specs.Turns.{Answers, Faults, Goes, IfStale, IsEnded, IsFresh, IsWorkOf};
 
 use crate::TurnFault;
-use crate::contexts::{contexts_for, follow_command, follow_turn};
 use crate::counts::{Counts, count_turn, no_counts};
 use crate::generators::{generators_of, next_number, pass_number};
+use crate::places::{follow_command, follow_turn, places_for};
 use crate::slices::script_numbered;
 use crate::turn::{Answer, Work, event_of, matches_work};
 use lot_draw::ParkMiller;
 use lot_kernel::Kernel;
 use lot_machine::{CurrencyRow, Event, Kind, Limits, Reply, ThreadRow, TicketRow};
-use lot_script::{Context, Slice};
+use lot_script::{Place, Slice};
 use lot_text::Program;
 use std::alloc::{AllocError, Global};
 use std::marker::Model;
@@ -38,7 +38,7 @@ pub struct System {
     /// Each processor's generator.
     generators: Vec<ParkMiller>,
     /// Where each thread is in its script.
-    contexts: Vec<Context>,
+    places: Vec<Place>,
     history: Vec<u8>,
     /// Each actor's, the console first.
     counts: Vec<Counts>,
@@ -49,8 +49,8 @@ pub struct System {
 
 impl Model for System {
     ghost use Rattle.std.specs.Prelude.{◌≡◌, ◌==◌, ◌+◌, ◌≤◌, All, count_by, length, vec_len, vec_capacity};
-    ghost use Rattle.lot_machine.specs.Report.{turns_made};
-    ghost use Rattle.lot_machine.specs.World.{IsLegal, sysrun};
+    ghost use Rattle.lot_simulation.specs.Report.{turns_made};
+    ghost use Rattle.lot_simulation.specs.World.{IsLegal, system_run};
     ghost use Rattle.lot_text.specs.Programs.{IsProgram};
     ghost use Rattle.lot_system.specs.Seen.{Seen};
     ghost use Rattle.lot_system.specs.Counted.{AreCounts, IsCount};
@@ -63,21 +63,21 @@ impl Model for System {
     ghost invariant = { λ s. record {
       program : IsProgram s.program;
       legal : IsLegal s.program s.room s.history.items;
-      held : IsHeld s.program (sysrun s.program s.history.items) s.kernel s.contexts.items s.generators.items s.spent;
+      held : IsHeld s.program (system_run s.program s.history.items) s.kernel s.places.items s.generators.items s.spent;
       generators : vec_len s.generators ≡ s.program.limits.processors;
-      past : (sysrun s.program s.history.items).history ≡ s.history.items;
+      past : (system_run s.program s.history.items).history ≡ s.history.items;
       spent : s.spent ≡ count_by (λ actor. actor == 0) s.history.items;
       counts : vec_len s.counts ≡ s.program.limits.processors + 1;
       each_counted : AreCounts (turns_made s.program s.history.items) (length s.history.items) s.counts.items;
       total_counted : IsCount (turns_made s.program s.history.items) (length s.history.items) s.total;
-      threads : s.program.limits.threads ≤ vec_capacity s.contexts;
+      threads : s.program.limits.threads ≤ vec_capacity s.places;
       room : s.room ≤ vec_capacity s.history;
     } };
 }
 
 impl System {
-    /// A system of this program with room for so many turns. It takes all the memory that the system will ever use, and
-    /// fails only for want of it.
+    /// A system of this program with room for this many turns. It takes all the memory that the system will ever use,
+    /// and fails only for want of it.
     pub fn open(alloc: Global, program: &Program, room: u32) -> Result<System, AllocError>
         ensures { IfOk result (λ s. s ≡ record { setting = record { program = program.now; room = room }; history = [] }) }
     {
@@ -87,7 +87,7 @@ impl System {
             program: program.copied(alloc)?,
             spent: 0,
             generators: generators_of(alloc, program)?,
-            contexts: contexts_for(alloc, limits.threads)?,
+            places: places_for(alloc, limits.threads)?,
             history: Vec::with_capacity(alloc, room as usize)?,
             counts: no_counts(alloc, limits.processors as usize + 1)?,
             total: Counts::NONE,
@@ -128,7 +128,7 @@ impl System {
         Some(Work {
             thread: runner.thread,
             script,
-            context: self.contexts[runner.thread as usize - 1].copied(),
+            place: self.places[runner.thread as usize - 1].copied(),
             budget: self.kernel.limits().quantum - runner.used,
         })
     }
@@ -152,7 +152,7 @@ impl System {
         if self.is_full() {
             return Err(TurnFault::HistoryFull);
         }
-        let (event, reply) = self.made(actor, &slice);
+        let (event, reply) = self.make_turn(actor, &slice);
         Ok(Answer {
             event,
             reply,
@@ -167,19 +167,19 @@ impl System {
         actor == 0 && self.spent >= self.program.commands().len()
     }
 
-    /// Whether there is no room for a turn more.
+    /// Whether there is no room for one more turn.
     fn is_full(&self) -> bool
         ensures { IsTrue result ↔ (self.now.setting.room ≤ length self.now.history) }
     {
         self.history.len() >= self.room as usize
     }
 
-    /// A turn that goes: what it was, and what the kernel replied.
-    fn made(&mut self, actor: u32, slice: &Option<Slice>) -> (Event, Reply)
+    /// A turn that is made: what it was, and what the kernel replied.
+    fn make_turn(&mut self, actor: u32, slice: &Option<Slice>) -> (Event, Reply)
         requires actor { actor ≤ self.old.setting.program.limits.processors }
         requires goes { Goes self.old actor slice.now }
         ensures seen { self.new ≡ after_turn self.old actor }
-        ensures answer { (sys self.old.setting.program (world_of self.old) actor).answer ≡ Answered result.0 result.1 }
+        ensures answer { (system_turn self.old.setting.program (world_of self.old) actor).answer ≡ Answered result.0 result.1 }
     {
         if actor == 0 {
             self.console_turn()
@@ -193,12 +193,12 @@ impl System {
         requires left { ¬ IsEnded self.old 0 }
         requires room { length self.old.history < self.old.setting.room }
         ensures seen { self.new ≡ after_turn self.old 0 }
-        ensures answer { (sys self.old.setting.program (world_of self.old) 0).answer ≡ Answered result.0 result.1 }
+        ensures answer { (system_turn self.old.setting.program (world_of self.old) 0).answer ≡ Answered result.0 result.1 }
     {
         let event = Event::Command(self.program.commands()[self.spent].copied());
         let reply = self.kernel.event(&event);
         self.spent += 1;
-        follow_command(&mut self.contexts, &self.program, &self.kernel, reply);
+        follow_command(&mut self.places, &self.program, &self.kernel, reply);
         count_turn(&mut self.counts, 0, reply);
         self.total = self.total.with_turn(reply);
         remember(&mut self.history, 0);
@@ -211,12 +211,12 @@ impl System {
         requires fresh { IsFresh self.old actor slice.now }
         requires room { length self.old.history < self.old.setting.room }
         ensures seen { self.new ≡ after_turn self.old actor }
-        ensures answer { (sys self.old.setting.program (world_of self.old) actor).answer ≡ Answered result.0 result.1 }
+        ensures answer { (system_turn self.old.setting.program (world_of self.old) actor).answer ≡ Answered result.0 result.1 }
     {
         let event = event_of(actor, slice, next_number(&self.generators, actor));
         pass_number(&mut self.generators, actor, &event);
         let reply = self.kernel.event(&event);
-        follow_turn(&mut self.contexts, slice, reply);
+        follow_turn(&mut self.places, slice, reply);
         count_turn(&mut self.counts, actor, reply);
         self.total = self.total.with_turn(reply);
         remember(&mut self.history, actor);
@@ -276,7 +276,7 @@ impl System {
     pub(crate) fn thread_count(&self) -> u32
         ensures { result ≡ length (world_of self.now).state.records }
     {
-        self.contexts.len() as u32
+        self.places.len() as u32
     }
 
     /// How many turns were made.
@@ -302,7 +302,7 @@ impl System {
     }
 }
 
-/// Puts the actor behind the history, which has room for it.
+/// Puts the actor at the end of the history, which has room for it.
 fn remember(history: &mut Vec<u8>, actor: u32)
     requires small { actor < 256 }
     requires room { vec_len history.old < vec_capacity history.old }

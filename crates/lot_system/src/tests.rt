@@ -52,12 +52,12 @@ fn make_turn(system: &mut System, program: &Program, actor: u32) -> Result<bool,
     }
     let slice = match system.work(actor) {
         Some(work) => {
-            let place = work.script.saturating_sub(1) as usize;
-            let script = program.scripts().get(place).ok_or("a script")?;
-            if !script.fits(&work.context) || work.budget == 0 || work.budget > 1000 {
+            let number = work.script.saturating_sub(1) as usize;
+            let script = program.scripts().get(number).ok_or("a script")?;
+            if !script.fits(&work.place) || work.budget == 0 || work.budget > 1000 {
                 return Err("a slice".into());
             }
-            Some(script.slice(work.context, work.budget))
+            Some(script.slice(work.place, work.budget))
         }
         None => None,
     };

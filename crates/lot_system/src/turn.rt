@@ -2,14 +2,15 @@
 ghost use Rattle.std.specs.Prelude.{◌≡◌, ◌↔◌, ℕ, IfSome, IsTrue, length};
 ghost use Rattle.lot_machine.specs.declared.event.Event.TheVariants as event;
 ghost use Rattle.lot_machine.specs.Bounds.{IsBetween};
-ghost use Rattle.lot_machine.specs.World as world;
+ghost use Rattle.lot_simulation.specs.World as world;
 ghost use Rattle.lot_script.specs.Slices.{IsSlice};
 ghost use Rattle.lot_system.specs.Steps.{done_of, event_given};
 ghost use Rattle.lot_system.specs.Turns.{IsSliceOf, Matches};
 
 use crate::slices::script_numbered;
-use lot_machine::{Action, Event, Reply, ScriptTrap};
-use lot_script::{Context, Slice};
+use lot_machine::{Action, Event, Reply};
+use lot_script::{Place, Slice};
+use lot_simulation::ScriptTrap;
 use lot_text::Program;
 
 /// What the thread on a processor is to do next.
@@ -19,7 +20,7 @@ pub struct Work {
     /// The number of its script.
     pub script: u32,
     /// Where it is in its script.
-    pub context: Context,
+    pub place: Place,
     /// The ticks that are left of its quantum.
     pub budget: u32,
 }
@@ -32,7 +33,7 @@ pub struct Answer {
     pub next: Option<Work>,
 }
 
-/// Whether the slice is that of the work: there is none of either, or its script has the same lines, and start and budget
+/// Whether the slice is that of the work: there is neither, or its script has the same lines, and its start and budget
 /// are the work's.
 pub(crate) fn matches_work(program: &Program, work: &Option<Work>, slice: &Option<Slice>) -> bool
     requires { IfSome work.now (λ w. IsBetween 1 (length program.now.scripts) w.script) }
@@ -51,11 +52,11 @@ fn is_slice_of(program: &Program, work: &Work, slice: &Slice) -> bool
     ensures { IsTrue result ↔ IsSliceOf program.now work.now slice.now }
 {
     script_numbered(program, work.script).is_same(slice.script())
-        && slice.start().is_same(&work.context)
+        && slice.start().is_same(&work.place)
         && slice.budget() == work.budget
 }
 
-/// The event of a processor's turn with this slice, or a draw without one, where this is the processor's next number.
+/// The event of a processor's turn with this slice, or a draw without one, if this is the processor's next number.
 pub(crate) fn event_of(actor: u32, slice: &Option<Slice>, drawn: u64) -> Event
     ensures event { result ≡ event_given actor drawn slice.now }
     ensures exact { IfSome slice.now IsSlice }

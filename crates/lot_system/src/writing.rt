@@ -1,4 +1,4 @@
-//! Flushing a writer that keeps in mind whether it has failed.
+//! Flushing a writer that remembers whether it has failed.
 ghost use Rattle.std.specs.Prelude.{◌≡◌, [], false, true, OnOk};
 ghost use Rattle.lot_system.specs.Writing.{Writes};
 
@@ -10,7 +10,7 @@ use std::io::Write;
 pub(crate) fn flush<W: Write>(writer: &mut Watched<W>) -> Result<(), PlayFault>
     requires { writer.old.failed ≡ false }
     ensures flushed { OnOk result (writer.new.flushed ≡ true) }
-    ensures text { Writes (W.contents writer.old.inner) (W.contents writer.new.inner) writer.new.failed result [] }
+    ensures text { Writes W.contents writer.old writer.new result [] }
 {
     match writer.flush() {
         Ok(()) => Ok(()),

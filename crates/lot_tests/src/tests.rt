@@ -1,3 +1,4 @@
+mod embedding;
 mod histories;
 mod inputs;
 mod kernels;

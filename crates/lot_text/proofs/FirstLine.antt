@@ -1,11 +1,11 @@
--- The first of the lines, and those behind it.
+-- The first of the lines, and those after it.
 use Rattle.std.proofs.Common.{◌≡◌, ◌<◌, ◌≤◌, ◌+◌, ◌-◌, ℕ, zero, suc, min, ◌==◌, sym, ◌∙◌, Option, None, Ok, Err, Bool, true, false, not, List, [], ◌∷◌, length, take, drop, refl, ap, arith, cond, if◌then◌else◌}
 use Rattle.std.specs.List.{prefix_len}
 use Rattle.std.proofs.lemmas.List.{length-take, drop_min, length-drop, take_rest}
-use Rattle.lot_machine.specs.Lines.{lines_of, with_first_byte, without_end}
-use Rattle.lot_machine.specs.Reading.{Reading, ◌>>=◌}
-use Rattle.lot_machine.specs.Grammar.{read_lines, read_line, refused_on, program_in}
-use Rattle.lot_machine.specs.declared.input.InputRefusal.{InputRefusal}
+use Rattle.lot_simulation.specs.Lines.{lines_of, with_first_byte, without_end}
+use Rattle.lot_simulation.specs.Reading.{Reading, ◌>>=◌}
+use Rattle.lot_simulation.specs.Grammar.{read_lines, read_line, refused_on, program_in}
+use Rattle.lot_simulation.specs.declared.input.InputRefusal.{InputRefusal}
 use Rattle.lot_text.specs.declared.fault.LineFault.{LineFault}
 use Rattle.lot_text.specs.declared.fault.LineFault.TheVariants.{Memory, Refused}
 use Rattle.lot_text.specs.Faults.{Fails, IsFaultOf, fault_on}
@@ -58,10 +58,10 @@ pub read_lines-first : (n start : ℕ) (reading : Option Reading) (bs : List ℕ
     ≡ (refused_on n (read_line n (start + whole_len bs) reading (take (first_len bs) bs)) >>= λ after. read_lines (n + 1) (start + whole_len bs) after (lines_of (drop (whole_len bs) bs)))
 read_lines-first n start reading bs some =
     let len : length (take (suc (first_len bs)) bs) ≡ whole_len bs = length-take (suc (first_len bs)) bs in
-    let behind : drop (suc (first_len bs)) bs ≡ drop (whole_len bs) bs = sym (drop_min (suc (first_len bs)) bs) in
-    rw (lines_of-first bs some, without_end-first bs, len, behind) refl
+    let following : drop (suc (first_len bs)) bs ≡ drop (whole_len bs) bs = sym (drop_min (suc (first_len bs)) bs) in
+    rw (lines_of-first bs some, without_end-first bs, len, following) refl
 
--- a line is read, and the others behind it
+-- a line is read, and the others after it
 pub read_lines-goes_on : (n start k b : ℕ) (reading after : Option Reading) (bs line more : List ℕ)
     → 0 < length bs → k ≡ first_len bs → b ≡ min (k + 1) (length bs) → line ≡ take k bs → more ≡ drop b bs
     → read_line n (start + b) reading line ≡ Ok after
@@ -83,7 +83,7 @@ read_lines-stops n start k b reading refusal bs line some at whole is reads =
     let reads' : read_line n (start + whole_len bs) reading (take (first_len bs) bs) ≡ Err refusal = rw (sym len, sym first) reads in
     read_lines-first n start reading bs some ∙ rw reads' refl
 
--- so the whole input is, where what is left from here gives what the whole gives
+-- so the whole input is, if what is left from here gives what the whole gives
 pub program_in-stops : (n start k b : ℕ) (reading : Option Reading) (fault : LineFault) (bytes bs line : List ℕ)
     → 0 < length bs → k ≡ first_len bs → b ≡ min (k + 1) (length bs) → line ≡ take k bs
     → Fails fault (read_line n (start + b) reading line)
@@ -99,10 +99,10 @@ pub lines_of-count : (k b : ℕ) (bs more : List ℕ) → 0 < length bs → k �
     → length (lines_of bs) ≡ suc (length (lines_of more))
 lines_of-count k b bs more some at whole rest =
     let len : b ≡ whole_len bs = omega (arith, whole, at) in
-    let behind : drop (suc (first_len bs)) bs ≡ drop (whole_len bs) bs = sym (drop_min (suc (first_len bs)) bs) in
-    rw (lines_of-first bs some, behind, rest, len) refl
+    let following : drop (suc (first_len bs)) bs ≡ drop (whole_len bs) bs = sym (drop_min (suc (first_len bs)) bs) in
+    rw (lines_of-first bs some, following, rest, len) refl
 
--- nothing is lost behind a line
-pub length-behind : (end all k b : ℕ) (bs : List ℕ) → b ≡ min (k + 1) (length bs) → end + length bs ≡ all
+-- nothing is lost after a line
+pub length-after : (end all k b : ℕ) (bs : List ℕ) → b ≡ min (k + 1) (length bs) → end + length bs ≡ all
     → end + b + length (take (length bs - b) (drop b bs)) ≡ all
-length-behind end all k b bs is same = rw (take_rest bs b) (omega (arith, length-drop b bs, is, same))
+length-after end all k b bs is same = rw (take_rest bs b) (omega (arith, length-drop b bs, is, same))

@@ -3,11 +3,11 @@ use Rattle.std.proofs.Common.{◌≡◌, ◌≢◌, ◌≤◌, ◌%◌, ◌==◌
 use Rattle.std.specs.Prelude.{All, IsTrue}
 use Rattle.std.proofs.lemmas.Bool.{ne_eqb, true≢false}
 use Rattle.std.proofs.lemmas.List.Elements.{All-append, All-replicate, All-nil, All-head, All-tail}
-use Rattle.lot_machine.specs.declared.input.InputRefusal.{InputRefusal}
-use Rattle.lot_machine.specs.declared.input.BodyWord.TheVariants as body
-use Rattle.lot_machine.specs.Reading.{Reading, each_pair}
-use Rattle.lot_machine.specs.Grammar.{ActorRun, actors_of, add_runs, body_after_header, run_of}
-use Rattle.lot_text.specs.Readings.{behind_header, pairs_added}
+use Rattle.lot_simulation.specs.declared.input.InputRefusal.{InputRefusal}
+use Rattle.lot_simulation.specs.declared.input.BodyWord.TheVariants as body
+use Rattle.lot_simulation.specs.Reading.{Reading, each_pair}
+use Rattle.lot_simulation.specs.Grammar.{ActorRun, actors_of, add_runs, body_after_header, run_of}
+use Rattle.lot_text.specs.Readings.{after_header, pairs_added}
 
 -- fewer than two tokens are no pair
 pub each_pair-none : {A : Type 0} (read : List ℕ → List ℕ → Result A InputRefusal) (tokens : List (List ℕ)) → length tokens ≤ 1 → each_pair read tokens ≡ Ok []
@@ -23,10 +23,10 @@ All-actors_of p (run ∷ runs) each =
     (All-replicate (λ (a : ℕ). a ≤ p) run.count run.actor (All-head (λ (r : ActorRun). r.actor ≤ p) run runs each))
     (All-actors_of p runs (All-tail (λ (r : ActorRun). r.actor ≤ p) run runs each))
 
--- an odd number of tokens is refused, and so is a line of runs where the unit is 1: else the runs are read, and then added
+-- an odd number of tokens is refused, and so is a line of runs if the unit is 1: else the runs are read, and then added
 pub runs_line-pairs : (n : ℕ) (before r : Reading) (tokens : List (List ℕ)) (is_empty are_pairs : Bool) → before ≡ r
     → IsTrue is_empty ↔ (length tokens ≡ 0) → is_empty ≡ false → before.unit ≢ 1 → IsTrue are_pairs ↔ (length tokens % 2 ≡ 0) → are_pairs ≡ true
-    → body_after_header n r body.Runs tokens ≡ behind_header (pairs_added r tokens)
+    → body_after_header n r body.Runs tokens ≡ after_header (pairs_added r tokens)
 runs_line-pairs n before r [] is_empty are_pairs same empty none finer pairs all = absurd (true≢false (sym (empty.1 refl) ∙ none))
 runs_line-pairs n before r (first ∷ others) is_empty are_pairs same empty none finer pairs all =
     let unit : (r.unit == 1) ≡ false = rw (← same) (ne_eqb before.unit 1 finer) in

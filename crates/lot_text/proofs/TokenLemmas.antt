@@ -1,10 +1,10 @@
--- The first token of a line, and those behind it.
+-- The first token of a line, and those after it.
 use Rattle.std.proofs.Common.{◌≡◌, ◌<◌, ◌+◌, ◌-◌, ℕ, suc, ◌==◌, Bool, true, false, not, cond, List, [], ◌∷◌, length, take, drop, filter, refl, ap, ◌∙◌, arith, lt-ltb}
 use Rattle.std.specs.Prelude.{nat_lt}
 use Rattle.std.specs.List.{prefix_len, slice_split, onto_first}
 use Rattle.std.proofs.lemmas.List.{take_rest}
 use Rattle.std.proofs.lemmas.List.Folds.{length-prefix_len}
-use Rattle.lot_machine.specs.Lines.{tokens_of}
+use Rattle.lot_simulation.specs.Lines.{tokens_of}
 
 abbrev is_space : ℕ → Bool
 is_space b = b == 32
@@ -16,7 +16,7 @@ is_token token = nat_lt 0 (length token)
 abbrev pub word_len : List ℕ → ℕ
 word_len xs = prefix_len (λ b. not (b == 32)) xs
 
--- spaces in front say nothing
+-- spaces at the front say nothing
 pub tokens_of-spaces : (xs : List ℕ) → tokens_of xs ≡ tokens_of (drop (prefix_len (λ b. b == 32) xs) xs)
 tokens_of-spaces [] = refl
 tokens_of-spaces (x ∷ xs) = at (x == 32) refl (tokens_of-spaces xs)
@@ -57,7 +57,7 @@ tokens_of-word xs some =
     let long : nat_lt 0 (length (take (word_len xs) xs)) ≡ true = rw length-prefix_len (lt-ltb 0 (word_len xs) some) in
     ap (λ parts. filter is_token parts) (split-first xs) ∙ rw (long, split-others xs) refl
 
--- behind the spaces in front a word begins
+-- after the spaces at the front a word begins
 word-begins : (xs : List ℕ) → 0 < length (drop (prefix_len is_space xs) xs) → 0 < word_len (drop (prefix_len is_space xs) xs)
 word-begins [] some = absurd (omega (arith, some))
 word-begins (x ∷ xs) some = at (x == 32) refl (word-begins xs) some
@@ -71,19 +71,19 @@ no_items : (xs : List ℕ) → length xs ≡ 0 → xs ≡ []
 no_items [] is = refl
 no_items (x ∷ xs) is = absurd (omega (arith, is))
 
--- where only spaces are left there is no token
+-- if only spaces are left, there is no token
 pub tokens_of-end : (xs word : List ℕ) (start : ℕ) → start ≡ prefix_len (λ b. b == 32) xs → word ≡ take (length xs - start) (drop start xs) → length word ≡ 0
     → tokens_of xs ≡ []
 tokens_of-end xs word start spaces is none =
     let rest : word ≡ drop (prefix_len (λ b. b == 32) xs) xs = is ∙ take_rest xs start ∙ ap (λ n. drop n xs) spaces in
     tokens_of-spaces xs ∙ rw (← rest, no_items word none) refl
 
--- else the word behind the spaces is the first token, and the others are those behind it
+-- else the word after the spaces is the first token, and the others are those after it
 pub tokens_of-next : (xs word more : List ℕ) (start len : ℕ) → start ≡ prefix_len (λ b. b == 32) xs → word ≡ take (length xs - start) (drop start xs) → 0 < length word
     → len ≡ prefix_len (λ b. not (b == 32)) word → more ≡ take (length word - len) (drop len word)
     → tokens_of xs ≡ take len word ∷ tokens_of more
-tokens_of-next xs word more start len spaces is some before behind =
+tokens_of-next xs word more start len spaces is some before following =
     let rest : word ≡ drop (prefix_len (λ b. b == 32) xs) xs = is ∙ take_rest xs start ∙ ap (λ n. drop n xs) spaces in
-    let left : more ≡ drop len word = behind ∙ take_rest word len in
+    let left : more ≡ drop len word = following ∙ take_rest word len in
     let begins : 0 < word_len word = rw rest (word-begins xs (rw rest at some)) in
     tokens_of-spaces xs ∙ rw (← rest, left, before) (tokens_of-word word begins)

@@ -7,22 +7,22 @@ use Rattle.std.specs.Io.KnownBytes.{Appends, Keeps}
 -- by the first bytes, and then by some of the rest
 pub appends-more : (old between new : Option (List ℕ)) (taken count : ℕ) (bytes rest : List ℕ) → rest ≡ drop taken bytes
     → Appends old between (take taken bytes) → Appends between new (take count rest) → Appends old new (take (taken + count) bytes)
-appends-more None between new taken count bytes rest behind first second = tt
-appends-more (Some xs) None new taken count bytes rest behind first second = absurd first
-appends-more (Some xs) (Some ys) None taken count bytes rest behind first second = absurd second
-appends-more (Some xs) (Some ys) (Some zs) taken count bytes rest behind first second =
+appends-more None between new taken count bytes rest following first second = tt
+appends-more (Some xs) None new taken count bytes rest following first second = absurd first
+appends-more (Some xs) (Some ys) None taken count bytes rest following first second = absurd second
+appends-more (Some xs) (Some ys) (Some zs) taken count bytes rest following first second =
     second ∙ ap (λ (l : List ℕ). l ++ take count rest) first ∙ append_assoc xs (take taken bytes) (take count rest)
-    ∙ ap (λ (l : List ℕ). xs ++ (take taken bytes ++ take count l)) behind ∙ ap (λ (l : List ℕ). xs ++ l) (sym (take-add taken count bytes))
+    ∙ ap (λ (l : List ℕ). xs ++ (take taken bytes ++ take count l)) following ∙ ap (λ (l : List ℕ). xs ++ l) (sym (take-add taken count bytes))
 
 -- by the first bytes, and then by all the rest
 pub appends-rest : (old between new : Option (List ℕ)) (taken : ℕ) (bytes rest : List ℕ) → rest ≡ drop taken bytes
     → Appends old between (take taken bytes) → Appends between new rest → Appends old new bytes
-appends-rest None between new taken bytes rest behind first second = tt
-appends-rest (Some xs) None new taken bytes rest behind first second = absurd first
-appends-rest (Some xs) (Some ys) None taken bytes rest behind first second = absurd second
-appends-rest (Some xs) (Some ys) (Some zs) taken bytes rest behind first second =
+appends-rest None between new taken bytes rest following first second = tt
+appends-rest (Some xs) None new taken bytes rest following first second = absurd first
+appends-rest (Some xs) (Some ys) None taken bytes rest following first second = absurd second
+appends-rest (Some xs) (Some ys) (Some zs) taken bytes rest following first second =
     second ∙ ap (λ (l : List ℕ). l ++ rest) first ∙ append_assoc xs (take taken bytes) rest
-    ∙ ap (λ (l : List ℕ). xs ++ (take taken bytes ++ l)) behind ∙ ap (λ (l : List ℕ). xs ++ l) (take-append-drop taken bytes)
+    ∙ ap (λ (l : List ℕ). xs ++ (take taken bytes ++ l)) following ∙ ap (λ (l : List ℕ). xs ++ l) (take-append-drop taken bytes)
 
 -- by nothing
 pub appends-nothing : (old new : Option (List ℕ)) (bytes : List ℕ) → Keeps old new → Appends old new (take 0 bytes)

@@ -1,7 +1,7 @@
--- What a function that reads may answer, where the definitions give this.
+-- What a function that reads may answer when the definitions give this.
 use Rattle.std.specs.Prelude.{◌≡◌, ℕ, Result, Ok, Err}
-use Rattle.lot_machine.specs.declared.input.InputRefusal.{InputRefusal}
-use Rattle.lot_machine.specs.declared.input.InputFault.{InputFault}
+use Rattle.lot_simulation.specs.declared.input.InputRefusal.{InputRefusal}
+use Rattle.lot_simulation.specs.declared.input.InputFault.{InputFault}
 use Rattle.lot_text.specs.declared.fault.LineFault.{LineFault}
 use Rattle.lot_text.specs.declared.fault.LineFault.TheVariants.{Memory, Refused}
 use Rattle.lot_text.specs.declared.fault.ParseFault.{ParseFault}

@@ -1,7 +1,7 @@
 -- What is true of every program that an input says.
 use Rattle.std.specs.Prelude.{◌≡◌, ℕ, ◌≤◌, length, All}
 use Rattle.lot_machine.specs.Bounds.{IsBetween, IsWithinBounds}
-use Rattle.lot_machine.specs.World.{Program}
+use Rattle.lot_simulation.specs.World.{Program}
 
 -- a seed of a generator
 abbrev pub IsSeed : ℕ → Type 0

@@ -1,22 +1,22 @@
 -- What is true of everything that is read of an input.
 use Rattle.std.specs.Prelude.{◌≡◌, ℕ, ◌<◌, ◌≤◌, Result, Ok, List, [], ◌∷◌, length, All, IsSome, Some, None}
 use Rattle.std.specs.Option.{ForSome}
-use Rattle.lot_machine.specs.declared.input.InputRefusal.{InputRefusal}
-use Rattle.lot_machine.specs.declared.input.InputRefusal.TheVariants.{TooLong}
-use Rattle.lot_machine.specs.declared.script.Line.{Line}
+use Rattle.lot_simulation.specs.declared.input.InputRefusal.{InputRefusal}
+use Rattle.lot_simulation.specs.declared.input.InputRefusal.TheVariants.{TooLong}
+use Rattle.lot_simulation.specs.declared.script.Line.{Line}
 use Rattle.lot_machine.specs.Bounds.{IsBetween, IsUnit}
-use Rattle.lot_machine.specs.Grammar.{add_runs, is_full, run_of, with_line}
-use Rattle.lot_machine.specs.Reading.{Reading, OpenScript, ◌>>=◌, checked, each_pair}
-use Rattle.lot_script.specs.Drafts.{loops_behind}
+use Rattle.lot_simulation.specs.Grammar.{add_runs, is_full, run_of, with_line}
+use Rattle.lot_simulation.specs.Reading.{Reading, OpenScript, ◌>>=◌, checked, each_pair}
+use Rattle.lot_script.specs.Drafts.{loops_after}
 use Rattle.lot_text.specs.Programs.{IsSeed}
 
--- seeds, one for each of so many processors
+-- seeds, as many as there are processors
 pub record AreSeeds (processors : ℕ) (seeds : List ℕ) : Type 0 where
   pub count : length seeds ≡ processors
   pub each : All IsSeed seeds
 
--- What was read is within the bounds of the input. Behind the first line nothing is known that depends on the number of
--- processors.
+-- What was read is within the bounds of the input. Right after the first line nothing is known that depends on the
+-- number of processors.
 pub record IsReading (r : Reading) : Type 0 where
   pub unit : IsUnit r.unit
   pub processors : IsBetween 1 64 r.processors
@@ -37,16 +37,16 @@ pub record IsReading (r : Reading) : Type 0 where
   pub unscheduled : r.place ≡ 0 → r.schedule ≡ []
 
 -- what is read of a line of the body, with which the header ends
-abbrev pub behind_header : Result Reading InputRefusal → Result Reading InputRefusal
-behind_header read = read >>= λ after. Ok (record after { place = 6 })
+abbrev pub after_header : Result Reading InputRefusal → Result Reading InputRefusal
+after_header read = read >>= λ after. Ok (record after { place = 6 })
 
--- what was read, where this script is open
+-- what was read, with this script open
 abbrev pub within_script : Reading → OpenScript → Reading
 within_script r s = record r { unclosed = Some s }
 
 -- the script goes on with this line, which may open or end a loop
 abbrev pub line_added : Reading → OpenScript → Line → Result Reading InputRefusal
-line_added r s l = checked ((is_full s, TooLong) ∷ []) (within_script r (record (with_line s l) { loops = loops_behind s.loops l }))
+line_added r s l = checked ((is_full s, TooLong) ∷ []) (within_script r (record (with_line s l) { loops = loops_after s.loops l }))
 
 -- the schedule goes on with each pair of tokens as a run
 abbrev pub pairs_added : Reading → List (List ℕ) → Result Reading InputRefusal

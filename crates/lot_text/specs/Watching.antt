@@ -8,7 +8,7 @@ pub record Watch (T : Type 0) : Type 0 where
   pub failed : Bool
   pub flushed : Bool
 
--- it answered an error, or it took no byte where there were some
+-- it answered an error, or it took no byte though there were some
 abbrev pub is_failed_write : {E : Type 0} → Result ℕ E → List ℕ → Bool
 is_failed_write (Ok taken) bytes = (taken == 0) && nat_lt 0 (length bytes)
 is_failed_write (Err e) bytes = true

@@ -1,18 +1,19 @@
 //! Lines of the body.
 ghost use Rattle.std.specs.Prelude.{◌≡◌, ℕ, ◌≤◌, All, IfOk, MatchResult, Ok};
-ghost use Rattle.lot_machine.specs.Grammar.{body_after_header, script_names};
-ghost use Rattle.lot_machine.specs.Reading.{actor_below as actor_read, each, script_number as script_number_read};
+ghost use Rattle.lot_simulation.specs.Grammar.{body_after_header, script_names};
+ghost use Rattle.lot_simulation.specs.Reading.{actor_below as actor_read, each, script_number as script_number_read};
 ghost use Rattle.lot_text.specs.Faults.{Fails, Gives};
-ghost use Rattle.lot_text.specs.Readings.{behind_header, pairs_added};
+ghost use Rattle.lot_text.specs.Readings.{after_header, pairs_added};
 
 use crate::fault::LineFault;
-use crate::name::{any_name, is_good_name, new_name};
+use crate::name::{any_name, new_name};
 use crate::number::{actor_below, any_number};
-use crate::reading::{BODY, OpenScript, Reading};
+use crate::reading::{BODY, MOST_ENTRIES, OpenScript, Reading};
 use crate::runs::read_runs;
 use crate::tokens::Tokens;
-use lot_machine::{BodyWord, Command, InputRefusal, Kind};
+use lot_machine::{Command, Kind, Sizes, is_good_name};
 use lot_script::ScriptBuilder;
+use lot_simulation::{BodyWord, InputRefusal};
 use std::alloc::Global;
 
 /// A line of the body, which ends the header.
@@ -51,7 +52,7 @@ fn port(reading: &mut Reading, tokens: Tokens<'_>) -> Result<(), LineFault>
 {
     let token = tokens.only()?;
     let name = new_name(reading.ports.as_slice(), token)?;
-    if 256 <= reading.ports.len() {
+    if Sizes::LARGEST.ports as usize <= reading.ports.len() {
         return Err(LineFault::Refused(InputRefusal::TooLong));
     }
     reading.ports.push(name)?;
@@ -65,7 +66,7 @@ fn mutex(reading: &mut Reading, tokens: Tokens<'_>) -> Result<(), LineFault>
 {
     let token = tokens.only()?;
     let name = new_name(reading.mutexes.as_slice(), token)?;
-    if 256 <= reading.mutexes.len() {
+    if Sizes::LARGEST.mutexes as usize <= reading.mutexes.len() {
         return Err(LineFault::Refused(InputRefusal::TooLong));
     }
     reading.mutexes.push(name)?;
@@ -87,7 +88,7 @@ fn open_script(
     if !is_good_name(token) || reading.script_number(token) != 0 {
         return Err(LineFault::Refused(InputRefusal::BadLine));
     }
-    if 256 <= reading.scripts.len() {
+    if Sizes::LARGEST.scripts as usize <= reading.scripts.len() {
         return Err(LineFault::Refused(InputRefusal::TooLong));
     }
     reading.unclosed = Some(OpenScript {
@@ -212,7 +213,7 @@ fn list_threads(reading: &mut Reading, tokens: Tokens<'_>) -> Result<(), LineFau
     reading.add_command(Command::List(Kind::Threads))
 }
 
-/// A script of a command, by its number; 0 where no script so far has the name.
+/// A script of a command, by its number; 0 if no script so far has the name.
 fn script_named(reading: &Reading, token: &[u8]) -> Result<u32, InputRefusal>
     ensures { result ≡ script_number_read (script_names reading.now) token.now }
 {
@@ -230,7 +231,7 @@ fn schedule(alloc: Global, reading: &mut Reading, tokens: Tokens<'_>) -> Result<
         return Err(LineFault::Refused(InputRefusal::BadLine));
     }
     let actors = read_actors(alloc, reading.processors, tokens)?;
-    if 1000000 - reading.schedule.len() < actors.len() {
+    if MOST_ENTRIES - reading.schedule.len() < actors.len() {
         return Err(LineFault::Refused(InputRefusal::TooLong));
     }
     reading.schedule.extend_from_slice(actors.as_slice())?;
@@ -263,7 +264,7 @@ fn runs(alloc: Global, reading: &mut Reading, tokens: Tokens<'_>) -> Result<(), 
 
 /// The schedule goes on with each pair of tokens as a run.
 fn add_pairs(alloc: Global, reading: &mut Reading, tokens: Tokens<'_>) -> Result<(), LineFault>
-    ensures { Gives reading.new result (behind_header (pairs_added reading.old tokens.entry)) }
+    ensures { Gives reading.new result (after_header (pairs_added reading.old tokens.entry)) }
 {
     let runs = read_runs(alloc, reading.processors, tokens)?;
     reading.add_runs(alloc, runs.as_slice())

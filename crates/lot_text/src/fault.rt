@@ -4,7 +4,7 @@ ghost use Rattle.lot_text.specs.declared.fault.LineFault.TheVariants.{Memory, Re
 ghost use Rattle.lot_text.specs.declared.fault.ParseFault.TheVariants as parse_fault;
 ghost use Rattle.lot_text.specs.Faults.{fault_on};
 
-use lot_machine::{InputFault, InputRefusal};
+use lot_simulation::{InputFault, InputRefusal};
 use std::alloc::{AllocError, AllocFailed};
 use thiserror::Error;
 
@@ -35,7 +35,7 @@ pub(crate) enum LineFault {
 }
 
 impl LineFault {
-    /// The same of the line with this number.
+    /// The same fault, of the line with this number.
     pub(crate) fn on_line(self, line: u32) -> ParseFault
         ensures { result ≡ fault_on line self }
     {

@@ -1,8 +1,8 @@
 //! Lines of the header.
 ghost use Rattle.std.specs.Prelude.{◌≡◌, ◌<◌, ◌∷◌, length, IfOk, MatchResult, Ok};
-ghost use Rattle.lot_machine.specs.Grammar.{first_line as first_line_read, header_in_order};
-ghost use Rattle.lot_machine.specs.Words.{header_place as header_place_of};
-ghost use Rattle.lot_machine.specs.Reading.{each, number_between as number_read};
+ghost use Rattle.lot_simulation.specs.Grammar.{first_line as first_line_read, header_in_order};
+ghost use Rattle.lot_simulation.specs.Words.{header_place as header_place_of};
+ghost use Rattle.lot_simulation.specs.Reading.{each, number_between as number_read};
 ghost use Rattle.lot_text.specs.Faults.{Fails, Gives};
 ghost use Rattle.lot_text.specs.Readings.{AreSeeds};
 
@@ -10,7 +10,8 @@ use crate::fault::LineFault;
 use crate::number::number_between;
 use crate::reading::Reading;
 use crate::tokens::Tokens;
-use lot_machine::{HeaderWord, InputRefusal};
+use lot_machine::Sizes;
+use lot_simulation::{HeaderWord, InputRefusal};
 use std::alloc::Global;
 
 /// What the first line says that isn't ignored: `lottery 1` means unit 1, and `lottery 2` unit 256.
@@ -48,7 +49,7 @@ fn header_place(word: HeaderWord) -> u32
     }
 }
 
-/// A later line of the header, which has to come behind those so far.
+/// A later line of the header, which has to come after those so far.
 pub(crate) fn header_line(
     alloc: Global,
     reading: &mut Reading,
@@ -87,7 +88,7 @@ fn read_quantum(reading: &mut Reading, tokens: Tokens<'_>) -> Result<(), LineFau
     ensures { Gives reading.new result (header_in_order reading.old HeaderWord.Quantum tokens.entry) }
 {
     let quantum = tokens.only()?;
-    reading.quantum = number_between(1, 1000, quantum)?;
+    reading.quantum = number_between(1, Sizes::LARGEST.quantum, quantum)?;
     reading.place = header_place(HeaderWord::Quantum);
     Ok(())
 }
@@ -136,9 +137,9 @@ fn read_limits(reading: &mut Reading, mut tokens: Tokens<'_>) -> Result<(), Line
     let tickets = tokens.expected()?;
     let currencies = tokens.expected()?;
     let threads = tokens.only()?;
-    let tickets = number_between(1, 65535, tickets)?;
-    let currencies = number_between(1, 4096, currencies)?;
-    let threads = number_between(1, 4096, threads)?;
+    let tickets = number_between(1, Sizes::LARGEST.tickets, tickets)?;
+    let currencies = number_between(1, Sizes::LARGEST.currencies, currencies)?;
+    let threads = number_between(1, Sizes::LARGEST.threads, threads)?;
     reading.tickets = tickets;
     reading.currencies = currencies;
     reading.threads = threads;

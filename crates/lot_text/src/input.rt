@@ -1,7 +1,7 @@
 //! What the bytes of an input say.
 ghost use Rattle.std.specs.Prelude.{◌≡◌, ◌≤◌, OnOk, IfErr, IfOk, Ok};
-ghost use Rattle.lot_machine.specs.Grammar.{program_in, later_line as later_line_read, line_outside as line_outside_read, read_line as read_line_read};
-ghost use Rattle.lot_machine.specs.Words.{word_in, header_words, body_words};
+ghost use Rattle.lot_simulation.specs.Grammar.{program_in, later_line as later_line_read, line_outside as line_outside_read, read_line as read_line_read};
+ghost use Rattle.lot_simulation.specs.Words.{word_in, header_words, body_words};
 ghost use Rattle.lot_text.specs.Faults.{Gives, IsFaultOf};
 
 use crate::body::body_line;
@@ -12,11 +12,11 @@ use crate::script_lines::script_line;
 use crate::tokens::{Tokens, begins_comment, is_printable, len_before};
 use crate::words::{body_word, header_word, script_word};
 use crate::{ParseFault, Program};
-use lot_machine::{InputFault, InputRefusal};
+use lot_simulation::{InputFault, InputRefusal};
 use std::alloc::Global;
 
-/// What the bytes of an input say, exactly. Else the least line that has a fault, and the first of its faults; or
-/// `Memory`, where memory was refused.
+/// What the bytes of an input say, exactly. Else the first line that has a fault, and the first of its faults; or
+/// `Memory`, if memory was refused.
 pub fn parse(alloc: Global, bytes: &[u8]) -> Result<Program, ParseFault>
     ensures program { IfOk result (λ program. program_in bytes.now ≡ Ok program) }
     ensures fault { IfErr result (IsFaultOf (program_in bytes.now)) }
@@ -44,7 +44,7 @@ pub fn parse(alloc: Global, bytes: &[u8]) -> Result<Program, ParseFault>
     }
 }
 
-/// Reads the line of this number, up to whose end the input has so many bytes.
+/// Reads the line of this number. Up to its end the input has `end` bytes.
 fn read_line(
     alloc: Global,
     reading: &mut Option<Reading>,
@@ -75,7 +75,7 @@ fn read_line(
     Ok(())
 }
 
-/// A line behind the first, by its first token.
+/// A line after the first, by its first token.
 fn later_line(
     alloc: Global,
     number: u32,

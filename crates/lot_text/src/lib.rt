@@ -1,4 +1,4 @@
-//! Inputs: what their bytes say, and readers and writers that keep in mind whether they have failed.
+//! Inputs: what their bytes say, and readers and writers that remember whether they have failed.
 #![tactic(auto)]
 
 mod body;

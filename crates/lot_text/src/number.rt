@@ -4,13 +4,13 @@ ghost use Rattle.std.specs.Char.{is_ascii_digit, digit_value};
 ghost use Rattle.std.specs.List.{list_all};
 ghost use Rattle.lot_machine.specs.Bounds.{IsBetween};
 ghost use Rattle.std.specs.Str.Parse.{digits_value};
-ghost use Rattle.lot_machine.specs.Lines.{is_numeral as is_numeral_token, number_of};
-ghost use Rattle.lot_machine.specs.Reading.{number_between as number_read, any_number as any_number_read, actor_below as actor_read};
+ghost use Rattle.lot_simulation.specs.Lines.{is_numeral as is_numeral_token, number_of};
+ghost use Rattle.lot_simulation.specs.Reading.{number_between as number_read, any_number as any_number_read, actor_below as actor_read};
 ghost use Rattle.lot_text.specs.Numbers.{within_64_bits};
 
-use lot_machine::InputRefusal;
+use lot_simulation::InputRefusal;
 
-/// Whether the token is one or more digits, without a leading zero but in `0` itself.
+/// Whether the token is one or more digits, without a leading zero except in `0` itself.
 fn is_numeral(token: &[u8]) -> bool
     ensures { result ≡ is_numeral_token token.now }
 {
@@ -30,7 +30,7 @@ fn are_digits(token: &[u8]) -> bool
     token.iter().all(|b| b.is_ascii_digit())
 }
 
-/// The number that the digits write, or `None` where it has more than 64 bits.
+/// The number that the digits write, or `None` if it has more than 64 bits.
 fn value(digits: &[u8]) -> Option<u64>
     requires { list_all is_ascii_digit digits.now ≡ true }
     ensures { result ≡ within_64_bits (digits_value 10 digits.now) }
@@ -45,7 +45,7 @@ fn value(digits: &[u8]) -> Option<u64>
     Some(value)
 }
 
-/// The number that a digit makes behind those of this one.
+/// The number that this one makes with one more digit at its end.
 fn with_digit(value: u64, digit: u8) -> Option<u64>
     requires { is_ascii_digit digit ≡ true }
     ensures { result ≡ within_64_bits (value * 10 + digit_value digit) }

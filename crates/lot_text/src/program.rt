@@ -21,7 +21,7 @@ pub struct Program {
 
 impl Model for Program {
     ghost use Rattle.lot_machine.specs.State.{sizes_of};
-    ghost use Rattle.lot_machine.specs.World.{Program as ProgramRecord};
+    ghost use Rattle.lot_simulation.specs.World.{Program as ProgramRecord};
     ghost use Rattle.lot_text.specs.Programs.{IsProgram};
 
     ghost Value = { ProgramRecord };

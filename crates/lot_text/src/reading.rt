@@ -4,17 +4,18 @@ ghost use Rattle.std.specs.List.{range_with_len};
 ghost use Rattle.std.specs.Option.{ForSome};
 ghost use Rattle.std.specs.Str.{bytes_eq};
 ghost use Rattle.lot_machine.specs.Bounds.{IsBetween, IsUnit};
-ghost use Rattle.lot_machine.specs.Grammar.{add_command as add_command_read, add_runs as add_runs_read, closed_program, limits_of, script_names};
-ghost use Rattle.lot_machine.specs.Reading.{number_named, opening_reading};
+ghost use Rattle.lot_simulation.specs.Grammar.{add_command as add_command_read, add_runs as add_runs_read, closed_program, limits_of, script_names};
+ghost use Rattle.lot_simulation.specs.Reading.{number_named, opening_reading};
 ghost use Rattle.lot_machine.specs.State.{sizes_of};
 ghost use Rattle.lot_text.specs.Faults.{Gives, IsFaultOf};
-ghost use Rattle.lot_text.specs.Readings.{AreSeeds, behind_header};
+ghost use Rattle.lot_text.specs.Readings.{AreSeeds, after_header};
 
 use crate::fault::LineFault;
 use crate::runs::{ActorRun, actors_of, have_room};
 use crate::{ParseFault, Program};
-use lot_machine::{Command, InputFault, InputRefusal, Limits, Name};
+use lot_machine::{Command, Limits, Name, Sizes};
 use lot_script::{Script, ScriptBuilder};
+use lot_simulation::{InputFault, InputRefusal};
 use std::alloc::{AllocError, Global};
 use std::marker::Model;
 
@@ -26,7 +27,7 @@ pub(crate) struct NamedScript {
 }
 
 impl Model for NamedScript {
-    ghost use Rattle.lot_machine.specs.Reading.{NamedScript as NamedScriptRecord};
+    ghost use Rattle.lot_simulation.specs.Reading.{NamedScript as NamedScriptRecord};
 
     ghost Value = { NamedScriptRecord };
 
@@ -42,15 +43,18 @@ pub(crate) struct OpenScript {
 }
 
 impl Model for OpenScript {
-    ghost use Rattle.lot_machine.specs.Reading.{OpenScript as OpenScriptRecord};
+    ghost use Rattle.lot_simulation.specs.Reading.{OpenScript as OpenScriptRecord};
 
     ghost Value = { OpenScriptRecord };
 
     ghost view = { λ s. record { name = s.name; begins = s.begins; lines = s.builder.lines; loops = s.builder.loops } };
 }
 
-/// The place of the body, behind those of the header's lines.
+/// The place of the body, after those of the header's lines.
 pub(crate) const BODY: u32 = 6;
+
+/// How many entries a schedule may have.
+pub(crate) const MOST_ENTRIES: usize = 1000000;
 
 /// What the lines since the first have said. The place is that of the header's last line, or the body's.
 #[derive(Debug, Drop)]
@@ -74,7 +78,7 @@ pub(crate) struct Reading {
 
 impl Model for Reading {
     ghost use Rattle.std.specs.Prelude.{option_map};
-    ghost use Rattle.lot_machine.specs.Reading.{Reading as ReadingRecord};
+    ghost use Rattle.lot_simulation.specs.Reading.{Reading as ReadingRecord};
     ghost use Rattle.lot_text.specs.Readings.{IsReading};
 
     ghost Value = { ReadingRecord };
@@ -85,7 +89,7 @@ impl Model for Reading {
 }
 
 impl Reading {
-    /// What is known behind the first line, which says the unit.
+    /// What is known after the first line, which says the unit.
     pub(crate) fn new(alloc: Global, unit: u32) -> Self
         requires { IsUnit unit }
         ensures { result ≡ opening_reading unit }
@@ -97,9 +101,9 @@ impl Reading {
             quantum: 100,
             turns: 0,
             seeds: None,
-            tickets: 65535,
-            currencies: 4096,
-            threads: 4096,
+            tickets: Sizes::LARGEST.tickets,
+            currencies: Sizes::LARGEST.currencies,
+            threads: Sizes::LARGEST.threads,
             ports: Vec::new(alloc),
             mutexes: Vec::new(alloc),
             scripts: Vec::new(alloc),
@@ -109,9 +113,9 @@ impl Reading {
         }
     }
 
-    /// One command more, which ends the header.
+    /// One more command, which ends the header.
     pub(crate) fn add_command(&mut self, command: Command) -> Result<(), LineFault>
-        ensures { Gives self.new result (behind_header (add_command_read self.old command)) }
+        ensures { Gives self.new result (after_header (add_command_read self.old command)) }
     {
         if 100000 <= self.commands.len() {
             return Err(LineFault::Refused(InputRefusal::TooLong));
@@ -121,12 +125,12 @@ impl Reading {
         Ok(())
     }
 
-    /// These runs more in the schedule, which ends the header.
+    /// These further runs in the schedule, which end the header.
     pub(crate) fn add_runs(&mut self, alloc: Global, runs: &[ActorRun]) -> Result<(), LineFault>
         requires { All (λ run. run.actor ≤ self.old.processors) runs.now }
-        ensures { Gives self.new result (behind_header (add_runs_read self.old runs.now)) }
+        ensures { Gives self.new result (after_header (add_runs_read self.old runs.now)) }
     {
-        if !have_room(runs, 1000000 - self.schedule.len()) {
+        if !have_room(runs, MOST_ENTRIES - self.schedule.len()) {
             return Err(LineFault::Refused(InputRefusal::TooLong));
         }
         let actors = actors_of(alloc, runs)?;
@@ -135,7 +139,7 @@ impl Reading {
         Ok(())
     }
 
-    /// The number of the script with this name, or 0 where no script so far has it.
+    /// The number of the script with this name, or 0 if no script so far has it.
     pub(crate) fn script_number(&self, name: &[u8]) -> u32
         ensures { result ≡ unwrap_or (number_named (script_names self.now) name.now) 0 }
     {
@@ -149,20 +153,21 @@ impl Reading {
     fn limits(&self) -> Limits
         ensures { sizes_of result ≡ limits_of self.now }
     {
-        let limits = Limits::new(
-            self.tickets,
-            self.currencies,
-            self.threads,
-            self.ports.len() as u32,
-            self.mutexes.len() as u32,
-            self.processors,
-            self.scripts.len() as u32,
-            self.quantum,
-        );
-        limits.unwrap().with_unit(self.unit).unwrap()
+        let sizes = Sizes {
+            tickets: self.tickets,
+            currencies: self.currencies,
+            threads: self.threads,
+            ports: self.ports.len() as u32,
+            mutexes: self.mutexes.len() as u32,
+            processors: self.processors,
+            scripts: self.scripts.len() as u32,
+            quantum: self.quantum,
+            unit: self.unit,
+        };
+        Limits::new(sizes).unwrap()
     }
 
-    /// What was read, where no script is open.
+    /// What was read, if no script is open.
     pub(crate) fn into_program(self, alloc: Global) -> Result<Program, ParseFault>
         ensures program { IfOk result (λ program. closed_program self self.unclosed ≡ Ok program) }
         ensures fault { IfErr result (IsFaultOf (closed_program self self.unclosed)) }
@@ -212,7 +217,7 @@ fn place_named(scripts: &[NamedScript], name: &[u8]) -> Option<usize>
     scripts.iter().position(|s| name == s.name.as_bytes())
 }
 
-/// The seeds that were given; where they are left out, processor p has seed p.
+/// The seeds that were given; if they are left out, processor p has seed p.
 fn seeds_or_own(
     alloc: Global,
     given: Option<Vec<u32>>,

@@ -1,13 +1,13 @@
 //! Runs of turns of one actor.
 ghost use Rattle.std.specs.Prelude.{◌≡◌, ℕ, ◌≤◌, ◌↔◌, sum_by, All, IfOk, IsTrue, MatchResult, Ok, length};
-ghost use Rattle.lot_machine.specs.Grammar.{actors_of as actors_of_runs, run_of as run_read};
-ghost use Rattle.lot_machine.specs.Reading.{each_pair};
+ghost use Rattle.lot_simulation.specs.Grammar.{actors_of as actors_of_runs, run_of as run_read};
+ghost use Rattle.lot_simulation.specs.Reading.{each_pair};
 ghost use Rattle.lot_text.specs.Faults.{Fails};
 
 use crate::fault::LineFault;
 use crate::number::{actor_below, number_between};
 use crate::tokens::Tokens;
-use lot_machine::InputRefusal;
+use lot_simulation::InputRefusal;
 use std::alloc::{AllocError, Global};
 use std::marker::Model;
 
@@ -19,7 +19,7 @@ pub(crate) struct ActorRun {
 }
 
 impl Model for ActorRun {
-    ghost use Rattle.lot_machine.specs.Grammar.{ActorRun as ActorRunRecord};
+    ghost use Rattle.lot_simulation.specs.Grammar.{ActorRun as ActorRunRecord};
 
     ghost Value = { ActorRunRecord };
 
@@ -56,7 +56,7 @@ fn run_of(processors: u32, actor: &[u8], count: &[u8]) -> Result<ActorRun, Input
     Ok(ActorRun { actor, count })
 }
 
-/// Whether the runs have no more turns than these.
+/// Whether the runs have at most this many turns.
 pub(crate) fn have_room(runs: &[ActorRun], room: usize) -> bool
     ensures { IsTrue result ↔ (sum_by (λ run. run.count) runs.now ≤ room) }
 {

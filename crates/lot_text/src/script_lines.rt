@@ -1,6 +1,6 @@
 //! Lines of scripts.
 ghost use Rattle.std.specs.Prelude.{◌≡◌, ◌<◌, length};
-ghost use Rattle.lot_machine.specs.Grammar.{script_line as script_line_read};
+ghost use Rattle.lot_simulation.specs.Grammar.{script_line as script_line_read};
 ghost use Rattle.lot_script.specs.Drafts.{CanNest, IsLine};
 ghost use Rattle.lot_text.specs.Faults.{Gives};
 ghost use Rattle.lot_text.specs.Readings.{line_added, within_script};
@@ -10,7 +10,8 @@ use crate::name::known_name;
 use crate::number::number_between;
 use crate::reading::{NamedScript, OpenScript, Reading};
 use crate::tokens::Tokens;
-use lot_machine::{InputRefusal, Line, ScriptWord};
+use lot_script::ScriptBuilder;
+use lot_simulation::{InputRefusal, Line, ScriptWord};
 
 /// A line of this script, which stays open until `endscript`.
 pub(crate) fn script_line(
@@ -186,7 +187,7 @@ fn add_line(reading: &mut Reading, mut script: OpenScript, line: Line) -> Result
     requires nesting { CanNest script.loops line }
     ensures { Gives reading.new result (line_added reading.old script line) }
 {
-    if 1024 <= script.builder.len() {
+    if ScriptBuilder::MOST_LINES <= script.builder.len() {
         return Err(LineFault::Refused(InputRefusal::TooLong));
     }
     script.builder.push(line)?;

@@ -1,281 +1,202 @@
 ghost use Rattle.std.specs.Prelude.{◌≤◌, IfOk};
 
 use crate::*;
-use lot_machine::{Command, InputFault, InputRefusal, Kind, Line, Name};
+use lot_machine::{Command, Kind, Limits, Name, Sizes};
+use lot_script::Script;
+use lot_simulation::{InputFault, InputRefusal, Line};
 use std::alloc::{AllocError, Global};
+use std::fmt::Debug;
 use std::io;
 use std::io::{Error, ErrorKind, Read, Write};
 use std::process::Abort;
 use std::test::Fail;
 
-/// The line and the refusal of an input that is refused.
-fn refused(alloc: Global, text: &str) -> Option<(u32, InputRefusal)> {
-    match parse(alloc, text.as_bytes()) {
-        Err(ParseFault::Input(InputFault { line, refusal })) => Some((line, refusal)),
-        _ => None,
+/// A command with its names as texts.
+#[derive(Clone, Copy, Debug)]
+enum Asked<'a> {
+    MakeTicket(u64, &'a str),
+    RemoveTicket(u64),
+    MakeCurrency(&'a str),
+    RemoveCurrency(&'a str),
+    Fund(u64, &'a str),
+    Unfund(u64),
+    MakeThread(&'a str, u32),
+    MakeFunded(u64, &'a str, &'a str, u32),
+    List(Kind),
+}
+
+/// What an input says.
+struct Said<'a> {
+    sizes: Sizes,
+    seeds: &'a [u32],
+    turns: u32,
+    scripts: &'a [&'a [Line]],
+    commands: &'a [Asked<'a>],
+    schedule: &'a [u8],
+}
+
+fn name(rt: &impl Abort, text: &str) -> Name {
+    Name::new(text).expect(rt, "it is too long for a name")
+}
+
+fn command(rt: &impl Abort, asked: Asked<'_>) -> Command {
+    match asked {
+        Asked::MakeTicket(amount, text) => {
+            let currency = name(rt, text);
+            Command::MakeTicket { amount, currency }
+        }
+        Asked::RemoveTicket(ticket) => Command::RemoveTicket { ticket },
+        Asked::MakeCurrency(text) => Command::MakeCurrency {
+            name: name(rt, text),
+        },
+        Asked::RemoveCurrency(text) => Command::RemoveCurrency {
+            currency: name(rt, text),
+        },
+        Asked::Fund(ticket, text) => {
+            let target = name(rt, text);
+            Command::Fund { ticket, target }
+        }
+        Asked::Unfund(ticket) => Command::Unfund { ticket },
+        Asked::MakeThread(text, script) => {
+            let name = name(rt, text);
+            Command::MakeThread { name, script }
+        }
+        Asked::MakeFunded(amount, issuer, text, script) => Command::MakeFunded {
+            amount,
+            currency: name(rt, issuer),
+            name: name(rt, text),
+            script,
+        },
+        Asked::List(kind) => Command::List(kind),
     }
 }
+
+fn read(alloc: Global, text: &str) -> Result<Program, ParseFault> {
+    parse(alloc, text.as_bytes())
+}
+
+fn sizes_of(limits: Limits) -> Sizes {
+    Sizes {
+        tickets: limits.tickets,
+        currencies: limits.currencies,
+        threads: limits.threads,
+        ports: limits.ports,
+        mutexes: limits.mutexes,
+        processors: limits.processors,
+        scripts: limits.scripts,
+        quantum: limits.quantum,
+        unit: limits.unit,
+    }
+}
+
+fn check_limits(rt: &impl Abort, limits: Limits, wanted: Sizes) {
+    assert_eq!(rt; sizes_of(limits), wanted);
+}
+
+fn check_items<T: PartialEq + Debug>(rt: &impl Abort, found: &[T], wanted: &[T]) {
+    assert_eq!(rt; found, wanted);
+}
+
+/// Compares the limits, the seeds, the turns and the schedule.
+fn check_numbers(rt: &impl Abort, program: &Program, said: &Said<'_>) {
+    check_limits(rt, program.limits(), said.sizes);
+    check_items(rt, program.seeds(), said.seeds);
+    check_items(rt, program.schedule(), said.schedule);
+    assert_eq!(rt; program.turns(), said.turns);
+}
+
+fn check_scripts(rt: &impl Abort, scripts: &[Script], wanted: &[&[Line]]) {
+    assert_eq!(rt; scripts.len(), wanted.len());
+    for (script, lines) in scripts.iter().zip(wanted) {
+        check_items(rt, script.lines(), lines);
+    }
+}
+
+fn check_command(rt: &impl Abort, found: &Command, asked: Asked<'_>) {
+    let wanted = command(rt, asked);
+    assert_eq!(rt; found, &wanted, "{asked:?}");
+}
+
+fn check_commands(rt: &impl Abort, commands: &[Command], wanted: &[Asked<'_>]) {
+    assert_eq!(rt; commands.len(), wanted.len());
+    for (found, asked) in commands.iter().zip(wanted) {
+        check_command(rt, found, *asked);
+    }
+}
+
+fn check_program(rt: &impl Abort, program: &Program, said: &Said<'_>) {
+    check_numbers(rt, program, said);
+    check_scripts(rt, program.scripts(), said.scripts);
+    check_commands(rt, program.commands(), said.commands);
+}
+
+/// Reads the text, and compares the program with what it says.
+fn check_said(rt: &impl Abort, alloc: Global, text: &str, said: &Said<'_>) -> Result<(), Fail> {
+    let program = read(alloc, text)?;
+    check_program(rt, &program, said);
+    Ok(())
+}
+
+const FIRST_RUN: &str =
+    "lottery 1\n# no header\nscript spin\n  compute   1000 \n\nendscript\nmktkt 10 base\nmkthr a spin\nfund 1 a\n\
+    mktkt 18446744073709551615 base\nmkthr b none\nfund 2 b\nschedule 0 0 0\nschedule 1 1 0";
+
+const FIRST_RUN_SAYS: Said<'_> = Said {
+    sizes: Sizes {
+        tickets: 65535,
+        currencies: 4096,
+        threads: 4096,
+        ports: 0,
+        mutexes: 0,
+        processors: 1,
+        scripts: 1,
+        quantum: 100,
+        unit: 1,
+    },
+    seeds: &[1],
+    turns: 0,
+    scripts: &[&[Line::Compute(1000)]],
+    commands: &[
+        Asked::MakeTicket(10, "base"),
+        Asked::MakeThread("a", 1),
+        Asked::Fund(1, "a"),
+        Asked::MakeTicket(18446744073709551615, "base"),
+        Asked::MakeThread("b", 0),
+        Asked::Fund(2, "b"),
+    ],
+    schedule: &[0, 0, 0, 1, 1, 0],
+};
 
 #[test]
 fn reads_the_first_run(rt: HostRuntime) -> Result<(), Fail> {
-    let text =
-        "lottery 1\n# no header\nscript spin\n  compute   1000 \n\nendscript\nmktkt 10 base\nmkthr a spin\nfund 1 a\n\
-        mktkt 18446744073709551615 base\nmkthr b none\nfund 2 b\nschedule 0 0 0\nschedule 1 1 0";
-    let program = parse(rt.alloc(), text.as_bytes())?;
-    let limits = program.limits();
-    assert_eq!(rt;
-        (limits.tickets, limits.currencies, limits.threads),
-        (65535, 4096, 4096)
-    );
-    assert_eq!(rt; (limits.ports, limits.mutexes, limits.scripts), (0, 0, 1));
-    assert_eq!(rt;
-        (limits.processors, limits.quantum, limits.unit),
-        (1, 100, 1)
-    );
-    assert_eq!(rt; program.seeds(), [1].as_slice());
-    assert_eq!(rt; program.turns(), 0);
-    assert_eq!(rt; program.scripts().len(), 1);
-    assert_eq!(rt;
-        program.scripts()[0].lines(),
-        [Line::Compute(1000)].as_slice()
-    );
-    assert_eq!(rt; program.schedule(), [0, 0, 0, 1, 1, 0].as_slice());
-    let name = |text: &str| Name::new(text).ok_or("a name");
-    let wanted = [
-        Command::MakeTicket {
-            amount: 10,
-            currency: name("base")?,
-        },
-        Command::MakeThread {
-            name: name("a")?,
-            script: 1,
-        },
-        Command::Fund {
-            ticket: 1,
-            target: name("a")?,
-        },
-        Command::MakeTicket {
-            amount: 18446744073709551615,
-            currency: name("base")?,
-        },
-        Command::MakeThread {
-            name: name("b")?,
-            script: 0,
-        },
-        Command::Fund {
-            ticket: 2,
-            target: name("b")?,
-        },
-    ];
-    assert_eq!(rt; program.commands(), wanted.as_slice());
-    Ok(())
+    check_said(&rt, rt.alloc(), FIRST_RUN, &FIRST_RUN_SAYS)
 }
+
+const HEADERS: &str =
+    "\n#\x07\n  lottery  2  \nquantum 7\nseed 2147483646\nlimits 3 2 1\nscript s\nendscript\n";
+
+const HEADERS_SAY: Said<'_> = Said {
+    sizes: Sizes {
+        tickets: 3,
+        currencies: 2,
+        threads: 1,
+        ports: 0,
+        mutexes: 0,
+        processors: 1,
+        scripts: 1,
+        quantum: 7,
+        unit: 256,
+    },
+    seeds: &[2147483646],
+    turns: 0,
+    scripts: &[&[]],
+    commands: &[],
+    schedule: &[],
+};
 
 #[test]
 fn reads_headers(rt: HostRuntime) -> Result<(), Fail> {
-    let text =
-        "\n#\x07\n  lottery  2  \nquantum 7\nseed 2147483646\nlimits 3 2 1\nscript s\nendscript\n";
-    let program = parse(rt.alloc(), text.as_bytes())?;
-    let limits = program.limits();
-    assert_eq!(rt;
-        (limits.tickets, limits.currencies, limits.threads),
-        (3, 2, 1)
-    );
-    assert_eq!(rt; (limits.quantum, limits.unit, limits.scripts), (7, 256, 1));
-    assert_eq!(rt; program.seeds(), [2147483646].as_slice());
-    assert!(rt; program.commands().is_empty() && program.schedule().is_empty());
-    Ok(())
-}
-
-#[test]
-fn refuses(rt: HostRuntime) {
-    for (text, line, refusal) in [
-        ("", 1, InputRefusal::BadHeader),
-        ("\n\n", 2, InputRefusal::BadHeader),
-        ("\t", 1, InputRefusal::BadLine),
-        ("lottery 1\r", 1, InputRefusal::BadLine),
-        ("lottery", 1, InputRefusal::BadHeader),
-        ("lottery 01", 1, InputRefusal::BadHeader),
-        ("lottery 1 1", 1, InputRefusal::BadHeader),
-        ("lottery 3", 1, InputRefusal::BadHeader),
-        ("quantum 5", 1, InputRefusal::BadHeader),
-        ("lottery 1\nlottery 1", 2, InputRefusal::BadHeader),
-        (
-            "lottery 1\nquantum 5\nquantum x y",
-            3,
-            InputRefusal::BadHeader,
-        ),
-        ("lottery 1\nseed 1\nquantum 5", 3, InputRefusal::BadHeader),
-        ("lottery 1\nschedule 0\nseed 1", 3, InputRefusal::BadHeader),
-        (
-            "lottery 1\nscript s\nendscript\nlimits 1 1 1",
-            4,
-            InputRefusal::BadHeader,
-        ),
-        (
-            "lottery 1\nquantum 10\nprocessors 2",
-            3,
-            InputRefusal::BadHeader,
-        ),
-        ("lottery 1\nprocessors 65", 2, InputRefusal::BadNumber),
-        ("lottery 1\nprocessors 2\nseed 1", 3, InputRefusal::BadLine),
-        ("lottery 1\nturns 10001", 2, InputRefusal::BadNumber),
-        ("lottery 1\nquantum 1001", 2, InputRefusal::BadNumber),
-        ("lottery 1\nquantum 0", 2, InputRefusal::BadNumber),
-        ("lottery 1\nquantum", 2, InputRefusal::BadLine),
-        ("lottery 1\nseed 1 2", 2, InputRefusal::BadLine),
-        ("lottery 1\nseed", 2, InputRefusal::BadLine),
-        ("lottery 1\nseed 0", 2, InputRefusal::BadNumber),
-        ("lottery 1\nseed 2147483647", 2, InputRefusal::BadNumber),
-        ("lottery 1\nlimits 1 1", 2, InputRefusal::BadLine),
-        ("lottery 1\nlimits 65536 1 1", 2, InputRefusal::BadNumber),
-        ("lottery 1\nlimits 1 4097 1", 2, InputRefusal::BadNumber),
-        ("lottery 1\nlimits 1 1 0", 2, InputRefusal::BadNumber),
-    ] {
-        assert_eq!(rt;
-            refused(rt.alloc(), text),
-            Some((line, refusal)),
-            "of {text:?}"
-        );
-    }
-}
-
-#[test]
-fn refuses_bodies(rt: HostRuntime) {
-    for (text, line, refusal) in [
-        ("lottery 1\nlstkt 1", 2, InputRefusal::BadLine),
-        ("lottery 1\nport a\nport a", 3, InputRefusal::BadLine),
-        ("lottery 1\nmutex M", 2, InputRefusal::BadLine),
-        (
-            "lottery 1\nport Bcdefghijklmnopqr",
-            2,
-            InputRefusal::TooLong,
-        ),
-        (
-            "lottery 1\nfundx 1 base a abcdefghijklmnopq",
-            2,
-            InputRefusal::TooLong,
-        ),
-        ("lottery 1\ncompute 5", 2, InputRefusal::BadLine),
-        ("lottery 1\nmktkt 007 base", 2, InputRefusal::BadNumber),
-        (
-            "lottery 1\nmktkt 18446744073709551616 base",
-            2,
-            InputRefusal::BadNumber,
-        ),
-        ("lottery 1\nmktkt 1", 2, InputRefusal::BadLine),
-        ("lottery 1\nmktkt 1 base #", 2, InputRefusal::BadLine),
-        (
-            "lottery 1\nmktkt 1 abcdefghijklmnopq",
-            2,
-            InputRefusal::TooLong,
-        ),
-        (
-            "lottery 1\nfund 1 abcdefghijklmnopq",
-            2,
-            InputRefusal::TooLong,
-        ),
-        (
-            "lottery 1\nmkthr abcdefghijklmnopq none",
-            2,
-            InputRefusal::TooLong,
-        ),
-        (
-            "lottery 1\nmkthr a abcdefghijklmnopq",
-            2,
-            InputRefusal::TooLong,
-        ),
-        ("lottery 1\nschedule 0 2", 2, InputRefusal::BadActor),
-        ("lottery 1\nschedule 007 99", 2, InputRefusal::BadNumber),
-        ("lottery 1\nschedule 99 007", 2, InputRefusal::BadActor),
-        ("lottery 1\nschedule", 2, InputRefusal::BadLine),
-        ("lottery 1\nscript S", 2, InputRefusal::BadLine),
-        (
-            "lottery 1\nscript abcdefghijklmnopq",
-            2,
-            InputRefusal::TooLong,
-        ),
-        (
-            "lottery 1\nscript s\nendscript\nscript s",
-            4,
-            InputRefusal::BadLine,
-        ),
-        (
-            "lottery 1\nscript s\ncompute 5\n",
-            2,
-            InputRefusal::OpenScript,
-        ),
-        ("lottery 1\nscript spin\ncompu", 3, InputRefusal::BadLine),
-        ("lottery 1\nscript spin\ncompute", 3, InputRefusal::BadLine),
-        ("lottery 1\nscript s\ncompute 0", 3, InputRefusal::BadNumber),
-        (
-            "lottery 1\nscript s\ncompute 4294967296",
-            3,
-            InputRefusal::BadNumber,
-        ),
-        ("lottery 1\nscript s\nyield 1", 3, InputRefusal::BadLine),
-        ("lottery 1\nscript s\nscript t", 3, InputRefusal::BadLine),
-        ("lottery 1\nscript s\nquantum 5", 3, InputRefusal::BadLine),
-        ("lottery 1\nscript s\nendscript 1", 3, InputRefusal::BadLine),
-    ] {
-        assert_eq!(rt;
-            refused(rt.alloc(), text),
-            Some((line, refusal)),
-            "of {text:?}"
-        );
-    }
-}
-
-/// The call and its reply, up to a line of the server's script.
-const CALL: &str = "lottery 1\nquantum 10\nport p\nscript srv\n";
-
-#[test]
-fn refuses_scripts(rt: HostRuntime) -> Result<(), Fail> {
-    for (text, line, refusal) in [
-        ("receive p", 4, InputRefusal::OpenScript),
-        ("recei", 5, InputRefusal::BadLine),
-        ("receive", 5, InputRefusal::BadLine),
-        ("call q", 5, InputRefusal::UnknownName),
-        ("lock p", 5, InputRefusal::UnknownName),
-        ("call abcdefghijklmnopq", 5, InputRefusal::TooLong),
-        ("set 4294967296", 5, InputRefusal::BadNumber),
-        ("loop 0", 5, InputRefusal::BadNumber),
-        ("loop 65536", 5, InputRefusal::BadNumber),
-        ("end", 5, InputRefusal::BadLine),
-        ("loop 2\nendscript", 6, InputRefusal::BadLine),
-        ("port q", 5, InputRefusal::BadLine),
-        (
-            "loop 1\nloop 1\nloop 1\nloop 1\nloop 1\nloop 1\nloop 1\nloop 1\nloop 1",
-            13,
-            InputRefusal::TooDeep,
-        ),
-    ] {
-        let input = format!(in rt.alloc(); "{CALL}{text}")?;
-        assert_eq!(rt;
-            refused(rt.alloc(), input.as_str()),
-            Some((line, refusal)),
-            "of {text:?}"
-        );
-    }
-    Ok(())
-}
-
-#[test]
-fn refuses_runs(rt: HostRuntime) {
-    for (text, refusal) in [
-        ("lottery 2\nruns 0", InputRefusal::BadLine),
-        ("lottery 2\nruns", InputRefusal::BadLine),
-        ("lottery 2\nruns 0 0", InputRefusal::BadNumber),
-        ("lottery 2\nruns 2 1", InputRefusal::BadActor),
-        ("lottery 2\nruns 0 1000000 0 1", InputRefusal::TooLong),
-        ("lottery 1\nruns 0 1", InputRefusal::BadLine),
-    ] {
-        assert_eq!(rt;
-            refused(rt.alloc(), text),
-            Some((2, refusal)),
-            "of {text:?}"
-        );
-    }
+    check_said(&rt, rt.alloc(), HEADERS, &HEADERS_SAY)
 }
 
 /// Every kind of line.
@@ -285,71 +206,55 @@ const WHOLE_GRAMMAR: &str =
     yield\nendscript\nscript t\nendscript\nmktkt 10 base\nrmtkt 1\nmkcur a\nrmcur a\nfund 3 a\nunfund 2\nmkthr u t\n\
     fundx 9 a v s\nlstkt\nlscur\nlsthr\nruns 0 2 2 1\nschedule 1 0";
 
+const WHOLE_GRAMMAR_SAYS: Said<'_> = Said {
+    sizes: Sizes {
+        tickets: 9,
+        currencies: 8,
+        threads: 7,
+        ports: 2,
+        mutexes: 2,
+        processors: 2,
+        scripts: 2,
+        quantum: 7,
+        unit: 256,
+    },
+    seeds: &[5, 6],
+    turns: 10000,
+    scripts: &[
+        &[
+            Line::Set(1),
+            Line::Loop(2),
+            Line::Add(3),
+            Line::Compute(4),
+            Line::Call(1),
+            Line::End,
+            Line::Receive(2),
+            Line::Reply,
+            Line::Lock(1),
+            Line::Unlock(2),
+            Line::Yield,
+        ],
+        &[],
+    ],
+    commands: &[
+        Asked::MakeTicket(10, "base"),
+        Asked::RemoveTicket(1),
+        Asked::MakeCurrency("a"),
+        Asked::RemoveCurrency("a"),
+        Asked::Fund(3, "a"),
+        Asked::Unfund(2),
+        Asked::MakeThread("u", 2),
+        Asked::MakeFunded(9, "a", "v", 1),
+        Asked::List(Kind::Tickets),
+        Asked::List(Kind::Currencies),
+        Asked::List(Kind::Threads),
+    ],
+    schedule: &[0, 0, 2, 1, 0],
+};
+
 #[test]
 fn reads_the_whole_grammar(rt: HostRuntime) -> Result<(), Fail> {
-    let program = parse(rt.alloc(), WHOLE_GRAMMAR.as_bytes())?;
-    let limits = program.limits();
-    assert_eq!(rt;
-        (limits.tickets, limits.currencies, limits.threads),
-        (9, 8, 7)
-    );
-    assert_eq!(rt;
-        (limits.processors, limits.quantum, limits.unit),
-        (2, 7, 256)
-    );
-    assert_eq!(rt; (limits.ports, limits.mutexes, limits.scripts), (2, 2, 2));
-    assert_eq!(rt;
-        (program.turns(), program.seeds()),
-        (10000, [5, 6].as_slice())
-    );
-    let lines = [
-        Line::Set(1),
-        Line::Loop(2),
-        Line::Add(3),
-        Line::Compute(4),
-        Line::Call(1),
-        Line::End,
-        Line::Receive(2),
-        Line::Reply,
-        Line::Lock(1),
-        Line::Unlock(2),
-        Line::Yield,
-    ];
-    assert_eq!(rt; program.scripts()[0].lines(), lines.as_slice());
-    assert_eq!(rt; program.scripts()[1].lines().len(), 0);
-    let name = |text: &str| Name::new(text).ok_or("a name");
-    let commands = [
-        Command::MakeTicket {
-            amount: 10,
-            currency: name("base")?,
-        },
-        Command::RemoveTicket { ticket: 1 },
-        Command::MakeCurrency { name: name("a")? },
-        Command::RemoveCurrency {
-            currency: name("a")?,
-        },
-        Command::Fund {
-            ticket: 3,
-            target: name("a")?,
-        },
-        Command::Unfund { ticket: 2 },
-        Command::MakeThread {
-            name: name("u")?,
-            script: 2,
-        },
-        Command::MakeFunded {
-            amount: 9,
-            currency: name("a")?,
-            name: name("v")?,
-            script: 1,
-        },
-        Command::List(Kind::Tickets),
-        Command::List(Kind::Currencies),
-        Command::List(Kind::Threads),
-    ];
-    assert_eq!(rt; program.commands(), commands.as_slice());
-    assert_eq!(rt; program.schedule(), [0, 0, 2, 1, 0].as_slice());
-    Ok(())
+    check_said(&rt, rt.alloc(), WHOLE_GRAMMAR, &WHOLE_GRAMMAR_SAYS)
 }
 
 // For runs in which one allocation is refused: the test above fails in those that refuse one of these.
@@ -359,7 +264,286 @@ fn reads_or_lacks_memory(rt: HostRuntime) {
     assert!(rt; matches!(&result, Ok(_) | Err(ParseFault::Memory)));
 }
 
-/// A first line, and then a line of so many bytes.
+/// The ends of inputs that are refused on one line, for one reason.
+struct Refusals<'a> {
+    line: u32,
+    refusal: InputRefusal,
+    ends: &'a [&'a str],
+}
+
+/// The line and the refusal of an input that is refused.
+fn refused(alloc: Global, text: &str) -> Option<(u32, InputRefusal)> {
+    match read(alloc, text) {
+        Err(ParseFault::Input(fault)) => Some((fault.line, fault.refusal)),
+        _ => None,
+    }
+}
+
+fn check_refused(rt: &impl Abort, alloc: Global, text: &str, line: u32, refusal: InputRefusal) {
+    assert_eq!(rt; refused(alloc, text), Some((line, refusal)), "of {text:?}");
+}
+
+/// Checks that this beginning is refused with each of these ends.
+fn check_ends(
+    rt: &impl Abort,
+    alloc: Global,
+    beginning: &str,
+    wanted: &Refusals<'_>,
+) -> Result<(), Fail> {
+    for end in wanted.ends {
+        let text = format!(in alloc; "{beginning}{end}")?;
+        check_refused(rt, alloc, text.as_str(), wanted.line, wanted.refusal);
+    }
+    Ok(())
+}
+
+fn check_table(
+    rt: &impl Abort,
+    alloc: Global,
+    beginning: &str,
+    table: &[Refusals<'_>],
+) -> Result<(), Fail> {
+    for wanted in table {
+        check_ends(rt, alloc, beginning, wanted)?;
+    }
+    Ok(())
+}
+
+const FIRST_LINES: [Refusals<'_>; 3] = [
+    Refusals {
+        line: 1,
+        refusal: InputRefusal::BadHeader,
+        ends: &[
+            "",
+            "lottery",
+            "lottery 01",
+            "lottery 1 1",
+            "lottery 3",
+            "quantum 5",
+        ],
+    },
+    Refusals {
+        line: 2,
+        refusal: InputRefusal::BadHeader,
+        ends: &["\n\n"],
+    },
+    Refusals {
+        line: 1,
+        refusal: InputRefusal::BadLine,
+        ends: &["\t", "lottery 1\r"],
+    },
+];
+
+#[test]
+fn refuses_first_lines(rt: HostRuntime) -> Result<(), Fail> {
+    check_table(&rt, rt.alloc(), "", &FIRST_LINES)
+}
+
+const REFUSED_HEADERS: [Refusals<'_>; 6] = [
+    Refusals {
+        line: 2,
+        refusal: InputRefusal::BadHeader,
+        ends: &["lottery 1"],
+    },
+    Refusals {
+        line: 3,
+        refusal: InputRefusal::BadHeader,
+        ends: &[
+            "quantum 5\nquantum x y",
+            "seed 1\nquantum 5",
+            "schedule 0\nseed 1",
+            "quantum 10\nprocessors 2",
+        ],
+    },
+    Refusals {
+        line: 4,
+        refusal: InputRefusal::BadHeader,
+        ends: &["script s\nendscript\nlimits 1 1 1"],
+    },
+    Refusals {
+        line: 2,
+        refusal: InputRefusal::BadLine,
+        ends: &["quantum", "seed 1 2", "seed", "limits 1 1"],
+    },
+    Refusals {
+        line: 3,
+        refusal: InputRefusal::BadLine,
+        ends: &["processors 2\nseed 1"],
+    },
+    Refusals {
+        line: 2,
+        refusal: InputRefusal::BadNumber,
+        ends: &[
+            "processors 65",
+            "turns 10001",
+            "quantum 1001",
+            "quantum 0",
+            "seed 0",
+            "seed 2147483647",
+            "limits 65536 1 1",
+            "limits 1 4097 1",
+            "limits 1 1 0",
+        ],
+    },
+];
+
+#[test]
+fn refuses_headers(rt: HostRuntime) -> Result<(), Fail> {
+    check_table(&rt, rt.alloc(), "lottery 1\n", &REFUSED_HEADERS)
+}
+
+const REFUSED_BODIES: [Refusals<'_>; 8] = [
+    Refusals {
+        line: 2,
+        refusal: InputRefusal::BadLine,
+        ends: &[
+            "lstkt 1",
+            "mutex M",
+            "compute 5",
+            "mktkt 1",
+            "mktkt 1 base #",
+            "schedule",
+            "script S",
+            "runs 0 1",
+        ],
+    },
+    Refusals {
+        line: 3,
+        refusal: InputRefusal::BadLine,
+        ends: &[
+            "port a\nport a",
+            "script spin\ncompu",
+            "script spin\ncompute",
+            "script s\nyield 1",
+            "script s\nscript t",
+            "script s\nquantum 5",
+            "script s\nendscript 1",
+        ],
+    },
+    Refusals {
+        line: 4,
+        refusal: InputRefusal::BadLine,
+        ends: &["script s\nendscript\nscript s"],
+    },
+    Refusals {
+        line: 2,
+        refusal: InputRefusal::TooLong,
+        ends: &[
+            "port Bcdefghijklmnopqr",
+            "fundx 1 base a abcdefghijklmnopq",
+            "mktkt 1 abcdefghijklmnopq",
+            "fund 1 abcdefghijklmnopq",
+            "mkthr abcdefghijklmnopq none",
+            "mkthr a abcdefghijklmnopq",
+            "script abcdefghijklmnopq",
+        ],
+    },
+    Refusals {
+        line: 2,
+        refusal: InputRefusal::BadNumber,
+        ends: &[
+            "mktkt 007 base",
+            "mktkt 18446744073709551616 base",
+            "schedule 007 99",
+        ],
+    },
+    Refusals {
+        line: 3,
+        refusal: InputRefusal::BadNumber,
+        ends: &["script s\ncompute 0", "script s\ncompute 4294967296"],
+    },
+    Refusals {
+        line: 2,
+        refusal: InputRefusal::BadActor,
+        ends: &["schedule 0 2", "schedule 99 007"],
+    },
+    Refusals {
+        line: 2,
+        refusal: InputRefusal::OpenScript,
+        ends: &["script s\ncompute 5\n"],
+    },
+];
+
+#[test]
+fn refuses_bodies(rt: HostRuntime) -> Result<(), Fail> {
+    check_table(&rt, rt.alloc(), "lottery 1\n", &REFUSED_BODIES)
+}
+
+/// The call and its reply, up to a line of the server's script.
+const CALL: &str = "lottery 1\nquantum 10\nport p\nscript srv\n";
+
+const REFUSED_SCRIPTS: [Refusals<'_>; 7] = [
+    Refusals {
+        line: 4,
+        refusal: InputRefusal::OpenScript,
+        ends: &["receive p"],
+    },
+    Refusals {
+        line: 5,
+        refusal: InputRefusal::BadLine,
+        ends: &["recei", "receive", "end", "port q"],
+    },
+    Refusals {
+        line: 5,
+        refusal: InputRefusal::UnknownName,
+        ends: &["call q", "lock p"],
+    },
+    Refusals {
+        line: 5,
+        refusal: InputRefusal::TooLong,
+        ends: &["call abcdefghijklmnopq"],
+    },
+    Refusals {
+        line: 5,
+        refusal: InputRefusal::BadNumber,
+        ends: &["set 4294967296", "loop 0", "loop 65536"],
+    },
+    Refusals {
+        line: 6,
+        refusal: InputRefusal::BadLine,
+        ends: &["loop 2\nendscript"],
+    },
+    Refusals {
+        line: 13,
+        refusal: InputRefusal::TooDeep,
+        ends: &["loop 1\nloop 1\nloop 1\nloop 1\nloop 1\nloop 1\nloop 1\nloop 1\nloop 1"],
+    },
+];
+
+#[test]
+fn refuses_scripts(rt: HostRuntime) -> Result<(), Fail> {
+    check_table(&rt, rt.alloc(), CALL, &REFUSED_SCRIPTS)
+}
+
+const REFUSED_RUNS: [Refusals<'_>; 4] = [
+    Refusals {
+        line: 2,
+        refusal: InputRefusal::BadLine,
+        ends: &["runs 0", "runs"],
+    },
+    Refusals {
+        line: 2,
+        refusal: InputRefusal::BadNumber,
+        ends: &["runs 0 0"],
+    },
+    Refusals {
+        line: 2,
+        refusal: InputRefusal::BadActor,
+        ends: &["runs 2 1"],
+    },
+    Refusals {
+        line: 2,
+        refusal: InputRefusal::TooLong,
+        ends: &["runs 0 1000000 0 1"],
+    },
+];
+
+#[test]
+fn refuses_runs(rt: HostRuntime) -> Result<(), Fail> {
+    check_table(&rt, rt.alloc(), "lottery 2\n", &REFUSED_RUNS)
+}
+
+/// A first line, and then a line of this many bytes.
 fn long_line(alloc: Global, first: &str, count: usize) -> Result<String, AllocError> {
     let mut text = String::from_str(alloc, "lottery 1\n")?;
     text.push_str(first)?;
@@ -369,7 +553,7 @@ fn long_line(alloc: Global, first: &str, count: usize) -> Result<String, AllocEr
     Ok(text)
 }
 
-/// A script of so many lines.
+/// A script of this many lines.
 fn long_script(alloc: Global, count: u32) -> Result<String, AllocError> {
     let mut text = String::from_str(alloc, "lottery 1\nscript s\n")?;
     for _ in 0..count {
@@ -379,8 +563,13 @@ fn long_script(alloc: Global, count: u32) -> Result<String, AllocError> {
     Ok(text)
 }
 
+/// Compares the line and the refusal of a long input, if it is refused.
+fn check_long(rt: &impl Abort, alloc: Global, text: &str, wanted: Option<(u32, InputRefusal)>) {
+    assert_eq!(rt; refused(alloc, text), wanted, "of {} bytes", text.len());
+}
+
 #[test]
-fn meets_limits(rt: HostRuntime) -> Result<(), Fail> {
+fn meets_limits_of_lines(rt: HostRuntime) -> Result<(), Fail> {
     for (first, count, wanted) in [
         ("#", 4096, None),
         ("#", 4097, Some((2, InputRefusal::TooLong))),
@@ -388,15 +577,17 @@ fn meets_limits(rt: HostRuntime) -> Result<(), Fail> {
         ("x", 4097, Some((2, InputRefusal::TooLong))),
     ] {
         let text = long_line(rt.alloc(), first, count)?;
-        assert_eq!(rt; refused(rt.alloc(), text.as_str()), wanted, "of {count}");
+        check_long(&rt, rt.alloc(), text.as_str(), wanted);
     }
-    let text = long_script(rt.alloc(), 1024)?;
-    assert_eq!(rt; refused(rt.alloc(), text.as_str()), None);
-    let text = long_script(rt.alloc(), 1025)?;
-    assert_eq!(rt;
-        refused(rt.alloc(), text.as_str()),
-        Some((1027, InputRefusal::TooLong))
-    );
+    Ok(())
+}
+
+#[test]
+fn meets_limits_of_scripts(rt: HostRuntime) -> Result<(), Fail> {
+    for (count, wanted) in [(1024, None), (1025, Some((1027, InputRefusal::TooLong)))] {
+        let text = long_script(rt.alloc(), count)?;
+        check_long(&rt, rt.alloc(), text.as_str(), wanted);
+    }
     Ok(())
 }
 
@@ -409,7 +600,7 @@ struct Failing {
 }
 
 impl Failing {
-    /// The count of one call more.
+    /// The count of one more call.
     fn call(&mut self) -> io::Result<usize>
         ensures { IfOk result (λ n. n ≤ 1) }
     {
@@ -443,34 +634,64 @@ impl Write for Failing {
     }
 }
 
+/// A watched reader or writer whose k-th call fails in this way.
+fn make_failing(kind: Option<ErrorKind>, fails_at: u32) -> Watched<Failing> {
+    Watched::new(Failing {
+        calls: 0,
+        fails_at,
+        kind,
+    })
+}
+
+/// How many calls have reached the reader or writer.
+fn calls_of(watched: Watched<Failing>) -> u32 {
+    let Failing { calls, .. } = watched.into_inner();
+    calls
+}
+
+fn check_write_all(rt: &impl Abort, writer: &mut Watched<Failing>, fails: bool) {
+    assert_eq!(rt; writer.write_all(b"abc").is_err(), fails);
+    assert_eq!(rt; writer.failed(), fails);
+}
+
+fn check_flush(rt: &impl Abort, writer: &mut Watched<Failing>, fails: bool) {
+    assert_eq!(rt; writer.flush().is_err(), fails);
+}
+
+fn check_write(rt: &impl Abort, writer: &mut Watched<Failing>) {
+    assert_eq!(rt; writer.write(b"d").is_err(), writer.failed());
+}
+
+/// How many of five calls reach a writer whose call of this number fails, the first three of which write.
+fn calls_reaching(kind: Option<ErrorKind>, fails_at: u32) -> u32 {
+    if fails_at <= 3 {
+        fails_at
+    } else if kind.is_some() {
+        4
+    } else {
+        5
+    }
+}
+
+/// Writes three bytes, flushes, and writes one more.
+fn check_writes(rt: &impl Abort, kind: Option<ErrorKind>, fails_at: u32) {
+    let mut writer = make_failing(kind, fails_at);
+    check_write_all(rt, &mut writer, fails_at <= 3);
+    check_flush(rt, &mut writer, fails_at <= 3 || kind.is_some());
+    check_write(rt, &mut writer);
+    assert_eq!(rt; calls_of(writer), calls_reaching(kind, fails_at));
+}
+
+fn check_kind_of_write(rt: &impl Abort, kind: Option<ErrorKind>) {
+    for fails_at in 1..5 {
+        check_writes(rt, kind, fails_at);
+    }
+}
+
 #[test]
 fn keeps_failures(rt: HostRuntime) {
     for kind in [Some(ErrorKind::Other), Some(ErrorKind::Interrupted), None] {
-        for fails_at in 1..5 {
-            let mut writer = Watched::new(Failing {
-                calls: 0,
-                fails_at,
-                kind,
-            });
-            let written = writer.write_all(b"abc");
-            assert_eq!(rt; written.is_err(), fails_at <= 3);
-            assert_eq!(rt; writer.failed(), fails_at <= 3);
-            let flushed = writer.flush();
-            assert_eq!(rt; flushed.is_err(), fails_at <= 3 || kind.is_some());
-            let later = writer.write(b"d");
-            assert_eq!(rt; later.is_err(), writer.failed());
-            let Failing { calls, .. } = writer.into_inner();
-            assert_eq!(rt;
-                calls,
-                if fails_at <= 3 {
-                    fails_at
-                } else if kind.is_some() {
-                    4
-                } else {
-                    5
-                }
-            );
-        }
+        check_kind_of_write(&rt, kind);
     }
 }
 
@@ -496,6 +717,25 @@ impl Write for Flushing {
     }
 }
 
+/// Has the writer take two bytes, which are then not flushed.
+fn check_taken(rt: &impl Abort, writer: &mut Watched<Flushing>) {
+    assert!(rt; writer.flushed());
+    assert_eq!(rt; writer.write(b"ab").ok(), Some(2));
+    assert!(rt; !writer.flushed());
+}
+
+/// Flushes the writer, which fails or flushes all.
+fn check_flushed(rt: &impl Abort, writer: &mut Watched<Flushing>, fails: bool) {
+    assert_eq!(rt; writer.flush().is_err(), fails);
+    assert_eq!(rt; writer.flushed(), !fails);
+}
+
+/// Whether the flush reached the writer.
+fn is_flushed(writer: Watched<Flushing>) -> bool {
+    let Flushing { is_flushed, .. } = writer.into_inner();
+    is_flushed
+}
+
 // No clause can tell a flush that isn't handed on.
 #[test]
 fn hands_flushes_on(rt: HostRuntime) {
@@ -504,32 +744,41 @@ fn hands_flushes_on(rt: HostRuntime) {
             is_flushed: true,
             fails,
         });
-        assert!(rt; writer.flushed());
-        assert_eq!(rt; writer.write(b"ab").ok(), Some(2));
-        assert!(rt; !writer.flushed());
-        assert_eq!(rt; writer.flush().is_err(), fails);
-        assert_eq!(rt; writer.flushed(), !fails);
-        let Flushing { is_flushed, .. } = writer.into_inner();
-        assert_eq!(rt; is_flushed, !fails);
+        check_taken(&rt, &mut writer);
+        check_flushed(&rt, &mut writer, fails);
+        assert_eq!(rt; is_flushed(writer), !fails);
+    }
+}
+
+fn check_read(rt: &impl Abort, alloc: Global, reader: &mut Watched<Failing>) {
+    let mut bytes = Vec::new(alloc);
+    assert!(rt; reader.read_to_end(&mut bytes).is_err());
+    assert!(rt; reader.failed());
+}
+
+fn check_kind_of_read(rt: &impl Abort, alloc: Global, kind: ErrorKind) {
+    for fails_at in 1..4 {
+        let mut reader = make_failing(Some(kind), fails_at);
+        check_read(rt, alloc, &mut reader);
+        assert_eq!(rt; calls_of(reader), fails_at);
     }
 }
 
 #[test]
-fn keeps_failed_reads(rt: HostRuntime) -> Result<(), Fail> {
+fn keeps_failed_reads(rt: HostRuntime) {
     for kind in [ErrorKind::Other, ErrorKind::Interrupted] {
-        for fails_at in 1..4 {
-            let mut reader = Watched::new(Failing {
-                calls: 0,
-                fails_at,
-                kind: Some(kind),
-            });
-            let mut bytes = Vec::new(rt.alloc());
-            assert!(rt; reader.read_to_end(&mut bytes).is_err());
-            assert!(rt; reader.failed());
-            let Failing { calls, .. } = reader.into_inner();
-            assert_eq!(rt; calls, fails_at);
-        }
+        check_kind_of_read(&rt, rt.alloc(), kind);
     }
+}
+
+fn check_text(
+    rt: &impl Abort,
+    alloc: Global,
+    fault: ParseFault,
+    text: &str,
+) -> Result<(), AllocError> {
+    let shown = format!(in alloc; "{fault}")?;
+    assert_eq!(rt; shown.as_str(), text);
     Ok(())
 }
 
@@ -539,12 +788,7 @@ fn texts_of_faults(rt: HostRuntime) -> Result<(), Fail> {
         line: 3,
         refusal: InputRefusal::BadLine,
     });
-    for (fault, text) in [
-        (ParseFault::Memory, "out of memory"),
-        (refused, "line 3 is refused: BadLine"),
-    ] {
-        let shown = format!(in rt.alloc(); "{fault}")?;
-        assert_eq!(rt; shown.as_str(), text);
-    }
+    check_text(&rt, rt.alloc(), ParseFault::Memory, "out of memory")?;
+    check_text(&rt, rt.alloc(), refused, "line 3 is refused: BadLine")?;
     Ok(())
 }

@@ -1,9 +1,9 @@
 //! The tokens of a line.
 ghost use Rattle.std.specs.Prelude.{◌≡◌, ◌≢◌, ◌==◌, ◌≤◌, ◌%◌, not, length, [], ◌∷◌, ◌↔◌, IsTrue, MatchOption, MatchResult};
 ghost use Rattle.std.specs.List.{prefix_len};
-ghost use Rattle.lot_machine.specs.Lines.{tokens_of, is_comment, is_printable as is_printable_line};
+ghost use Rattle.lot_simulation.specs.Lines.{tokens_of, is_comment, is_printable as is_printable_line};
 
-use lot_machine::InputRefusal;
+use lot_simulation::InputRefusal;
 use std::marker::Model;
 
 /// The tokens of a line that are left.
@@ -14,7 +14,7 @@ pub(crate) struct Tokens<'a> {
 
 impl<'a> Model for Tokens<'a> {
     ghost use Rattle.std.specs.Prelude.{List, ℕ};
-    ghost use Rattle.lot_machine.specs.Lines.{tokens_of};
+    ghost use Rattle.lot_simulation.specs.Lines.{tokens_of};
 
     ghost Value = { List (List ℕ) };
 
@@ -42,14 +42,14 @@ impl<'a> Tokens<'a> {
         Some(&word[..len])
     }
 
-    /// The next token, where there has to be one.
+    /// The next token. There has to be one.
     pub(crate) fn expected(&mut self) -> Result<&'a [u8], InputRefusal>
         ensures { MatchResult result (λ token. self.old ≡ token.now ∷ self.new) (λ e. (e ≡ InputRefusal.BadLine) × (self.old ≡ [])) }
     {
         self.next_token().ok_or(InputRefusal::BadLine)
     }
 
-    /// The last token, where there has to be one and no other.
+    /// The last token. There has to be one and no other.
     pub(crate) fn only(mut self) -> Result<&'a [u8], InputRefusal>
         ensures { MatchResult result (λ token. self.entry ≡ token.now ∷ []) (λ e. (e ≡ InputRefusal.BadLine) × (length self.entry ≢ 1)) }
     {
@@ -58,7 +58,7 @@ impl<'a> Tokens<'a> {
         Ok(token)
     }
 
-    /// The end, where there has to be no token.
+    /// The end. There has to be no token.
     pub(crate) fn none(mut self) -> Result<(), InputRefusal>
         ensures { MatchResult result (λ _. self.entry ≡ []) (λ e. (e ≡ InputRefusal.BadLine) × (length self.entry ≢ 0)) }
     {
@@ -68,7 +68,7 @@ impl<'a> Tokens<'a> {
         }
     }
 
-    /// The next two tokens, or `None` where there are fewer.
+    /// The next two tokens, or `None` if there are fewer.
     pub(crate) fn next_pair(&mut self) -> Option<(&'a [u8], &'a [u8])>
         ensures { MatchOption result (length self.old ≤ 1) (λ pair. self.old ≡ pair.0.now ∷ pair.1.now ∷ self.new) }
     {
@@ -90,7 +90,7 @@ impl<'a> Tokens<'a> {
         true
     }
 
-    /// Whether there are so many tokens.
+    /// Whether there are this many tokens.
     pub(crate) fn has_len(&self, count: usize) -> bool
         ensures { IsTrue result ↔ (length self.now ≡ count) }
     {
@@ -114,7 +114,7 @@ fn spaces_in_front(bytes: &[u8]) -> usize
     bytes.iter().take_while(|b| **b == b' ').count()
 }
 
-/// How many bytes stand before the first of this value, or how many there are where there is none.
+/// How many bytes stand before the first of this value, or how many there are if none has it.
 pub(crate) fn len_before(byte: u8, bytes: &[u8]) -> usize
     ensures others { result ≡ prefix_len (λ b. not (b == byte)) bytes.now }
     ensures within { result ≤ length bytes.now }

@@ -1,4 +1,4 @@
-//! Readers and writers that keep in mind whether they have failed.
+//! Readers and writers that remember whether they have failed.
 ghost use Rattle.std.specs.Prelude.{◌≡◌, ◌==◌, ◌||◌, ◌&&◌, true, false, is_err, is_ok, length, IsTrue, IsErr, OnOk};
 ghost use Rattle.std.specs.Io.{ReadsAtMost, WritesAtMost};
 ghost use Rattle.std.specs.Io.KnownBytes.{Appends, Keeps, ReadConsumes, WriteAppends};
@@ -8,8 +8,8 @@ use std::io;
 use std::io::{Error, ErrorKind, Read, Write};
 use std::marker::Model;
 
-/// A reader or a writer that keeps in mind whether it has failed, and lets nothing through once it has. No error is tried
-/// again, interrupted calls neither. Of a writer it keeps in mind, too, whether all that it took has been flushed.
+/// A reader or a writer that remembers whether it has failed, and lets nothing through once it has. No failed call is
+/// tried again, not even an interrupted one. Of a writer it also remembers whether all that it took has been flushed.
 #[derive(Debug, Drop)]
 pub struct Watched<T> {
     inner: T,

@@ -1,8 +1,8 @@
 //! The words that begin lines.
 ghost use Rattle.std.specs.Prelude.{◌≡◌, take, drop};
-ghost use Rattle.lot_machine.specs.Words.{word_in, header_words, body_words, script_words};
+ghost use Rattle.lot_simulation.specs.Words.{word_in, header_words, body_words, script_words};
 
-use lot_machine::{BodyWord, HeaderWord, ScriptWord};
+use lot_simulation::{BodyWord, HeaderWord, ScriptWord};
 
 /// The word of the header that the token is, if it is one.
 pub(crate) fn header_word(token: &[u8]) -> Option<HeaderWord>

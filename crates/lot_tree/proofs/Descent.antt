@@ -44,7 +44,7 @@ module _ (ws sums : List ℕ) (number upper level size base rest : ℕ) (next : 
     reached = rw (← is_size) reached;
   }
 
-  -- and so it has where it goes to the last place or past it
+  -- and so it has if it goes to the last place or past it
   pub IsNarrowed_short : length ws < base + size → IsNarrowed ws number level base rest
   IsNarrowed_short short = in_left (
       let all : take (base + size) ws ≡ ws = take_all (base + size) ws (omega arith) in
@@ -61,7 +61,7 @@ module _ (ws sums : List ℕ) (number upper level size base rest : ℕ) (next : 
         let kept = held narrowed.block (omega arith) in
         rw (is_left, to, from) kept.adds
 
-    -- where the rest passes the left half, the place is in the right half
+    -- if the rest passes the left half, the place is in the right half
     pub IsNarrowed_right : left ≤ rest → IsNarrowed ws number level (base + size) (rest - left)
     IsNarrowed_right past = record {
       block = 2 * narrowed.block + 1;
@@ -71,7 +71,7 @@ module _ (ws sums : List ℕ) (number upper level size base rest : ℕ) (next : 
       reached = let twice : base + size + size ≡ base + 2 ^ upper = omega (arith, whole_block) in rw (← is_size, twice) narrowed.reached;
     }
 
-    -- where it does not, the place is in the left half
+    -- if it does not, the place is in the left half
     pub IsNarrowed_left : rest < left → IsNarrowed ws number level base rest
     IsNarrowed_left short = in_left (omega (arith, narrowed.passed, left_half))
 
@@ -93,7 +93,7 @@ length-from_IsFirstAbove ws number place within found passed = elim (cases_lt pl
       absurd (omega (arith, found.above, more, rw all at passed))
 ]
 
--- the walk from a list's first weight on, where those before it add up to `before`
+-- the walk from a list's first weight on, if those before it add up to `before`
 first_above_from : (ws : List ℕ) (before number place : ℕ) → place < length ws → number < before + sum (take (suc place) ws)
     → ((k : ℕ) → k < place → before + sum (take (suc k) ws) ≤ number) → first_above number (running_sums before ws) ≡ place
 first_above_from [] before number place within above first = absurd (omega arith)

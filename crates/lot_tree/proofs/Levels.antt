@@ -73,14 +73,14 @@ level_apart k m a b other same =
     other (same_level k m a b (omega (arith, ends_past_zero (2 ^ k) (2 * a) (pow_pos k), ends_past_zero (2 ^ m) (2 * b) (pow_pos m))))
 
 module _ (ws sums : List ℕ) (i w level : ℕ) (place : i < length ws) (held : ArePartialSumsAt ws sums level) where
-  -- where the block of i keeps no partial sum, none changes
+  -- if the block of i keeps no partial sum, none changes
   ArePartialSumsAt-set_skipped : ((pair : ℕ) → 2 * pair ≡ i / 2 ^ level → length ws < (2 * pair + 1) * 2 ^ level) → ArePartialSumsAt (set ws i w) sums level
   ArePartialSumsAt-set_skipped none pair whole =
       let kept : (2 * pair + 1) * 2 ^ level ≤ length ws = omega (arith, length-set ws i w) in
       let other : 2 * pair ≢ i / 2 ^ level = λ same. absurd (omega (arith, none pair same)) in
       IsPartialSum-set_outside ws sums i w _ _ place (omega arith) (block_apart (2 ^ level) i (2 * pair) (pow_pos level) other) (held pair kept)
 
-  -- where it keeps one, that one changes
+  -- if it keeps one, that one changes
   ArePartialSumsAt-set_written : (pair : ℕ) → 2 * pair ≡ i / 2 ^ level → (2 * pair + 1) * 2 ^ level ≤ length sums
       → ArePartialSumsAt (set ws i w) (set sums ((2 * pair + 1) * 2 ^ level - 1) (get_or sums ((2 * pair + 1) * 2 ^ level - 1) 0 - get_or ws i 0 + w)) level
   ArePartialSumsAt-set_written pair its kept other whole =
@@ -141,7 +141,7 @@ IsPartialSum-within ws sums i w from to place after before held =
     (least, omega (arith, held.adds, sum-take-set ws i w to place before, sum_by-take-le (λ x. x) (set ws i w) to))
 
 module _ (ws sums : List ℕ) (i w level size : ℕ) (place : i < length ws) (same_length : length sums ≡ length ws) (is_size : size ≡ 2 ^ level) (done : IsWrittenBelow ws sums i w level) where
-  -- where the block of i is even and whole, its partial sum is the last one of the left half of a pair
+  -- if the block of i is even and whole, its partial sum is the last one of the left half of a pair
   its_pair : i / 2 ^ level % 2 ≡ 0 → size ≤ length ws - i / 2 ^ level * size
       → (pair : ℕ) × (2 * pair ≡ i / 2 ^ level) × ((2 * pair + 1) * 2 ^ level ≤ length ws) × (i / 2 ^ level * size + size ≡ (2 * pair + 1) * 2 ^ level)
   its_pair even whole =

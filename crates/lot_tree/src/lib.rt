@@ -1,7 +1,7 @@
 //! A tree of partial sums: weights at places, their total at once, and the place that a number
 //! draws, which is the first whose running sum is greater than the number.
 //!
-//! Cut the places into blocks of 1, 2, 4, .. places. Of the whole blocks of one size each second
+//! Cut the places into blocks of 1, 2, 4, .. places. Of the whole blocks of one size, every second
 //! one, from the first on, keeps the sum of its weights, at its last place. No two blocks share
 //! that place, so there is at most one partial sum for each weight, and a descent that halves the
 //! places in question reads at most one for each binary digit of their number.

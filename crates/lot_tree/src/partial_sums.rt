@@ -35,8 +35,8 @@ impl PartialSums {
         self.sums.len()
     }
 
-    /// The partial sum at `place`, which is less than the number of places. Adds one to `visits`, which stops at the greatest
-    /// `u64`.
+    /// The partial sum at `place`, which is less than the number of places. Adds one to `visits`, which stops at the
+    /// greatest `u64`.
     pub(crate) fn read(&self, place: usize, visits: &mut u64) -> u128
         requires { place < length self.now }
         ensures value { result ≡ slice_index self.now place }

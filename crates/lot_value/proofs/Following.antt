@@ -13,7 +13,7 @@ use Rattle.lot_machine.specs.Bounds.{IsUnit}
 use Rattle.lot_machine.specs.Numbered.{at_number, set_number, numbers}
 use Rattle.lot_machine.specs.Funding.{Funding, ends_of, IsEdge, ticket_at, owner_of, target_node}
 use Rattle.lot_machine.specs.Lends.{IsLive}
-use Rattle.lot_machine.specs.Touched.{IsSeed, IsTouched, IsChangedLife, IsPath, PathLeads}
+use Rattle.lot_machine.specs.Touched.{IsChangedNode, IsTouched, IsChangedLife, IsPath, PathLeads}
 use Rattle.lot_machine.specs.Equations.{HasEquation, edges_into, Reaches, IsWay}
 use Rattle.lot_machine.proofs.BaseKept.{active-bounded}
 use Rattle.lot_machine.proofs.Tickets.{at_number-suc, some-injective}
@@ -130,7 +130,7 @@ pub reach-path : (f g : Funding) (from to : Node) → Reaches g from to → Path
 reach-path f g from to (way, is) = (way, way-path f g from way to is)
 
 -- what is reached from a listed node is reached from one that the change touched
-pub listed-downstream : (before after : LimitedFunding) (live now : List Bool) (begun : Node) (v : Activity) → ChangesNodes before live after now begun v → IsSeed before.funding after.funding live now begun → (node : Node) → IsListed after v node → (x : Node) → Reaches after.funding node x
+pub listed-downstream : (before after : LimitedFunding) (live now : List Bool) (begun : Node) (v : Activity) → ChangesNodes before live after now begun v → IsChangedNode before.funding after.funding live now begun → (node : Node) → IsListed after v node → (x : Node) → Reaches after.funding node x
     → (seed : Node) × IsTouched before.funding after.funding live now seed × PathLeads before.funding after.funding seed x
 listed-downstream before after live now begun v changes seed node listed x reached = by listed
   where

@@ -31,6 +31,7 @@ use Rattle.lot_value.proofs.Ends.{edge-there, there-edge}
 use Rattle.lot_value.proofs.Nodes.{within-node}
 use Rattle.lot_value.proofs.OneEdge.{Differ, has-same, same-layout, right-one, stale-one}
 use Rattle.lot_value.proofs.Following.{live-is, live-length}
+use Rattle.lot_graph.specs.Changes.{with_lends, with_owners, with_tickets}
 
 -- ---- one edge
 
@@ -97,41 +98,41 @@ module _ (w now : LimitedFunding) (v : Activity) (c : Known) (together : AreToge
   went edge other ends is other_adds threads =
       let adds = went-by now w edge other ends other_adds is in (adds, stands-went w now edge ends adds threads together.right.ends together.kept.fits)
 
-  pub unfund-went : (n : ℕ) (ends : EdgeEnds) → ends_of_edge w.funding (OfTicket n) ≡ Some ends → now ≡ record w { funding = record w.funding { tickets = with_target w.funding.tickets n target.Unfunded } } → AddsEdge now w (OfTicket n) ends × StandsFor w now ends
+  pub unfund-went : (n : ℕ) (ends : EdgeEnds) → ends_of_edge w.funding (OfTicket n) ≡ Some ends → now ≡ with_tickets w (with_target w.funding.tickets n target.Unfunded) → AddsEdge now w (OfTicket n) ends × StandsFor w now ends
   unfund-went n ends is change =
       let (t, at, from, to) = ticket-ends w.funding n ends.from ends.to (there-edge w.funding (OfTicket n) ends is) in
       went (OfTicket n) (edge_between t.amount (Currency t.issuer) ends.to) ends is (unfund-edge w now n t ends.to at to change) (ap (λ (x : LimitedFunding). length x.funding.lends) change)
 
-  pub fund-came : (n : ℕ) (to : Target) → target_of w.funding n ≡ Some target.Unfunded → IsTarget w.funding to → now ≡ record w { funding = record w.funding { tickets = with_target w.funding.tickets n to } } → FitsLimits now
+  pub fund-came : (n : ℕ) (to : Target) → target_of w.funding n ≡ Some target.Unfunded → IsTarget w.funding to → now ≡ with_tickets w (with_target w.funding.tickets n to) → FitsLimits now
       → (ends : EdgeEnds) × AddsEdge w now (OfTicket n) ends × StandsFor w now ends
   fund-came n to free is change fits =
       let (t, at, unfunded) = target-ticket w.funding n target.Unfunded free in
       let (node, leads, has) = target-node w.funding to is in
       came (OfTicket n) (edge_between t.amount (Currency t.issuer) node) (fund-edge w now n t to node at unfunded leads change) (ap (λ (x : LimitedFunding). length x.funding.lends) change) has fits
 
-  pub lend-came : (t : ℕ) (lend : Lend) → at_number w.funding.lends t ≡ Some Nobody → IsBorrower w.funding lend → now ≡ record w { funding = record w.funding { lends = set_number w.funding.lends t lend } } → FitsLimits now
+  pub lend-came : (t : ℕ) (lend : Lend) → at_number w.funding.lends t ≡ Some Nobody → IsBorrower w.funding lend → now ≡ with_lends w (set_number w.funding.lends t lend) → FitsLimits now
       → (ends : EdgeEnds) × AddsEdge w now (OfLender t) ends × StandsFor w now ends
   lend-came t lend nobody is change fits =
       let (node, leads, has) = lend-target w.funding lend is in
       came (OfLender t) (edge_between 1 (Thread t) node) (lend-edge w now t lend node nobody leads change) (ap (λ (x : LimitedFunding). length x.funding.lends) change ∙ length-set w.funding.lends (t - 1) lend) has fits
 
-  pub unlend-went : (t : ℕ) (ends : EdgeEnds) → ends_of_edge w.funding (OfLender t) ≡ Some ends → now ≡ record w { funding = record w.funding { lends = set_number w.funding.lends t Nobody } } → AddsEdge now w (OfLender t) ends × StandsFor w now ends
+  pub unlend-went : (t : ℕ) (ends : EdgeEnds) → ends_of_edge w.funding (OfLender t) ≡ Some ends → now ≡ with_lends w (set_number w.funding.lends t Nobody) → AddsEdge now w (OfLender t) ends × StandsFor w now ends
   unlend-went t ends is change =
       let (lend, at, from, to) = lender-ends w.funding t ends.from ends.to (there-edge w.funding (OfLender t) ends is) in
       went (OfLender t) (edge_between 1 (Thread t) ends.to) ends is (unlend-edge w now t lend ends.to at to change) (ap (λ (x : LimitedFunding). length x.funding.lends) change ∙ length-set w.funding.lends (t - 1) Nobody)
 
-  pub own-came : (m owner : ℕ) → IsMutex w.funding m → owner_of w.funding m ≡ None → IsThread w.funding owner → now ≡ record w { funding = record w.funding { owners = set_number w.funding.owners m (Some owner) } } → FitsLimits now
+  pub own-came : (m owner : ℕ) → IsMutex w.funding m → owner_of w.funding m ≡ None → IsThread w.funding owner → now ≡ with_owners w (set_number w.funding.owners m (Some owner)) → FitsLimits now
       → (ends : EdgeEnds) × AddsEdge w now (OfMutex m) ends × StandsFor w now ends
   own-came m owner there free is change fits = came (OfMutex m) (edge_between 1 (Mutex m) (Thread owner)) (own-edge w now m owner there free change) (ap (λ (x : LimitedFunding). length x.funding.lends) change) is fits
 
-  pub disown-went : (m : ℕ) (ends : EdgeEnds) → IsMutex w.funding m → ends_of_edge w.funding (OfMutex m) ≡ Some ends → now ≡ record w { funding = record w.funding { owners = set_number w.funding.owners m None } } → AddsEdge now w (OfMutex m) ends × StandsFor w now ends
+  pub disown-went : (m : ℕ) (ends : EdgeEnds) → IsMutex w.funding m → ends_of_edge w.funding (OfMutex m) ≡ Some ends → now ≡ with_owners w (set_number w.funding.owners m None) → AddsEdge now w (OfMutex m) ends × StandsFor w now ends
   disown-went m ends there is change =
       let (owner, owns, from, to) = mutex-ends w.funding m ends.from ends.to (there-edge w.funding (OfMutex m) ends is) in
       went (OfMutex m) (edge_between 1 (Mutex m) (Thread owner)) ends is (disown-edge w now m owner there owns change) (ap (λ (x : LimitedFunding). length x.funding.lends) change)
 
 -- a mutex without an edge is free, and so is the same when it is made free
-pub free-same : (w : LimitedFunding) (m : ℕ) → IsMutex w.funding m → ((ends : EdgeEnds) → ends_of_edge w.funding (OfMutex m) ≡ Some ends → ⊥) → w ≡ record w { funding = record w.funding { owners = set_number w.funding.owners m None } }
-free-same w m there none = sym (ap (λ (owners : List (Option ℕ)). record w { funding = record w.funding { owners = owners } }) (free-kept w.funding m there (by (owner_of w.funding m) refl)))
+pub free-same : (w : LimitedFunding) (m : ℕ) → IsMutex w.funding m → ((ends : EdgeEnds) → ends_of_edge w.funding (OfMutex m) ≡ Some ends → ⊥) → w ≡ with_owners w (set_number w.funding.owners m None)
+free-same w m there none = sym (ap (λ (owners : List (Option ℕ)). with_owners w owners) (free-kept w.funding m there (by (owner_of w.funding m) refl)))
   where
     by : (o : Option ℕ) → owner_of w.funding m ≡ o → owner_of w.funding m ≡ None
     by None is = is

@@ -132,7 +132,7 @@ module _ (w : LimitedFunding) (live : List Bool) (old new : Known) (node : Node)
 
 -- ---- after a change
 
--- what is right is right for another graph but where equations have changed
+-- what is right is right for another graph, except where equations have changed
 pub pending-more : (before after : LimitedFunding) (live now : List Bool) (c : Known) (pending changed : List Node) → IsRightBut before live c pending → DiffersAt c.unit before live after now changed → IsRightBut after now c (changed ++ pending)
 pending-more before after live now c pending changed right differs = record {
   layout = right.layout ∙ sym differs.layout;

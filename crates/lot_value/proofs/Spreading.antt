@@ -10,7 +10,7 @@ use Rattle.lot_machine.specs.Funding.{Funding, ends_of}
 use Rattle.lot_machine.specs.declared.funding.Edge.{Edge}
 use Rattle.lot_machine.specs.Equations.{Reaches, HasEachOnce}
 use Rattle.lot_machine.proofs.Tickets.{some-injective}
-use Rattle.lot_machine.proofs.Changes.{place-behind}
+use Rattle.lot_machine.proofs.Changes.{place-after}
 use Rattle.lot_machine.proofs.EachOnce.{place-in, contains-at, contains-nothing}
 use Rattle.lot_graph.specs.declared.layout.Layout.{Layout}
 use Rattle.lot_graph.specs.Places.{node_place, node_of, IsNodeWithin, FitsIn}
@@ -53,7 +53,7 @@ spread-none v IsSo there = record { kept = λ place x at. at; each = λ x c. inl
 
 pub spread-push : (v w : NodeLists) (node : ℕ) → length v.lists ≡ 1 → w ≡ with_pushed v 0 node → Spreads v w (λ x. x ≡ node)
 spread-push v w node one is = record {
-  kept = λ place x at. subst (λ (xs : List ℕ). slice_get xs place ≡ Some x) (sym here) (place-behind (nodes_of v 0) (node ∷ []) place x at);
+  kept = λ place x at. subst (λ (xs : List ℕ). slice_get xs place ≡ Some x) (sym here) (place-after (nodes_of v 0) (node ∷ []) place x at);
   each = λ x c. by x (Contains-push_cases (nodes_of v 0) node x (subst (λ (xs : List ℕ). Contains xs x) here c));
   all = λ x same. subst (λ (xs : List ℕ). Contains xs x) (sym here) (Contains-append_right (nodes_of v 0) (node ∷ []) x (zero, omega arith, sym same));
 }

@@ -32,6 +32,7 @@ use Rattle.lot_value.proofs.Following.{live-is, live-length}
 use Rattle.lot_graph.proofs.FieldLemmas.{target-ticket}
 use Rattle.lot_value.proofs.Differing.{same-equation}
 use Rattle.lot_value.proofs.Rightness.{pending-more}
+use Rattle.lot_graph.specs.Changes.{with_currencies, with_lends, with_tickets}
 
 -- the same activity is kept for both, and each edge leads where it led
 module _ (v : Activity) (before after : LimitedFunding) (live now : List Bool) (was : IsKeptFor v before live) (is : IsKeptFor v after now) (layout : layout_of after ≡ layout_of before) (alike : (edge : Edge) → ends_of_edge after.funding edge ≡ ends_of_edge before.funding edge) where
@@ -101,29 +102,29 @@ module _ (w now : LimitedFunding) (v : Activity) (c : Known) (together : AreToge
       }
 
   -- a ticket is issued, if there may be one more
-  pub stays-issue : (number : Option ℕ) (amount issuer : ℕ) → OnSome number (now ≡ record w { funding = record w.funding { tickets = with_new_ticket w.funding.tickets amount issuer target.Unfunded } }) → IfNone number (now ≡ w) → IsSound now.funding → FitsLimits now
+  pub stays-issue : (number : Option ℕ) (amount issuer : ℕ) → OnSome number (now ≡ with_tickets w (with_new_ticket w.funding.tickets amount issuer target.Unfunded)) → IfNone number (now ≡ w) → IsSound now.funding → FitsLimits now
       → Stays now v c (live_of w v)
   stays-issue None amount issuer issued unchanged sound fits = stays-same unchanged
   stays-issue (Some n) amount issuer issued unchanged sound fits =
       stays-alike (issue-kept v w now (live_of w v) together.kept sound fits amount issuer issued) (ap layout_of issued) (ap (λ (x : LimitedFunding). length x.funding.lends) issued)
       (λ edge. ap (λ (x : LimitedFunding). ends_of_edge x.funding edge) issued ∙ issue-ends w.funding amount issuer edge)
 
-  pub stays-destroy : (n : ℕ) → target_of w.funding n ≡ Some target.Unfunded → now ≡ record w { funding = record w.funding { tickets = without_ticket w.funding.tickets n } } → IsSound now.funding → FitsLimits now → Stays now v c (live_of w v)
+  pub stays-destroy : (n : ℕ) → target_of w.funding n ≡ Some target.Unfunded → now ≡ with_tickets w (without_ticket w.funding.tickets n) → IsSound now.funding → FitsLimits now → Stays now v c (live_of w v)
   stays-destroy n free destroyed sound fits =
       let (t, at, unfunded) = target-ticket w.funding n target.Unfunded free in
       stays-alike (destroy-kept v w now (live_of w v) together.kept sound fits n t at unfunded destroyed) (ap layout_of destroyed) (ap (λ (x : LimitedFunding). length x.funding.lends) destroyed)
       (λ edge. ap (λ (x : LimitedFunding). ends_of_edge x.funding edge) destroyed ∙ destroy-ends w.funding n t at unfunded edge)
 
-  pub stays-currencies : (currencies : List Bool) → now ≡ record w { funding = record w.funding { currencies = currencies } } → IsSound now.funding → FitsLimits now → Stays now v c (live_of w v)
+  pub stays-currencies : (currencies : List Bool) → now ≡ with_currencies w currencies → IsSound now.funding → FitsLimits now → Stays now v c (live_of w v)
   stays-currencies currencies made sound fits =
       stays-alike (currencies-kept v w now (live_of w v) together.kept sound fits currencies made) (ap layout_of made) (ap (λ (x : LimitedFunding). length x.funding.lends) made) (λ edge. ap (λ (x : LimitedFunding). ends_of_edge x.funding edge) made)
 
   -- a currency is made, if there may be one more
-  pub stays-made : (number : Option ℕ) → OnSome number (now ≡ record w { funding = record w.funding { currencies = w.funding.currencies ++ true ∷ [] } }) → IfNone number (now ≡ w) → IsSound now.funding → FitsLimits now → Stays now v c (live_of w v)
+  pub stays-made : (number : Option ℕ) → OnSome number (now ≡ with_currencies w (w.funding.currencies ++ true ∷ [])) → IfNone number (now ≡ w) → IsSound now.funding → FitsLimits now → Stays now v c (live_of w v)
   stays-made None made unchanged sound fits = stays-same unchanged
   stays-made (Some n) made unchanged sound fits = stays-currencies (w.funding.currencies ++ true ∷ []) made sound fits
 
-  pub stays-thread : now ≡ record w { funding = record w.funding { lends = w.funding.lends ++ Nobody ∷ [] } } → IsSound now.funding → FitsLimits now → Stays now v c (live_of w v ++ false ∷ [])
+  pub stays-thread : now ≡ with_lends w (w.funding.lends ++ Nobody ∷ []) → IsSound now.funding → FitsLimits now → Stays now v c (live_of w v ++ false ∷ [])
   stays-thread added sound fits =
       let live = live_of w v ++ false ∷ [] in
       let kept = thread-kept v w now (live_of w v) together.kept sound fits added in

@@ -36,8 +36,8 @@ kept_worth l values node = slice_index values (node_place l node)
 abbrev pub value_in : Known → Node → ℕ
 value_in c node = kept_worth c.layout c.values node
 
--- What is known is right for a graph and the live threads but at these nodes: each other node that isn't stale has only
--- sources that aren't either, and its value is what the edges into it pass on of their values (4.4).
+-- What is known is right for a graph and the live threads, except at these nodes: each other node that isn't stale has
+-- no stale source, and its value is what the edges into it pass on of their values (4.4).
 pub record IsRightBut (w : LimitedFunding) (live : List Bool) (c : Known) (pending : List Node) : Type 0 where
   pub layout : c.layout ≡ layout_of w
   pub places : length c.values ≡ node_count c.layout
@@ -51,7 +51,7 @@ pub record IsRightBut (w : LimitedFunding) (live : List Bool) (c : Known) (pendi
 abbrev pub IsRight : LimitedFunding → List Bool → Known → Type 0
 IsRight w live c = IsRightBut w live c []
 
--- base's active tickets are worth less than 2 ^ 64, so each node is
+-- base's active tickets are worth less than 2 ^ 64 together, and so is each node
 abbrev pub IsSmall : ℕ → LimitedFunding → List Bool → Type 0
 IsSmall unit w live = active_amount w.funding live 0 * unit < 2 ^ 64
 
@@ -59,7 +59,7 @@ IsSmall unit w live = active_amount w.funding live 0 * unit < 2 ^ 64
 abbrev pub edges_into_all : Funding → List Node → ℕ
 edges_into_all f nodes = sum_by (edge_count_into f) nodes
 
--- one stale node is settled: it alone isn't stale then, and no other value changes
+-- one stale node is settled: it alone stops being stale, and no other value changes
 pub record Settles (old new : Known) (node : Node) : Type 0 where
   pub unit : new.unit ≡ old.unit
   pub layout : new.layout ≡ old.layout
@@ -71,7 +71,7 @@ pub record Settles (old new : Known) (node : Node) : Type 0 where
   pub sums : (f : Node → ℕ) → sum_by f new.stale + f node ≡ sum_by f old.stale
   pub values : (place : ℕ) → ¬ (place ≡ node_place old.layout node) → slice_index new.values place ≡ slice_index old.values place
 
--- A node has the same equation in both: it has no other sources in the second, and the same sum whatever they are worth.
+-- A node has the same equation in both: it has no new sources in the second, and the same sum whatever they are worth.
 pub record HasSameEquation (unit : ℕ) (before : Funding) (live_before : List Bool) (after : Funding) (live_after : List Bool) (node : Node) : Type 0 where
   pub sources : (from : Node) → IsEdge after from node → IsEdge before from node
   pub sums : (worth : Node → ℕ) → shares_into unit after live_after worth node ≡ shares_into unit before live_before worth node
@@ -90,8 +90,8 @@ pub record CoversChange (before : Funding) (live : List Bool) (after : Funding) 
   pub marks : (n : ℕ) (from to : Node) → ends_of after (OfTicket n) ≡ Some (from, to) → (IsActive before live n ↔ IsActive after now n) ⊎ Contains changed to
   pub amounts : (c : ℕ) (to : Node) → c ≢ 0 → IsEdge after (Currency c) to → (active_amount after now c ≡ active_amount before live c) ⊎ Contains changed to
 
--- Among these nodes is each one with an equation that a call switched, and each one that a ticket of a user currency funds whose
--- active amount the call changed.
+-- These nodes include each one with an equation that a call switched, and each one funded by a ticket of a user
+-- currency whose active amount the call changed.
 pub record TouchesListed (w : LimitedFunding) (v : Activity) (changed : List Node) : Type 0 where
   pub switched : (node : Node) → Contains (switched_nodes w v) node → HasEquation w.funding node → Contains changed node
   pub targets : (c : ℕ) (to : Node) → c ≢ 0 → Contains (switched_nodes w v) (Currency c) ⊎ Contains (adjusted_nodes w v) (Currency c) → IsEdge w.funding (Currency c) to → Contains changed to

@@ -53,7 +53,7 @@ pub record IsReordered {A : Type 0} (old new : List A) : Type 0 where
 abbrev pub last_of : NodeLists → Option ℕ
 last_of v = node_at v 0 (length (nodes_of v 0) - 1)
 
--- The edges into a node that were looked at, and their stale sources moved: if there was one the place at the back is a
+-- Edges into a node were looked at, and their stale sources moved: if there was one, the place at the back is a
 -- source's, and else the list is as it was.
 pub record IsRaising (l : Layout) (f : Funding) (node : Node) (old now : NodeLists) (seen : List Edge) (raised : Bool) : Type 0 where
   pub reordered : IsReordered (nodes_of old 0) (nodes_of now 0)

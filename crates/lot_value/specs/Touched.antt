@@ -9,7 +9,7 @@ use Rattle.lot_active.specs.Activity.{Activity}
 use Rattle.lot_active.specs.Changes.{switched_nodes, adjusted_nodes}
 use Rattle.lot_value.specs.Caches.{Known, IsStale, IsRightBut}
 
--- Nodes were touched, all of them such: what is right stays so, what was stale stays so, and what gets stale is reached from one.
+-- Only such nodes were touched: what is right or stale stays so, and what gets stale is reached from one of them.
 pub record Touched (w : LimitedFunding) (old new : Known) (IsSuch : Node → Type 0) : Type 0 where
   pub right : (live : List Bool) (pending : List Node) → IsRightBut w live old pending → IsRightBut w live new pending
   pub kept : (x : Node) → IsStale old x → IsStale new x
@@ -20,12 +20,12 @@ pub record Touched (w : LimitedFunding) (old new : Known) (IsSuch : Node → Typ
 abbrev pub IsUser : Node → Type 0
 IsUser node = (c : ℕ) × (node ≡ Currency c) × (c ≢ 0)
 
--- a ticket of one of these nodes that is a user currency funds the node
+-- one of these nodes is a user currency, and a ticket of it funds the node
 abbrev pub IsFundedBy : LimitedFunding → List Node → Node → Type 0
 IsFundedBy w nodes to = (from : Node) × Contains nodes from × IsUser from × IsEdge w.funding from to
 
--- The node is one that a call switched, and has an equation, or a ticket of a user currency funds it that the call switched or
--- adjusted.
+-- The node has an equation and a call switched it, or it is funded by a ticket of a user currency that the call
+-- switched or adjusted.
 abbrev pub IsListed : LimitedFunding → Activity → Node → Type 0
 IsListed w v node =
     (Contains (switched_nodes w v) node × HasEquation w.funding node) ⊎ (IsFundedBy w (switched_nodes w v) node ⊎ IsFundedBy w (adjusted_nodes w v) node)

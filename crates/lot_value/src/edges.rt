@@ -31,7 +31,7 @@ pub(crate) fn attach(graph: &Graph, active: &mut Active, values: &mut Values, ed
     values.touch(graph, ends.to);
 }
 
-/// Gives up an edge that was taken out of the graph, by where it led.
+/// Gives up an edge that was taken out of the graph, from the ends that it had.
 pub(crate) fn detach(graph: &Graph, active: &mut Active, values: &mut Values, ends: EdgeEnds)
     requires sound { IsSound graph.now.funding }
     requires fits { FitsLimits graph.now }

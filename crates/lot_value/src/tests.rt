@@ -7,7 +7,7 @@ mod rows;
 
 use super::*;
 use lot_graph::Graph;
-use lot_machine::{Lend, Limits, Node, Target};
+use lot_machine::{Lend, Limits, Node, Sizes, Target};
 use std::alloc::Global;
 use std::process::Abort;
 use std::test::Fail;
@@ -16,7 +16,17 @@ use std::test::Fail;
 fn small_graph(rt: &impl Abort, alloc: Global) -> Result<Graph, Fail>
     ensures limits { IfOk result (λ g. (g.currency_limit ≡ 1) × (g.thread_limit ≡ 2)) }
 {
-    let limits = Limits::new(2, 1, 2, 1, 1, 1, 1, 100);
+    let limits = Limits::new(Sizes {
+        tickets: 2,
+        currencies: 1,
+        threads: 2,
+        ports: 1,
+        mutexes: 1,
+        processors: 1,
+        scripts: 1,
+        quantum: 100,
+        unit: 1,
+    });
     let limits = limits.expect(rt, "limits are not in bounds");
     Ok(Graph::new(alloc, &limits)?)
 }
@@ -89,7 +99,7 @@ fn lend(rt: &impl Abort, graph: &mut ValuedGraph, thread: u32, lend: Lend) {
     graph.lend(thread, lend);
 }
 
-/// Whether a thread may lend so.
+/// Whether a thread may lend this way.
 fn may_lend(graph: &mut ValuedGraph, thread: u32, lend: Lend) -> bool
     requires thread { 0 < thread }
     requires within { thread ≤ graph.old.now.thread_limit }
@@ -172,7 +182,17 @@ fn opening(
     threads: u32,
     currencies: u32,
 ) -> Result<ValuedGraph, Fail> {
-    let limits = Limits::new(300, 200, 16, 4, 4, 4, 4, 1000);
+    let limits = Limits::new(Sizes {
+        tickets: 300,
+        currencies: 200,
+        threads: 16,
+        ports: 4,
+        mutexes: 4,
+        processors: 4,
+        scripts: 4,
+        quantum: 1000,
+        unit: 1,
+    });
     let limits = limits.expect(rt, "limits are not in bounds");
     let mut graph = ValuedGraph::new(alloc, &limits)?;
     for _ in 0..threads {
@@ -189,7 +209,7 @@ fn add_thread(rt: &impl Abort, graph: &mut ValuedGraph) {
     graph.add_thread();
 }
 
-/// Whether a node is worth so much, and isn't stale.
+/// Whether a node is worth this much, and isn't stale.
 fn is_worth(graph: &ValuedGraph, node: Node, value: u64) -> bool {
     let layout = graph.graph().layout();
     let within = match node {
@@ -200,7 +220,7 @@ fn is_worth(graph: &ValuedGraph, node: Node, value: u64) -> bool {
     within && !graph.is_stale(node) && graph.value_of(node) == value
 }
 
-/// Whether a ticket's issuer isn't stale, and one reading says that the ticket is worth so much.
+/// Whether a ticket's issuer isn't stale, and one reading says that the ticket is worth this much.
 fn is_ticket_worth(graph: &ValuedGraph, number: u32, value: u64) -> bool {
     let Some(ticket) = graph.graph().ticket(number) else {
         return false;

@@ -18,6 +18,7 @@ ghost use Rattle.lot_active.specs.Fundings.{IsKeptFor};
 ghost use Rattle.lot_value.specs.Counts.{counted_up};
 ghost use Rattle.lot_value.specs.Caches.{IsStale, IsOnce, Settles, edges_into_all, value_in};
 ghost use Rattle.lot_value.specs.Valued.{MakesStale};
+ghost use Rattle.lot_graph.specs.Changes.{with_currencies, with_lends, with_owners, with_tickets};
 
 use crate::edges::{attach, detach};
 use crate::meter::Meter;
@@ -83,7 +84,7 @@ impl ValuedGraph {
     /// Makes a currency and answers its number, one more than the last, or `None` if as many were made as there may be.
     pub fn make_currency(&mut self) -> Option<u32>
         ensures number { SomeIff result (length self.old.now.funding.currencies ≤ self.old.now.currency_limit) (length self.old.now.funding.currencies) }
-        ensures made { OnSome result (self.new.now ≡ record self.old.now { funding = record self.old.now.funding { currencies = self.old.now.funding.currencies ++ true ∷ [] } }) }
+        ensures made { OnSome result (self.new.now ≡ with_currencies self.old.now (self.old.now.funding.currencies ++ true ∷ [])) }
         ensures unchanged { IfNone result (self.new ≡ self.old) }
         ensures live { self.new.live ≡ self.old.live }
         ensures known { self.new.known ≡ self.old.known }
@@ -96,7 +97,7 @@ impl ValuedGraph {
         requires currency { IsUserCurrency self.old.now.funding currency }
         requires none_issued { issued_in self.old.now.funding currency ≡ [] }
         requires none_backing { backing_currency self.old.now.funding currency ≡ [] }
-        ensures removed { self.new.now ≡ record self.old.now { funding = record self.old.now.funding { currencies = slice_set self.old.now.funding.currencies currency false } } }
+        ensures removed { self.new.now ≡ with_currencies self.old.now (slice_set self.old.now.funding.currencies currency false) }
         ensures live { self.new.live ≡ self.old.live }
         ensures known { self.new.known ≡ self.old.known }
     {
@@ -109,7 +110,7 @@ impl ValuedGraph {
         requires currency { IsCurrency self.old.now.funding currency }
         requires amount { 0 < amount }
         ensures number { SomeIff result (length self.old.now.funding.tickets < self.old.now.ticket_limit) (length self.old.now.funding.tickets + 1) }
-        ensures issued { OnSome result (self.new.now ≡ record self.old.now { funding = record self.old.now.funding { tickets = with_new_ticket self.old.now.funding.tickets amount currency Unfunded } }) }
+        ensures issued { OnSome result (self.new.now ≡ with_tickets self.old.now (with_new_ticket self.old.now.funding.tickets amount currency Unfunded)) }
         ensures unchanged { IfNone result (self.new ≡ self.old) }
         ensures live { self.new.live ≡ self.old.live }
         ensures known { self.new.known ≡ self.old.known }
@@ -120,7 +121,7 @@ impl ValuedGraph {
     /// Removes a ticket that funds nothing. Its number is never given again.
     pub fn destroy(&mut self, ticket: u32)
         requires unfunded { target_of self.old.now.funding ticket ≡ Some Unfunded }
-        ensures destroyed { self.new.now ≡ record self.old.now { funding = record self.old.now.funding { tickets = without_ticket self.old.now.funding.tickets ticket } } }
+        ensures destroyed { self.new.now ≡ with_tickets self.old.now (without_ticket self.old.now.funding.tickets ticket) }
         ensures live { self.new.live ≡ self.old.live }
         ensures known { self.new.known ≡ self.old.known }
     {
@@ -130,7 +131,7 @@ impl ValuedGraph {
     /// Makes a thread, which isn't live and lends to nobody. Its number is one more than the last.
     pub fn add_thread(&mut self)
         requires room { length self.old.now.funding.lends < self.old.now.thread_limit }
-        ensures added { self.new.now ≡ record self.old.now { funding = record self.old.now.funding { lends = self.old.now.funding.lends ++ Nobody ∷ [] } } }
+        ensures added { self.new.now ≡ with_lends self.old.now (self.old.now.funding.lends ++ Nobody ∷ []) }
         ensures live { self.new.live ≡ self.old.live ++ false ∷ [] }
         ensures known { self.new.known ≡ self.old.known }
     {
@@ -142,7 +143,7 @@ impl ValuedGraph {
         requires unfunded { target_of self.old.now.funding ticket ≡ Some Unfunded }
         requires target { IsTarget self.old.now.funding target }
         ensures cycle { IsErr result ↔ IsCycle self.old.now.funding ticket target }
-        ensures funded { OnOk result (self.new.now ≡ record self.old.now { funding = record self.old.now.funding { tickets = with_target self.old.now.funding.tickets ticket target } }) }
+        ensures funded { OnOk result (self.new.now ≡ with_tickets self.old.now (with_target self.old.now.funding.tickets ticket target)) }
         ensures unchanged { OnErr result (self.new ≡ self.old) }
         ensures live { self.new.live ≡ self.old.live }
         ensures known { self.new.known ≡ record self.old.known { stale = self.new.known.stale } }
@@ -158,7 +159,7 @@ impl ValuedGraph {
     /// Takes a ticket from what it funds.
     pub fn unfund(&mut self, ticket: u32)
         requires funding { IsFunding self.old.now.funding ticket }
-        ensures unfunded { self.new.now ≡ record self.old.now { funding = record self.old.now.funding { tickets = with_target self.old.now.funding.tickets ticket Unfunded } } }
+        ensures unfunded { self.new.now ≡ with_tickets self.old.now (with_target self.old.now.funding.tickets ticket Unfunded) }
         ensures live { self.new.live ≡ self.old.live }
         ensures known { self.new.known ≡ record self.old.known { stale = self.new.known.stale } }
         ensures kept { (node : ANode) → IsStale self.old.known node → IsStale self.new.known node }
@@ -176,7 +177,7 @@ impl ValuedGraph {
         requires nobody { at_number self.old.now.funding.lends thread ≡ Some Nobody }
         requires borrower { IsBorrower self.old.now.funding lend }
         requires apart { ¬ LendReaches self.old.now.funding lend thread }
-        ensures lent { self.new.now ≡ record self.old.now { funding = record self.old.now.funding { lends = set_number self.old.now.funding.lends thread lend } } }
+        ensures lent { self.new.now ≡ with_lends self.old.now (set_number self.old.now.funding.lends thread lend) }
         ensures live { self.new.live ≡ self.old.live }
         ensures known { self.new.known ≡ record self.old.known { stale = self.new.known.stale } }
         ensures kept { (node : ANode) → IsStale self.old.known node → IsStale self.new.known node }
@@ -190,7 +191,7 @@ impl ValuedGraph {
     /// Makes a thread that lends lend to nobody.
     pub fn unlend(&mut self, thread: u32)
         requires lender { IsLender self.old.now.funding thread }
-        ensures unlent { self.new.now ≡ record self.old.now { funding = record self.old.now.funding { lends = set_number self.old.now.funding.lends thread Nobody } } }
+        ensures unlent { self.new.now ≡ with_lends self.old.now (set_number self.old.now.funding.lends thread Nobody) }
         ensures live { self.new.live ≡ self.old.live }
         ensures known { self.new.known ≡ record self.old.known { stale = self.new.known.stale } }
         ensures kept { (node : ANode) → IsStale self.old.known node → IsStale self.new.known node }
@@ -206,7 +207,7 @@ impl ValuedGraph {
     /// Makes a mutex free, if it isn't. What waiting threads lend to it goes no further then (6.1).
     pub fn give_up_mutex(&mut self, mutex: u32)
         requires mutex { IsMutex self.old.now.funding mutex }
-        ensures freed { self.new.now ≡ record self.old.now { funding = record self.old.now.funding { owners = set_number self.old.now.funding.owners mutex None } } }
+        ensures freed { self.new.now ≡ with_owners self.old.now (set_number self.old.now.funding.owners mutex None) }
         ensures live { self.new.live ≡ self.old.live }
         ensures known { self.new.known ≡ record self.old.known { stale = self.new.known.stale } }
         ensures kept { (node : ANode) → IsStale self.old.known node → IsStale self.new.known node }
@@ -225,7 +226,7 @@ impl ValuedGraph {
         requires free { owner_of self.old.now.funding mutex ≡ None }
         requires owner { IsThread self.old.now.funding owner }
         requires apart { ¬ Reaches self.old.now.funding (ThreadNode owner) (MutexNode mutex) }
-        ensures owned { self.new.now ≡ record self.old.now { funding = record self.old.now.funding { owners = set_number self.old.now.funding.owners mutex (Some owner) } } }
+        ensures owned { self.new.now ≡ with_owners self.old.now (set_number self.old.now.funding.owners mutex (Some owner)) }
         ensures live { self.new.live ≡ self.old.live }
         ensures known { self.new.known ≡ record self.old.known { stale = self.new.known.stale } }
         ensures kept { (node : ANode) → IsStale self.old.known node → IsStale self.new.known node }
@@ -300,6 +301,7 @@ impl ValuedGraph {
     pub fn settle(&mut self, meter: &mut Meter)
         ensures now { self.new.now ≡ self.old.now }
         ensures live { self.new.live ≡ self.old.live }
+        ensures unit { self.new.known.unit ≡ self.old.known.unit }
         ensures settled { self.new.known.stale ≡ [] }
         ensures once { IsOnce self.old.known }
         ensures counted { meter.new ≡ record meter.old { ticket_reads = counted_up meter.old.ticket_reads (edges_into_all self.old.now.funding self.old.known.stale) } }
@@ -307,7 +309,8 @@ impl ValuedGraph {
         self.values.settle(&self.graph, &self.active, meter);
     }
 
-    /// Computes the value of one stale node again and answers it; `None` if none is stale. Counts each edge into the node.
+    /// Computes the value of one stale node again and answers the node; `None` if none is stale. Counts each edge into
+    /// it.
     pub fn settle_next(&mut self, meter: &mut Meter) -> Option<Node>
         ensures now { self.new.now ≡ self.old.now }
         ensures live { self.new.live ≡ self.old.live }

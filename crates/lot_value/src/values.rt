@@ -137,8 +137,8 @@ impl Values {
         while self.settle_next(graph, active, meter).is_some() {}
     }
 
-    /// Computes the value of one stale node again, whose sources aren't stale, and answers it; `None` if none is stale. Counts each
-    /// edge into the node.
+    /// Computes again the value of one stale node whose sources aren't stale, and answers that node; `None` if none is
+    /// stale. Counts each edge into the node.
     pub fn settle_next(&mut self, graph: &Graph, active: &Active, meter: &mut Meter) -> Option<Node>
         requires right { (live : List Bool) × IsKeptFor active.now graph.now live × IsSmall self.old.unit graph.now live × IsRight graph.now live self.old }
         ensures right { (live : List Bool) → IsKeptFor active.now graph.now live → IsRight graph.now live self.old → IsRight graph.now live self.new }

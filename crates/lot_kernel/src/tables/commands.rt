@@ -8,10 +8,12 @@ ghost use Rattle.lot_rounds.specs.Tables.{IsTargetWithin};
 ghost use Rattle.lot_kernel.specs.Held as held;
 
 use crate::counts::{count_backing, count_issued};
-use crate::names::{currency_place, is_good_name, thread_place};
+use crate::names::{currency_place, thread_place};
 use crate::numbered::{is_dead, remove, retarget, ticket_at};
 use crate::tables::Tables;
-use lot_machine::{Command, Name, Record, Refusal, Reply, Status, Target, Thread, Ticket};
+use lot_machine::{
+    Command, Name, Record, Refusal, Reply, Status, Target, Thread, Ticket, is_good_name,
+};
 
 impl Tables {
     /// One command.
@@ -77,7 +79,7 @@ impl Tables {
         ensures reply { result ≡ (command_step self.old (MakeCurrency name.now)).reply }
         ensures state { self.new ≡ (command_step self.old (MakeCurrency name.now)).state }
     {
-        if !is_good_name(name) {
+        if !is_good_name(name.as_bytes()) {
             return Reply::Refused(Refusal::BadName);
         }
         if self.target_named(name).is_some() {
@@ -119,7 +121,7 @@ impl Tables {
         ensures reply { result ≡ (command_step self.old (MakeThread name.now script)).reply }
         ensures state { self.new ≡ (command_step self.old (MakeThread name.now script)).state }
     {
-        if !is_good_name(name) {
+        if !is_good_name(name.as_bytes()) {
             return Reply::Refused(Refusal::BadName);
         }
         if self.target_named(name).is_some() {
@@ -135,7 +137,7 @@ impl Tables {
         Reply::Thread(self.threads.len() as u32)
     }
 
-    /// One thread more: it is Ready and serves nobody.
+    /// One more thread: it is Ready and serves nobody.
     fn push_thread(&mut self, name: &Name, script: u32)
         requires { length self.old.threads < self.old.limits.threads }
         ensures { self.new ≡ names.with_thread self.old name.now script }
@@ -164,7 +166,7 @@ impl Tables {
         let Some(issuer) = currency_place(&self.currencies, currency) else {
             return Reply::Refused(Refusal::NoCurrency);
         };
-        if !is_good_name(name) {
+        if !is_good_name(name.as_bytes()) {
             return Reply::Refused(Refusal::BadName);
         }
         if self.target_named(name).is_some() {

@@ -11,13 +11,13 @@ ghost use Rattle.lot_kernel.specs.Draws.{winner_among};
 ghost use Rattle.lot_kernel.specs.Trapped.{IsRunning, trapped};
 
 use crate::lotteries::{Winner, list_weights};
-use crate::running::{self, Runner, Trap, runner_on};
+use crate::records::{self, Runner, Trap, runner_on};
 use crate::tables::Tables;
 use lot_draw::winner;
 use lot_machine::{Action, Refusal, Reply};
 
 impl Tables {
-    /// Who runs on the processor, `None` exactly where nobody does. The ticks used are below the quantum.
+    /// Who runs on the processor, `None` if and only if nobody does. The ticks used are below the quantum.
     pub(crate) fn runner(&self, processor: u32) -> Option<Runner>
         ensures thread { MatchOption result (thread_on self.now.records processor ≡ None) (λ r. thread_on self.now.records processor ≡ Some r.thread) }
         ensures used { IfSome result (λ r. used_by self.now.records processor r.thread ≡ Some r.used) }
@@ -28,7 +28,7 @@ impl Tables {
         runner_on(&self.records, processor)
     }
 
-    /// The number of the script that the thread was made with, `None` exactly where there is no such thread.
+    /// The number of the script that the thread was made with, `None` if and only if there is no such thread.
     pub(crate) fn script_of(&self, thread: u32) -> Option<u32>
         ensures { result ≡ option_map (λ t. t.script) (numbered.at_number self.now.threads thread) }
     {
@@ -53,7 +53,7 @@ impl Tables {
         let Some(winner) = self.hold_lottery(d) else {
             return Reply::Idle;
         };
-        let delivered = running::start(&mut self.records, winner.thread, processor);
+        let delivered = records::start(&mut self.records, winner.thread, processor);
         Reply::Winner {
             thread: winner.thread,
             number: winner.number,
@@ -100,7 +100,7 @@ impl Tables {
         };
         let thread = runner.thread;
         let ticks = self.limits.quantum - runner.used;
-        running::expire(&mut self.records, thread, ticks);
+        records::expire(&mut self.records, thread, ticks);
         Reply::Expired { thread, ticks }
     }
 
@@ -140,12 +140,12 @@ impl Tables {
     {
         let effect = self.act(trap.thread, action);
         let quantum = self.limits.quantum;
-        running::finish(&mut self.records, trap, effect.after, quantum);
+        records::finish(&mut self.records, trap, effect.after, quantum);
         Reply::Trapped {
             thread: trap.thread,
             ticks: trap.ticks,
             outcome: effect.outcome,
-            ends: running::has_ended(trap, effect.after, quantum),
+            ends: records::has_ended(trap, effect.after, quantum),
         }
     }
 

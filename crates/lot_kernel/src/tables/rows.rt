@@ -30,7 +30,7 @@ pub(crate) struct CurrencyWorth {
 }
 
 impl Tables {
-    /// The row of the ticket with this number, `None` exactly where it isn't there. It changes nothing.
+    /// The row of the ticket with this number, `None` if and only if it isn't there. It changes nothing.
     pub(crate) fn ticket_row(&mut self, ticket: u32) -> Option<TicketRow>
         requires { IsInOrder self.old }
         ensures row { result ≡ rows.ticket_row self.old ticket }
@@ -49,7 +49,7 @@ impl Tables {
         })
     }
 
-    /// The row of the currency with this number, `None` exactly where it isn't there. It changes nothing.
+    /// The row of the currency with this number, `None` if and only if it isn't there. It changes nothing.
     pub(crate) fn currency_row(&mut self, currency: u32) -> Option<CurrencyRow>
         requires { IsInOrder self.old }
         ensures row { result ≡ rows.currency_row self.old currency }
@@ -66,7 +66,7 @@ impl Tables {
         })
     }
 
-    /// The row of the thread with this number, `None` exactly where there is none. It changes nothing.
+    /// The row of the thread with this number, `None` if and only if there is none. It changes nothing.
     pub(crate) fn thread_row(&mut self, thread: u32) -> Option<ThreadRow>
         requires { IsInOrder self.old }
         ensures row { result ≡ rows.thread_row self.old thread }

@@ -7,7 +7,7 @@ use std::alloc::Global;
 use std::process::Abort;
 use std::test::Fail;
 
-/// Makes threads of these names, funded with so much of base, in order.
+/// Makes threads of these names, funded with this much base, in order.
 fn fund(kernel: &mut Kernel, threads: &[(u64, &str)]) -> Result<(), Fail> {
     for (amount, name) in threads {
         answer(kernel, Line::Fundx(*amount, "base", name, 1))?;
@@ -15,7 +15,7 @@ fn fund(kernel: &mut Kernel, threads: &[(u64, &str)]) -> Result<(), Fail> {
     Ok(())
 }
 
-/// Takes the steps in a kernel of the largest tables with threads of these names, funded with so much of base, in order.
+/// Takes the steps in a kernel of the largest tables with threads of these names, funded with this much base, in order.
 fn play_funded(
     rt: &impl Abort,
     alloc: Global,
@@ -27,7 +27,7 @@ fn play_funded(
     take_all(rt, &mut kernel, steps)
 }
 
-/// Gives the events to a kernel with thread `a`, which has so much of base, and compares the answers.
+/// Gives the events to a kernel with thread `a`, which has this much base, and compares the answers.
 fn run_funded(
     rt: &impl Abort,
     alloc: Global,
@@ -41,7 +41,7 @@ fn run_funded(
     Ok(kernel)
 }
 
-/// A draw, a yield after so many ticks of work, and the greatest draw of this total, by a thread with so much.
+/// A draw, a yield after this many ticks of work, and the greatest draw of this total, by a thread with this much.
 fn check_compensation(
     rt: &impl Abort,
     alloc: Global,
@@ -72,7 +72,7 @@ fn check_compensation(
     check_compensated(rt, &mut kernel, amount, u64::from(ran).saturating_add(1))
 }
 
-/// Compares the thread that won a second time, after so many ticks, to what it is to be.
+/// Compares the thread that won a second time, after this many ticks, to what it is to be.
 fn check_compensated(
     rt: &impl Abort,
     kernel: &mut Kernel,

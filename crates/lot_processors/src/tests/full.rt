@@ -67,7 +67,7 @@ fn work<
     })
 }
 
-/// The turns of the program in a station with room for so many, which has ledgers of its own.
+/// The turns of the program in a station with room for this many, which has ledgers of its own.
 fn worked<G: Gate + Sync, R: Threads + Wait + Sync>(
     rt: &R,
     alloc: Global,
@@ -105,7 +105,7 @@ fn stops_where_the_history_is_full(rt: HostRuntime) {
 
 /// Whether this processor's worker, held until the others have come by twice, gave up in a history with room for two turns;
 /// whether the run was stopped, and the turns of its seats.
-fn stopped_behind<R: Threads + Wait + Sync>(
+fn stopped_after<R: Threads + Wait + Sync>(
     rt: &R,
     alloc: Global,
     held: u32,
@@ -118,10 +118,10 @@ fn stopped_behind<R: Threads + Wait + Sync>(
 
 // A worker that stops lets the others stop too, one that waits at its gate among them.
 #[test]
-fn stops_behind_gates(rt: HostRuntime) {
+fn stops_after_gates(rt: HostRuntime) {
     for held in [1, 2] {
         assert_eq!(rt;
-            stopped_behind(&rt, rt.alloc(), held),
+            stopped_after(&rt, rt.alloc(), held),
             Some((false, true, 2))
         );
     }

@@ -39,7 +39,7 @@ fn seen_of(gate: &Turnstile, system: &System) -> Seen {
     }
 }
 
-/// A run of so many turns in which the held worker waited for the others.
+/// A run of this many turns in which the held worker waited for the others.
 const fn waited(turns: usize) -> Option<Seen> {
     Some(Seen {
         gave_up: false,
@@ -48,7 +48,7 @@ const fn waited(turns: usize) -> Option<Seen> {
     })
 }
 
-/// A free run of the program, in which this processor's worker is held until the others have come by so often.
+/// A free run of the program, in which this processor's worker is held until the others have come by this often.
 fn held_in_free_run<R: Threads + Wait + Sync>(
     rt: &R,
     alloc: Global,
@@ -99,8 +99,8 @@ fn run_seats<G: Gate + Sync, R: Threads + Wait + Sync>(
     run_all_baton(rt, station, program, gate, seats.as_mut_slice())
 }
 
-/// Has the turns of the program made by the seats of a baton station with so much room, and gives the system back, with
-/// whether a full history stopped the workers.
+/// Has the turns of the program made by the seats of a baton station with this much room, and gives the system back,
+/// with whether a full history stopped the workers.
 pub(super) fn baton_run<G: Gate + Sync, R: Threads + Wait + Sync>(
     rt: &R,
     alloc: Global,
@@ -118,8 +118,8 @@ pub(super) fn baton_run<G: Gate + Sync, R: Threads + Wait + Sync>(
     }
 }
 
-/// A run of the program over a baton station, in which this processor's worker is held until the others have come by so
-/// often; and whether a full history stopped it.
+/// A run of the program over a baton station, in which this processor's worker is held until the others have come by
+/// this often; and whether a full history stopped it.
 fn held_in_baton_run<R: Threads + Wait + Sync>(
     rt: &R,
     alloc: Global,
@@ -151,7 +151,7 @@ fn three_baton_workers_run_at_once(rt: HostRuntime) {
     }
 }
 
-// Also where there is no room for all turns, and where no worker is held.
+// Also if there is no room for all turns, and if no worker is held.
 #[test]
 fn baton_workers_stop_where_the_history_is_full(rt: HostRuntime) {
     for (held, room) in [(1, 2), (2, 2), (0, 3)] {

@@ -24,7 +24,7 @@ fn turns_of<R: Threads + Wait + Sync>(
     Some([times(history, 0), times(history, 1), times(history, 2)])
 }
 
-/// Whether each actor has its turns in each of so many runs.
+/// Whether each actor has its turns in each of this many runs.
 fn have_turns<R: Threads + Wait + Sync>(rt: &R, alloc: Global, rounds: u32) -> Option<bool> {
     let program = parse(alloc, TWO_PROCESSORS.as_bytes()).ok()?;
     for _round in 0..rounds {

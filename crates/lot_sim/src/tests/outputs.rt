@@ -156,7 +156,7 @@ total turns 2000 quanta 0 ticks 0
 
 /// Calls the program with these words, and answers its exit status and the one output that it wrote to, whose call of this
 /// number fails.
-fn told<H: Abort + Threads + Wait + Sync>(
+fn ended_with<H: Abort + Threads + Wait + Sync>(
     rt: &H,
     alloc: Global,
     words: &[&str],
@@ -182,10 +182,10 @@ fn check_told<H: Abort + Threads + Wait + Sync>(
     code: u8,
     kind: ErrorKind,
 ) {
-    let (ended, whole) = told(rt, alloc, words, 0, None);
+    let (ended, whole) = ended_with(rt, alloc, words, 0, None);
     assert_eq!(rt; (ended, whole.is_flushed), (code, true), "{words:?}");
     for call in 1..=whole.calls {
-        let (ended, begun) = told(rt, alloc, words, call, Some(kind));
+        let (ended, begun) = ended_with(rt, alloc, words, call, Some(kind));
         assert_eq!(rt; (ended, begun.calls), (3, call), "{words:?}");
         assert!(rt;
             whole
@@ -207,7 +207,7 @@ fn failing_texts(rt: HostRuntime) {
         check_told(&rt, alloc, &["lot_sim"], 2, kind);
         check_told(&rt, alloc, &["lot_sim", "replay"], 2, kind);
     }
-    let (ended, output) = told(&rt, alloc, &["lot_sim", "--help"], 1, None);
+    let (ended, output) = ended_with(&rt, alloc, &["lot_sim", "--help"], 1, None);
     assert_eq!(rt; (ended, output.calls), (3, 1));
     assert!(rt; output.written.is_empty());
 }

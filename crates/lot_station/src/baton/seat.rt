@@ -78,8 +78,8 @@ impl BatonSeat {
         self.stopped = Some(fault);
     }
 
-    /// Takes the fault out that was kept, if one was.
-    pub fn stopped(&mut self) -> Option<TurnFault>
+    /// Takes out the fault that was kept, if one was.
+    pub fn take_fault(&mut self) -> Option<TurnFault>
         ensures fault { result ≡ self.old.stopped }
         ensures seat { self.new ≡ record self.old { stopped = None } }
     {

@@ -4,8 +4,8 @@ ghost use Rattle.crossbeam_queue.specs.Passes.{view, IsPassOf, ruled_capacity};
 ghost use Rattle.lot_system.specs.Seen.{Seen};
 ghost use Rattle.lot_system.specs.Turns.{Faults, IsWorkOf};
 ghost use Rattle.lot_station.specs.declared.baton.view.Claim.{Claim};
-ghost use Rattle.lot_station.specs.BatonViews.{Begins, Next, SeesAll, gave, holding, resting, took};
-ghost use Rattle.lot_station.specs.BatonSeats.{Dealt, InOrder, IsSameSeat, IsSeatOf, Looks, Shows, Turns, claim_of};
+ghost use Rattle.lot_station.specs.BatonViews.{Extends, Next, SeesAll, gave, holding, resting, took};
+ghost use Rattle.lot_station.specs.BatonSeats.{Dealt, HasEachSeat, IsSameSeat, IsSeatOf, Looks, Shows, Turns, claim_of};
 ghost use Rattle.lot_station.specs.BatonSums.{AddUp, CountsAddUp};
 ghost use Rattle.lot_station.specs.Settings.{IsLegalIn, counts_in};
 
@@ -41,7 +41,7 @@ impl Model for BatonStation {
     ghost invariant = { λ s. ruled_capacity s.queue ≡ 1 };
 }
 
-/// A station wasn't closed, since the seats aren't each of its seats once, in order. It hands back both.
+/// A station wasn't closed, since the seats aren't all of its own, each once and in order. It hands back both.
 #[derive(Drop)]
 pub struct SeatMissing {
     pub station: BatonStation,
@@ -49,7 +49,7 @@ pub struct SeatMissing {
 }
 
 impl BatonStation {
-    /// Puts the system into a queue, and gives a seat for each actor, in order. Where memory is refused it drops the system.
+    /// Puts the system into a queue, and gives a seat for each actor, in order. Drops the system if memory is refused.
     pub fn open(alloc: Global, system: System) -> Result<(BatonStation, Vec<BatonSeat>), AllocError>
         ensures processors { IfOk result (λ r. r.0.processors ≡ system.setting.program.limits.processors) }
         ensures seats { IfOk result (λ r. length r.1.items ≡ system.setting.program.limits.processors + 1) }
@@ -118,9 +118,9 @@ impl BatonStation {
     pub fn meet<R: Wait>(&self, rt: &R, a: &mut BatonSeat, b: &mut BatonSeat)
         requires { (a.old.station ≡ self.now.id) × (b.old.station ≡ self.now.id) }
         ensures same { IsSameSeat a.old a.new × IsSameSeat b.old b.new }
-        ensures a { Looks a.old a.new × Begins a.new.seen b.old.seen }
-        ensures b { Looks b.old b.new × Begins b.new.seen a.old.seen }
-        ensures order { Begins b.new.seen a.new.seen }
+        ensures a { Looks a.old a.new × Extends a.new.seen b.old.seen }
+        ensures b { Looks b.old b.new × Extends b.new.seen a.old.seen }
+        ensures order { Extends b.new.seen a.new.seen }
     {
         self.tell(rt, b, a);
         self.tell(rt, a, b);
@@ -131,7 +131,7 @@ impl BatonStation {
         requires { (from.old.station ≡ self.now.id) × (to.old.station ≡ self.now.id) }
         ensures from { from.new ≡ from.old }
         ensures same { IsSameSeat to.old to.new }
-        ensures to { Looks to.old to.new × Begins to.new.seen from.old.seen }
+        ensures to { Looks to.old to.new × Extends to.new.seen from.old.seen }
     {
         let note = self.queue.another::<Notes>(&mut from.pass);
         self.queue.absorb::<Both>(&mut to.pass, note);
@@ -142,16 +142,16 @@ impl BatonStation {
 
     /// Takes the seats in, and gives the system back. It may wait for other seats.
     ///
-    /// The seats have to be those that `open` gave with the station: where each of them is there once, in order, the system
-    /// has all that each has seen, and each actor's turns are those that its seat has made.
+    /// The seats have to be those that `open` gave with the station: if each of them is there once, in order, the
+    /// system has all that each has seen, and each actor's turns are those that its seat has made.
     pub fn close<R: Wait>(self, rt: &R, seats: Vec<BatonSeat>) -> Result<System, SeatMissing>
         requires { All (IsSeatOf self) seats.items }
-        ensures order { IfOk result (λ x. InOrder self.processors seats.items) }
+        ensures order { IfOk result (λ x. HasEachSeat self.processors seats.items) }
         ensures legal { IfOk result (λ x. IsLegalIn x) }
         ensures shows { IfOk result (λ x. All (Shows x) seats.items) }
         ensures sums { IfOk result (λ x. AddUp x seats.items) }
         ensures counts { IfOk result (λ x. CountsAddUp x seats.items) }
-        ensures err { IfErr result (λ e. (¬ InOrder self.processors seats.items) × (e.station ≡ self) × (e.seats ≡ seats)) }
+        ensures err { IfErr result (λ e. (¬ HasEachSeat self.processors seats.items) × (e.station ≡ self) × (e.seats ≡ seats)) }
     {
         if !in_order(self.processors, seats.as_slice()) {
             return Err(SeatMissing {
@@ -181,7 +181,7 @@ fn counts_of_actors(alloc: Global, system: &System) -> Result<Vec<Counts>, Alloc
 
 /// Whether each actor from 0 to the last has its seat once, in order.
 fn in_order(processors: u32, seats: &[BatonSeat]) -> bool
-    ensures { IsTrue result ↔ InOrder processors seats.now }
+    ensures { IsTrue result ↔ HasEachSeat processors seats.now }
 {
     if seats.len() != processors as usize + 1 {
         return false;
@@ -226,7 +226,7 @@ fn take<R: Wait>(rt: &R, queue: &Queue, pass: &mut Token) -> System
     unreachable!()
 }
 
-/// Pushes the system that was in hands, with one turn more at most.
+/// Pushes the system that was in hand, with at most one more turn.
 fn give<R: Wait>(rt: &R, queue: &Queue, pass: &mut Token, system: System)
     requires pass { IsPassOf queue.now pass.old × (ruled_capacity queue.now ≡ 1) }
     requires held { (c : Claim) × (was : Seen) × (view pass.old ≡ holding was c) × Next c was system }

@@ -23,10 +23,10 @@ fn slice_of(program: &Program, work: Option<Work>) -> Option<Slice<'_>> {
     let work = work?;
     let number = work.script.checked_sub(1)?;
     let script = program.scripts().get(number as usize)?;
-    if !script.fits(&work.context) || !(1..=1000).contains(&work.budget) {
+    if !script.fits(&work.place) || !(1..=1000).contains(&work.budget) {
         return None;
     }
-    Some(script.slice(work.context, work.budget))
+    Some(script.slice(work.place, work.budget))
 }
 
 /// A turn of the seat with the slice of its work.
@@ -122,7 +122,7 @@ fn met<R: Wait>(
     [first, second, reply_of(rt, station, program, one)]
 }
 
-/// What a station hands back that is closed with two seats; `None` where it was closed.
+/// What a station that is closed with two seats hands back; `None` if it was closed.
 fn closed_without_one<R: Wait>(
     rt: &R,
     alloc: Global,
@@ -141,7 +141,7 @@ fn closed_without_one<R: Wait>(
     }
 }
 
-/// What a station hands back that is closed with this seat behind those that it handed back before; `None` where it was
+/// What a station hands back if it is closed with the seats that it handed back, and then this one; `None` if it was
 /// closed.
 fn closed_out_of_order<R: Wait>(
     rt: &R,
@@ -192,8 +192,8 @@ fn are_met(replies: &[Option<Reply>; 3]) -> bool {
     *replies == [Some(FUNDED), Some(won(5)), Some(Reply::Idle)]
 }
 
-/// Whether the turns behind meetings are answered so, and whether the closed system has them.
-fn turns_behind<R: Wait>(rt: &R, alloc: Global) -> Option<(bool, bool)> {
+/// Whether the turns after meetings are answered so, and whether the closed system has them.
+fn turns_after<R: Wait>(rt: &R, alloc: Global) -> Option<(bool, bool)> {
     let program = program_of(alloc, TWO_PROCESSORS)?;
     let (station, mut zero, mut one, mut two) = opened(alloc, &program)?;
     let replies = met(rt, &station, &program, &mut zero, &mut one, &mut two);
@@ -202,8 +202,8 @@ fn turns_behind<R: Wait>(rt: &R, alloc: Global) -> Option<(bool, bool)> {
 }
 
 #[test]
-fn turns_behind_meetings(rt: HostRuntime) {
-    assert_eq!(rt; turns_behind(&rt, rt.alloc()), Some((true, true)));
+fn turns_after_meetings(rt: HostRuntime) {
+    assert_eq!(rt; turns_after(&rt, rt.alloc()), Some((true, true)));
 }
 
 /// The turns of the actors 0, 1, 2, 1 and 2.
@@ -241,7 +241,7 @@ fn is_ended<R: Wait>(
         Err(fault) => seat.stop(fault),
         Ok(_) => return false,
     }
-    matches!(seat.stopped(), Some(TurnFault::Ended)) && seat.stopped().is_none()
+    matches!(seat.take_fault(), Some(TurnFault::Ended)) && seat.take_fault().is_none()
 }
 
 /// What the seat has.

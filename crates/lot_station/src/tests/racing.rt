@@ -120,7 +120,7 @@ fn raced<R: Threads + Wait + Sync>(
     )
 }
 
-/// No answers of so many actors.
+/// No answers yet, of this many actors.
 fn no_answers(alloc: Global, actors: usize) -> Option<Vec<Vec<Answer>>> {
     let mut answers = Vec::new(alloc);
     for _actor in 0..actors {
@@ -138,7 +138,7 @@ fn answer_again(program: &Program, system: &mut System, number: u32) -> Option<A
     system.turn(number, slice).ok()
 }
 
-/// Adds the answer to those of the actor with this number, if there are any; `None` where memory is refused.
+/// Adds the answer to those of the actor with this number, if there are any; `None` if memory is refused.
 fn keep(answers: &mut [Vec<Answer>], number: usize, answer: Answer) -> Option<()> {
     match answers.get_mut(number) {
         Some(own) => own.push(answer).ok(),
@@ -146,7 +146,7 @@ fn keep(answers: &mut [Vec<Answer>], number: usize, answer: Answer) -> Option<()
     }
 }
 
-/// Makes the turns of a history, and keeps the answers; `None` where one isn't made or memory is refused.
+/// Makes the turns of a history, and keeps the answers; `None` if one isn't made or memory is refused.
 fn replay(
     program: &Program,
     system: &mut System,
@@ -180,7 +180,7 @@ fn is_replayed<R: Threads + Wait + Sync>(
     Some((same, end_of(alloc, system)? == end_of(alloc, other)?))
 }
 
-/// Whether it is so of so many races; `None` where one came to no end.
+/// Whether it is so of this many races; `None` if one came to no end.
 fn are_replayed<R: Threads + Wait + Sync>(rt: &R, alloc: Global, rounds: u32) -> Option<bool> {
     let program = parse(alloc, TWO_PROCESSORS.as_bytes()).ok()?;
     for _round in 0..rounds {

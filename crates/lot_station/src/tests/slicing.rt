@@ -4,7 +4,7 @@ ghost use Rattle.std.specs.Prelude.{◌≡◌, ◌+◌};
 use crate::tests::{Shares, opened};
 use crate::{Seat, Station, TurnLedger};
 use lot_machine::{Outcome, Reply};
-use lot_script::Context;
+use lot_script::Place;
 use lot_system::{System, TurnFault, Work, slice_for};
 use lot_text::Program;
 use std::alloc::{AllocError, Global};
@@ -28,7 +28,7 @@ fundx 1 base a s
 #[derive(Drop)]
 struct Twice {
     locked: Reply,
-    end: Context,
+    end: Place,
     stale: Work,
     before: Shares,
     after: Shares,
@@ -45,7 +45,7 @@ fn copied(work: &Work) -> Work {
     Work {
         thread: work.thread,
         script: work.script,
-        context: work.context.copied(),
+        place: work.place.copied(),
         budget: work.budget,
     }
 }
@@ -56,7 +56,7 @@ fn lock<T: TurnLedger, Q: Ledger, K: Ledger>(
     program: &Program,
     station: &Station<T, Q, K>,
     seat: &mut Seat<T, Q, K>,
-) -> Option<(Reply, Context, Work)> {
+) -> Option<(Reply, Place, Work)> {
     station.turn(rt, seat, None).ok()?;
     let work = station.work(rt, seat)?;
     let slice = slice_for(program, Some(copied(&work))).ok()??;
@@ -175,12 +175,12 @@ const LOCKED: Reply = Reply::Trapped {
     ends: false,
 };
 
-/// Whether the slice locked, and whether its second use was refused with the work behind it and changed no shares.
+/// Whether the slice locked, and whether its second use was refused with the work after it and changed no shares.
 fn is_refused(twice: &Twice) -> (bool, bool) {
     let locked = twice.locked == LOCKED && twice.full;
     let stale = twice.stale.thread == 1
         && twice.stale.budget == 99
-        && twice.stale.context == twice.end
+        && twice.stale.place == twice.end
         && twice.before == (2, 1, 1)
         && twice.after == (2, 1, 1);
     (locked, stale)
@@ -193,7 +193,7 @@ fn refuses_twice(rt: &impl Wait, alloc: Global) -> Option<((bool, bool), bool)> 
     Some((is_refused(&twice), closed.history() == [0, 1, 1].as_slice()))
 }
 
-// A slice that was used is stale: the work is then behind its trap, and neither history nor shares change.
+// A slice that was used is stale: the work is then after its trap, and neither history nor shares change.
 #[test]
 fn a_slice_twice(rt: HostRuntime) {
     assert_eq!(rt; refuses_twice(&rt, rt.alloc()), Some(((true, true), true)));

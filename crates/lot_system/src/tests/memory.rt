@@ -24,7 +24,7 @@ impl Write for Counting {
     }
 }
 
-// Where memory is refused nothing was written.
+// If memory is refused, nothing was written.
 #[test]
 fn plays_or_lacks_memory(rt: HostRuntime) {
     let mut reader = Watched::new(CALL_AND_REPLY.as_bytes());

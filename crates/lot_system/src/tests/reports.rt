@@ -3,7 +3,7 @@
 use super::{SPINNER, make_turns, program_of};
 use crate::{PlayFault, System, write_end};
 use lot_kernel::Kernel;
-use lot_machine::{Command, Event, Limits, Name, Reply};
+use lot_machine::{Command, Event, Limits, Name, Reply, Sizes};
 use lot_text::Watched;
 use std::alloc::Global;
 use std::io;
@@ -23,7 +23,7 @@ struct Failing {
 }
 
 impl Failing {
-    /// Counts one call more, and fails if it is to.
+    /// Counts one more call, and fails if it is to.
     fn call(&mut self) -> io::Result<()> {
         self.calls = self.calls.saturating_add(1);
         match self.kind {
@@ -173,7 +173,14 @@ total turns 0 quanta 0 ticks 0
 // Numbers are given for good: what was removed keeps its own.
 #[test]
 fn numbers_given(rt: HostRuntime) -> Result<(), Fail> {
-    let limits = Limits::new(9, 9, 9, 0, 0, 1, 0, 100).ok_or("limits")?;
+    let limits = Limits::new(Sizes {
+        tickets: 9,
+        currencies: 9,
+        threads: 9,
+        quantum: 100,
+        ..Sizes::SMALLEST
+    })
+    .ok_or("limits")?;
     let mut kernel = Kernel::new(rt.alloc(), limits)?;
     assert_eq!(rt; (kernel.ticket_count(), kernel.currency_count()), (0, 1));
     let base = Name::new("base").ok_or("a name")?;

@@ -36,23 +36,23 @@ fn slice_of<'a>(
     given: Given,
 ) -> Result<Option<Slice<'a>>, Fail> {
     let first = program.scripts().first();
-    let (script, context, budget) = match given {
+    let (script, start, budget) = match given {
         Given::Nothing => return Ok(None),
         Given::WorkOf(processor, budget) => {
             let work = system.work(processor).ok_or("work")?;
-            let place = work.script.saturating_sub(1) as usize;
-            (program.scripts().get(place), work.context, budget)
+            let number = work.script.saturating_sub(1) as usize;
+            (program.scripts().get(number), work.place, budget)
         }
         Given::Beginning(budget) => (first, first.ok_or("a script")?.start(), budget),
     };
     let script = script.ok_or("a script")?;
-    if !script.fits(&context) || budget == 0 || budget > 1000 {
+    if !script.fits(&start) || budget == 0 || budget > 1000 {
         return Err("a slice".into());
     }
-    Ok(Some(script.slice(context, budget)))
+    Ok(Some(script.slice(start, budget)))
 }
 
-/// What a turn came to, where a stale one carries the actor's work.
+/// What a turn came to. A stale one carries the actor's work.
 fn came_of(system: &System, actor: u32, answered: Result<Answer, TurnFault>) -> Option<Came> {
     match answered {
         Ok(answer) => Some(Came::Made(answer.reply)),
@@ -200,7 +200,7 @@ endscript
 fundx 1 base a s
 ";
 
-// A slice that was made isn't fresh any more: the work is behind the lock then, and has one tick less.
+// A slice that was made isn't fresh any more: the work is after the lock then, and has one tick less.
 #[test]
 fn slice_twice(rt: HostRuntime) -> Result<(), Fail> {
     let turns = [
@@ -264,7 +264,7 @@ fn generator_stays(rt: HostRuntime) -> Result<(), Fail> {
     )
 }
 
-/// How many of so many draws by the first processor nobody wins.
+/// Of this many draws by the first processor, how many nobody wins.
 fn idle_draws(system: &mut System, draws: u32) -> u32 {
     let mut idle = 0u32;
     for _ in 0..draws {

@@ -1,6 +1,6 @@
 //! Inputs at the bounds of their sizes.
 
-use lot_machine::{InputFault, InputRefusal};
+use lot_simulation::{InputFault, InputRefusal};
 use lot_text::{ParseFault, Program, parse};
 use std::alloc::{AllocError, Global};
 use std::test::Fail;

@@ -1,14 +1,25 @@
 //! Kernels with the largest tables.
 
 use lot_kernel::Kernel;
-use lot_machine::{Action, Command, CurrencyRow, Event, Limits, Name, Outcome, Reply};
+use lot_machine::{Action, Command, CurrencyRow, Event, Limits, Name, Outcome, Reply, Sizes};
 use std::alloc::Global;
 use std::process::Abort;
 use std::test::Fail;
 
 /// The largest tables, one processor, one script, and quantum 100.
 fn largest() -> Result<Limits, Fail> {
-    Ok(Limits::new(65535, 4096, 4096, 1, 1, 1, 1, 100).ok_or("limits")?)
+    Ok(Limits::new(Sizes {
+        tickets: 65535,
+        currencies: 4096,
+        threads: 4096,
+        ports: 1,
+        mutexes: 1,
+        processors: 1,
+        scripts: 1,
+        quantum: 100,
+        unit: 1,
+    })
+    .ok_or("limits")?)
 }
 
 fn name(text: &str) -> Result<Name, Fail> {

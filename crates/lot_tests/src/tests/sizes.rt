@@ -4,7 +4,7 @@ ghost use Rattle.std.specs.Prelude.{◌≡◌, ◌+◌};
 use lot_graph::Graph;
 use lot_kernel::Kernel;
 use lot_lists::Lists;
-use lot_machine::{Limits, Node};
+use lot_machine::{Limits, Node, Sizes};
 use lot_queues::Queues;
 use lot_station::{BatonStation, Station, TurnLedger};
 use lot_system::System;
@@ -19,8 +19,8 @@ use std::test::*;
 
 /// The least and the largest tables.
 fn bounds() -> Result<[Limits; 2], Fail> {
-    let least = Limits::new(1, 1, 1, 0, 0, 1, 0, 1).ok_or("the least")?;
-    let largest = Limits::new(65535, 4096, 4096, 256, 256, 64, 256, 1000).ok_or("the largest")?;
+    let least = Limits::new(Sizes::SMALLEST).ok_or("the least")?;
+    let largest = Limits::new(Sizes::LARGEST).ok_or("the largest")?;
     Ok([least, largest])
 }
 

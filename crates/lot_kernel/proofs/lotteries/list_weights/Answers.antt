@@ -3,7 +3,7 @@ use Rattle.std.proofs.lemmas.List.{map-append}
 use Rattle.std.proofs.lemmas.List.Elements.{All-push}
 use Rattle.std.proofs.lemmas.List.Sums.{sum_by_push}
 use Rattle.lot_kernel.specs.Draws.{weight_listed}
-use Rattle.lot_kernel.proofs.LotteryLemmas.{ready_behind-passed, ready_behind-listed, weight_listed-place, listed_more}
+use Rattle.lot_kernel.proofs.LotteryLemmas.{ready_after-passed, ready_after-listed, weight_listed-place, listed_more}
 use Rattle.lot_kernel.proofs.lotteries.list_weights.Goals as goal
 use Rattle.lot_kernel.proofs.lotteries.list_weights.Goals.{then-is_ready, else-is_ready}
 
@@ -17,7 +17,7 @@ loop-place-preserved c =
     elim c.if-is_ready.branch [
       | then-is_ready w ↦
           let ready = sym c.is_ready.ensures ∙ w.if-is_ready.true in
-          let listed = ready_behind-listed records i _ below ready in
+          let listed = ready_after-listed records i _ below ready in
           rw (w.ready-is, w.weights-is) (record {
             threads = rw w.push_reserved.ensures.items (listed_more _ _ _ _ (ap (λ (xs : List ℕ). c.loop-place.ready.items ++ xs) (sym listed) ∙ invariant.threads));
             weigh = rw (w.push_reserved-then-is_ready.ensures.items, w.push_reserved.ensures.items, map-append, invariant.weigh)
@@ -32,7 +32,7 @@ loop-place-preserved c =
       | else-is_ready w ↦
           let not_ready = sym c.is_ready.ensures ∙ w.if-is_ready.false in
           rw (w.ready-is, w.weights-is) (record {
-            threads = ap (λ (xs : List ℕ). c.loop-place.ready.items ++ xs) (sym (ready_behind-passed records i _ below not_ready)) ∙ invariant.threads;
+            threads = ap (λ (xs : List ℕ). c.loop-place.ready.items ++ xs) (sym (ready_after-passed records i _ below not_ready)) ∙ invariant.threads;
             weigh = invariant.weigh;
             there = invariant.there;
             total = omega (arith, invariant.total);

@@ -1,7 +1,7 @@
 use Rattle.std.proofs.Common.{◌≡◌, ◌<◌, ◌-◌, length, take, drop, Err, rules, refl, sym, ◌∙◌, arith}
 use Rattle.std.proofs.lemmas.Bool.{eqb-false}
 use Rattle.std.proofs.lemmas.List.{take_rest}
-use Rattle.lot_machine.specs.Report.{schedule_line, schedule_lines}
+use Rattle.lot_simulation.specs.Report.{schedule_line, schedule_lines}
 use Rattle.lot_print.proofs.GroupLemmas.{schedule_lines-first}
 use Rattle.lot_print.proofs.WritingFacts.{parts-more, parts-stop}
 use Rattle.lot_print.proofs.histories.write_schedule.Goals as goal

@@ -1,7 +1,7 @@
 use Rattle.std.proofs.Common.{◌≡◌, ◌++◌, codes, subst}
 use Rattle.std.specs.Fmt.{decimal}
-use Rattle.lot_machine.specs.Texts.{fault_line, input_refusal_code, input_refusal_name, newline}
-use Rattle.lot_print.specs.Writing.{Writes}
+use Rattle.lot_simulation.specs.Texts.{fault_line, input_refusal_code, input_refusal_name, newline}
+use Rattle.lot_print.specs.Writing.{Written}
 use Rattle.lot_print.proofs.WritingFacts.{line-is}
 use Rattle.lot_print.proofs.refused.write_fault.Goals as goal
 
@@ -9,4 +9,4 @@ pub returns : goal.returns
 returns g c =
     let is : c.push_reason.new.line ≡ fault_line c.args.fault =
     line-is c.new-line.result c.push_field.new.self c.push_reason.new.line (codes "refused line ") (decimal c.args.fault.line) (codes " " ++ (decimal (input_refusal_code c.args.fault.refusal) ++ (codes " " ++ (input_refusal_name c.args.fault.refusal ++ newline)))) c.new-line.ensures c.push_field.ensures.text c.push_reason.ensures in
-    subst (Writes (g.W.Write.contents c.args.writer.now.inner) (g.W.Write.contents c.write_to.new.writer.inner) c.write_to.new.writer.failed c.write_to.result) is c.write_to.ensures
+    subst (Written (g.W.Write.contents c.args.writer.now.inner) (g.W.Write.contents c.write_to.new.writer.inner) c.write_to.new.writer.failed c.write_to.result) is c.write_to.ensures

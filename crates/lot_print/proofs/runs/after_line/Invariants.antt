@@ -1,5 +1,5 @@
 use Rattle.std.proofs.Common.{◌≡◌, ◌<◌, ◌≤◌, drop, length}
-use Rattle.lot_machine.specs.Report.{runs_in}
+use Rattle.lot_simulation.specs.Report.{runs_in}
 use Rattle.lot_print.proofs.runs.after_line.Given as goal
 
 abbrev pub invariant-loop-pair : goal.invariant-loop-pair

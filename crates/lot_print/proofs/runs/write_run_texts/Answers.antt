@@ -1,8 +1,8 @@
 use Rattle.std.proofs.Common.{◌≡◌, ◌+◌, ◌-◌, ℕ, List, ◌∷◌, length, take, drop, Err, rules, sym, ◌∙◌, ap}
 use Rattle.std.specs.List.{flat_map}
 use Rattle.std.proofs.lemmas.List.{take_rest}
-use Rattle.lot_machine.specs.Grammar.{ActorRun}
-use Rattle.lot_machine.specs.Report.{run_text, runs_in}
+use Rattle.lot_simulation.specs.Grammar.{ActorRun}
+use Rattle.lot_simulation.specs.Report.{run_text, runs_in}
 use Rattle.lot_print.proofs.RunLemmas.{run_texts-first}
 use Rattle.lot_print.proofs.WritingFacts.{parts-more, parts-stop}
 use Rattle.lot_print.proofs.runs.write_run_texts.Goals as goal

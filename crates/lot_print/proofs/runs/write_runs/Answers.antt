@@ -1,6 +1,6 @@
 use Rattle.std.proofs.Common.{◌≡◌, ◌<◌, length, take, Err, rules, sym, ◌∙◌, arith}
 use Rattle.std.proofs.lemmas.Bool.{eqb-false}
-use Rattle.lot_machine.specs.Report.{runs_in, runs_line, runs_lines}
+use Rattle.lot_simulation.specs.Report.{runs_in, runs_line, runs_lines}
 use Rattle.lot_print.proofs.GroupLemmas.{runs_lines-first}
 use Rattle.lot_print.proofs.RunLemmas.{runs_in-some}
 use Rattle.lot_print.proofs.WritingFacts.{parts-more, parts-stop}
@@ -14,10 +14,10 @@ returns-in_err-write_runs_line g c =
     let xs = c.loop-rest.rest.now in
     let some : 0 < length xs = omega (arith, eqb-false _ 0 (sym c.is_empty.ensures ∙ c.loop-rest-test.true)) in
     let more = c.after_line-others.result.now in
-    let behind = runs_lines-first xs more (runs_in-some xs some) c.after_line-others.ensures.runs in
+    let following = runs_lines-first xs more (runs_in-some xs some) c.after_line-others.ensures.runs in
     rw is (
       told.0,
-      parts-stop (g.W.Write.contents c.args.writer.now.inner) (g.W.Write.contents c.loop-rest.writer.inner) (g.W.Write.contents c.write_runs_line.new.writer.inner) i.bytes.0 (runs_line (take 32 (runs_in xs))) (runs_lines more) (runs_lines xs) (runs_lines c.args.history.now) i.bytes.1 behind i.bytes.2 told.1,
+      parts-stop (g.W.Write.contents c.args.writer.now.inner) (g.W.Write.contents c.loop-rest.writer.inner) (g.W.Write.contents c.write_runs_line.new.writer.inner) i.bytes.0 (runs_line (take 32 (runs_in xs))) (runs_lines more) (runs_lines xs) (runs_lines c.args.history.now) i.bytes.1 following i.bytes.2 told.1,
     )
 
 pub loop-rest-preserved : goal.loop-rest-preserved

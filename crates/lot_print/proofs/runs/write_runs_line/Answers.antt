@@ -1,7 +1,7 @@
 use Rattle.std.proofs.Common.{◌≡◌, ◌++◌, [], ◌∷◌, codes, take, Err, rules}
 use Rattle.std.specs.List.{flat_map}
-use Rattle.lot_machine.specs.Report.{run_text, runs_in}
-use Rattle.lot_print.proofs.WritingFacts.{begins-front, begins-behind, writes-behind}
+use Rattle.lot_simulation.specs.Report.{run_text, runs_in}
+use Rattle.lot_print.proofs.WritingFacts.{begins-front, begins-after, writes-after}
 use Rattle.lot_print.proofs.runs.write_runs_line.Goals as goal
 
 pub returns-in_err-write_bytes : goal.returns-in_err-write_bytes
@@ -18,7 +18,7 @@ returns-in_err-write_run_texts g c =
     let one = g.W.Write.contents c.write_bytes.new.writer.inner in
     let new = g.W.Write.contents c.write_run_texts.new.writer.inner in
     let text = flat_map run_text (take 32 (runs_in c.args.history.now)) in
-    rw is (told.0, begins-behind old one new (codes "runs") (text ++ 10 ∷ []) c.in_ok-write_bytes.ensures.1 (begins-front one new text (10 ∷ []) told.1))
+    rw is (told.0, begins-after old one new (codes "runs") (text ++ 10 ∷ []) c.in_ok-write_bytes.ensures.1 (begins-front one new text (10 ∷ []) told.1))
 
 pub returns : goal.returns
 returns g c =
@@ -29,5 +29,5 @@ returns g c =
     let failed = c.write_bytes-2.new.writer.failed in
     let result = c.write_bytes-2.result in
     let text = flat_map run_text (take 32 (runs_in c.args.history.now)) in
-    writes-behind old one new failed result (codes "runs") (text ++ 10 ∷ []) c.in_ok-write_bytes.ensures.1
-    (writes-behind one two new failed result text (10 ∷ []) c.in_ok-write_run_texts.ensures.1 c.write_bytes-2.ensures)
+    writes-after old one new failed result (codes "runs") (text ++ 10 ∷ []) c.in_ok-write_bytes.ensures.1
+    (writes-after one two new failed result text (10 ∷ []) c.in_ok-write_run_texts.ensures.1 c.write_bytes-2.ensures)

@@ -1,4 +1,4 @@
--- After so many rounds it is listed which currencies lead on over that many tickets.
+-- After n rounds it is listed which currencies lead on over n tickets.
 use Rattle.std.proofs.Common.{◌≡◌, ℕ, ◌<◌, vec_len}
 use Rattle.lot_rounds.specs.Tables.{flagged, leads_within}
 use Rattle.lot_rounds.proofs.activity.list_leading.Given as goal

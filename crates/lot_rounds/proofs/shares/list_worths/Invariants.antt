@@ -1,4 +1,4 @@
--- After so many rounds it is listed what currencies are worth over chains of fewer than that many currencies.
+-- After n rounds it is listed what currencies are worth over chains of fewer than n currencies.
 use Rattle.std.proofs.Common.{◌≡◌, ℕ, ◌<◌, vec_len, slice_index}
 use Rattle.lot_rounds.specs.Tables.{worth_after}
 use Rattle.lot_rounds.proofs.shares.list_worths.Given as goal

@@ -1,5 +1,5 @@
 use Rattle.std.proofs.Common.{rules, ◌+◌, ap, ◌∙◌}
-use Rattle.lot_machine.specs.Report.{quanta_in, ticks_in, total_of, turns_of}
+use Rattle.lot_simulation.specs.Report.{quanta_in, ticks_in, total_of, turns_of}
 use Rattle.lot_system.specs.declared.counts.Counts.{Counts}
 use Rattle.lot_station.specs.Settings.{times_in, turns_in}
 use Rattle.lot_station.proofs.Counting.{length-turns_of}

@@ -1,5 +1,5 @@
 use Rattle.std.proofs.Common.{◌≡◌, ℕ, ◌≤◌, slice_get, Some, vec_len, vec_capacity}
-use Rattle.lot_machine.specs.Report.{quanta_in, ticks_in, total_of, turns_of}
+use Rattle.lot_simulation.specs.Report.{quanta_in, ticks_in, total_of, turns_of}
 use Rattle.lot_station.specs.Holders.{Holder, dealt}
 use Rattle.lot_station.specs.Settings.{times_in, turns_in}
 use Rattle.lot_station.proofs.Dealing.{IsLeft}

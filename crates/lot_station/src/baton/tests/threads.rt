@@ -42,7 +42,7 @@ const ROOM: u32 = 8006;
 /// What an actor's turns were answered, in order.
 type Answers = Mutex<Vec<Answer>>;
 
-/// So many turns of the seat, or fewer and then a fault, which the seat keeps.
+/// This many turns of the seat, or fewer and then a fault, which the seat keeps.
 fn play<R: Wait>(
     rt: &R,
     station: &BatonStation,
@@ -68,7 +68,7 @@ fn play<R: Wait>(
     }
 }
 
-/// The turns of all seats, each in a thread of its own where one can be started.
+/// The turns of all seats, each in a thread of its own if one can be started.
 fn play_all<R: Threads + Wait + Sync>(
     rt: &R,
     station: &BatonStation,
@@ -141,7 +141,7 @@ fn are_made_again(
     true
 }
 
-/// The turns of the history by one thread; `None` where one isn't answered as it was in its own.
+/// The turns of the history by one thread; `None` if one isn't answered as it was in its own.
 fn played_again(
     alloc: Global,
     program: &Program,

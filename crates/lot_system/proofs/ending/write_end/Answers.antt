@@ -1,5 +1,5 @@
 -- Flushing writes nothing more.
-use Rattle.lot_machine.specs.Output.{end_text}
+use Rattle.lot_simulation.specs.Output.{end_text}
 use Rattle.lot_system.proofs.WritingFacts.{writes-flushed}
 use Rattle.lot_system.proofs.ending.write_end.Goals as goal
 

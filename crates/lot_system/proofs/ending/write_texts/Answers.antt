@@ -1,11 +1,11 @@
 -- The history's lines are written after the report.
 use Rattle.std.proofs.Common.{◌≡◌, ℕ, List, Err, refl, rules, ◌∙◌, ap, subst}
 use Rattle.std.specs.Io.KnownBytes.{Appends}
-use Rattle.lot_machine.specs.Report.{report, history_lines}
+use Rattle.lot_simulation.specs.Report.{report, history_lines}
 use Rattle.lot_system.specs.Seen.{Seen}
 use Rattle.lot_system.specs.declared.fault.PlayFault.TheVariants.{Write}
 use Rattle.lot_print.specs.Writing.{Begins}
-use Rattle.lot_print.proofs.WritingFacts.{appends-both, begins-front, begins-behind}
+use Rattle.lot_print.proofs.WritingFacts.{appends-both, begins-front, begins-after}
 use Rattle.lot_system.proofs.ending.write_texts.Goals as goal
 
 lines-are : (s now : Seen) (unit : ℕ) (history : List ℕ) → now ≡ s → unit ≡ now.setting.program.limits.unit → history ≡ now.history → history_lines unit history ≡ history_lines s.setting.program.limits.unit s.history
@@ -35,7 +35,7 @@ returns-in_err-write_history-clause-text g c =
     rw is (
       refl,
       told.0,
-      begins-behind (g.W.Write.contents c.args.writer.now.inner) mid new (report s.setting.program s.history) (history_lines s.setting.program.limits.unit s.history) c.in_ok-write_report.ensures.text.1
+      begins-after (g.W.Write.contents c.args.writer.now.inner) mid new (report s.setting.program s.history) (history_lines s.setting.program.limits.unit s.history) c.in_ok-write_report.ensures.text.1
           (subst (Begins mid new) lines told.1),
     )
 

@@ -23,11 +23,11 @@ loop-preserved g c =
     let rest = g.R.Read.remaining c.read_piece.new.reader.inner in
     let count = c.in_ok-read_piece.field-0 in
     let longer = length-more first left rest c.loop.bytes.items c.read_piece.new.bytes.items count told.read in
-    let few : count ≤ c.min-room.result = within-room _ count _ told.most in
+    let bounded : count ≤ c.min-room.result = within-room _ count _ told.most in
     let old = c.loop.bytes.ok.0 in
     let now = c.read_piece.new.bytes.ok.0 in
     record {
-      most = omega (arith, longer, few, old, now, i.most, c.min-room.ensures, c.len-in-loop.ensures);
+      most = omega (arith, longer, bounded, old, now, i.most, c.min-room.ensures, c.len-in-loop.ensures);
       room = i.room;
       working = told.ok;
       grows = omega (arith, longer, old, now, i.grows, c.if-branch-eq0.false);

@@ -15,6 +15,6 @@ loop-place-preserved c =
     c.has_row.ensures.row ∙ ap (λ (x : Seen). is_there (world_of x).state kind (c.first_number-first.result + place)) i.system ∙ ap (λ n. is_there s kind (n + place)) c.first_number-first.ensures.exact in
     let same = c.has_row.ensures.same ∙ i.system in
     elim c.if-has_row.branch [
-      | then-has_row w ↦ record { system = same; count = w.rows-is ∙ ap (λ n. n + 1) i.count ∙ sym (passing-there (is_there s kind) (first_number kind) place (sym row ∙ w.if-has_row.true)); few = omega (arith, w.rows-is, i.few) }
-      | else-has_row w ↦ record { system = same; count = w.rows-is ∙ i.count ∙ sym (passing-none (is_there s kind) (first_number kind) place (sym row ∙ w.if-has_row.false)); few = omega (arith, w.rows-is, i.few) }
+      | then-has_row w ↦ record { system = same; count = w.rows-is ∙ ap (λ n. n + 1) i.count ∙ sym (passing-there (is_there s kind) (first_number kind) place (sym row ∙ w.if-has_row.true)); bounded = omega (arith, w.rows-is, i.bounded) }
+      | else-has_row w ↦ record { system = same; count = w.rows-is ∙ i.count ∙ sym (passing-none (is_there s kind) (first_number kind) place (sym row ∙ w.if-has_row.false)); bounded = omega (arith, w.rows-is, i.bounded) }
     ]

@@ -8,5 +8,5 @@ abbrev pub invariant-loop-place : goal.invariant-loop-place
 invariant-loop-place l = record {
   system : l.system ≡ l.initial.system;
   count : l.rows ≡ rows_among (world_of l.initial.system).state l.kind l.place;
-  few : l.rows ≤ l.place;
+  bounded : l.rows ≤ l.place;
 }

@@ -8,9 +8,9 @@ use Rattle.lot_print.proofs.WritingFacts.{begins-front}
 use Rattle.lot_system.specs.declared.fault.PlayFault.TheVariants.{Write}
 use Rattle.lot_system.specs.Listing.{first_number, given_count, row_line}
 use Rattle.lot_system.specs.Seen.{world_of}
-use Rattle.lot_system.specs.Writing.{Writes}
-use Rattle.lot_system.proofs.ListingFacts.{listed-behind}
-use Rattle.lot_system.proofs.WritingFacts.{writes-behind}
+use Rattle.lot_system.specs.Writing.{Written}
+use Rattle.lot_system.proofs.ListingFacts.{listed-after}
+use Rattle.lot_system.proofs.WritingFacts.{writes-after}
 use Rattle.lot_system.proofs.listing.write_listing.Goals as goal
 
 pub returns-in_err-write_listing_line-clause-text : goal.returns-in_err-write_listing_line-clause-text
@@ -24,8 +24,8 @@ returns-in_err-write_listing_line-clause-text g c =
     let rows = c.count_rows-rows.result in
     let first = decimal c.args.actor ++ (codes " " ++ listing_line kind rows) in
     let lines = flat_map (row_line s kind) (range_with_len (first_number kind) (given_count s kind)) in
-    let behind = listed-behind s kind c.args.actor rows c.count_rows-rows.ensures.count in
-    rw is (refl, told.0, subst (Begins old new) behind (begins-front old new first lines told.1))
+    let following = listed-after s kind c.args.actor rows c.count_rows-rows.ensures.count in
+    rw is (refl, told.0, subst (Begins old new) following (begins-front old new first lines told.1))
 
 pub returns-clause-text : goal.returns-clause-text
 returns-clause-text g c =
@@ -38,5 +38,5 @@ returns-clause-text g c =
     let rows = c.count_rows-rows.result in
     let first = decimal c.args.actor ++ (codes " " ++ listing_line kind rows) in
     let lines = flat_map (row_line s kind) (range_with_len (first_number kind) (given_count s kind)) in
-    let behind = listed-behind s kind c.args.actor rows c.count_rows-rows.ensures.count in
-    subst (Writes old new c.write_rows.new.writer.failed c.write_rows.result) behind (writes-behind old mid new c.write_rows.new.writer.failed c.write_rows.result first lines c.in_ok-write_listing_line.ensures.1 told)
+    let following = listed-after s kind c.args.actor rows c.count_rows-rows.ensures.count in
+    subst (Written old new c.write_rows.new.writer.failed c.write_rows.result) following (writes-after old mid new c.write_rows.new.writer.failed c.write_rows.result first lines c.in_ok-write_listing_line.ensures.1 told)

@@ -1,20 +1,20 @@
--- The report is written behind the turns' texts, and it is that of the history that they leave.
+-- The report is written after the turns' texts, and it is that of the history that they leave.
 use Rattle.std.proofs.Common.{◌≡◌, ℕ, List, Err, rules, subst}
-use Rattle.lot_machine.specs.Output.{turn_texts}
-use Rattle.lot_machine.specs.Report.{report}
-use Rattle.lot_machine.specs.World.{Program, opening_world, sysrun}
+use Rattle.lot_simulation.specs.Output.{turn_texts}
+use Rattle.lot_simulation.specs.Report.{report}
+use Rattle.lot_simulation.specs.World.{Program, opening_world, system_run}
 use Rattle.lot_print.specs.Writing.{Begins}
-use Rattle.lot_system.specs.Writing.{Writes}
+use Rattle.lot_system.specs.Writing.{Written}
 use Rattle.lot_system.proofs.PlayingFacts.{report-is}
-use Rattle.lot_print.proofs.WritingFacts.{begins-front, begins-behind}
-use Rattle.lot_system.proofs.WritingFacts.{writes-behind, writes-flushed}
+use Rattle.lot_print.proofs.WritingFacts.{begins-front, begins-after}
+use Rattle.lot_system.proofs.WritingFacts.{writes-after, writes-flushed}
 use Rattle.lot_system.proofs.playing.play_schedule.Goals as goal
 
 abbrev texts : Program → List ℕ
 texts program = turn_texts program (opening_world program) program.schedule
 
 abbrev last : Program → List ℕ
-last program = report program (sysrun program program.schedule).history
+last program = report program (system_run program program.schedule).history
 
 pub returns-in_err-play_turns-clause-text : goal.returns-in_err-play_turns-clause-text
 returns-in_err-play_turns-clause-text g c =
@@ -32,7 +32,7 @@ returns-in_err-write_report-clause-text g c =
     let mid = g.W.Write.contents c.play_turns.new.writer.inner in
     let new = g.W.Write.contents c.write_report.new.writer.inner in
     let its = subst (Begins mid new) (report-is program c.play_turns.new.system c.in_ok-play_turns.ensures.played) told.2 in
-    rw is (told.0, told.1, begins-behind old mid new (texts program) (last program) c.in_ok-play_turns.ensures.text.1 its)
+    rw is (told.0, told.1, begins-after old mid new (texts program) (last program) c.in_ok-play_turns.ensures.text.1 its)
 
 pub returns-clause-text : goal.returns-clause-text
 returns-clause-text g c =
@@ -42,5 +42,5 @@ returns-clause-text g c =
     let one = g.W.Write.contents c.write_report.new.writer.inner in
     let new = g.W.Write.contents c.flush.new.writer.inner in
     let both = writes-flushed mid one new c.flush.new.writer.failed c.flush.result _ c.in_ok-write_report.ensures.text.1 c.flush.ensures.text in
-    let its = subst (Writes mid new c.flush.new.writer.failed c.flush.result) (report-is program c.play_turns.new.system c.in_ok-play_turns.ensures.played) both in
-    writes-behind old mid new c.flush.new.writer.failed c.flush.result (texts program) (last program) c.in_ok-play_turns.ensures.text.1 its
+    let its = subst (Written mid new c.flush.new.writer.failed c.flush.result) (report-is program c.play_turns.new.system c.in_ok-play_turns.ensures.played) both in
+    writes-after old mid new c.flush.new.writer.failed c.flush.result (texts program) (last program) c.in_ok-play_turns.ensures.text.1 its

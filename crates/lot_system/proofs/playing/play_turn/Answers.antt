@@ -1,13 +1,13 @@
 -- A turn that goes is one turn more, and its text is that of its answer in the world after it.
 use Rattle.std.proofs.Common.{◌≡◌, ◌++◌, codes, Err, refl, rules, sym, ◌∙◌, ap, subst}
 use Rattle.std.specs.Fmt.{decimal}
-use Rattle.lot_machine.specs.Output.{turn_text}
-use Rattle.lot_machine.specs.Texts.{newline, refused, reply_text}
+use Rattle.lot_simulation.specs.Output.{turn_text}
+use Rattle.lot_simulation.specs.Texts.{newline, refused, reply_text}
 use Rattle.lot_print.specs.Writing.{Begins}
 use Rattle.lot_system.specs.declared.fault.PlayFault.TheVariants.{Write}
 use Rattle.lot_system.specs.Playing.{IsPlayed, turn_in}
 use Rattle.lot_system.specs.Seen.{Seen, world_of, after_turn}
-use Rattle.lot_system.specs.Writing.{Writes}
+use Rattle.lot_system.specs.Writing.{Written}
 use Rattle.lot_system.proofs.PlayingFacts.{played-after, text-after}
 use Rattle.lot_system.proofs.playing.play_turn.Goals as goal
 
@@ -27,7 +27,7 @@ returns-in-Ok-clause-text g c =
     let answer = c.in-Ok.answer in
     let told = c.in-Ok.ensures.ok in
     let text = ap (λ (x : Seen). decimal actor ++ (codes " " ++ reply_text (world_of x).state answer.event answer.reply)) told.1 ∙ text-after old actor answer.event answer.reply told.2.turn in
-    subst (Writes (g.W.Write.contents c.args.writer.now.inner) (g.W.Write.contents c.write_answer.new.writer.inner) c.write_answer.new.writer.failed c.write_answer.result) text c.write_answer.ensures.text
+    subst (Written (g.W.Write.contents c.args.writer.now.inner) (g.W.Write.contents c.write_answer.new.writer.inner) c.write_answer.new.writer.failed c.write_answer.result) text c.write_answer.ensures.text
 
 pub returns-in_err-write_ended-in-Err-Ended-clause-text : goal.returns-in_err-write_ended-in-Err-Ended-clause-text
 returns-in_err-write_ended-in-Err-Ended-clause-text g c =

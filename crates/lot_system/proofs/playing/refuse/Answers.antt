@@ -1,7 +1,7 @@
 use Rattle.std.proofs.Common.{◌≡◌, [], Err, rules, subst, append-nil}
-use Rattle.lot_machine.specs.Texts.{fault_line}
+use Rattle.lot_simulation.specs.Texts.{fault_line}
 use Rattle.lot_print.specs.Writing.{Begins}
-use Rattle.lot_print.proofs.WritingFacts.{begins-behind}
+use Rattle.lot_print.proofs.WritingFacts.{begins-after}
 use Rattle.lot_system.proofs.playing.refuse.Goals as goal
 
 pub returns-in_err-flush-clause-played : goal.returns-in_err-flush-clause-played
@@ -12,4 +12,4 @@ returns-in_err-flush-clause-played g c =
     let mid = g.W.Write.contents c.write_fault.new.writer.inner in
     let new = g.W.Write.contents c.flush.new.writer.inner in
     let text = fault_line c.args.fault in
-    rw (is, told.0) (told.1, subst (Begins old new) (append-nil text) (begins-behind old mid new text [] c.in_ok-write_fault.ensures.1 told.2))
+    rw (is, told.0) (told.1, subst (Begins old new) (append-nil text) (begins-after old mid new text [] c.in_ok-write_fault.ensures.1 told.2))

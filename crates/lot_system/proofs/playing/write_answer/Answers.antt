@@ -1,6 +1,6 @@
 use Rattle.std.proofs.Common.{◌≡◌, ◌++◌, codes, Err, refl, rules, subst}
 use Rattle.std.specs.Fmt.{decimal}
-use Rattle.lot_machine.specs.Texts.{plain_text, reply_text}
+use Rattle.lot_simulation.specs.Texts.{plain_text, reply_text}
 use Rattle.lot_print.specs.Writing.{Begins}
 use Rattle.lot_system.specs.declared.fault.PlayFault.TheVariants.{Write}
 use Rattle.lot_system.specs.Seen.{world_of}

@@ -1,14 +1,14 @@
--- Each part is written behind those before it.
+-- Each part is written after those before it.
 use Rattle.std.proofs.Common.{◌≡◌, ◌++◌, ℕ, List, length, codes, Err, refl, rules}
 use Rattle.std.specs.List.{flat_map, range_with_len}
 use Rattle.lot_machine.specs.Numbered.{numbers}
-use Rattle.lot_machine.specs.Report.{thread_total, processor_total, whole_total, turns_made}
+use Rattle.lot_simulation.specs.Report.{thread_total, processor_total, whole_total, turns_made}
 use Rattle.lot_machine.specs.Rows.{thread_row}
-use Rattle.lot_machine.specs.Texts.{lines_for}
+use Rattle.lot_simulation.specs.Texts.{lines_for}
 use Rattle.lot_system.specs.declared.fault.PlayFault.TheVariants.{Write}
 use Rattle.lot_system.specs.Seen.{Seen, world_of}
-use Rattle.lot_print.proofs.WritingFacts.{begins-front, begins-behind}
-use Rattle.lot_system.proofs.WritingFacts.{writes-behind}
+use Rattle.lot_print.proofs.WritingFacts.{begins-front, begins-after}
+use Rattle.lot_system.proofs.WritingFacts.{writes-after}
 use Rattle.lot_system.proofs.report.write_report.Goals as goal
 
 abbrev threads : Seen → List ℕ
@@ -35,7 +35,7 @@ returns-in_err-write_threads-clause-text g c =
     let old = g.W.Write.contents c.args.writer.now.inner in
     let one = g.W.Write.contents c.write_report_line.new.writer.inner in
     let new = g.W.Write.contents c.write_threads.new.writer.inner in
-    rw is (told.0, told.1, begins-behind old one new (codes "report\n") (threads s ++ (processors s ++ totals s)) c.in_ok-write_report_line.ensures.1 (begins-front one new (threads s) (processors s ++ totals s) told.2))
+    rw is (told.0, told.1, begins-after old one new (codes "report\n") (threads s ++ (processors s ++ totals s)) c.in_ok-write_report_line.ensures.1 (begins-front one new (threads s) (processors s ++ totals s) told.2))
 
 pub returns-in_err-write_processors-clause-text : goal.returns-in_err-write_processors-clause-text
 returns-in_err-write_processors-clause-text g c =
@@ -49,8 +49,8 @@ returns-in_err-write_processors-clause-text g c =
     rw is (
       told.0,
       told.1,
-      begins-behind old one new (codes "report\n") (threads s ++ (processors s ++ totals s)) c.in_ok-write_report_line.ensures.1
-          (begins-behind one two new (threads s) (processors s ++ totals s) c.in_ok-write_threads.ensures.text.1 (begins-front two new (processors s) (totals s) told.2)),
+      begins-after old one new (codes "report\n") (threads s ++ (processors s ++ totals s)) c.in_ok-write_report_line.ensures.1
+          (begins-after one two new (threads s) (processors s ++ totals s) c.in_ok-write_threads.ensures.text.1 (begins-front two new (processors s) (totals s) told.2)),
     )
 
 pub returns-clause-text : goal.returns-clause-text
@@ -66,5 +66,5 @@ returns-clause-text g c =
     let new = g.W.Write.contents c.write_total.new.writer.inner in
     let failed = c.write_total.new.writer.failed in
     let result = c.write_total.result in
-    writes-behind old one new failed result (codes "report\n") (threads s ++ (processors s ++ totals s)) c.in_ok-write_report_line.ensures.1
-    (writes-behind one two new failed result (threads s) (processors s ++ totals s) c.in_ok-write_threads.ensures.text.1 (writes-behind two three new failed result (processors s) (totals s) third.1 last))
+    writes-after old one new failed result (codes "report\n") (threads s ++ (processors s ++ totals s)) c.in_ok-write_report_line.ensures.1
+    (writes-after one two new failed result (threads s) (processors s ++ totals s) c.in_ok-write_threads.ensures.text.1 (writes-after two three new failed result (processors s) (totals s) third.1 last))

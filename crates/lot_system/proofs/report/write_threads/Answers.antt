@@ -1,6 +1,6 @@
 use Rattle.std.proofs.Common.{◌≡◌, ◌+◌, ℕ, List, [], length, Err, rules, ◌∙◌, arith}
 use Rattle.std.specs.Option.{option_map_or}
-use Rattle.lot_machine.specs.Report.{thread_total}
+use Rattle.lot_simulation.specs.Report.{thread_total}
 use Rattle.lot_machine.specs.Rows.{thread_row}
 use Rattle.lot_system.specs.Seen.{Seen, world_of}
 use Rattle.lot_system.proofs.WritingFacts.{range-more, range-stops}

@@ -2,7 +2,7 @@ use Rattle.std.proofs.Common.{◌≡◌, false, []}
 use Rattle.std.specs.List.{flat_map, range_with_len}
 use Rattle.std.specs.Option.{option_map_or}
 use Rattle.std.specs.Io.KnownBytes.{Appends}
-use Rattle.lot_machine.specs.Report.{thread_total}
+use Rattle.lot_simulation.specs.Report.{thread_total}
 use Rattle.lot_machine.specs.Rows.{thread_row}
 use Rattle.lot_system.specs.Seen.{world_of}
 use Rattle.lot_system.proofs.report.write_threads.Given as goal

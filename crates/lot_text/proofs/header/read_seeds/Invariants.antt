@@ -1,7 +1,7 @@
 use Rattle.std.proofs.Common.{◌≡◌, ◌+◌, ℕ, List, ◌++◌, length, Ok, Err}
 use Rattle.std.specs.Prelude.{All}
-use Rattle.lot_machine.specs.declared.input.InputRefusal.{InputRefusal}
-use Rattle.lot_machine.specs.Reading.{number_between, each}
+use Rattle.lot_simulation.specs.declared.input.InputRefusal.{InputRefusal}
+use Rattle.lot_simulation.specs.Reading.{number_between, each}
 use Rattle.lot_text.specs.Programs.{IsSeed}
 use Rattle.lot_text.proofs.header.read_seeds.Given as goal
 

@@ -1,5 +1,5 @@
 use Rattle.std.proofs.Common.{◌≡◌, ◌∙◌, sym, Some}
-use Rattle.lot_machine.specs.Words.{word_in, script_words}
+use Rattle.lot_simulation.specs.Words.{word_in, script_words}
 use Rattle.lot_text.proofs.ScriptLemmas.{later_line-inside}
 use Rattle.lot_text.proofs.input.later_line.Goals as goal
 

@@ -1,7 +1,7 @@
 use Rattle.std.proofs.Common.{◌<◌, ◌+◌, ◌-◌, length, take, drop, sym, ◌∙◌, arith, refl}
 use Rattle.std.proofs.lemmas.Bool.{eqb-false}
 use Rattle.std.proofs.lemmas.List.{take_rest}
-use Rattle.lot_text.proofs.FirstLine.{read_lines-goes_on, lines_of-count, length-behind, program_in-stops}
+use Rattle.lot_text.proofs.FirstLine.{read_lines-goes_on, lines_of-count, length-after, program_in-stops}
 use Rattle.lot_text.proofs.input.parse.Goals as goal
 
 pub loop-rest-preserved : goal.loop-rest-preserved
@@ -11,7 +11,7 @@ loop-rest-preserved c =
     let b = c.min-whole.result in
     let some : 0 < length bs = omega (arith, eqb-false _ 0 (sym c.is_empty.ensures ∙ c.loop-rest-test.true)) in
     record {
-      all = length-behind c.loop-rest.end (length c.args.bytes.now) k b bs c.min-whole.ensures c.loop-rest.invariant.all;
+      all = length-after c.loop-rest.end (length c.args.bytes.now) k b bs c.min-whole.ensures c.loop-rest.invariant.all;
       number = omega (arith, some, c.min-whole.ensures);
       within = c.in-Ok.ensures.within;
       count = omega (arith, c.loop-rest.invariant.count, lines_of-count k b bs (take (length bs - b) (drop b bs)) some c.len_before-len.ensures.others c.min-whole.ensures (take_rest bs b));

@@ -1,6 +1,6 @@
 use Rattle.std.proofs.Common.{◌≡◌, take, arith}
 use Rattle.std.proofs.lemmas.List.{take_all}
-use Rattle.lot_machine.proofs.ActorRuns.{length-actors_of}
+use Rattle.lot_simulation.proofs.ActorRuns.{length-actors_of}
 use Rattle.lot_text.proofs.RunLemmas.{All-actors_of}
 use Rattle.lot_text.proofs.runs.actors_of.Goals as goal
 

@@ -1,5 +1,5 @@
 use Rattle.std.proofs.Common.{◌≡◌, take}
-use Rattle.lot_machine.specs.Grammar.{actors_of}
+use Rattle.lot_simulation.specs.Grammar.{actors_of}
 use Rattle.lot_text.proofs.runs.actors_of.Given as goal
 
 abbrev pub invariant-loop-run : goal.invariant-loop-run

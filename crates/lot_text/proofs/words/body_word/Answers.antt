@@ -1,5 +1,5 @@
 use Rattle.std.proofs.Common.{take, drop}
-use Rattle.lot_machine.specs.Words.{body_words}
+use Rattle.lot_simulation.specs.Words.{body_words}
 use Rattle.lot_text.proofs.WordLemmas.{word_in-front}
 use Rattle.lot_text.proofs.words.body_word.Goals as goal
 

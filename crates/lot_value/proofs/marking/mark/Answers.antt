@@ -71,7 +71,7 @@ loop-preserved c =
     let is = c.node_of.ensures ∙ ap (λ (x : Layout). node_of x c.in-Some.from) c.layout-layout.ensures.layout in
     let spreads = subst (λ (n : Node). Spreads c.loop.stale c.add_targets.new.stale (LeadsToPlace l w.funding n)) is c.add_targets.ensures.spreads in record {
       list = c.add_targets.ensures.list;
-      is_next = c.next-next.ensures.behind 0 place (spreads.kept place c.in-Some.from at) ∙ ap (node_at c.add_targets.new.stale 0) (omega arith);
+      is_next = c.next-next.ensures.following 0 place (spreads.kept place c.in-Some.from at) ∙ ap (node_at c.add_targets.new.stale 0) (omega arith);
       followed = followed-more l w.funding c.layout-layout.ensures.fits old c.loop.stale c.add_targets.new.stale c.args.node c.loop.counter c.in-Some.from c.loop.invariant.list.consistent c.loop.invariant.followed at spreads;
     }
 

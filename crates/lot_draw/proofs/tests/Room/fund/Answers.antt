@@ -4,22 +4,23 @@ use Rattle.lot_graph.specs.Graphs.{LimitedFunding}
 use Rattle.lot_value.specs.Valued.{Valued}
 use Rattle.lot_draw.proofs.Together.{competes-more, weights-follow}
 use Rattle.lot_draw.proofs.tests.Room.fund.Goals as goal
+use Rattle.lot_graph.specs.Changes.{with_tickets}
 
 -- as many threads are there, and may be
 abbrev HasThreadsOf : LimitedFunding → LimitedFunding → Type 0
 HasThreadsOf old new = (new.thread_limit ≡ old.thread_limit) × (length new.funding.lends ≡ length old.funding.lends)
 
-other-tickets : (old new : LimitedFunding) (tickets : List (Option Ticket)) → new ≡ record old { funding = record old.funding { tickets = tickets } } → HasThreadsOf old new
+other-tickets : (old new : LimitedFunding) (tickets : List (Option Ticket)) → new ≡ with_tickets old tickets → HasThreadsOf old new
 other-tickets old new tickets is = (ap (λ (w : LimitedFunding). w.thread_limit) is, ap (λ (w : LimitedFunding). length w.funding.lends) is)
 
 same-threads : (old new : Valued) → new ≡ old → HasThreadsOf old.now new.now
 same-threads old new is = (ap (λ (v : Valued). v.now.thread_limit) is, ap (λ (v : Valued). length v.now.funding.lends) is)
 
-issued : {A : Type 0} (o : Option A) (old new : Valued) (tickets : List (Option Ticket)) → OnSome o (new.now ≡ record old.now { funding = record old.now.funding { tickets = tickets } }) → IfNone o (new ≡ old) → HasThreadsOf old.now new.now
+issued : {A : Type 0} (o : Option A) (old new : Valued) (tickets : List (Option Ticket)) → OnSome o (new.now ≡ with_tickets old.now tickets) → IfNone o (new ≡ old) → HasThreadsOf old.now new.now
 issued (Some x) old new tickets made unchanged = other-tickets old.now new.now tickets made
 issued None old new tickets made unchanged = same-threads old new unchanged
 
-funded : {A B : Type 0} (r : Result A B) (old new : Valued) (tickets : List (Option Ticket)) → OnOk r (new.now ≡ record old.now { funding = record old.now.funding { tickets = tickets } }) → OnErr r (new ≡ old) → HasThreadsOf old.now new.now
+funded : {A B : Type 0} (r : Result A B) (old new : Valued) (tickets : List (Option Ticket)) → OnOk r (new.now ≡ with_tickets old.now tickets) → OnErr r (new ≡ old) → HasThreadsOf old.now new.now
 funded (Ok x) old new tickets made unchanged = other-tickets old.now new.now tickets made
 funded (Err x) old new tickets made unchanged = same-threads old new unchanged
 

@@ -1,23 +1,23 @@
 use Rattle.std.proofs.Common.{◌≡◌, Option, Some, List, sym, ◌∙◌}
 use Rattle.std.specs.Prelude.{slice_get}
-use Rattle.lot_machine.specs.declared.script.Line.{Line}
+use Rattle.lot_simulation.specs.declared.script.Line.{Line}
 use Rattle.lot_script.specs.Drafts.{IsScript}
 use Rattle.lot_script.specs.Places.{Place, Fits, Stands}
-use Rattle.lot_script.proofs.Passed.{stands-within, Makes-line, Makes-exit}
+use Rattle.lot_script.proofs.Passed.{stands-within, MakesTrap-line, MakesTrap-exit}
 use Rattle.lot_script.proofs.script.Script.advance.Goals as goal
 
 stands : (lines : List Line) (p : Place) (l : Line) (next : Option Line) → IsScript lines → Fits lines p → next ≡ slice_get lines p.line → next ≡ Some l → Stands lines p l
 stands lines p l next script fits here is = record { script = script; fits = fits; next = sym here ∙ is }
 
 pub returns-in_default : goal.returns-in_default
-returns-in_default c = Makes-exit _ _ c.requires.fits (sym c.next_line.ensures.line ∙ c.in_default.is)
+returns-in_default c = MakesTrap-exit _ _ c.requires.fits (sym c.next_line.ensures.line ∙ c.in_default.is)
 
 pub leave_line-requires : goal.leave_line-requires
 leave_line-requires c = stands-within _ _ _ (stands _ _ _ _ c.next_line.ensures.legal c.requires.fits c.next_line.ensures.line c.in-Some.is)
 
 pub returns-in-Some-trap_on : goal.returns-in-Some-trap_on
 returns-in-Some-trap_on c =
-    rw c.leave_line.ensures (Makes-line _ _ _ _ (stands _ _ _ _ c.next_line.ensures.legal c.requires.fits c.next_line.ensures.line c.in-Some.is) c.in-Some-trap_on.ensures.trap)
+    rw c.leave_line.ensures (MakesTrap-line _ _ _ _ (stands _ _ _ _ c.next_line.ensures.legal c.requires.fits c.next_line.ensures.line c.in-Some.is) c.in-Some-trap_on.ensures.trap)
 
 pub pass-requires-clause-stands : goal.pass-requires-clause-stands
 pass-requires-clause-stands c = stands _ _ _ _ c.next_line.ensures.legal c.requires.fits c.next_line.ensures.line c.in-Some.is

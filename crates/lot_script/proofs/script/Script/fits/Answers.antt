@@ -1,6 +1,6 @@
 use Rattle.std.proofs.Common.{◌≡◌, ◌<◌, List, length}
-use Rattle.lot_machine.specs.declared.script.Line.{Line}
-use Rattle.lot_machine.specs.Script.{unrolled}
+use Rattle.lot_simulation.specs.declared.script.Line.{Line}
+use Rattle.lot_simulation.specs.Script.{unrolled}
 use Rattle.lot_script.specs.Drafts.{IsScript}
 use Rattle.lot_script.specs.Places.{Place, Fits, IsRestOf, rest_at}
 use Rattle.lot_script.proofs.Reached.{rest-there, some-there}

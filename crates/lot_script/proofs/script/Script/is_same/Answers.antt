@@ -1,8 +1,8 @@
 use Rattle.std.proofs.Common.{◌≡◌, rules}
 use Rattle.std.specs.Bool.{Decides}
 use Rattle.std.proofs.lemmas.Slice.Eq.{slice_eq-Decides}
-use Rattle.lot_machine.specs.declared.script.Line.{Line}
-use Rattle.lot_machine.specs.contracts.script.LinePartialEq.TheImpl.{eq-value}
+use Rattle.lot_simulation.specs.declared.script.Line.{Line}
+use Rattle.lot_simulation.specs.contracts.script.LinePartialEq.TheImpl.{eq-value}
 use Rattle.lot_script.proofs.script.Script.is_same.Goals as goal
 
 -- `==` of two lines decides whether they are equal

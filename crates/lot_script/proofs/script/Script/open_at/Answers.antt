@@ -1,6 +1,6 @@
 use Rattle.std.proofs.Common.{◌≡◌, ◌<◌, ◌≤◌, ◌+◌, ℕ, List, length, get_or, arith, sym, refl}
 use Rattle.std.proofs.lemmas.Option.{slice_get_read}
-use Rattle.lot_machine.specs.declared.script.Line.{Line}
+use Rattle.lot_simulation.specs.declared.script.Line.{Line}
 use Rattle.lot_script.specs.declared.open_loops.OpenLoop.{OpenLoop}
 use Rattle.lot_script.specs.Drafts.{IsScript, CanNest}
 use Rattle.lot_script.specs.Places.{open_at, open_after}

@@ -41,4 +41,4 @@ pub returns-in-Loop-clause-passes : goal.returns-in-Loop-clause-passes
 returns-in-Loop-clause-passes c = rw c.enter.ensures (Passes-loop _ _ _ (rw c.in-Loop.is at c.requires.stands))
 
 pub returns-in-End-clause-passes : goal.returns-in-End-clause-passes
-returns-in-End-clause-passes c = Passes-end _ _ _ (rw c.in-End.is at c.requires.stands) c.end_copy.ensures.again c.end_copy.ensures.behind
+returns-in-End-clause-passes c = Passes-end _ _ _ (rw c.in-End.is at c.requires.stands) c.end_copy.ensures.again c.end_copy.ensures.following

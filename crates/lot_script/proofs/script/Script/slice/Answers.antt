@@ -1,6 +1,6 @@
 use Rattle.std.proofs.Common.{Some, arith}
 use Rattle.lot_script.specs.Slices.{IsSlice}
-use Rattle.lot_script.specs.Places.{Makes}
+use Rattle.lot_script.specs.Places.{MakesTrap}
 use Rattle.lot_script.proofs.Passed.{Passes-then}
 use Rattle.lot_script.proofs.Fronts.{slice-trap}
 use Rattle.lot_script.proofs.script.Script.slice.Goals as goal
@@ -11,9 +11,9 @@ loop-ticks-preserved c = record {
   passes = Passes-then _ _ _ _ _ _ c.loop-ticks.invariant.passes c.in-Marks.ensures.2;
 }
 
-exact : (c : goal.In-Trap) → IsSlice (record { lines = c.args.self.now; start = c.args.start; budget = c.args.budget; ticks = c.loop-ticks.ticks; trap = Some c.in-Trap.trap; end = c.advance.new.context })
+exact : (c : goal.In-Trap) → IsSlice (record { lines = c.args.self.now; start = c.args.start; budget = c.args.budget; ticks = c.loop-ticks.ticks; trap = Some c.in-Trap.trap; end = c.advance.new.place })
 exact c =
-    let makes : Makes c.args.self.now c.loop-ticks.end c.advance.new.context c.in-Trap.trap = c.in-Trap.ensures in
+    let makes : MakesTrap c.args.self.now c.loop-ticks.end c.advance.new.place c.in-Trap.trap = c.in-Trap.ensures in
     record {
       start_fits = c.requires.fits;
       budget_fits = c.requires.budget;

@@ -2,11 +2,11 @@
 use Rattle.std.proofs.Common.{◌≡◌, ◌<◌, ◌++◌, [], ◌∷◌, length, ap, ◌∙◌, subst, unwrap_or, arith}
 use Rattle.lot_machine.specs.Lottery.{drawn_number}
 use Rattle.lot_machine.specs.Numbered.{at_number}
-use Rattle.lot_machine.specs.World.{IsLegal, sys, sysrun}
-use Rattle.lot_machine.specs.World.Answer.{Answered}
+use Rattle.lot_simulation.specs.World.{IsLegal, system_turn, system_run}
+use Rattle.lot_simulation.specs.World.Answer.{Answered}
 use Rattle.lot_system.specs.Seen.{Seen, world_of}
-use Rattle.lot_system.proofs.Runs.{sysrun-one_more, past-more}
-use Rattle.lot_machine.specs.Report.{turns_made}
+use Rattle.lot_system.proofs.Runs.{system_run-one_more, past-more}
+use Rattle.lot_simulation.specs.Report.{turns_made}
 use Rattle.lot_system.proofs.CountFacts.{each-after, total-after}
 use Rattle.lot_system.proofs.TurnFacts.{turn-answer, turn-names, turn-held, count-processor, legal-more}
 use Rattle.lot_system.proofs.system.System.processor_turn.Goals as goal
@@ -17,11 +17,11 @@ follow_turn-requires c =
     let requires = rw (← c.self.view_is) at c.requires in
     let fresh = requires.fresh in
     let number = c.next_number.ensures ∙ ap (λ ns. drawn_number (unwrap_or (at_number ns c.args.actor) 0)) c.deref.ensures.value in
-    turn-names s.program (sysrun s.program s.history.items) s.kernel s.contexts.items s.generators.items s.spent c.self.invariant.held c.args.actor (omega (arith, requires.actor.0)) c.next_number.result fresh.0 c.args.slice.now fresh.1 fresh.2 c.event_of-event.ensures.exact number
+    turn-names s.program (system_run s.program s.history.items) s.kernel s.places.items s.generators.items s.spent c.self.invariant.held c.args.actor (omega (arith, requires.actor.0)) c.next_number.result fresh.0 c.args.slice.now fresh.1 fresh.2 c.event_of-event.ensures.exact number
     c.event_of-event.result c.event_of-event.ensures.event c.event-reply.new.self c.event-reply.result c.event-reply.ensures.state c.event-reply.ensures.reply
 
-pub count_turn-requires-clause-few : goal.count_turn-requires-clause-few
-count_turn-requires-clause-few c =
+pub count_turn-requires-clause-bounded : goal.count_turn-requires-clause-bounded
+count_turn-requires-clause-bounded c =
     let s = c.self.inside in
     let requires = rw (← c.self.view_is) at c.requires in
     (turns_made s.program s.history.items, length s.history.items, omega (arith, requires.room), c.self.invariant.each_counted)
@@ -35,18 +35,18 @@ invariant_of-self c =
     let some : 0 < c.args.actor = omega (arith, requires.actor.0) in
     let number = c.next_number.ensures ∙ ap (λ ns. drawn_number (unwrap_or (at_number ns c.args.actor) 0)) c.deref.ensures.value in
     let held =
-    turn-held s.program (sysrun s.program s.history.items) s.kernel s.contexts.items s.generators.items s.spent i.held c.args.actor some c.next_number.result fresh.0 c.args.slice.now fresh.1 fresh.2 c.event_of-event.ensures.exact number
+    turn-held s.program (system_run s.program s.history.items) s.kernel s.places.items s.generators.items s.spent i.held c.args.actor some c.next_number.result fresh.0 c.args.slice.now fresh.1 fresh.2 c.event_of-event.ensures.exact number
     c.event_of-event.result c.event_of-event.ensures.event c.event-reply.new.self c.event-reply.result c.event-reply.ensures.state c.event-reply.ensures.reply
-    c.follow_turn.new.contexts.items c.pass_number.new.generators.items c.follow_turn.ensures.places c.pass_number.ensures.values in
+    c.follow_turn.new.places.items c.pass_number.new.generators.items c.follow_turn.ensures.follows c.pass_number.ensures.values in
     let answer =
-    turn-answer s.program (sysrun s.program s.history.items) s.kernel s.contexts.items s.generators.items s.spent i.held c.args.actor some c.next_number.result fresh.0 c.args.slice.now fresh.1 fresh.2 c.event_of-event.ensures.exact number
+    turn-answer s.program (system_run s.program s.history.items) s.kernel s.places.items s.generators.items s.spent i.held c.args.actor some c.next_number.result fresh.0 c.args.slice.now fresh.1 fresh.2 c.event_of-event.ensures.exact number
     c.event_of-event.result c.event_of-event.ensures.event c.event-reply.new.self c.event-reply.result c.event-reply.ensures.state c.event-reply.ensures.reply in
     let count = count-processor s.history.items c.args.actor some in
     let legal : IsLegal s.program s.room (s.history.items ++ c.args.actor ∷ []) = legal-more s.program s.room s.history.items c.args.actor i.legal requires.actor.1 requires.room (omega (arith, count, i.legal.console)) in
     rw c.remember.ensures.items (record {
       program = i.program;
       legal = legal;
-      held = rw (sysrun-one_more s.program s.history.items c.args.actor) held;
+      held = rw (system_run-one_more s.program s.history.items c.args.actor) held;
       generators = c.pass_number.ensures.count ∙ i.generators;
       past = past-more s.program s.history.items c.args.actor c.event_of-event.result c.event-reply.result i.past answer;
       spent = omega (arith, count, i.spent);
@@ -63,6 +63,6 @@ returns-clause-answer c =
     let requires = rw (← c.self.view_is) at c.requires in
     let fresh = requires.fresh in
     let number = c.next_number.ensures ∙ ap (λ ns. drawn_number (unwrap_or (at_number ns c.args.actor) 0)) c.deref.ensures.value in
-    subst (λ (x : Seen). (sys x.setting.program (world_of x) c.args.actor).answer ≡ Answered c.event_of-event.result c.event-reply.result) c.self.view_is
-    (turn-answer s.program (sysrun s.program s.history.items) s.kernel s.contexts.items s.generators.items s.spent c.self.invariant.held c.args.actor (omega (arith, requires.actor.0)) c.next_number.result fresh.0 c.args.slice.now fresh.1 fresh.2
+    subst (λ (x : Seen). (system_turn x.setting.program (world_of x) c.args.actor).answer ≡ Answered c.event_of-event.result c.event-reply.result) c.self.view_is
+    (turn-answer s.program (system_run s.program s.history.items) s.kernel s.places.items s.generators.items s.spent c.self.invariant.held c.args.actor (omega (arith, requires.actor.0)) c.next_number.result fresh.0 c.args.slice.now fresh.1 fresh.2
     c.event_of-event.ensures.exact number c.event_of-event.result c.event_of-event.ensures.event c.event-reply.new.self c.event-reply.result c.event-reply.ensures.state c.event-reply.ensures.reply)

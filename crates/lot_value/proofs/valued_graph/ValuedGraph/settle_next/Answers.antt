@@ -1,4 +1,4 @@
-use Rattle.std.proofs.Common.{◌≡◌, List, [], Option, Some, None, IfSome, IfNone, ap, subst, sym}
+use Rattle.std.proofs.Common.{◌≡◌, [], Option, Some, None, IfSome, IfNone, ap, subst, sym}
 use Rattle.lot_machine.specs.declared.funding.Node.{Node}
 use Rattle.lot_machine.specs.Bounds.{IsUnit}
 use Rattle.lot_graph.specs.declared.layout.Layout.{Layout}

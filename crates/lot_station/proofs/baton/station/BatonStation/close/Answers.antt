@@ -1,7 +1,7 @@
 use Rattle.std.proofs.Common.{ℕ, List, refl, ap, subst}
 use Rattle.lot_station.specs.declared.baton.view.View.{View}
 use Rattle.lot_station.specs.BatonViews.{SeesAll}
-use Rattle.lot_station.specs.BatonSeats.{Seat, Baton, InOrder}
+use Rattle.lot_station.specs.BatonSeats.{Seat, Baton, HasEachSeat}
 use Rattle.lot_station.proofs.BatonClosing.{each_all, shown, last_actor}
 use Rattle.lot_station.proofs.BatonCounting.{counts_add_up}
 use Rattle.lot_station.proofs.BatonSharing.{adds_up}
@@ -9,7 +9,7 @@ use Rattle.lot_station.proofs.baton.station.BatonStation.close.Goals as goal
 
 pub returns-clause-order : goal.returns-clause-order
 returns-clause-order g c =
-    subst (λ (y : ℕ × List Seat). InOrder y.0 y.1) (λ i. (ap (λ (b : Baton). b.processors) c.self.view_is i, c.as_slice.ensures.value i)) (c.if-not-in_order.ensures.0 refl)
+    subst (λ (y : ℕ × List Seat). HasEachSeat y.0 y.1) (λ i. (ap (λ (b : Baton). b.processors) c.self.view_is i, c.as_slice.ensures.value i)) (c.if-not-in_order.ensures.0 refl)
 
 pub returns-clause-shows : goal.returns-clause-shows
 returns-clause-shows g c =

@@ -1,7 +1,7 @@
 use Rattle.std.proofs.Common.{rules, sym, ap, subst}
 use Rattle.crossbeam_queue.specs.Passes.{view}
 use Rattle.lot_station.specs.declared.baton.view.View.{View}
-use Rattle.lot_station.specs.BatonViews.{Begins, SeesAll}
+use Rattle.lot_station.specs.BatonViews.{Extends, SeesAll}
 use Rattle.lot_station.specs.BatonSeats.{Seat, seat, seen_in, Looks}
 use Rattle.lot_station.proofs.BatonSteps.{notes, joins}
 use Rattle.lot_station.proofs.BatonTelling.{with_note, back_after, looks, still_counted}
@@ -21,8 +21,8 @@ returns-clause-to g c =
     let old = seat c.to.inside.pass.table_id c.to.inside.actor (seen_in (view c.to.inside.pass).claims) c.to.inside.stopped in
     let told = seat c.from.inside.pass.table_id c.from.inside.actor (seen_in (view c.from.inside.pass).claims) c.from.inside.stopped in
     let new = seat c.give.new.pass.table_id c.to.inside.actor (seen_in (view c.give.new.pass).claims) c.to.inside.stopped in
-    subst (λ (y : Seat × Seat). Looks y.0 new × Begins new.seen y.1.seen) (λ i. (c.to.view_is i, c.from.view_is i))
-    (looks old new c.take-system.result back sees.0 c.history.ensures.legal, subst (λ x. Begins x told.seen) (sym back) sees.1.0.0)
+    subst (λ (y : Seat × Seat). Looks y.0 new × Extends new.seen y.1.seen) (λ i. (c.to.view_is i, c.from.view_is i))
+    (looks old new c.take-system.result back sees.0 c.history.ensures.legal, subst (λ x. Extends x told.seen) (sym back) sees.1.0.0)
 
 pub invariant_of-to : goal.invariant_of-to
 invariant_of-to g c =

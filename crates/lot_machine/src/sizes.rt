@@ -1,0 +1,100 @@
+//! The sizes that a kernel is made with.
+ghost use Rattle.std.specs.Prelude.{◌≡◌, IfSome, IsSome, IsTrue, ◌↔◌};
+ghost use Rattle.lot_machine.specs.Bounds.{IsWithinBounds};
+ghost use Rattle.lot_machine.specs.State.{sizes_of};
+
+use crate::Limits;
+
+/// The sizes of a kernel: how many tickets, user currencies and threads may be made, how many ports, mutexes, processors
+/// and scripts there are, how many ticks a quantum has, and how much one of base is worth.
+#[derive(Clone, Copy, Debug, PartialEq, Eq)]
+pub struct Sizes {
+    /// 1 to 65535.
+    pub tickets: u32,
+    /// 1 to 4096.
+    pub currencies: u32,
+    /// 1 to 4096.
+    pub threads: u32,
+    /// At most 256.
+    pub ports: u32,
+    /// At most 256.
+    pub mutexes: u32,
+    /// 1 to 64.
+    pub processors: u32,
+    /// At most 256.
+    pub scripts: u32,
+    /// In ticks, 1 to 1000.
+    pub quantum: u32,
+    /// 1, or 256 for finer shares.
+    pub unit: u32,
+}
+
+impl Sizes {
+    /// The smallest sizes that there may be.
+    pub const SMALLEST: Sizes = Sizes {
+        tickets: 1,
+        currencies: 1,
+        threads: 1,
+        ports: 0,
+        mutexes: 0,
+        processors: 1,
+        scripts: 0,
+        quantum: 1,
+        unit: 1,
+    };
+    /// The largest sizes that there may be.
+    pub const LARGEST: Sizes = Sizes {
+        tickets: 65535,
+        currencies: 4096,
+        threads: 4096,
+        ports: 256,
+        mutexes: 256,
+        processors: 64,
+        scripts: 256,
+        quantum: 1000,
+        unit: 256,
+    };
+}
+
+impl Limits {
+    /// The limits of these sizes, or `None` if one is out of its bounds.
+    pub fn new(sizes: Sizes) -> Option<Self>
+        ensures some { IsSome result ↔ IsWithinBounds sizes }
+        ensures sizes { IfSome result (λ limits. sizes_of limits ≡ sizes) }
+    {
+        if !are_within_bounds(&sizes) {
+            return None;
+        }
+        Some(Limits {
+            tickets: sizes.tickets,
+            currencies: sizes.currencies,
+            threads: sizes.threads,
+            ports: sizes.ports,
+            mutexes: sizes.mutexes,
+            processors: sizes.processors,
+            scripts: sizes.scripts,
+            quantum: sizes.quantum,
+            unit: sizes.unit,
+        })
+    }
+}
+
+/// Whether each size is within its bounds.
+fn are_within_bounds(sizes: &Sizes) -> bool
+    ensures { IsTrue result ↔ IsWithinBounds sizes.now }
+{
+    Sizes::SMALLEST.tickets <= sizes.tickets
+        && sizes.tickets <= Sizes::LARGEST.tickets
+        && Sizes::SMALLEST.currencies <= sizes.currencies
+        && sizes.currencies <= Sizes::LARGEST.currencies
+        && Sizes::SMALLEST.threads <= sizes.threads
+        && sizes.threads <= Sizes::LARGEST.threads
+        && sizes.ports <= Sizes::LARGEST.ports
+        && sizes.mutexes <= Sizes::LARGEST.mutexes
+        && Sizes::SMALLEST.processors <= sizes.processors
+        && sizes.processors <= Sizes::LARGEST.processors
+        && sizes.scripts <= Sizes::LARGEST.scripts
+        && Sizes::SMALLEST.quantum <= sizes.quantum
+        && sizes.quantum <= Sizes::LARGEST.quantum
+        && (sizes.unit == Sizes::SMALLEST.unit || sizes.unit == Sizes::LARGEST.unit)
+}

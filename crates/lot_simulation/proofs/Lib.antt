@@ -1,0 +1,2 @@
+pub mod ActorRuns
+pub mod ActorCounts

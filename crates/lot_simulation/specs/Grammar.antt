@@ -1,0 +1,295 @@
+-- What an input says, or on which line it is refused.
+use Rattle.std.specs.Prelude.{ℕ, ◌+◌, ◌-◌, ◌%◌, max, ◌==◌, nat_lt, nat_le, Bool, true, false, not, ◌&&◌, ◌||◌, Option, Some, None, Result, Ok, Err, List, [], ◌∷◌, ◌++◌, length, map, sum_by, replicate, codes, unwrap_or, if◌then◌else◌}
+use Rattle.std.specs.List.{flat_map, range_with_len}
+use Rattle.std.specs.Str.{bytes_eq}
+use Rattle.lot_simulation.specs.declared.script.Line.{Line}
+use Rattle.lot_simulation.specs.declared.script.Line.TheVariants as line
+use Rattle.lot_machine.specs.declared.command.Command.{Command}
+use Rattle.lot_machine.specs.declared.command.Command.TheVariants.{MakeTicket, RemoveTicket, MakeCurrency, RemoveCurrency, Fund, Unfund, MakeThread, MakeFunded, List as Listing}
+use Rattle.lot_machine.specs.declared.command.Kind.TheVariants.{Tickets, Currencies, Threads}
+use Rattle.lot_simulation.specs.declared.input.HeaderWord.{HeaderWord}
+use Rattle.lot_simulation.specs.declared.input.HeaderWord.TheVariants as header
+use Rattle.lot_simulation.specs.declared.input.BodyWord.{BodyWord}
+use Rattle.lot_simulation.specs.declared.input.BodyWord.TheVariants as body
+use Rattle.lot_simulation.specs.declared.input.ScriptWord.{ScriptWord}
+use Rattle.lot_simulation.specs.declared.input.ScriptWord.TheVariants as script
+use Rattle.lot_simulation.specs.declared.input.InputRefusal.{InputRefusal}
+use Rattle.lot_simulation.specs.declared.input.InputRefusal.TheVariants.{BadHeader, BadLine, OpenScript as ScriptIsOpen, TooDeep, TooLong}
+use Rattle.lot_simulation.specs.declared.input.InputFault.{InputFault}
+use Rattle.lot_machine.specs.declared.sizes.Sizes.{Sizes}
+use Rattle.lot_simulation.specs.Lines.{lines_of, without_end, tokens_of, is_ignored, is_printable}
+use Rattle.lot_simulation.specs.Words.{word_in, header_words, header_place, body_words, script_words}
+use Rattle.lot_simulation.specs.Reading.{OpenScript, Reading, opening_reading, ◌>>=◌, checked, each, each_pair, number_between, any_number, actor_below, any_name, new_name, known_name, script_number}
+use Rattle.lot_simulation.specs.World.{Program}
+
+-- ---- lines of the header
+
+-- the first line that isn't ignored: `lottery 1` means unit 1, and `lottery 2` unit 256
+abbrev pub first_line : List (List ℕ) → Result Reading InputRefusal
+first_line (word ∷ version ∷ []) =
+    if bytes_eq word (codes "lottery") && bytes_eq version (codes "1") then Ok (opening_reading 1)
+    else if bytes_eq word (codes "lottery") && bytes_eq version (codes "2") then Ok (opening_reading 256)
+    else Err BadHeader
+first_line other = Err BadHeader
+
+-- what a line of the header says
+abbrev pub header_line : Reading → HeaderWord → List (List ℕ) → Result Reading InputRefusal
+header_line r header.Processors (p ∷ []) = do
+  processors ← number_between 1 64 p
+  Ok (record r { processors = processors })
+header_line r header.Quantum (q ∷ []) = do
+  quantum ← number_between 1 1000 q
+  Ok (record r { quantum = quantum })
+header_line r header.Turns (t ∷ []) = do
+  turns ← number_between 0 10000 t
+  Ok (record r { turns = turns })
+header_line r header.Seed tokens = do
+  given ← checked ((not (length tokens == r.processors), BadLine) ∷ []) tokens
+  seeds ← each (number_between 1 2147483646) given
+  Ok (record r { seeds = Some seeds })
+header_line r header.Limits (t ∷ c ∷ h ∷ []) = do
+  tickets ← number_between 1 65535 t
+  currencies ← number_between 1 4096 c
+  threads ← number_between 1 4096 h
+  Ok (record r { tickets = tickets; currencies = currencies; threads = threads })
+header_line r word tokens = Err BadLine
+
+-- A header word that doesn't come after those so far is out of order, repeated, or after the body.
+abbrev pub header_in_order : Reading → HeaderWord → List (List ℕ) → Result Reading InputRefusal
+header_in_order r word tokens = do
+  before ← checked ((nat_le (header_place word) r.place, BadHeader) ∷ []) r
+  after ← header_line before word tokens
+  Ok (record after { place = header_place word })
+
+-- ---- lines of a script
+
+-- one line more
+abbrev pub with_line : OpenScript → Line → OpenScript
+with_line s l = record s { lines = s.lines ++ l ∷ [] }
+
+-- whether the script has as many lines as one may have
+abbrev pub is_full : OpenScript → Bool
+is_full s = nat_le 1024 (length s.lines)
+
+-- the script goes on with this line
+abbrev pub add_line : Reading → OpenScript → Line → Result Reading InputRefusal
+add_line r s l = checked ((is_full s, TooLong) ∷ []) (record r { unclosed = Some (with_line s l) })
+
+-- what a line of a script says
+abbrev pub script_line : Reading → OpenScript → ScriptWord → List (List ℕ) → Result Reading InputRefusal
+script_line r s script.Compute (n ∷ []) = do
+  ticks ← number_between 1 4294967295 n
+  add_line r s (line.Compute ticks)
+script_line r s script.Set (n ∷ []) = do
+  number ← number_between 0 4294967295 n
+  add_line r s (line.Set number)
+script_line r s script.Add (n ∷ []) = do
+  number ← number_between 0 4294967295 n
+  add_line r s (line.Add number)
+script_line r s script.Loop (n ∷ []) = do
+  times ← number_between 1 65535 n
+  checked ((nat_le 8 s.loops, TooDeep) ∷ (is_full s, TooLong) ∷ []) (record r { unclosed = Some (record (with_line s (line.Loop times)) { loops = s.loops + 1 }) })
+script_line r s script.End [] =
+    checked ((s.loops == 0, BadLine) ∷ (is_full s, TooLong) ∷ []) (record r { unclosed = Some (record (with_line s line.End) { loops = s.loops - 1 }) })
+script_line r s script.Yield [] = add_line r s line.Yield
+script_line r s script.Reply [] = add_line r s line.Reply
+script_line r s script.Call (name ∷ []) = do
+  port ← known_name r.ports name
+  add_line r s (line.Call port)
+script_line r s script.Receive (name ∷ []) = do
+  port ← known_name r.ports name
+  add_line r s (line.Receive port)
+script_line r s script.Lock (name ∷ []) = do
+  mutex ← known_name r.mutexes name
+  add_line r s (line.Lock mutex)
+script_line r s script.Unlock (name ∷ []) = do
+  mutex ← known_name r.mutexes name
+  add_line r s (line.Unlock mutex)
+script_line r s script.EndScript [] =
+    checked ((nat_lt 0 s.loops, BadLine) ∷ []) (record r { unclosed = None; scripts = r.scripts ++ record { name = s.name; lines = s.lines } ∷ [] })
+script_line r s word tokens = Err BadLine
+
+-- ---- lines of the body
+
+-- the names of the scripts so far
+abbrev pub script_names : Reading → List (List ℕ)
+script_names r = map (λ s. s.name) r.scripts
+
+-- one command more
+abbrev pub add_command : Reading → Command → Result Reading InputRefusal
+add_command r c = checked ((nat_le 100000 (length r.commands), TooLong) ∷ []) (record r { commands = r.commands ++ c ∷ [] })
+
+-- turns of one actor in a row
+pub record ActorRun : Type 0 where
+  pub actor : ℕ
+  pub count : ℕ
+
+-- an actor, and how many turns in a row it has
+abbrev pub run_of : ℕ → List ℕ → List ℕ → Result ActorRun InputRefusal
+run_of processors first second = do
+  actor ← actor_below processors first
+  count ← number_between 1 1000000 second
+  Ok (record { actor = actor; count = count })
+
+-- the actors of runs, in order
+abbrev pub actors_of : List ActorRun → List ℕ
+actors_of runs = flat_map (λ run. replicate run.count run.actor) runs
+
+-- the schedule goes on with as many actors as the runs have
+abbrev pub add_runs : Reading → List ActorRun → Result Reading InputRefusal
+add_runs r runs = do
+  fitting ← checked ((nat_lt 1000000 (length r.schedule + sum_by (λ run. run.count) runs), TooLong) ∷ []) runs
+  Ok (record r { schedule = r.schedule ++ actors_of fitting })
+
+-- What a line of the body says. There are no runs if the unit is 1.
+abbrev pub body_line : ℕ → Reading → BodyWord → List (List ℕ) → Result Reading InputRefusal
+body_line n r body.Port (token ∷ []) = do
+  name ← new_name r.ports token
+  checked ((nat_le 256 (length r.ports), TooLong) ∷ []) (record r { ports = r.ports ++ name ∷ [] })
+body_line n r body.Mutex (token ∷ []) = do
+  name ← new_name r.mutexes token
+  checked ((nat_le 256 (length r.mutexes), TooLong) ∷ []) (record r { mutexes = r.mutexes ++ name ∷ [] })
+body_line n r body.Script (token ∷ []) = do
+  name ← new_name (script_names r) token
+  checked ((nat_le 256 (length r.scripts), TooLong) ∷ []) (record r { unclosed = Some (record { name = name; begins = n; lines = []; loops = 0 }) })
+body_line n r body.MakeTicket (a ∷ c ∷ []) = do
+  amount ← any_number a
+  currency ← any_name c
+  add_command r (MakeTicket amount currency)
+body_line n r body.RemoveTicket (t ∷ []) = do
+  ticket ← any_number t
+  add_command r (RemoveTicket ticket)
+body_line n r body.MakeCurrency (token ∷ []) = do
+  name ← any_name token
+  add_command r (MakeCurrency name)
+body_line n r body.RemoveCurrency (c ∷ []) = do
+  currency ← any_name c
+  add_command r (RemoveCurrency currency)
+body_line n r body.Fund (t ∷ to ∷ []) = do
+  ticket ← any_number t
+  target ← any_name to
+  add_command r (Fund ticket target)
+body_line n r body.Unfund (t ∷ []) = do
+  ticket ← any_number t
+  add_command r (Unfund ticket)
+body_line n r body.MakeThread (token ∷ s ∷ []) = do
+  name ← any_name token
+  number ← script_number (script_names r) s
+  add_command r (MakeThread name number)
+body_line n r body.MakeFunded (a ∷ c ∷ token ∷ s ∷ []) = do
+  amount ← any_number a
+  currency ← any_name c
+  name ← any_name token
+  number ← script_number (script_names r) s
+  add_command r (MakeFunded amount currency name number)
+body_line n r body.ListTickets [] = add_command r (Listing Tickets)
+body_line n r body.ListCurrencies [] = add_command r (Listing Currencies)
+body_line n r body.ListThreads [] = add_command r (Listing Threads)
+body_line n r body.Schedule (first ∷ others) = do
+  actors ← each (actor_below r.processors) (first ∷ others)
+  checked ((nat_lt 1000000 (length r.schedule + length actors), TooLong) ∷ []) (record r { schedule = r.schedule ++ actors })
+body_line n r body.Runs (first ∷ others) = do
+  tokens ← checked ((r.unit == 1, BadLine) ∷ (length (first ∷ others) % 2 == 1, BadLine) ∷ []) (first ∷ others)
+  runs ← each_pair (run_of r.processors) tokens
+  add_runs r runs
+body_line n r word tokens = Err BadLine
+
+-- a line of the body ends the header
+abbrev pub body_after_header : ℕ → Reading → BodyWord → List (List ℕ) → Result Reading InputRefusal
+body_after_header n r word tokens = do
+  after ← body_line n r word tokens
+  Ok (record after { place = 6 })
+
+-- ---- a line
+
+-- a line within a script
+abbrev pub line_inside : Reading → OpenScript → Option ScriptWord → List (List ℕ) → Result Reading InputRefusal
+line_inside r s None tokens = Err BadLine
+line_inside r s (Some word) tokens = script_line r s word tokens
+
+-- a line outside scripts
+abbrev pub line_outside : ℕ → Reading → Option HeaderWord → Option BodyWord → List (List ℕ) → Result Reading InputRefusal
+line_outside n r (Some word) other tokens = header_in_order r word tokens
+line_outside n r None (Some word) tokens = body_after_header n r word tokens
+line_outside n r None None tokens = Err BadLine
+
+-- a line after the first, by its first token
+abbrev pub later_line : ℕ → Reading → Option OpenScript → List ℕ → List (List ℕ) → Result Reading InputRefusal
+later_line n r (Some s) word tokens = line_inside r s (word_in script_words word) tokens
+later_line n r None word tokens = line_outside n r (word_in header_words word) (word_in body_words word) tokens
+
+-- a line that isn't ignored, by its tokens; nothing has been read before the first
+abbrev pub token_line : ℕ → Option Reading → List (List ℕ) → Result Reading InputRefusal
+token_line n None tokens = first_line tokens
+token_line n (Some r) [] = Ok r
+token_line n (Some r) (word ∷ tokens) = later_line n r r.unclosed word tokens
+
+-- a line of this number that isn't too long
+abbrev pub fitting_line : ℕ → Option Reading → List ℕ → Bool → Result (Option Reading) InputRefusal
+fitting_line n reading line true = Ok reading
+fitting_line n reading line false = do
+  printable ← checked ((not (is_printable line), BadLine) ∷ []) line
+  after ← token_line n reading (tokens_of printable)
+  Ok (Some after)
+
+-- What has been read after the line of this number, up to whose end the input has this many bytes.
+abbrev pub read_line : ℕ → ℕ → Option Reading → List ℕ → Result (Option Reading) InputRefusal
+read_line n end reading line = do
+  fitting ← checked ((nat_lt 4096 (length line) || nat_lt 16777216 end, TooLong) ∷ []) line
+  fitting_line n reading fitting (is_ignored (tokens_of fitting))
+
+-- a refusal, on this line
+abbrev pub refused_on : {A : Type 0} → ℕ → Result A InputRefusal → Result A InputFault
+refused_on n (Ok x) = Ok x
+refused_on n (Err refusal) = Err (record { line = n; refusal = refusal })
+
+-- What has been read after the lines, the first of which has this number and comes after this many bytes. The first
+-- line with a fault is refused.
+abbrev pub read_lines : ℕ → ℕ → Option Reading → List (List ℕ) → Result (Option Reading) InputFault
+read_lines n start reading [] = Ok reading
+read_lines n start reading (line ∷ lines) = do
+  after ← refused_on n (read_line n (start + length line) reading (without_end line))
+  read_lines (n + 1) (start + length line) after lines
+
+-- ---- a whole input
+
+-- the limits that were read
+abbrev pub limits_of : Reading → Sizes
+limits_of r = record {
+  tickets = r.tickets;
+  currencies = r.currencies;
+  threads = r.threads;
+  ports = length r.ports;
+  mutexes = length r.mutexes;
+  processors = r.processors;
+  scripts = length r.scripts;
+  quantum = r.quantum;
+  unit = r.unit;
+}
+
+-- what was read; if seeds are left out, processor p has seed p
+abbrev pub program_of : Reading → Program
+program_of r = record {
+  limits = limits_of r;
+  seeds = unwrap_or r.seeds (range_with_len 1 r.processors);
+  turns = r.turns;
+  scripts = map (λ s. s.lines) r.scripts;
+  commands = r.commands;
+  schedule = r.schedule;
+}
+
+-- A script that is still open is refused on the line where it began.
+abbrev pub closed_program : Reading → Option OpenScript → Result Program InputFault
+closed_program r None = Ok (program_of r)
+closed_program r (Some s) = Err (record { line = s.begins; refusal = ScriptIsOpen })
+
+-- An input of this many lines, all ignored, is refused on the last, or on line 1 if it has none.
+abbrev pub whole_program : ℕ → Option Reading → Result Program InputFault
+whole_program count None = Err (record { line = max 1 count; refusal = BadHeader })
+whole_program count (Some r) = closed_program r r.unclosed
+
+-- what the bytes say, or on which line they are refused and why
+abbrev pub program_in : List ℕ → Result Program InputFault
+program_in bytes = do
+  reading ← read_lines 1 0 None (lines_of bytes)
+  whole_program (length (lines_of bytes)) reading

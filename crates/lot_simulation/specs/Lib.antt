@@ -1,0 +1,26 @@
+-- What a simulated system is, in the order to read.
+
+-- What a script means, and what a processor does of it at a time.
+pub mod Script
+-- The simulated system: a console, processors with their generators, and threads with their scripts.
+pub mod World
+-- Whole systems that are small enough to compute, turn by turn.
+pub mod WorkedSystems
+-- The lines of an input, the tokens of a line, and numbers.
+pub mod Lines
+-- The words that begin lines of an input.
+pub mod Words
+-- What has been read of an input so far, and what a token is read as.
+pub mod Reading
+-- What an input says, or on which line it is refused.
+pub mod Grammar
+-- What is printed of replies, refusals and listings.
+pub mod Texts
+-- The report, and the lines that give a history back.
+pub mod Report
+-- The whole of what the program writes.
+pub mod Output
+-- Small inputs, and what is printed of them.
+pub mod Samples
+-- What a proof unfolds to compute a text on literals: what a number is printed as is closed elsewhere.
+pub mod OnLiterals

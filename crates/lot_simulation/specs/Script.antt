@@ -1,0 +1,106 @@
+-- What a script means, and what a processor does of it at a time.
+use Rattle.std.specs.Prelude.{ℕ, ◌+◌, ◌%◌, min, nat_lt, Bool, Option, Some, None, is_none, List, [], ◌∷◌, ◌++◌, take, drop, replicate, fold, slice_get, option_and_then, if◌then◌else◌}
+use Rattle.std.specs.List.{repeat, prefix_len}
+use Rattle.lot_simulation.specs.declared.script.Line.{Line}
+use Rattle.lot_simulation.specs.declared.script.Line.TheVariants as line
+use Rattle.lot_simulation.specs.declared.script.ScriptTrap.{ScriptTrap}
+use Rattle.lot_simulation.specs.declared.script.ScriptTrap.TheVariants.{Yield, Call, Receive, Reply, Lock, Unlock, Exit}
+
+-- one step of a script: a mark, which costs one tick, or a trap
+pub data Item : Type 0 where
+  Work : Item
+  Set : ℕ → Item
+  Add : ℕ → Item
+  Traps : ScriptTrap → Item
+
+-- what a line that is neither `loop` nor `end` adds: n marks of work, one mark, or a trap
+abbrev pub items_of : Line → List Item
+items_of (line.Compute n) = replicate n Work
+items_of (line.Set n) = Set n ∷ []
+items_of (line.Add n) = Add n ∷ []
+items_of (line.Loop n) = []
+items_of line.End = []
+items_of line.Yield = Traps Yield ∷ []
+items_of (line.Call port) = Traps (Call port) ∷ []
+items_of (line.Receive port) = Traps (Receive port) ∷ []
+items_of line.Reply = Traps Reply ∷ []
+items_of (line.Lock mutex) = Traps (Lock mutex) ∷ []
+items_of (line.Unlock mutex) = Traps (Unlock mutex) ∷ []
+
+-- What lines mean, in pieces: what stands before the `end` of the innermost open loop, what stands from there to the
+-- next such `end`, and so on outwards.
+pub record Pieces : Type 0 where
+  pub first : List Item
+  pub others : List (List Item)
+
+-- the first list, or an empty one if there is none
+abbrev pub first_of_list : List (List Item) → List Item
+first_of_list [] = []
+first_of_list (xs ∷ rest) = xs
+
+-- A loop is one mark, then n copies of its body with one mark after each.
+abbrev pub looped : ℕ → Pieces → Pieces
+looped n p = record { first = Work ∷ repeat n (p.first ++ Work ∷ []) ++ first_of_list p.others; others = drop 1 p.others }
+
+-- the lines from here on, in pieces; after the last line comes an exit trap
+abbrev pub pieces : List Line → Pieces
+pieces [] = record { first = Traps Exit ∷ []; others = [] }
+pieces (line.Loop n ∷ lines) = looped n (pieces lines)
+pieces (line.End ∷ lines) = record { first = []; others = (pieces lines).first ∷ (pieces lines).others }
+pieces (l ∷ lines) = record { first = items_of l ++ (pieces lines).first; others = (pieces lines).others }
+
+-- A script means a list of marks and traps, with its loops unrolled, that ends with an exit trap.
+abbrev pub unrolled : List Line → List Item
+unrolled lines = (pieces lines).first
+
+-- what is left of a thread's script, and its accumulator
+pub record Context : Type 0 where
+  pub rest : List Item
+  pub accumulator : ℕ
+
+-- a thread begins with the whole script, and accumulator 0
+abbrev pub start : List Line → Context
+start lines = record { rest = unrolled lines; accumulator = 0 }
+
+-- the trap that it is, if it is one
+abbrev pub trap_of : Item → Option ScriptTrap
+trap_of (Traps t) = Some t
+trap_of other = None
+
+-- whether it is a mark
+abbrev pub is_mark : Item → Bool
+is_mark i = is_none (trap_of i)
+
+-- the accumulator after a mark
+abbrev pub accumulated : ℕ → Item → ℕ
+accumulated a (Set n) = n
+accumulated a (Add n) = (a + n) % 4294967296
+accumulated a other = a
+
+-- what a thread does with a budget of ticks: ticks of work, then a trap or, with none, the end of its quantum
+pub record Slice : Type 0 where
+  pub ticks : ℕ
+  pub trap : Option ScriptTrap
+  pub end : Context
+
+-- the rest from a trap on: what comes after it, but an exit is never passed
+abbrev pub rest_after : List Item → Option ScriptTrap → List Item
+rest_after rest (Some Exit) = rest
+rest_after rest trap = drop 1 rest
+
+-- The slice passes the marks before the first trap, at most as many as the budget. If that is the whole budget, it is
+-- an expiry; else the trap follows.
+abbrev pub slice : Context → ℕ → Slice
+slice context budget = cut (min budget (prefix_len is_mark context.rest))
+  where
+    at_trap : ℕ → ℕ → Option ScriptTrap → Slice
+    at_trap k a trap = record { ticks = k; trap = trap; end = record { rest = rest_after (drop k context.rest) trap; accumulator = a } }
+
+    at_end : ℕ → ℕ → Slice
+    at_end k a = record { ticks = k; trap = None; end = record { rest = drop k context.rest; accumulator = a } }
+
+    cut : ℕ → Slice
+    cut k =
+        if nat_lt k budget
+        then at_trap k (fold accumulated context.accumulator (take k context.rest)) (option_and_then trap_of (slice_get context.rest k))
+        else at_end k (fold accumulated context.accumulator (take k context.rest))

@@ -1,0 +1,249 @@
+-- What is printed of replies, refusals and listings.
+use Rattle.std.specs.Prelude.{ℕ, ◌/◌, ◌==◌, Bool, true, false, Option, Some, None, List, [], ◌∷◌, ◌++◌, length, filter, is_some, codes, unwrap_or, if◌then◌else◌}
+use Rattle.std.specs.List.{flat_map, range_with_len}
+use Rattle.std.specs.Option.{option_map_or}
+use Rattle.std.specs.Fmt.{decimal}
+use Rattle.lot_machine.specs.declared.action.Action.{Action}
+use Rattle.lot_machine.specs.declared.action.Action.TheVariants as action
+use Rattle.lot_machine.specs.declared.command.Kind.{Kind}
+use Rattle.lot_machine.specs.declared.command.Kind.TheVariants.{Tickets, Currencies, Threads}
+use Rattle.lot_machine.specs.declared.event.Event.{Event}
+use Rattle.lot_machine.specs.declared.event.Event.TheVariants as event
+use Rattle.lot_machine.specs.declared.record.Status.{Status}
+use Rattle.lot_machine.specs.declared.record.Status.TheVariants as status
+use Rattle.lot_machine.specs.declared.refusal.Refusal.{Refusal}
+use Rattle.lot_machine.specs.declared.refusal.Refusal.TheVariants as refusal
+use Rattle.lot_machine.specs.declared.refusal.TrapRefusal.{TrapRefusal}
+use Rattle.lot_machine.specs.declared.refusal.TrapRefusal.TheVariants as trap_refusal
+use Rattle.lot_machine.specs.declared.reply.Reply.{Reply}
+use Rattle.lot_machine.specs.declared.reply.Reply.TheVariants as reply
+use Rattle.lot_machine.specs.declared.reply.Outcome.{Outcome}
+use Rattle.lot_machine.specs.declared.reply.Outcome.TheVariants as outcome
+use Rattle.lot_simulation.specs.declared.input.InputRefusal.{InputRefusal}
+use Rattle.lot_simulation.specs.declared.input.InputRefusal.TheVariants as input_refusal
+use Rattle.lot_simulation.specs.declared.input.InputFault.{InputFault}
+use Rattle.lot_machine.specs.declared.row.TicketRow.{TicketRow}
+use Rattle.lot_machine.specs.declared.row.CurrencyRow.{CurrencyRow}
+use Rattle.lot_machine.specs.declared.row.ThreadRow.{ThreadRow}
+use Rattle.lot_machine.specs.Numbered.{numbers}
+use Rattle.lot_machine.specs.State.{State}
+use Rattle.lot_machine.specs.Rows.{ticket_row, currency_row, thread_row}
+
+-- the byte that ends a line
+abbrev pub newline : List ℕ
+newline = 10 ∷ []
+
+-- ---- refusals
+
+-- a refusal is printed as its code and its name
+abbrev pub refused : ℕ → List ℕ → List ℕ
+refused code name = codes "refused " ++ (decimal code ++ (codes " " ++ name))
+
+-- the codes of commands and events that are refused
+abbrev pub refusal_code : Refusal → ℕ
+refusal_code refusal.BadName = 1
+refusal_code refusal.NameTaken = 2
+refusal_code refusal.NoCurrency = 3
+refusal_code refusal.NoTicket = 4
+refusal_code refusal.NoTarget = 5
+refusal_code refusal.BadAmount = 6
+refusal_code refusal.InUse = 7
+refusal_code refusal.Funding = 8
+refusal_code refusal.NotFunding = 9
+refusal_code refusal.Cycle = 10
+refusal_code refusal.BaseFixed = 11
+refusal_code refusal.DeadThread = 12
+refusal_code refusal.Full = 13
+refusal_code refusal.NoScript = 14
+refusal_code refusal.BadProcessor = 20
+refusal_code refusal.Busy = 21
+refusal_code refusal.NotRunning = 22
+refusal_code refusal.BadTicks = 23
+
+-- their names
+abbrev pub refusal_name : Refusal → List ℕ
+refusal_name refusal.BadName = codes "BadName"
+refusal_name refusal.NameTaken = codes "NameTaken"
+refusal_name refusal.NoCurrency = codes "NoCurrency"
+refusal_name refusal.NoTicket = codes "NoTicket"
+refusal_name refusal.NoTarget = codes "NoTarget"
+refusal_name refusal.BadAmount = codes "BadAmount"
+refusal_name refusal.InUse = codes "InUse"
+refusal_name refusal.Funding = codes "Funding"
+refusal_name refusal.NotFunding = codes "NotFunding"
+refusal_name refusal.Cycle = codes "Cycle"
+refusal_name refusal.BaseFixed = codes "BaseFixed"
+refusal_name refusal.DeadThread = codes "DeadThread"
+refusal_name refusal.Full = codes "Full"
+refusal_name refusal.NoScript = codes "NoScript"
+refusal_name refusal.BadProcessor = codes "BadProcessor"
+refusal_name refusal.Busy = codes "Busy"
+refusal_name refusal.NotRunning = codes "NotRunning"
+refusal_name refusal.BadTicks = codes "BadTicks"
+
+-- the codes of traps that are refused
+abbrev pub trap_refusal_code : TrapRefusal → ℕ
+trap_refusal_code trap_refusal.NoPort = 30
+trap_refusal_code trap_refusal.NothingToReply = 32
+trap_refusal_code trap_refusal.NoMutex = 33
+trap_refusal_code trap_refusal.NotOwner = 34
+trap_refusal_code trap_refusal.AlreadyOwner = 35
+trap_refusal_code trap_refusal.LockCycle = 36
+
+-- their names
+abbrev pub trap_refusal_name : TrapRefusal → List ℕ
+trap_refusal_name trap_refusal.NoPort = codes "NoPort"
+trap_refusal_name trap_refusal.NothingToReply = codes "NothingToReply"
+trap_refusal_name trap_refusal.NoMutex = codes "NoMutex"
+trap_refusal_name trap_refusal.NotOwner = codes "NotOwner"
+trap_refusal_name trap_refusal.AlreadyOwner = codes "AlreadyOwner"
+trap_refusal_name trap_refusal.LockCycle = codes "LockCycle"
+
+-- the codes of inputs that are refused
+abbrev pub input_refusal_code : InputRefusal → ℕ
+input_refusal_code input_refusal.BadHeader = 50
+input_refusal_code input_refusal.BadLine = 51
+input_refusal_code input_refusal.BadNumber = 52
+input_refusal_code input_refusal.UnknownName = 53
+input_refusal_code input_refusal.OpenScript = 54
+input_refusal_code input_refusal.TooDeep = 55
+input_refusal_code input_refusal.TooLong = 56
+input_refusal_code input_refusal.BadActor = 57
+
+-- their names
+abbrev pub input_refusal_name : InputRefusal → List ℕ
+input_refusal_name input_refusal.BadHeader = codes "BadHeader"
+input_refusal_name input_refusal.BadLine = codes "BadLine"
+input_refusal_name input_refusal.BadNumber = codes "BadNumber"
+input_refusal_name input_refusal.UnknownName = codes "UnknownName"
+input_refusal_name input_refusal.OpenScript = codes "OpenScript"
+input_refusal_name input_refusal.TooDeep = codes "TooDeep"
+input_refusal_name input_refusal.TooLong = codes "TooLong"
+input_refusal_name input_refusal.BadActor = codes "BadActor"
+
+-- the one line that is printed of a refused input
+abbrev pub fault_line : InputFault → List ℕ
+fault_line fault =
+    codes "refused line " ++ (decimal fault.line ++ (codes " " ++ (decimal (input_refusal_code fault.refusal)
+    ++ (codes " " ++ (input_refusal_name fault.refusal ++ newline)))))
+
+-- ---- traps
+
+-- how the mutex's new owner was picked: by a lottery, or as the one that had waited longest
+abbrev pub drawn_text : Option (ℕ × ℕ) → List ℕ
+drawn_text None = codes " oldest"
+drawn_text (Some drawn) = codes " draw " ++ (decimal drawn.0 ++ (codes " of " ++ decimal drawn.1))
+
+-- What a trap came to. An outcome that an action never has gives no text.
+abbrev pub trap_text : Action → Outcome → List ℕ
+trap_text made (outcome.Refused why) = refused (trap_refusal_code why) (trap_refusal_name why)
+trap_text action.Yield outcome.Yielded = codes "yield"
+trap_text (action.Call port number) (outcome.ServedBy server) = codes "call " ++ (decimal port ++ (codes " served by " ++ decimal server))
+trap_text (action.Call port number) outcome.Queued = codes "call " ++ (decimal port ++ codes " queued")
+trap_text (action.Receive port) (outcome.Received client number) =
+    codes "receive " ++ (decimal port ++ (codes " client " ++ (decimal client ++ (codes " got " ++ decimal number))))
+trap_text (action.Receive port) outcome.Waits = codes "receive " ++ (decimal port ++ codes " waits")
+trap_text (action.Reply number) (outcome.Replied client) = codes "reply client " ++ decimal client
+trap_text (action.Lock mutex) outcome.Locked = codes "lock " ++ (decimal mutex ++ codes " taken")
+trap_text (action.Lock mutex) outcome.Waits = codes "lock " ++ (decimal mutex ++ codes " waits")
+trap_text (action.Unlock mutex d) outcome.Freed = codes "unlock " ++ (decimal mutex ++ codes " free")
+trap_text (action.Unlock mutex d) (outcome.Passed to drawn) = codes "unlock " ++ (decimal mutex ++ (codes " to " ++ (decimal to ++ drawn_text drawn)))
+trap_text action.Exit outcome.Exited = codes "exit"
+trap_text other never = []
+
+-- the same, of the event that the trap was
+abbrev pub trap_text_of : Event → Outcome → List ℕ
+trap_text_of (event.Trap p ran made) came = trap_text made came
+trap_text_of other came = []
+
+-- whether the quantum was used up
+abbrev pub ends_text : Bool → List ℕ
+ends_text true = codes " ends"
+ends_text false = []
+
+-- ---- listings
+
+-- what a thread is doing
+abbrev pub status_text : Status → List ℕ
+status_text status.Ready = codes "ready"
+status_text (status.Running processor used) = codes "running " ++ (decimal processor ++ (codes " used " ++ decimal used))
+status_text (status.Receiving port) = codes "receiving " ++ decimal port
+status_text (status.Queued port) = codes "queued " ++ decimal port
+status_text (status.Served server) = codes "served " ++ decimal server
+status_text (status.Waiting mutex) = codes "waiting " ++ decimal mutex
+status_text status.Dead = codes "dead"
+
+-- whether a ticket is active
+abbrev pub activity_text : Bool → List ℕ
+activity_text true = codes " active"
+activity_text false = codes " inactive"
+
+-- a ticket's line; `-` stands for no target
+abbrev pub ticket_line : ℕ → ℕ → TicketRow → List ℕ
+ticket_line unit n row =
+    codes "ticket " ++ (decimal n ++ (codes " amount " ++ (decimal row.amount ++ (codes " in " ++ (row.issuer
+    ++ (codes " funds " ++ (unwrap_or row.target (codes "-") ++ (activity_text row.is_active
+    ++ (codes " value " ++ (decimal (row.value / unit) ++ newline))))))))))
+
+-- a currency's value as it is shown: base, which is currency 0, is worth its active amount
+abbrev pub shown_value : ℕ → ℕ → ℕ → ℕ
+shown_value unit n value = if n == 0 then value else value / unit
+
+-- a currency's line
+abbrev pub currency_line : ℕ → ℕ → CurrencyRow → List ℕ
+currency_line unit n row =
+    codes "currency " ++ (decimal n ++ (codes " " ++ (row.name ++ (codes " backing " ++ (decimal row.backing
+    ++ (codes " issued " ++ (decimal row.issued ++ (codes " active " ++ (decimal row.active_amount
+    ++ (codes " value " ++ (decimal (shown_value unit n row.value) ++ newline)))))))))))
+
+-- a thread's line
+abbrev pub thread_line : ℕ → ℕ → ThreadRow → List ℕ
+thread_line unit n row =
+    codes "thread " ++ (decimal n ++ (codes " " ++ (row.name ++ (codes " " ++ (status_text row.status
+    ++ (codes " value " ++ (decimal (row.value / unit) ++ (codes " weight " ++ (decimal (row.weight / unit)
+    ++ (codes " quanta " ++ (decimal row.quanta ++ (codes " ticks " ++ (decimal row.ticks ++ newline)))))))))))))
+
+-- the lines of the rows that there are
+abbrev pub lines_for : {R : Type 0} → (ℕ → R → List ℕ) → (ℕ → Option R) → List ℕ → List ℕ
+lines_for text row ns = flat_map (λ n. option_map_or (text n) (row n) []) ns
+
+-- how many rows there are
+abbrev pub row_count : {R : Type 0} → (ℕ → Option R) → List ℕ → ℕ
+row_count row ns = length (filter (λ n. is_some (row n)) ns)
+
+-- a listing: how many rows it has, and then their lines, by rising number
+abbrev pub listing_text : State → Kind → List ℕ
+listing_text s Tickets =
+    codes "lstkt " ++ (decimal (row_count (ticket_row s) (numbers s.tickets)) ++ (newline ++ lines_for (ticket_line s.limits.unit) (ticket_row s) (numbers s.tickets)))
+listing_text s Currencies =
+    codes "lscur " ++ (decimal (row_count (currency_row s) (range_with_len 0 (length s.currencies))) ++ (newline ++ lines_for (currency_line s.limits.unit) (currency_row s) (range_with_len 0 (length s.currencies))))
+listing_text s Threads =
+    codes "lsthr " ++ (decimal (length s.records) ++ (newline ++ lines_for (thread_line s.limits.unit) (thread_row s) (numbers s.records)))
+
+-- ---- replies
+
+-- the number that was delivered to a winner, if any
+abbrev pub delivered_text : Option ℕ → List ℕ
+delivered_text None = []
+delivered_text (Some number) = codes " got " ++ decimal number
+
+-- A reply that asks for no listing. What ends its line is part of it.
+abbrev pub plain_text : Event → Reply → List ℕ
+plain_text e (reply.Ticket n) = codes "ticket " ++ (decimal n ++ newline)
+plain_text e (reply.Currency n) = codes "currency " ++ (decimal n ++ newline)
+plain_text e (reply.Thread n) = codes "thread " ++ (decimal n ++ newline)
+plain_text e (reply.Funded ticket thread) = codes "funded " ++ (decimal ticket ++ (codes " " ++ (decimal thread ++ newline)))
+plain_text e reply.Done = codes "done" ++ newline
+plain_text e (reply.List kind) = []
+plain_text e (reply.Winner thread number total delivered) =
+    codes "draw " ++ (decimal number ++ (codes " of " ++ (decimal total ++ (codes " thread " ++ (decimal thread ++ (delivered_text delivered ++ newline))))))
+plain_text e reply.Idle = codes "idle" ++ newline
+plain_text e (reply.Expired thread ticks) = codes "thread " ++ (decimal thread ++ (codes " ticks " ++ (decimal ticks ++ (codes " expire" ++ newline))))
+plain_text e (reply.Trapped thread ticks came ends) =
+    codes "thread " ++ (decimal thread ++ (codes " ticks " ++ (decimal ticks ++ (codes " " ++ (trap_text_of e came ++ (ends_text ends ++ newline))))))
+plain_text e (reply.Refused why) = refused (refusal_code why) (refusal_name why) ++ newline
+
+-- a reply, and its listing, given the state after the event
+abbrev pub reply_text : State → Event → Reply → List ℕ
+reply_text s e (reply.List kind) = listing_text s kind
+reply_text s e other = plain_text e other

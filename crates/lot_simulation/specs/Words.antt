@@ -1,0 +1,46 @@
+-- The words that begin lines of an input.
+use Rattle.std.specs.Prelude.{ℕ, Option, List, [], ◌∷◌, find, option_map, codes}
+use Rattle.std.specs.Str.{bytes_eq}
+use Rattle.lot_simulation.specs.declared.input.HeaderWord.{HeaderWord}
+use Rattle.lot_simulation.specs.declared.input.HeaderWord.TheVariants as header
+use Rattle.lot_simulation.specs.declared.input.BodyWord.{BodyWord}
+use Rattle.lot_simulation.specs.declared.input.BodyWord.TheVariants as body
+use Rattle.lot_simulation.specs.declared.input.ScriptWord.{ScriptWord}
+use Rattle.lot_simulation.specs.declared.input.ScriptWord.TheVariants as script
+
+-- what a token stands for in a table of texts
+abbrev pub word_in : {W : Type 0} → List (List ℕ × W) → List ℕ → Option W
+word_in table token = option_map (λ entry. entry.1) (find (λ entry. bytes_eq entry.0 token) table)
+
+-- the words of the header, in the order in which their lines come
+abbrev pub header_words : List (List ℕ × HeaderWord)
+header_words =
+    (codes "lottery", header.Lottery) ∷ (codes "processors", header.Processors) ∷ (codes "quantum", header.Quantum)
+    ∷ (codes "turns", header.Turns) ∷ (codes "seed", header.Seed) ∷ (codes "limits", header.Limits) ∷ []
+
+-- a header word's place in that order
+abbrev pub header_place : HeaderWord → ℕ
+header_place header.Lottery = 0
+header_place header.Processors = 1
+header_place header.Quantum = 2
+header_place header.Turns = 3
+header_place header.Seed = 4
+header_place header.Limits = 5
+
+-- the words of the body
+abbrev pub body_words : List (List ℕ × BodyWord)
+body_words =
+    (codes "port", body.Port) ∷ (codes "mutex", body.Mutex) ∷ (codes "script", body.Script)
+    ∷ (codes "mktkt", body.MakeTicket) ∷ (codes "rmtkt", body.RemoveTicket) ∷ (codes "mkcur", body.MakeCurrency)
+    ∷ (codes "rmcur", body.RemoveCurrency) ∷ (codes "fund", body.Fund) ∷ (codes "unfund", body.Unfund)
+    ∷ (codes "mkthr", body.MakeThread) ∷ (codes "fundx", body.MakeFunded) ∷ (codes "lstkt", body.ListTickets)
+    ∷ (codes "lscur", body.ListCurrencies) ∷ (codes "lsthr", body.ListThreads) ∷ (codes "schedule", body.Schedule)
+    ∷ (codes "runs", body.Runs) ∷ []
+
+-- the words of a script
+abbrev pub script_words : List (List ℕ × ScriptWord)
+script_words =
+    (codes "compute", script.Compute) ∷ (codes "set", script.Set) ∷ (codes "add", script.Add) ∷ (codes "loop", script.Loop)
+    ∷ (codes "end", script.End) ∷ (codes "yield", script.Yield) ∷ (codes "reply", script.Reply) ∷ (codes "call", script.Call)
+    ∷ (codes "receive", script.Receive) ∷ (codes "lock", script.Lock) ∷ (codes "unlock", script.Unlock)
+    ∷ (codes "endscript", script.EndScript) ∷ []

@@ -1,0 +1,47 @@
+-- Whole systems that are small enough to compute, turn by turn.
+use Rattle.std.specs.Prelude.{ℕ, List, [], ◌∷◌, codes, Option, Some, None}
+use Rattle.lot_machine.specs.declared.command.Command.TheVariants.{MakeTicket, Fund, MakeThread, MakeFunded}
+use Rattle.lot_machine.specs.declared.reply.Reply.{Reply}
+use Rattle.lot_simulation.specs.declared.script.Line.TheVariants as line
+use Rattle.lot_simulation.specs.World.{Program, Answer, opening_world, system_answers}
+use Rattle.lot_simulation.specs.World.Answer.{Answered, Ended}
+use Rattle.lot_machine.specs.Worked.{base, largest, finer}
+
+-- what a turn answers, without the event
+abbrev pub replies_of : List Answer → List (Option Reply)
+replies_of [] = []
+replies_of (Answered event reply ∷ rest) = Some reply ∷ replies_of rest
+replies_of (Ended ∷ rest) = None ∷ replies_of rest
+
+abbrev pub played : Program → List ℕ → List (Option Reply)
+played program actors = replies_of (system_answers program (opening_world program) actors)
+
+-- two threads that compute
+abbrev pub first_run : Program
+first_run = record {
+  limits = largest;
+  seeds = 1 ∷ [];
+  scripts = (line.Compute 1000 ∷ []) ∷ [];
+  commands = MakeTicket 10 base ∷ MakeThread (codes "a") 1 ∷ Fund 1 (codes "a") ∷ MakeTicket 5 base ∷ MakeThread (codes "b") 1 ∷ Fund 2 (codes "b") ∷ [];
+  turns = 0;
+  schedule = [];
+}
+
+-- the same with finer values
+abbrev pub finer_run : Program
+finer_run = record first_run { limits = finer }
+
+-- a server, and a client that calls it
+abbrev pub call_and_reply : Program
+call_and_reply = record {
+  limits = record largest { ports = 1; mutexes = 0; processors = 1; scripts = 2; quantum = 10 };
+  seeds = 1 ∷ [];
+  scripts = (line.Receive 1 ∷ line.Add 1 ∷ line.Reply ∷ []) ∷ (line.Set 41 ∷ line.Call 1 ∷ line.Compute 2 ∷ []) ∷ [];
+  commands = MakeFunded 5 base (codes "s") 1 ∷ MakeFunded 5 base (codes "c") 2 ∷ [];
+  turns = 0;
+  schedule = [];
+}
+
+-- two processors and one thread
+abbrev pub two_processors : Program
+two_processors = record { limits = largest; seeds = 1 ∷ 2 ∷ []; scripts = (line.Compute 150 ∷ []) ∷ []; commands = MakeFunded 10 base (codes "a") 1 ∷ []; turns = 0; schedule = [] }

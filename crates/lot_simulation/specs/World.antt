@@ -1,0 +1,179 @@
+-- The simulated system: a console, processors with their generators, and threads with their scripts.
+use Rattle.std.specs.Prelude.{ℕ, ◌-◌, ◌≤◌, ◌==◌, Bool, true, false, Option, Some, None, List, [], ◌∷◌, ◌++◌, length, map, drop, count_by, All, unwrap_or, if◌then◌else◌}
+use Rattle.std.specs.List.{last_or}
+use Rattle.lot_simulation.specs.declared.script.Line.{Line}
+use Rattle.lot_simulation.specs.declared.script.ScriptTrap.{ScriptTrap}
+use Rattle.lot_simulation.specs.declared.script.ScriptTrap.TheVariants as script_trap
+use Rattle.lot_machine.specs.declared.action.Action.{Action}
+use Rattle.lot_machine.specs.declared.action.Action.TheVariants as action
+use Rattle.lot_machine.specs.declared.command.Command.{Command}
+use Rattle.lot_machine.specs.declared.event.Event.{Event}
+use Rattle.lot_machine.specs.declared.event.Event.TheVariants as event
+use Rattle.lot_machine.specs.declared.reply.Reply.{Reply}
+use Rattle.lot_machine.specs.declared.reply.Reply.TheVariants as reply
+use Rattle.lot_machine.specs.declared.reply.Outcome.{Outcome}
+use Rattle.lot_machine.specs.declared.reply.Outcome.TheVariants.{Received}
+use Rattle.lot_machine.specs.declared.sizes.Sizes.{Sizes}
+use Rattle.lot_machine.specs.Numbered.{at_number, set_number}
+use Rattle.lot_machine.specs.Lottery.{drawn_number, seed_after_number}
+use Rattle.lot_machine.specs.State.{State, opening, thread_on}
+use Rattle.lot_machine.specs.Commands.{Step}
+use Rattle.lot_machine.specs.Step.{step, used_there}
+use Rattle.lot_simulation.specs.Script.{Context, Slice, slice, start}
+
+-- what an input says: a system, how many turns each processor has in a free run, and whose turns a scheduled one has
+pub record Program : Type 0 where
+  pub limits : Sizes
+  pub seeds : List ℕ  -- one for each processor
+  pub turns : ℕ
+  pub scripts : List (List Line)  -- numbered from 1
+  pub commands : List Command
+  pub schedule : List ℕ
+
+-- the kernel's state, each thread's context, each processor's generator, the commands left, and who has had turns
+pub record World : Type 0 where
+  pub state : State
+  pub contexts : List Context
+  pub generators : List ℕ
+  pub commands : List Command
+  pub history : List ℕ
+
+-- at the start: no thread, all commands, and no turn made
+abbrev pub opening_world : Program → World
+opening_world program = record { state = opening program.limits; contexts = []; generators = program.seeds; commands = program.commands; history = [] }
+
+-- ---- what an actor's next turn is
+
+-- the value of the processor's generator
+abbrev pub generator_of : World → ℕ → ℕ
+generator_of w p = unwrap_or (at_number w.generators p) 0
+
+-- where the thread is in its script
+abbrev pub context_of : World → ℕ → Context
+context_of w t = unwrap_or (at_number w.contexts t) (record { rest = []; accumulator = 0 })
+
+-- what the thread on the processor does with the rest of its quantum
+abbrev pub slice_on : World → ℕ → ℕ → Slice
+slice_on w p t = slice (context_of w t) (w.state.limits.quantum - used_there w.state p)
+
+-- Calls and replies carry the accumulator, and an unlock the drawn number.
+abbrev pub action_of : ScriptTrap → ℕ → ℕ → Action
+action_of script_trap.Yield accumulator drawn = action.Yield
+action_of (script_trap.Call port) accumulator drawn = action.Call port accumulator
+action_of (script_trap.Receive port) accumulator drawn = action.Receive port
+action_of script_trap.Reply accumulator drawn = action.Reply accumulator
+action_of (script_trap.Lock mutex) accumulator drawn = action.Lock mutex
+action_of (script_trap.Unlock mutex) accumulator drawn = action.Unlock mutex drawn
+action_of script_trap.Exit accumulator drawn = action.Exit
+
+-- the slice as an event: an expiry, or its ticks and then its trap
+abbrev pub event_of_slice : ℕ → ℕ → Slice → Event
+event_of_slice p drawn s = made s.trap
+  where
+    made : Option ScriptTrap → Event
+    made None = event.Expire p
+    made (Some trap) = event.Trap p s.ticks (action_of trap s.end.accumulator drawn)
+
+-- a processor without a thread draws; one with a thread does its slice
+abbrev pub processor_event : World → ℕ → Event
+processor_event w p = made (thread_on w.state.records p)
+  where
+    made : Option ℕ → Event
+    made None = event.Draw p (drawn_number (generator_of w p))
+    made (Some t) = event_of_slice p (drawn_number (generator_of w p)) (slice_on w p t)
+
+-- ---- what it leaves
+
+-- whether the event takes a drawn number: a draw and an unlock do
+abbrev pub takes_number : Event → Bool
+takes_number (event.Draw p d) = true
+takes_number (event.Trap p ran (action.Unlock mutex d)) = true
+takes_number other = false
+
+-- the generators after the event
+abbrev pub generators_after : World → ℕ → Event → List ℕ
+generators_after w p e = if takes_number e then set_number w.generators p (seed_after_number (generator_of w p)) else w.generators
+
+-- the number that was received with a call
+abbrev pub number_delivered : Outcome → Option ℕ
+number_delivered (Received client number) = Some number
+number_delivered other = None
+
+-- a number that is handed over becomes the accumulator
+abbrev pub delivered_to : Option ℕ → Context → Context
+delivered_to None context = context
+delivered_to (Some number) context = record context { accumulator = number }
+
+-- the contexts after a turn of a processor: the thread that ran has the slice's end, and what it was handed
+abbrev pub contexts_after : World → ℕ → Reply → List Context
+contexts_after w p (reply.Winner t number total delivered) = set_number w.contexts t (delivered_to delivered (context_of w t))
+contexts_after w p (reply.Trapped t ticks outcome ends) =
+    set_number w.contexts t (delivered_to (number_delivered outcome) (slice_on w p t).end)
+contexts_after w p (reply.Expired t ticks) = set_number w.contexts t (slice_on w p t).end
+contexts_after w p other = w.contexts
+
+-- a thread that is made gets its script's list, and accumulator 0
+abbrev pub new_contexts : Program → State → State → List Context
+new_contexts program old new = map (λ t. start (unwrap_or (at_number program.scripts t.script) [])) (drop (length old.threads) new.threads)
+
+-- ---- turns
+
+-- what a turn answers: the event and its reply, or that no command is left
+pub data Answer : Type 0 where
+  Answered : Event → Reply → Answer
+  Ended : Answer
+
+-- a world, and what was answered
+pub record Turn : Type 0 where
+  pub world : World
+  pub answer : Answer
+
+-- the console's next command; without one nothing changes
+abbrev pub console_turn : Program → World → List Command → Turn
+console_turn program w [] = record { world = w; answer = Ended }
+console_turn program w (c ∷ cs) = made (step w.state (event.Command c))
+  where
+    made : Step → Turn
+    made done = record {
+      world = record { state = done.state; contexts = w.contexts ++ new_contexts program w.state done.state; generators = w.generators; commands = cs; history = w.history ++ 0 ∷ [] };
+      answer = Answered (event.Command c) done.reply;
+    }
+
+-- a turn of a processor, which is this event
+abbrev pub processor_turn : World → ℕ → Event → Turn
+processor_turn w p e = made (step w.state e)
+  where
+    made : Step → Turn
+    made done = record {
+      world = record { state = done.state; contexts = contexts_after w p done.reply; generators = generators_after w p e; commands = w.commands; history = w.history ++ p ∷ [] };
+      answer = Answered e done.reply;
+    }
+
+-- A turn of actor 0, the console, is its next command; a turn of a processor is its event.
+abbrev pub system_turn : Program → World → ℕ → Turn
+system_turn program w actor = if actor == 0 then console_turn program w w.commands else processor_turn w actor (processor_event w actor)
+
+-- what turns answer, in order
+abbrev pub system_answers : Program → World → List ℕ → List Answer
+system_answers program w [] = []
+system_answers program w (actor ∷ actors) = (system_turn program w actor).answer ∷ system_answers program (system_turn program w actor).world actors
+
+-- the last world
+abbrev pub system_after : Program → World → List ℕ → World
+system_after program w [] = w
+system_after program w (actor ∷ actors) = system_after program (system_turn program w actor).world actors
+
+-- a run from the program's opening world
+abbrev pub system_run : Program → List ℕ → World
+system_run program actors = system_after program (opening_world program) actors
+
+-- what the last turn of a run from the program's opening world answers
+abbrev pub last_answer : Program → List ℕ → Option Answer
+last_answer program actors = last_or None (system_answers program (opening_world program) actors)
+
+-- A legal history has the console and the processors as its actors, is no longer than there is room, and has the
+-- console no more often than there are commands.
+pub record IsLegal (program : Program) (room : ℕ) (history : List ℕ) : Type 0 where
+  pub actors : All (λ actor. actor ≤ program.limits.processors) history
+  pub within_room : length history ≤ room
+  pub console : count_by (λ actor. actor == 0) history ≤ length program.commands

@@ -1,0 +1,70 @@
+//! What an input is written in, and why one is refused.
+
+/// A word that begins a line of the header, after the first line.
+#[derive(Clone, Copy, Debug, PartialEq, Eq)]
+pub enum HeaderWord {
+    Lottery,
+    Processors,
+    Quantum,
+    Turns,
+    Seed,
+    Limits,
+}
+
+/// A word that begins a line of the body.
+#[derive(Clone, Copy, Debug, PartialEq, Eq)]
+pub enum BodyWord {
+    Port,
+    Mutex,
+    Script,
+    MakeTicket,
+    RemoveTicket,
+    MakeCurrency,
+    RemoveCurrency,
+    Fund,
+    Unfund,
+    MakeThread,
+    MakeFunded,
+    ListTickets,
+    ListCurrencies,
+    ListThreads,
+    Schedule,
+    Runs,
+}
+
+/// A word that begins a line of a script, or the line that closes it.
+#[derive(Clone, Copy, Debug, PartialEq, Eq)]
+pub enum ScriptWord {
+    Compute,
+    Set,
+    Add,
+    Loop,
+    End,
+    Yield,
+    Reply,
+    Call,
+    Receive,
+    Lock,
+    Unlock,
+    EndScript,
+}
+
+/// Why an input is refused.
+#[derive(Clone, Copy, Debug, PartialEq, Eq)]
+pub enum InputRefusal {
+    BadHeader,
+    BadLine,
+    BadNumber,
+    UnknownName,
+    OpenScript,
+    TooDeep,
+    TooLong,
+    BadActor,
+}
+
+/// Where an input is refused, and why. Lines are numbered from 1.
+#[derive(Clone, Copy, Debug, PartialEq, Eq)]
+pub struct InputFault {
+    pub line: u32,
+    pub refusal: InputRefusal,
+}

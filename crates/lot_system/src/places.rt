@@ -1,0 +1,130 @@
+//! Where the threads are in their scripts.
+ghost use Rattle.std.specs.Prelude.{◌≡◌, ◌+◌, ◌≤◌, ◌++◌, ℕ, List, [], Some, None, IfOk, length, vec_capacity};
+ghost use Rattle.lot_machine.specs.declared.record.Thread.{Thread};
+ghost use Rattle.lot_machine.specs.Bounds.{IsBetween};
+ghost use Rattle.lot_simulation.specs.Script.{Context, start};
+ghost use Rattle.lot_machine.specs.State.{State};
+ghost use Rattle.lot_simulation.specs.World.{new_contexts, number_delivered as number_delivered_in};
+ghost use Rattle.lot_system.specs.Held.{AreAt, IsAt, script_lines};
+ghost use Rattle.lot_system.specs.Steps as steps;
+ghost use Rattle.lot_system.specs.Steps.{MakesThread, OfDraw, OfRun, OfGiven, delivered_to_place, places_after};
+
+use lot_kernel::Kernel;
+use lot_machine::{Outcome, Reply};
+use lot_script::{Place, Slice};
+use lot_text::Program;
+use std::alloc::{AllocError, Global};
+
+/// Room for the places of this many threads.
+pub(crate) fn places_for(alloc: Global, threads: u32) -> Result<Vec<Place>, AllocError>
+    ensures none { IfOk result (λ places. places.items ≡ []) }
+    ensures room { IfOk result (λ places. threads ≤ vec_capacity places) }
+{
+    Vec::with_capacity(alloc, threads as usize)
+}
+
+/// After a command: a thread that was made begins its script.
+pub(crate) fn follow_command(
+    places: &mut Vec<Place>,
+    program: &Program,
+    kernel: &Kernel,
+    reply: Reply,
+)
+    requires made { (s : State) × (before : List Context) × MakesThread s kernel.now reply × AreAt program.now s.threads places.old.items before × (s.limits.scripts ≡ length program.now.scripts) }
+    requires room { kernel.now.limits.threads ≤ vec_capacity places.old }
+    ensures at { (s : State) (before : List Context) → MakesThread s kernel.now reply → AreAt program.now s.threads places.old.items before → AreAt program.now kernel.now.threads places.new.items (before ++ new_contexts program.now s kernel.now) }
+    ensures room { vec_capacity places.new ≡ vec_capacity places.old }
+{
+    if let Some(thread) = made_thread(reply) {
+        let script = kernel.script_of(thread).unwrap();
+        places.push_reserved(begin(program, script));
+    }
+}
+
+/// The thread that was made, if one was.
+fn made_thread(reply: Reply) -> Option<u32>
+    ensures { result ≡ steps.made_thread reply }
+{
+    match reply {
+        Reply::Thread(thread) | Reply::Funded { thread, .. } => Some(thread),
+        _ => None,
+    }
+}
+
+/// Where a thread of the script begins.
+fn begin(program: &Program, script: u32) -> Place
+    requires { IsBetween 1 (length program.now.scripts) script }
+    ensures { (t : Thread) → t.script ≡ script → IsAt program.now t result (start (script_lines program.now script)) }
+{
+    program.scripts()[script as usize - 1].start()
+}
+
+/// After a processor's turn: a winner has what was delivered to it, and the thread that ran is at its slice's end, and has
+/// what it received.
+pub(crate) fn follow_turn(places: &mut Vec<Place>, slice: &Option<Slice>, reply: Reply)
+    requires { (t : ℕ) × OfGiven (length places.old.items) t slice.now reply }
+    ensures follows { places.new.items ≡ places_after places.old.items slice.now reply }
+    ensures room { vec_capacity places.new ≡ vec_capacity places.old }
+{
+    match slice {
+        None => follow_draw(places, reply),
+        Some(slice) => follow_slice(places, slice, reply),
+    }
+}
+
+/// A winner has what was delivered to it.
+fn follow_draw(places: &mut Vec<Place>, reply: Reply)
+    requires { OfDraw (length places.old.items) reply }
+    ensures follows { places.new.items ≡ places_after places.old.items None reply }
+    ensures room { vec_capacity places.new ≡ vec_capacity places.old }
+{
+    if let Reply::Winner {
+        thread,
+        delivered,
+        ..
+    } = reply
+    {
+        let here = places[thread as usize - 1].copied();
+        places[thread as usize - 1] = delivered_to(here, delivered);
+    }
+}
+
+/// The thread that ran is at its slice's end, and has what it received.
+fn follow_slice(places: &mut Vec<Place>, slice: &Slice, reply: Reply)
+    requires { (t : ℕ) × (IsBetween 1 (length places.old.items) t × OfRun t reply) }
+    ensures follows { places.new.items ≡ places_after places.old.items (Some slice.now) reply }
+    ensures room { vec_capacity places.new ≡ vec_capacity places.old }
+{
+    match reply {
+        Reply::Expired { thread, .. } => places[thread as usize - 1] = slice.end().copied(),
+        Reply::Trapped {
+            thread,
+            outcome,
+            ..
+        } => {
+            let delivered = number_delivered(outcome);
+            places[thread as usize - 1] = delivered_to(slice.end().copied(), delivered);
+        }
+        _ => {}
+    }
+}
+
+/// The number that was received with a call.
+fn number_delivered(outcome: Outcome) -> Option<u32>
+    ensures { result ≡ number_delivered_in outcome }
+{
+    match outcome {
+        Outcome::Received { number, .. } => Some(number),
+        _ => None,
+    }
+}
+
+/// The place, with the number that was handed over as its accumulator.
+fn delivered_to(place: Place, number: Option<u32>) -> Place
+    ensures { result ≡ delivered_to_place number place }
+{
+    match number {
+        None => place,
+        Some(number) => place.with_accumulator(number),
+    }
+}

@@ -1,0 +1,48 @@
+//! The kernel that README shows, embedded.
+use lot_kernel::{Command, Event, Kernel, Limits, Name, Reply, Sizes};
+use std::alloc::Global;
+use std::test::Fail;
+
+fn first_winner(alloc: Global) -> Result<Reply, Fail> {
+    let limits = Limits::new(Sizes {
+        tickets: 64,
+        currencies: 16,
+        threads: 16,
+        ports: 0,
+        mutexes: 0,
+        processors: 1,
+        scripts: 1,
+        quantum: 100,
+        unit: 1,
+    })
+    .ok_or("limits")?;
+    let mut kernel = Kernel::new(alloc, limits)?;
+    for (name, amount) in [("first", 10), ("second", 5)] {
+        let command = Command::MakeFunded {
+            amount,
+            currency: Name::new("base").ok_or("name")?,
+            name: Name::new(name).ok_or("name")?,
+            script: 1,
+        };
+        kernel.event(&Event::Command(command));
+    }
+    // Number 9 of 15 is the first thread's: it has 0 to 9.
+    Ok(kernel.event(&Event::Draw(1, 9)))
+}
+
+#[test]
+fn an_embedded_kernel(rt: HostRuntime) -> Result<(), Fail> {
+    let reply = first_winner(rt.alloc())?;
+    assert!(rt;
+        matches!(
+            reply,
+            Reply::Winner {
+                thread: 1,
+                number: 9,
+                total: 15,
+                ..
+            }
+        )
+    );
+    Ok(())
+}
