@@ -5,7 +5,7 @@ use Rattle.std.proofs.lemmas.Option.{slice_get_past}
 use Rattle.lot_machine.specs.declared.record.Record.{Record}
 use Rattle.lot_machine.specs.Numbered.{at_number, numbers, option_any}
 use Rattle.lot_machine.specs.Lottery.{weight, winner}
-use Rattle.lot_machine.specs.State.{State, is_ready, status_of, ready_threads, value_of, weight_of}
+use Rattle.lot_machine.specs.State.{is_ready, status_of, ready_threads}
 use Rattle.lot_machine.proofs.Tickets.{at_number-suc}
 use Rattle.lot_draw.specs.declared.competing.Competitor.{Competitor}
 use Rattle.lot_draw.specs.Competing.{competitor_at, competitor_of, competing_threads, weight_with, weight_among, winner_among, drawn_among, AreReady}
@@ -58,25 +58,28 @@ weighs-ready value quantum (Some r) ready = ap (λ b. weight_with value quantum 
 
 -- ---- all records
 
-module _ (s : State) (competitors : List (Option Competitor)) (are : AreReady s.records competitors) where
+module _ (records : List Record) (quantum : ℕ) (value : ℕ → ℕ) (competitors : List (Option Competitor)) (are : AreReady records competitors) where
+  abbrev pub weighs : ℕ → ℕ
+  weighs t = weight (value t) (option_and_then (λ (r : Record). r.compensation) (at_number records t)) quantum
+
   abbrev is-ready : ℕ → Bool
-  is-ready t = option_any is_ready (status_of s.records t)
+  is-ready t = option_any is_ready (status_of records t)
 
-  past : (t : ℕ) → 1 + length s.records ≤ t → is-ready t ≡ false
+  past : (t : ℕ) → 1 + length records ≤ t → is-ready t ≡ false
   past zero high = absurd (omega (arith, high))
-  past (suc i) high = ap (λ (o : Option Record). option_any is_ready (option_map (λ (r : Record). r.status) o)) (at_number-suc s.records i ∙ slice_get_past s.records i (omega (arith, high)))
+  past (suc i) high = ap (λ (o : Option Record). option_any is_ready (option_map (λ (r : Record). r.status) o)) (at_number-suc records i ∙ slice_get_past records i (omega (arith, high)))
 
-  threads : competing_threads competitors ≡ ready_threads s.records
+  threads : competing_threads competitors ≡ ready_threads records
   threads =
-      filter-same (λ t. is_some (competitor_at competitors t)) is-ready (λ t. ap is_some (are.each t) ∙ competes-ready (at_number s.records t)) (numbers competitors)
-      ∙ filter-more is-ready 1 (length s.records) (length competitors - length s.records) (length competitors) (omega (arith, are.few)) past
+      filter-same (λ t. is_some (competitor_at competitors t)) is-ready (λ t. ap is_some (are.each t) ∙ competes-ready (at_number records t)) (numbers competitors)
+      ∙ filter-more is-ready 1 (length records) (length competitors - length records) (length competitors) (omega (arith, are.few)) past
 
-  weights : map (weight_among s.limits.quantum competitors (value_of s)) (ready_threads s.records) ≡ map (weight_of s) (ready_threads s.records)
+  weights : map (weight_among quantum competitors value) (ready_threads records) ≡ map weighs (ready_threads records)
   weights =
-      map-passing is-ready (weight_among s.limits.quantum competitors (value_of s)) (weight_of s)
-      (λ t ready. ap (weight_with (value_of s t) s.limits.quantum) (are.each t) ∙ weighs-ready (value_of s t) s.limits.quantum (at_number s.records t) ready) (numbers s.records)
+      map-passing is-ready (weight_among quantum competitors value) weighs
+      (λ t ready. ap (weight_with (value t) quantum) (are.each t) ∙ weighs-ready (value t) quantum (at_number records t) ready) (numbers records)
 
-  pub ready-drawn : (d : ℕ) → drawn_among s.limits.quantum competitors (value_of s) d ≡ winner_among (ready_threads s.records) (winner (map (weight_of s) (ready_threads s.records)) d)
+  pub ready-drawn : (d : ℕ) → drawn_among quantum competitors value d ≡ winner_among (ready_threads records) (winner (map weighs (ready_threads records)) d)
   ready-drawn d =
-      ap (λ (ts : List ℕ). winner_among ts (winner (map (weight_among s.limits.quantum competitors (value_of s)) ts) d)) threads
-      ∙ ap (λ (ws : List ℕ). winner_among (ready_threads s.records) (winner ws d)) weights
+      ap (λ (ts : List ℕ). winner_among ts (winner (map (weight_among quantum competitors value) ts) d)) threads
+      ∙ ap (λ (ws : List ℕ). winner_among (ready_threads records) (winner ws d)) weights

@@ -61,6 +61,13 @@ impl RunQueue {
         })
     }
 
+    /// How many ticks a quantum has.
+    pub fn quantum(&self) -> u32
+        ensures { result ≡ self.now.quantum }
+    {
+        self.quantum
+    }
+
     /// Says what a thread competes with from now on, or that it doesn't compete. Its weight is set at the next draw.
     pub fn set_competitor(&mut self, thread: u32, competitor: Option<Competitor>)
         requires thread { IsPlaced self.old thread }

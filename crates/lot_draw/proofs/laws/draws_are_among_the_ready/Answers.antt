@@ -1,5 +1,6 @@
+use Rattle.lot_machine.specs.State.{value_of}
 use Rattle.lot_draw.proofs.Ready.{ready-drawn}
 use Rattle.lot_draw.proofs.laws.draws_are_among_the_ready.Goals as goal
 
 pub returns : goal.returns
-returns c = ready-drawn
+returns c s competitors are = ready-drawn s.records s.limits.quantum (value_of s) competitors are

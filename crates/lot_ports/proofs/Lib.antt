@@ -1,0 +1,2 @@
+-- Lemmas, in the order in which they stand on each other.
+pub mod Callers

@@ -1,0 +1,18 @@
+use Rattle.std.proofs.Common.{◌∙◌, length, option_map, ap, sym, subst, arith}
+use Rattle.lot_machine.specs.Ports.{port_at}
+use Rattle.std.specs.List.{Contains}
+use Rattle.lot_queues.specs.QueueLists.{QueueLists, callers_at}
+use Rattle.lot_queues.specs.Calls.{queued_call}
+use Rattle.lot_threads.proofs.Ways.{live-counted, lends-to-live}
+use Rattle.lot_ports.proofs.Callers.{caller-first}
+use Rattle.lot_ports.proofs.ports.receive.Goals as goal
+
+pub set_status-requires-clause-lend : goal.set_status-requires-clause-lend
+set_status-requires-clause-lend c =
+    lends-to-live c.args.threads.now c.in-Some.call.caller c.args.server c.requires.server
+    (λ same. c.requires.nowhere.calls c.args.port (subst (λ t. Contains (callers_at c.args.queues.now.ports c.args.port) t) (sym same) (caller-first (port_at c.args.queues.now.ports c.args.port).calls (queued_call c.in-Some.call) (sym c.take_call.ensures.first ∙ ap (option_map queued_call) c.in-Some.is))))
+
+pub push_client-requires-clause-server_there : goal.push_client-requires-clause-server_there
+push_client-requires-clause-server_there c =
+    let there = live-counted c.args.threads.now c.args.server c.requires.server in
+    (there.0, omega (arith, there.1, c.requires.same, ap (λ (q : QueueLists). length q.clients) c.take_call.ensures.rest))

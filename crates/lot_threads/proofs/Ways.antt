@@ -1,0 +1,139 @@
+-- Ways from a thread that competes or runs: it lends to nobody, so no edge leads from it.
+use Rattle.std.proofs.Common.{◌≡◌, ◌≢◌, ◌∙◌, ℕ, zero, suc, ◌<◌, ◌≤◌, length, arith, true, Option, Some, None, List, [], ◌∷◌, option_and_then, option_map, ap, sym, refl, subst}
+use Rattle.std.proofs.lemmas.List.{length-map}
+use Rattle.std.proofs.lemmas.Option.{slice_get_within}
+use Rattle.lot_machine.specs.declared.funding.Node.{Node}
+use Rattle.lot_machine.specs.declared.funding.Node.TheVariants as node
+use Rattle.lot_machine.specs.declared.funding.Edge.{Edge}
+use Rattle.lot_machine.specs.declared.funding.Edge.TheVariants.{OfTicket, OfLender, OfMutex}
+use Rattle.lot_machine.specs.declared.funding.Lend.TheVariants.{Nobody, ToThread, ToMutex}
+use Rattle.lot_machine.specs.declared.funding.Lend.{Lend}
+use Rattle.lot_machine.specs.declared.record.Record.{Record}
+use Rattle.lot_machine.specs.declared.record.Status.{Status}
+use Rattle.lot_machine.specs.declared.record.Status.TheVariants as status
+use Rattle.lot_machine.specs.declared.ticket.Ticket.{Ticket}
+use Rattle.lot_machine.specs.Funding.{Funding, ends_of, owner_of, target_node, ticket_at}
+use Rattle.lot_machine.specs.Numbered.{at_number}
+use Rattle.lot_machine.specs.Lends.{IsLive}
+use Rattle.lot_machine.specs.State.{is_live_status, lend_of, live_in, status_of}
+use Rattle.lot_machine.proofs.Tickets.{at_number-suc, some-injective}
+use Rattle.lot_machine.proofs.TrapCycles.{at_number-map, lend-at}
+use Rattle.lot_graph.specs.Graphs.{IsThread, LendReaches, Reaches}
+use Rattle.lot_threads.specs.Threaded.{Threaded, CanLend, IsLiveIn, IsThreadOf, funding_in, lends_in}
+use Rattle.lot_threads.proofs.Lending.{lent_ends}
+
+-- who competes or runs lends to nobody
+live-alone : (s : Status) → is_live_status s ≡ true → lend_of s ≡ Nobody
+live-alone status.Ready live = refl
+live-alone (status.Running p used) live = refl
+live-alone (status.Served server) live = cc
+live-alone (status.Waiting m) live = cc
+live-alone (status.Queued p) live = cc
+live-alone (status.Receiving p) live = cc
+live-alone status.Dead live = cc
+
+pub live-lends : (records : List Record) (t : ℕ) → IsLive (live_in records) t → at_number (lends_in records) t ≡ Some Nobody
+live-lends records t live = at_number-map (λ (r : Record). lend_of r.status) records t ∙ by (at_number records t) (sym (at_number-map (λ (r : Record). is_live_status r.status) records t) ∙ live)
+  where
+    by : (o : Option Record) → option_map (λ (r : Record). is_live_status r.status) o ≡ Some true → option_map (λ (r : Record). lend_of r.status) o ≡ Some Nobody
+    by None is = cc
+    by (Some r) is = ap Some (live-alone r.status (some-injective (is_live_status r.status) true is))
+
+-- the node from which an edge with these ends leads
+abbrev from_end : Option (Node × Node) → Node
+from_end None = node.Currency 0
+from_end (Some (from, to)) = from
+
+module _ (f : Funding) (t : ℕ) (alone : at_number f.lends t ≡ Some Nobody) where
+  -- no edge leads from who lends to nobody
+  no-edge : (edge : Edge) (to : Node) → ends_of f edge ≢ Some (node.Thread t, to)
+  no-edge (OfTicket n) to is = by (ticket_at f n) is
+    where
+      ends_from : Ticket → Option (Node × Node)
+      ends_from x = option_map (λ end. (node.Currency x.issuer, end)) (target_node x.target)
+
+      at : (issuer : ℕ) (end : Option Node) → option_map {T = Node} {U = Node × Node} (λ e. (node.Currency issuer, e)) end ≡ Some (node.Thread t, to) → ⊥
+      at issuer None none = cc
+      at issuer (Some e) ends = let same : node.Currency issuer ≡ node.Thread t = ap from_end ends in cc
+
+      by : (o : Option Ticket) → option_and_then ends_from o ≡ Some (node.Thread t, to) → ⊥
+      by None none = cc
+      by (Some x) some = at x.issuer (target_node x.target) some
+  no-edge (OfMutex m) to is = by (owner_of f m) is
+    where
+      owner_ends : ℕ → Node × Node
+      owner_ends owner = (node.Mutex m, node.Thread owner)
+
+      by : (o : Option ℕ) → option_map owner_ends o ≡ Some (node.Thread t, to) → ⊥
+      by None none = cc
+      by (Some owner) ends = let same : node.Mutex m ≡ node.Thread t = ap from_end ends in cc
+  no-edge (OfLender u) to is = by (at_number f.lends u) refl is
+    where
+      own : (lend : Lend) → at_number f.lends u ≡ Some lend → u ≡ t → lend ≡ Nobody
+      own lend at same = some-injective lend Nobody (sym at ∙ ap (at_number f.lends) same ∙ alone)
+
+      number : Node → ℕ
+      number (node.Thread n) = n
+      number other = 0
+
+      at : (lend : Lend) → at_number f.lends u ≡ Some lend → lent_ends u (Some lend) ≡ Some (node.Thread t, to) → ⊥
+      at Nobody there ends = cc
+      at (ToThread s) there ends = let same = own (ToThread s) there (ap (λ o. number (from_end o)) ends) in cc
+      at (ToMutex m) there ends = let same = own (ToMutex m) there (ap (λ o. number (from_end o)) ends) in cc
+
+      by : (o : Option Lend) → at_number f.lends u ≡ o → lent_ends u o ≡ Some (node.Thread t, to) → ⊥
+      by None none ends = cc
+      by (Some lend) there ends = at lend there ends
+
+  -- so it reaches itself alone
+  pub reaches-itself : (to : Node) → Reaches f (node.Thread t) to → node.Thread t ≡ to
+  reaches-itself to ([], is) = is
+  reaches-itself to (next ∷ rest, ((edge, ends), more)) = absurd (no-edge edge next ends)
+
+-- ---- what is lent to one that competes or runs
+
+pub number-low : {A : Type 0} (xs : List A) (n : ℕ) (x : A) → at_number xs n ≡ Some x → 0 < n
+number-low xs zero x is = cc
+number-low xs (suc i) x is = omega arith
+
+pub number-high : {A : Type 0} (xs : List A) (n : ℕ) (x : A) → at_number xs n ≡ Some x → n ≤ length xs
+number-high xs zero x is = omega arith
+number-high xs (suc i) x is = omega (arith, slice_get_within xs i x (sym (at_number-suc xs i) ∙ is))
+
+-- it is there
+pub live-there : (v : Threaded) (t : ℕ) → IsLiveIn v t → IsThread (funding_in v) t
+live-there v t live = let alone = live-lends v.records t live in (number-low (lends_in v.records) t Nobody alone, number-high (lends_in v.records) t Nobody alone)
+
+pub live-counted : (v : Threaded) (t : ℕ) → IsLiveIn v t → IsThreadOf v t
+live-counted v t live = let there = live-there v t live in (there.0, omega (arith, there.1, length-map v.records (λ (r : Record). lend_of r.status)))
+
+abbrev thread_number : Node → ℕ
+thread_number (node.Thread n) = n
+thread_number other = 0
+
+-- another thread may lend to it
+pub lends-to-live : (v : Threaded) (t s : ℕ) → IsLiveIn v s → s ≢ t → CanLend (funding_in v) t (ToThread s)
+lends-to-live v t s live other = (live-there v s live, apart)
+  where
+    apart : ¬ LendReaches (funding_in v) (ToThread s) t
+    apart (from, is, leads) =
+        let reached = reaches-itself (funding_in v) s (live-lends v.records s live) (node.Thread t) (subst (λ (x : Node). Reaches (funding_in v) x (node.Thread t)) (sym (some-injective (node.Thread s) from is)) leads) in
+        other (ap thread_number reached)
+
+-- it reaches no mutex
+pub live-apart : (v : Threaded) (t m : ℕ) → IsLiveIn v t → ¬ Reaches (funding_in v) (node.Thread t) (node.Mutex m)
+live-apart v t m live leads = let same = reaches-itself (funding_in v) t (live-lends v.records t live) (node.Mutex m) leads in cc
+
+-- and isn't one that waits for a mutex
+pub live-other : (v : Threaded) (t u m : ℕ) → IsLiveIn v t → status_of v.records u ≡ Some (status.Waiting m) → t ≢ u
+live-other v t u m live waits same =
+    let clash : Some Nobody ≡ Some (ToMutex m) = sym (live-lends v.records t live) ∙ ap (at_number (lends_in v.records)) same ∙ lend-at v.records u (status.Waiting m) waits in
+    cc
+
+-- who has the status of one that competes or runs
+pub live-status : (records : List Record) (t : ℕ) (s : Status) → status_of records t ≡ Some s → is_live_status s ≡ true → IsLive (live_in records) t
+live-status records t s is live = at_number-map (λ (r : Record). is_live_status r.status) records t ∙ by (at_number records t) is
+  where
+    by : (o : Option Record) → option_map (λ (r : Record). r.status) o ≡ Some s → option_map (λ (r : Record). is_live_status r.status) o ≡ Some true
+    by None none = cc
+    by (Some r) at = ap Some (ap is_live_status (some-injective r.status s at) ∙ live)

@@ -1,0 +1,37 @@
+use Rattle.std.proofs.Common.{◌∙◌, ◌≤◌, Bool, List, ap, sym, subst}
+use Rattle.std.specs.Vec.{vec_capacity}
+use Rattle.lot_machine.specs.State.{live_in}
+use Rattle.lot_machine.specs.Value.{thread_value}
+use Rattle.lot_graph.specs.Changes.{with_lends}
+use Rattle.lot_graph.specs.Graphs.{LimitedFunding}
+use Rattle.lot_value.specs.Caches.{edges_into_all}
+use Rattle.lot_value.specs.Counts.{counted_up}
+use Rattle.lot_threads.specs.Threaded.{lends_in}
+use Rattle.lot_draw.specs.Competing.{drawn_among}
+use Rattle.lot_draw.proofs.Ready.{ready-drawn}
+use Rattle.lot_threads.proofs.Together.{drawn-of, graph-is}
+use Rattle.lot_threads.proofs.threads.Threads.draw.Goals as goal
+
+pub invariant_of-self : goal.invariant_of-self
+invariant_of-self c =
+    let i = c.self.inside in record {
+      together = drawn-of i.graph c.draw.new.graph i.queue c.draw.new.self i.threads.items i.records.items i.runners.items c.self.invariant.together c.draw.ensures.now c.draw.ensures.live c.draw.ensures.queue c.draw.ensures.weights;
+      thread_room = subst (λ (w : LimitedFunding). w.thread_limit ≤ vec_capacity i.threads) (sym c.draw.ensures.now) c.self.invariant.thread_room;
+      record_room = subst (λ (w : LimitedFunding). w.thread_limit ≤ vec_capacity i.records) (sym c.draw.ensures.now) c.self.invariant.record_room;
+    }
+
+pub returns-clause-winner : goal.returns-clause-winner
+returns-clause-winner c =
+    let i = c.self.inside in
+    let of = c.self.invariant.together in
+    let was = graph-is i.graph i.queue i.threads.items i.records.items i.runners.items of in
+    rw (← c.self.view_is) (c.draw.ensures.winner
+    ∙ ap (λ (live : List Bool). drawn_among i.queue.quantum i.queue.competitors (thread_value i.graph.known.unit i.graph.now.funding live) c.args.d) of.live
+    ∙ ap (λ (w : LimitedFunding). drawn_among i.queue.quantum i.queue.competitors (thread_value i.graph.known.unit w.funding (live_in i.records.items)) c.args.d) was
+    ∙ ready-drawn i.records.items i.queue.quantum (thread_value i.graph.known.unit (with_lends i.graph.now (lends_in i.records.items)).funding (live_in i.records.items)) i.queue.competitors of.ready c.args.d)
+
+pub returns-clause-reads : goal.returns-clause-reads
+returns-clause-reads c =
+    let i = c.self.inside in
+    let was = graph-is i.graph i.queue i.threads.items i.records.items i.runners.items c.self.invariant.together in
+    rw (← c.self.view_is) (c.draw.ensures.reads ∙ ap (λ (w : LimitedFunding). counted_up c.args.meter.now.ticket_reads (edges_into_all w.funding i.graph.known.stale)) was)

@@ -1,0 +1,3 @@
+pub mod Timely
+pub mod Runners
+pub mod Threaded

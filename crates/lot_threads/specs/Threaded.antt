@@ -1,0 +1,121 @@
+-- What the clauses of `Threads` see.
+use Rattle.std.specs.Prelude.{◌≡◌, Bool, ⊤, ◌⊎◌, ℕ, Option, Some, None, List, All, Contains, length, map, option_and_then}
+use Rattle.lot_machine.specs.declared.funding.Node.{Node}
+use Rattle.lot_machine.specs.declared.funding.Lend.{Lend}
+use Rattle.lot_machine.specs.declared.funding.Lend.TheVariants.{Nobody, ToThread, ToMutex}
+use Rattle.lot_machine.specs.declared.ticket.Ticket.{Ticket}
+use Rattle.lot_machine.specs.declared.record.Record.{Record}
+use Rattle.lot_machine.specs.declared.record.Thread.{Thread}
+use Rattle.lot_machine.specs.declared.record.Status.{Status}
+use Rattle.lot_machine.specs.declared.record.Status.TheVariants.{Ready, Running}
+use Rattle.lot_machine.specs.Bounds.{IsBetween}
+use Rattle.lot_machine.specs.Funding.{Funding}
+use Rattle.lot_machine.specs.Lends.{IsLive}
+use Rattle.lot_machine.specs.Lottery.{weight, winner}
+use Rattle.lot_machine.specs.Numbered.{at_number}
+use Rattle.lot_machine.specs.State.{lend_of, live_in, ready_threads, status_of}
+use Rattle.lot_machine.specs.Value.{thread_value}
+use Rattle.lot_machine.specs.Touched.{IsTouched, PathLeads}
+use Rattle.lot_graph.specs.Graphs.{LimitedFunding, IsBorrower, LendReaches}
+use Rattle.lot_value.specs.Valued.{Valued}
+use Rattle.lot_draw.specs.declared.competing.Winner.{Winner}
+use Rattle.lot_draw.specs.Competing.{AreReady, winner_among}
+use Rattle.lot_draw.specs.Queued.{Queued, AreWeights, CompetesIn}
+use Rattle.lot_threads.specs.Timely.{IsTimely}
+use Rattle.lot_threads.specs.Runners.{AreRunners}
+
+-- The currencies that are there, tickets, and who owns each mutex; how many tickets, user currencies and threads there may be; how
+-- much one of base is worth, how many ticks a quantum has, and how many processors there are; each thread's name and script, and
+-- its record; and the stale nodes.
+pub record Threaded : Type 0 where
+  pub currencies : List Bool
+  pub tickets : List (Option Ticket)
+  pub owners : List (Option ℕ)
+  pub ticket_limit : ℕ
+  pub currency_limit : ℕ
+  pub thread_limit : ℕ
+  pub unit : ℕ
+  pub quantum : ℕ
+  pub processors : ℕ
+  pub threads : List Thread
+  pub records : List Record
+  pub stale : List Node
+
+-- what each thread with these records lends
+abbrev pub lends_in : List Record → List Lend
+lends_in records = map (λ r. lend_of r.status) records
+
+-- tickets, lends and owners: what is lent follows from the records
+abbrev pub funding_in : Threaded → Funding
+funding_in v = record { currencies = v.currencies; tickets = v.tickets; lends = lends_in v.records; owners = v.owners }
+
+-- the same, with how much of it there may be
+abbrev pub limited_in : Threaded → LimitedFunding
+limited_in v = record { funding = funding_in v; ticket_limit = v.ticket_limit; currency_limit = v.currency_limit; thread_limit = v.thread_limit }
+
+-- with these records, and these nodes stale
+abbrev pub with_records : Threaded → List Record → List Node → Threaded
+with_records v records stale = record v { records = records; stale = stale }
+
+-- the thread is there
+abbrev pub IsThreadOf : Threaded → ℕ → Type 0
+IsThreadOf v t = IsBetween 1 (length v.records) t
+
+-- the thread competes or runs
+abbrev pub IsLiveIn : Threaded → ℕ → Type 0
+IsLiveIn v t = IsLive (live_in v.records) t
+
+-- a thread that was just made is Ready and has had nothing
+abbrev pub newborn : Record
+newborn = record { status = Ready; compensation = None; delivered = None; quanta = 0; ticks = 0 }
+
+-- the node is stale: its value is to be computed again before it is used
+abbrev pub IsStaleIn : Threaded → Node → Type 0
+IsStaleIn v node = Contains v.stale node
+
+-- the thread may lend this: whom it lends to is there, and doesn't reach the thread
+abbrev pub CanLend : Funding → ℕ → Lend → Type 0
+CanLend f t Nobody = ⊤
+CanLend f t (ToThread s) = IsBorrower f (ToThread s) × (¬ LendReaches f (ToThread s) t)
+CanLend f t (ToMutex m) = IsBorrower f (ToMutex m) × (¬ LendReaches f (ToMutex m) t)
+
+-- the thread may have this status: if it runs, the processor is there, and no other thread runs on it
+abbrev pub CanRun : Threaded → ℕ → Status → Type 0
+CanRun v t (Running p used) = IsBetween 1 v.processors p × ((u more : ℕ) → status_of v.records u ≡ Some (Running p more) → u ≡ t)
+CanRun v t other = ⊤
+
+-- The thread may have this record: it is there, the record's ticks are within the quantum, and the thread may lend and run as
+-- the record says.
+pub record CanChange (v : Threaded) (t : ℕ) (next : Record) : Type 0 where
+  pub there : IsThreadOf v t
+  pub timely : IsTimely v.quantum next
+  pub lend : CanLend (funding_in v) t (lend_of next.status)
+  pub run : CanRun v t next.status
+
+-- what a thread is worth, in units of base (4.4)
+abbrev pub worth_in : Threaded → ℕ → ℕ
+worth_in v t = thread_value v.unit (funding_in v) (live_in v.records) t
+
+-- what a thread weighs in a draw (3.4, 4.5)
+abbrev pub weight_in : Threaded → ℕ → ℕ
+weight_in v t = weight (worth_in v t) (option_and_then (λ r. r.compensation) (at_number v.records t)) v.quantum
+
+-- who wins a draw with this number: the lottery over the weights of the Ready threads, by rising number (4.2)
+abbrev pub drawn_in : Threaded → ℕ → Option Winner
+drawn_in v d = winner_among (ready_threads v.records) (winner (map (weight_in v) (ready_threads v.records)) d)
+
+-- A change makes stale only what a path of edges, there before or after it, reaches from a node that it touched.
+abbrev pub MakesStaleIn : Threaded → Threaded → Type 0
+MakesStaleIn old new =
+    (x : Node) → IsStaleIn new x → IsStaleIn old x ⊎ ((node : Node) × IsTouched (funding_in old) (funding_in new) (live_in old.records) (live_in new.records) node × PathLeads (funding_in old) (funding_in new) node x)
+
+-- The graph and the queue are those of the records: what is lent, who is live, who competes, and who runs where.
+pub record AreOf (v : Valued) (q : Queued) (threads : List Thread) (records : List Record) (runners : List (Option ℕ)) : Type 0 where
+  pub names : length threads ≡ length records
+  pub lends : v.now.funding.lends ≡ lends_in records
+  pub live : v.live ≡ live_in records
+  pub ready : AreReady records q.competitors
+  pub competes : CompetesIn q.competitors v
+  pub weights : AreWeights q v.known
+  pub timely : All (IsTimely q.quantum) records
+  pub runs : AreRunners records runners

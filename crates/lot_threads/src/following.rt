@@ -1,0 +1,155 @@
+//! What the funding graph sees of a thread: whether it is live, and what it lends.
+ghost use Rattle.std.specs.Prelude.{◌≡◌, ◌↔◌, ◌≤◌, Some, IsTrue};
+ghost use Rattle.lot_machine.specs.declared.funding.Node.{Node as ANode};
+ghost use Rattle.lot_machine.specs.declared.funding.Node.TheVariants.{Thread as ThreadNode};
+ghost use Rattle.lot_machine.specs.declared.funding.Lend.TheVariants.{Nobody};
+ghost use Rattle.lot_machine.specs.Numbered.{at_number, set_number};
+ghost use Rattle.lot_machine.specs.State as states;
+ghost use Rattle.lot_draw.specs.Competing as competing;
+ghost use Rattle.lot_graph.specs.Changes.{with_lends};
+ghost use Rattle.lot_graph.specs.Graphs.{IsMutex, IsNodeOf, IsThread};
+ghost use Rattle.lot_value.specs.Caches.{IsStale};
+ghost use Rattle.lot_value.specs.Valued.{MakesStale};
+ghost use Rattle.lot_threads.specs.Threaded.{CanLend};
+ghost use Rattle.lot_threads.specs.Timely.{IsBelowQuantum, IsTimely};
+
+use lot_draw::Competitor;
+use lot_machine::{Lend, Node, Record, Status};
+use lot_value::ValuedGraph;
+
+/// What a thread lends to: a served one to its server, a waiting one to its mutex, any other to nobody (4.6, 6.1).
+pub(crate) fn lend_of(status: Status) -> Lend
+    ensures { result ≡ states.lend_of status }
+{
+    match status {
+        Status::Served(server) => Lend::ToThread(server),
+        Status::Waiting(mutex) => Lend::ToMutex(mutex),
+        _ => Lend::Nobody,
+    }
+}
+
+/// Whether a thread competes or runs.
+pub(crate) fn is_live(status: Status) -> bool
+    ensures { result ≡ states.is_live_status status }
+{
+    matches!(status, Status::Ready | Status::Running { .. })
+}
+
+/// Makes a thread live or not, and makes it lend this. A thread that is live before or after is so all the time, so that a server
+/// doesn't sleep while a client's funding moves to it.
+pub(crate) fn follow(graph: &mut ValuedGraph, thread: u32, live: bool, lend: Lend)
+    requires thread { IsThread graph.old.now.funding thread }
+    requires lend { CanLend graph.old.now.funding thread lend }
+    ensures now { graph.new.now ≡ with_lends graph.old.now (set_number graph.old.now.funding.lends thread lend) }
+    ensures live { graph.new.live ≡ set_number graph.old.live thread live }
+    ensures known { graph.new.known ≡ record graph.old.known { stale = graph.new.known.stale } }
+    ensures kept { (node : ANode) → IsStale graph.old.known node → IsStale graph.new.known node }
+    ensures stale { MakesStale graph.old graph.new }
+{
+    if live {
+        graph.set_live(thread, true);
+        relend(graph, thread, lend);
+    } else {
+        relend(graph, thread, lend);
+        graph.set_live(thread, false);
+    }
+}
+
+/// Makes a thread lend this.
+fn relend(graph: &mut ValuedGraph, thread: u32, lend: Lend)
+    requires thread { IsThread graph.old.now.funding thread }
+    requires lend { CanLend graph.old.now.funding thread lend }
+    ensures now { graph.new.now ≡ with_lends graph.old.now (set_number graph.old.now.funding.lends thread lend) }
+    ensures live { graph.new.live ≡ graph.old.live }
+    ensures known { graph.new.known ≡ record graph.old.known { stale = graph.new.known.stale } }
+    ensures kept { (node : ANode) → IsStale graph.old.known node → IsStale graph.new.known node }
+    ensures stale { MakesStale graph.old graph.new }
+{
+    if lends(graph, thread, lend) {
+        return;
+    }
+    unlend(graph, thread);
+    if lend != Lend::Nobody {
+        graph.lend(thread, lend);
+    }
+}
+
+/// Makes a thread lend to nobody.
+fn unlend(graph: &mut ValuedGraph, thread: u32)
+    requires thread { IsThread graph.old.now.funding thread }
+    ensures now { graph.new.now ≡ with_lends graph.old.now (set_number graph.old.now.funding.lends thread Nobody) }
+    ensures live { graph.new.live ≡ graph.old.live }
+    ensures known { graph.new.known ≡ record graph.old.known { stale = graph.new.known.stale } }
+    ensures kept { (node : ANode) → IsStale graph.old.known node → IsStale graph.new.known node }
+    ensures stale { MakesStale graph.old graph.new }
+{
+    if !lends(graph, thread, Lend::Nobody) {
+        graph.unlend(thread);
+    }
+}
+
+/// Whether it is what the thread lends.
+fn lends(graph: &ValuedGraph, thread: u32, lend: Lend) -> bool
+    ensures { IsTrue result ↔ (at_number graph.now.now.funding.lends thread ≡ Some lend) }
+{
+    graph.graph().lend_of(thread) == Some(lend)
+}
+
+/// What a thread with this record competes with, if it does: its compensation, if it is Ready (4.2, 4.5).
+pub(crate) fn competitor_of(of: Record) -> Option<Competitor>
+    ensures { result ≡ competing.competitor_of of }
+{
+    if of.status == Status::Ready {
+        return Some(Competitor {
+            compensation: of.compensation,
+        });
+    }
+    None
+}
+
+/// Whether a compensation is of one tick or more, and the ticks used by a thread that runs are below the quantum.
+pub(crate) fn is_timely(of: Record, quantum: u32) -> bool
+    ensures { IsTrue result ↔ IsTimely quantum of }
+{
+    is_below(of.status, quantum) && of.compensation != Some(0)
+}
+
+fn is_below(status: Status, quantum: u32) -> bool
+    ensures { IsTrue result ↔ IsBelowQuantum quantum status }
+{
+    match status {
+        Status::Running { used, .. } => used < quantum,
+        _ => true,
+    }
+}
+
+/// Whether the thread is there.
+pub(crate) fn is_thread(graph: &ValuedGraph, thread: u32) -> bool
+    ensures there { IsTrue result ↔ IsThread graph.now.now.funding thread }
+    ensures within { IsTrue result → thread ≤ graph.now.now.thread_limit }
+{
+    thread > 0 && thread <= graph.graph().threads()
+}
+
+fn is_mutex(graph: &ValuedGraph, mutex: u32) -> bool
+    ensures { IsTrue result ↔ IsMutex graph.now.now.funding mutex }
+{
+    mutex > 0 && mutex <= graph.graph().mutexes()
+}
+
+/// Whether what is lent to is there, and doesn't reach the thread. It changes nothing.
+pub(crate) fn can_lend(graph: &mut ValuedGraph, thread: u32, lend: Lend) -> bool
+    requires { IsNodeOf graph.old.now (ThreadNode thread) }
+    ensures can { IsTrue result ↔ CanLend graph.old.now.funding thread lend }
+    ensures unchanged { graph.new ≡ graph.old }
+{
+    match lend {
+        Lend::Nobody => true,
+        Lend::ToThread(server) => {
+            is_thread(graph, server) && !graph.reaches(Node::Thread(server), Node::Thread(thread))
+        }
+        Lend::ToMutex(mutex) => {
+            is_mutex(graph, mutex) && !graph.reaches(Node::Mutex(mutex), Node::Thread(thread))
+        }
+    }
+}

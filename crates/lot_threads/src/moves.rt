@@ -1,0 +1,95 @@
+//! How a thread begins to run and stops, and what is delivered to it.
+ghost use Rattle.std.specs.Prelude.{◌≡◌, ◌<◌, None, Some, option_and_then};
+ghost use Rattle.lot_machine.specs.declared.funding.Node.{Node as ANode};
+ghost use Rattle.lot_machine.specs.declared.record.Status.TheVariants as status;
+ghost use Rattle.lot_machine.specs.Bounds.{IsBetween};
+ghost use Rattle.lot_machine.specs.Numbered.{at_number};
+ghost use Rattle.lot_machine.specs.State as states;
+ghost use Rattle.lot_machine.specs.State.{change_record, status_of, thread_on};
+ghost use Rattle.lot_machine.specs.Step.{started};
+ghost use Rattle.lot_machine.specs.Traps.{with_ticks};
+ghost use Rattle.lot_threads.specs.Threaded.{IsThreadOf, IsStaleIn, CanLend, CanRun, MakesStaleIn, funding_in, with_records};
+ghost use Rattle.lot_threads.specs.Timely.{IsBelowQuantum};
+
+use crate::Threads;
+use lot_machine::{Record, Status};
+
+impl Threads {
+    /// A draw's winner begins to run on a processor on which nobody runs, and is handed what was delivered to it (3.4, 4.2).
+    pub fn start(&mut self, thread: u32, processor: u32) -> Option<u32>
+        requires thread { IsThreadOf self.old thread }
+        requires processor { IsBetween 1 self.old.processors processor }
+        requires free { thread_on self.old.records processor ≡ None }
+        requires quantum { 0 < self.old.quantum }
+        ensures delivered { result ≡ option_and_then (λ r. r.delivered) (at_number self.old.records thread) }
+        ensures started { self.new ≡ with_records self.old (change_record (started processor) self.old.records thread) self.new.stale }
+        ensures kept { (node : ANode) → IsStaleIn self.old node → IsStaleIn self.new node }
+        ensures stale { MakesStaleIn self.old self.new }
+    {
+        let Some(before) = self.record(thread) else {
+            unreachable!()
+        };
+        let next = Record {
+            status: Status::Running { processor, used: 0 },
+            compensation: None,
+            delivered: None,
+            quanta: before.quanta.saturating_add(1),
+            ..before
+        };
+        self.change(thread, next);
+        before.delivered
+    }
+
+    /// A thread's quantum ends after these further ticks: it is Ready without compensation (4.2).
+    pub fn expire(&mut self, thread: u32, ticks: u32)
+        requires thread { IsThreadOf self.old thread }
+        ensures expired { self.new ≡ with_records self.old (change_record (λ r. with_ticks ticks (record r { status = status.Ready; compensation = None })) self.old.records thread) self.new.stale }
+        ensures kept { (node : ANode) → IsStaleIn self.old node → IsStaleIn self.new node }
+        ensures stale { MakesStaleIn self.old self.new }
+    {
+        let Some(before) = self.record(thread) else {
+            unreachable!()
+        };
+        let next = Record {
+            status: Status::Ready,
+            compensation: None,
+            ticks: before.ticks.saturating_add(u64::from(ticks)),
+            ..before
+        };
+        self.change(thread, next);
+    }
+
+    /// A thread has another status, and is else as it was.
+    pub fn set_status(&mut self, thread: u32, status: Status)
+        requires thread { IsThreadOf self.old thread }
+        requires below { IsBelowQuantum self.old.quantum status }
+        requires lend { CanLend (funding_in self.old) thread (states.lend_of status) }
+        requires run { CanRun self.old thread status }
+        ensures set { self.new ≡ with_records self.old (change_record (λ r. record r { status = status }) self.old.records thread) self.new.stale }
+        ensures kept { (node : ANode) → IsStaleIn self.old node → IsStaleIn self.new node }
+        ensures stale { MakesStaleIn self.old self.new }
+    {
+        let Some(before) = self.record(thread) else {
+            unreachable!()
+        };
+        self.change(thread, Record { status, ..before });
+    }
+
+    /// A thread is Ready again, and a number is delivered to it: it is handed it when it next runs (4.6).
+    pub fn deliver(&mut self, thread: u32, number: u32)
+        requires thread { IsThreadOf self.old thread }
+        ensures delivered { self.new ≡ with_records self.old (change_record (λ r. record r { status = status.Ready; delivered = Some number }) self.old.records thread) self.new.stale }
+        ensures kept { (node : ANode) → IsStaleIn self.old node → IsStaleIn self.new node }
+        ensures stale { MakesStaleIn self.old self.new }
+    {
+        let Some(before) = self.record(thread) else {
+            unreachable!()
+        };
+        let next = Record {
+            status: Status::Ready,
+            delivered: Some(number),
+            ..before
+        };
+        self.change(thread, next);
+    }
+}

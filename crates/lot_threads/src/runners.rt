@@ -1,0 +1,38 @@
+//! Who runs on each processor.
+ghost use Rattle.std.specs.Prelude.{◌≡◌, ℕ, length};
+ghost use Rattle.lot_machine.specs.Bounds.{IsBetween};
+ghost use Rattle.lot_machine.specs.declared.record.Status.TheVariants.{Running};
+ghost use Rattle.lot_threads.specs.Runners.{runner_at, with_runner, without_runner};
+
+use lot_machine::Status;
+
+/// A thread that runs on a processor, and the ticks of its quantum that it has used there.
+#[derive(Clone, Copy, Debug, PartialEq, Eq)]
+pub struct Runner {
+    pub thread: u32,
+    /// In ticks, below the quantum.
+    pub used: u32,
+}
+
+/// Moves a thread from the processor on which it ran, if it ran, to the one on which it runs now, if it does.
+pub(crate) fn move_runner(runners: &mut Vec<Option<u32>>, thread: u32, before: Status, now: Status)
+    requires before { (p used : ℕ) → before ≡ Running p used → IsBetween 1 (length runners.old.items) p }
+    requires now { (p used : ℕ) → now ≡ Running p used → IsBetween 1 (length runners.old.items) p }
+    ensures table { runners.new.items ≡ with_runner thread now (without_runner before runners.old.items) }
+    ensures count { length runners.new.items ≡ length runners.old.items }
+{
+    if let Status::Running { processor, .. } = before {
+        runners[processor as usize - 1] = None;
+    }
+    if let Status::Running { processor, .. } = now {
+        runners[processor as usize - 1] = Some(thread);
+    }
+}
+
+/// The thread at a processor, if one is there.
+pub(crate) fn runner_on(runners: &[Option<u32>], processor: u32) -> Option<u32>
+    ensures { result ≡ runner_at runners.now processor }
+{
+    let place = (processor as usize).checked_sub(1)?;
+    runners.get(place).copied().flatten()
+}

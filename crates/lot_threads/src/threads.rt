@@ -1,0 +1,405 @@
+//! The threads, and all that follows from what each is doing.
+ghost use Rattle.std.specs.Prelude.{◌≡◌, ◌+◌, ◌<◌, ◌≤◌, ◌↔◌, ◌++◌, ◌∷◌, ℕ, true, false, [], Some, None, IfOk, IfSome, IfNone, IsErr, IsTrue, OnOk, OnErr, OnSome, MatchOption, length, replicate, slice_get, slice_set};
+ghost use Rattle.std.specs.Option.{SomeIff};
+ghost use Rattle.lot_machine.specs.declared.funding.Node.{Node as ANode};
+ghost use Rattle.lot_machine.specs.declared.funding.Node.TheVariants.{Currency as CurrencyNode, Thread as ThreadNode, Mutex as MutexNode};
+ghost use Rattle.lot_machine.specs.declared.record.Status.TheVariants.{Ready};
+ghost use Rattle.lot_machine.specs.declared.ticket.Ticket.{Ticket as ATicket};
+ghost use Rattle.lot_machine.specs.declared.ticket.Target.TheVariants.{Unfunded};
+ghost use Rattle.lot_machine.specs.Numbered.{at_number, set_number};
+ghost use Rattle.lot_machine.specs.Funding.{ticket_at, target_of, owner_of, issued_in, backing_currency, with_target, with_new_ticket, without_ticket};
+ghost use Rattle.lot_machine.specs.Activity.{IsActive, active_amount};
+ghost use Rattle.lot_machine.specs.Equations.{HasEquation, Reaches};
+ghost use Rattle.lot_machine.specs.State as states;
+ghost use Rattle.lot_machine.specs.State.{live_in, status_of, thread_on, used_by};
+ghost use Rattle.lot_machine.specs.Value.{node_value, ticket_value};
+ghost use Rattle.lot_graph.specs.Graphs.{IsNodeOf, IsThread, IsMutex, IsCurrency, IsUserCurrency, IsTarget, IsCycle, IsFunding};
+ghost use Rattle.lot_tree.specs.Visits.{CountsReads};
+ghost use Rattle.lot_value.specs.Counts.{counted_up};
+ghost use Rattle.lot_value.specs.Caches.{edges_into_all};
+ghost use Rattle.lot_threads.specs.Threaded.{IsLiveIn, IsThreadOf, IsStaleIn, CanLend, CanRun, CanChange, MakesStaleIn, drawn_in, funding_in, limited_in, newborn, with_records, worth_in};
+ghost use Rattle.lot_threads.specs.Timely.{IsTimely};
+
+use crate::following::{can_lend, competitor_of, follow, is_live, is_thread, is_timely, lend_of};
+use crate::runners::{Runner, move_runner, runner_on};
+use lot_draw::{RunQueue, Winner};
+use lot_graph::{Cycle, Graph};
+use lot_machine::{Limits, Node, Record, Status, Target, Thread};
+use lot_value::{Meter, ValuedGraph};
+use std::alloc::{AllocError, Global};
+use std::marker::Model;
+
+/// A thread that was just made.
+const NEWBORN: Record = Record {
+    status: Status::Ready,
+    compensation: None,
+    delivered: None,
+    quanta: 0,
+    ticks: 0,
+};
+
+/// The threads by number, with the funding graph in which they are, the queue in which they compete, and who runs on each
+/// processor.
+#[derive(Drop)]
+pub struct Threads {
+    graph: ValuedGraph,
+    queue: RunQueue,
+    threads: Vec<Thread>,
+    records: Vec<Record>,
+    /// By processor, processor 1 first.
+    runners: Vec<Option<u32>>,
+}
+
+impl Model for Threads {
+    ghost use Rattle.std.specs.Prelude.{◌≡◌, ◌≤◌, length, vec_capacity};
+    ghost use Rattle.lot_threads.specs.Threaded.{Threaded, AreOf};
+
+    ghost Value = { Threaded };
+
+    ghost view = { λ s. record {
+      currencies = s.graph.now.funding.currencies;
+      tickets = s.graph.now.funding.tickets;
+      owners = s.graph.now.funding.owners;
+      ticket_limit = s.graph.now.ticket_limit;
+      currency_limit = s.graph.now.currency_limit;
+      thread_limit = s.graph.now.thread_limit;
+      unit = s.graph.known.unit;
+      quantum = s.queue.quantum;
+      processors = length s.runners.items;
+      threads = s.threads.items;
+      records = s.records.items;
+      stale = s.graph.known.stale;
+    } };
+
+    ghost invariant = { λ s. record {
+      together : AreOf s.graph s.queue s.threads.items s.records.items s.runners.items;
+      thread_room : s.graph.now.thread_limit ≤ vec_capacity s.threads;
+      record_room : s.graph.now.thread_limit ≤ vec_capacity s.records;
+    } };
+}
+
+impl Threads {
+    /// No thread yet, base alone, and free mutexes.
+    pub fn new(alloc: Global, limits: &Limits) -> Result<Threads, AllocError>
+        ensures opening { IfOk result (λ made. made ≡ record {
+          currencies = true ∷ [];
+          tickets = [];
+          owners = replicate limits.now.mutexes None;
+          ticket_limit = limits.now.tickets;
+          currency_limit = limits.now.currencies;
+          thread_limit = limits.now.threads;
+          unit = limits.now.unit;
+          quantum = limits.now.quantum;
+          processors = limits.now.processors;
+          threads = [];
+          records = [];
+          stale = [];
+        }) }
+    {
+        let threads = limits.threads as usize;
+        Ok(Threads {
+            graph: ValuedGraph::new(alloc, limits)?,
+            queue: RunQueue::new(alloc, limits)?,
+            threads: Vec::with_capacity(alloc, threads)?,
+            records: Vec::with_capacity(alloc, threads)?,
+            runners: vec![in alloc; None; limits.processors as usize]?,
+        })
+    }
+
+    /// Makes a thread, which is Ready and has no compensation, and answers its number, one more than the last. Computes no value.
+    pub fn add_thread(&mut self, thread: Thread) -> u32
+        requires room { length self.old.records < self.old.thread_limit }
+        ensures number { result ≡ length self.old.records + 1 }
+        ensures added { self.new ≡ record (with_records self.old (self.old.records ++ newborn ∷ []) self.new.stale) { threads = self.old.threads ++ thread ∷ [] } }
+        ensures kept { (node : ANode) → IsStaleIn self.old node → IsStaleIn self.new node }
+        ensures stale { MakesStaleIn self.old self.new }
+    {
+        self.graph.add_thread();
+        let number = self.graph.graph().threads();
+        self.graph.set_live(number, true);
+        self.queue.set_competitor(number, competitor_of(NEWBORN));
+        self.threads.push_reserved(thread);
+        self.records.push_reserved(NEWBORN);
+        number
+    }
+
+    /// Gives a thread another record, and all that follows from it: whether the thread is live and what it lends, whether it
+    /// competes and with what, and where it runs. Computes no value.
+    pub fn change(&mut self, thread: u32, next: Record)
+        requires { CanChange self.old thread next }
+        ensures changed { self.new ≡ with_records self.old (set_number self.old.records thread next) self.new.stale }
+        ensures kept { (node : ANode) → IsStaleIn self.old node → IsStaleIn self.new node }
+        ensures stale { MakesStaleIn self.old self.new }
+    {
+        let place = thread as usize - 1;
+        let before = self.records[place].status;
+        let now = next.status;
+        follow(&mut self.graph, thread, is_live(now), lend_of(now));
+        self.queue.set_competitor(thread, competitor_of(next));
+        move_runner(&mut self.runners, thread, before, now);
+        self.records[place] = next;
+    }
+
+    /// Whether a thread may have this record, as `change` requires. It changes nothing.
+    pub fn can_change(&mut self, thread: u32, next: Record) -> bool
+        ensures can { IsTrue result ↔ CanChange self.old thread next }
+        ensures unchanged { self.new ≡ self.old }
+    {
+        if !self.can_stand(thread, next) {
+            return false;
+        }
+        can_lend(&mut self.graph, thread, lend_of(next.status))
+    }
+
+    /// Whether a thread may have this record, but for what it lends.
+    fn can_stand(&self, thread: u32, next: Record) -> bool
+        ensures can { IsTrue result ↔ (IsThreadOf self.now thread × IsTimely self.now.quantum next × CanRun self.now thread next.status) }
+        ensures within { IsTrue result → thread ≤ self.now.thread_limit }
+    {
+        is_thread(&self.graph, thread)
+            && is_timely(next, self.queue.quantum())
+            && self.can_run(thread, next.status)
+    }
+
+    /// Whether nothing else runs where a thread with this status does.
+    fn can_run(&self, thread: u32, status: Status) -> bool
+        ensures { IsTrue result ↔ CanRun self.now thread status }
+    {
+        let Status::Running { processor, .. } = status else {
+            return true;
+        };
+        if processor == 0 || processor as usize > self.runners.len() {
+            return false;
+        }
+        match runner_on(&self.runners, processor) {
+            Some(runner) => runner == thread,
+            None => true,
+        }
+    }
+
+    /// Makes a currency and answers its number, one more than the last, or `None` if as many were made as there may be.
+    pub fn make_currency(&mut self) -> Option<u32>
+        ensures number { SomeIff result (length self.old.currencies ≤ self.old.currency_limit) (length self.old.currencies) }
+        ensures made { OnSome result (self.new ≡ record self.old { currencies = self.old.currencies ++ true ∷ [] }) }
+        ensures unchanged { IfNone result (self.new ≡ self.old) }
+    {
+        self.graph.make_currency()
+    }
+
+    /// Removes a user currency that has neither issued nor backing tickets. Its number is never given again.
+    pub fn remove_currency(&mut self, currency: u32)
+        requires currency { IsUserCurrency (funding_in self.old) currency }
+        requires none_issued { issued_in (funding_in self.old) currency ≡ [] }
+        requires none_backing { backing_currency (funding_in self.old) currency ≡ [] }
+        ensures removed { self.new ≡ record self.old { currencies = slice_set self.old.currencies currency false } }
+    {
+        self.graph.remove_currency(currency);
+    }
+
+    /// Issues a ticket in a currency and answers its number, one more than the last, or `None` if as many were made as there may
+    /// be. The amount is at least 1.
+    pub fn issue(&mut self, currency: u32, amount: u32) -> Option<u32>
+        requires currency { IsCurrency (funding_in self.old) currency }
+        requires amount { 0 < amount }
+        ensures number { SomeIff result (length self.old.tickets < self.old.ticket_limit) (length self.old.tickets + 1) }
+        ensures issued { OnSome result (self.new ≡ record self.old { tickets = with_new_ticket self.old.tickets amount currency Unfunded }) }
+        ensures unchanged { IfNone result (self.new ≡ self.old) }
+    {
+        self.graph.issue(currency, amount)
+    }
+
+    /// Removes a ticket that funds nothing. Its number is never given again.
+    pub fn destroy(&mut self, ticket: u32)
+        requires unfunded { target_of (funding_in self.old) ticket ≡ Some Unfunded }
+        ensures destroyed { self.new ≡ record self.old { tickets = without_ticket self.old.tickets ticket } }
+    {
+        self.graph.destroy(ticket);
+    }
+
+    /// Makes a ticket that funds nothing fund a user currency or a thread. `Cycle` if and only if it would make one (4.4).
+    /// Computes no value.
+    pub fn fund(&mut self, ticket: u32, target: Target) -> Result<(), Cycle>
+        requires unfunded { target_of (funding_in self.old) ticket ≡ Some Unfunded }
+        requires target { IsTarget (funding_in self.old) target }
+        ensures cycle { IsErr result ↔ IsCycle (funding_in self.old) ticket target }
+        ensures funded { OnOk result (self.new ≡ record self.old { tickets = with_target self.old.tickets ticket target; stale = self.new.stale }) }
+        ensures unchanged { OnErr result (self.new ≡ self.old) }
+        ensures kept { (node : ANode) → IsStaleIn self.old node → IsStaleIn self.new node }
+        ensures stale { MakesStaleIn self.old self.new }
+    {
+        self.graph.fund(ticket, target)
+    }
+
+    /// Takes a ticket from what it funds. Computes no value.
+    pub fn unfund(&mut self, ticket: u32)
+        requires funding { IsFunding (funding_in self.old) ticket }
+        ensures unfunded { self.new ≡ record self.old { tickets = with_target self.old.tickets ticket Unfunded; stale = self.new.stale } }
+        ensures kept { (node : ANode) → IsStaleIn self.old node → IsStaleIn self.new node }
+        ensures stale { MakesStaleIn self.old self.new }
+    {
+        self.graph.unfund(ticket);
+    }
+
+    /// Makes a mutex free, if it isn't. What waiting threads lend to it goes no further then (6.1). Computes no value.
+    pub fn give_up_mutex(&mut self, mutex: u32)
+        requires mutex { IsMutex (funding_in self.old) mutex }
+        ensures freed { self.new ≡ record self.old { owners = set_number self.old.owners mutex None; stale = self.new.stale } }
+        ensures kept { (node : ANode) → IsStaleIn self.old node → IsStaleIn self.new node }
+        ensures stale { MakesStaleIn self.old self.new }
+    {
+        self.graph.give_up_mutex(mutex);
+    }
+
+    /// Makes a thread the owner of a free mutex that it doesn't reach. What waiting threads lend to the mutex goes on to it (6.1).
+    /// Computes no value.
+    pub fn take_mutex(&mut self, mutex: u32, owner: u32)
+        requires mutex { IsMutex (funding_in self.old) mutex }
+        requires free { owner_of (funding_in self.old) mutex ≡ None }
+        requires owner { IsThread (funding_in self.old) owner }
+        requires apart { ¬ Reaches (funding_in self.old) (ThreadNode owner) (MutexNode mutex) }
+        ensures owned { self.new ≡ record self.old { owners = set_number self.old.owners mutex (Some owner); stale = self.new.stale } }
+        ensures kept { (node : ANode) → IsStaleIn self.old node → IsStaleIn self.new node }
+        ensures stale { MakesStaleIn self.old self.new }
+    {
+        self.graph.take_mutex(mutex, owner);
+    }
+
+    /// Holds a draw with the number `d` among the Ready threads (2, 4.2): `None` if their weights sum to 0. Settles what is stale,
+    /// and visits the tree of weights once.
+    pub fn draw(&mut self, d: u64, meter: &mut Meter) -> Option<Winner>
+        ensures winner { result ≡ drawn_in self.old d }
+        ensures settled { self.new ≡ record self.old { stale = [] } }
+        ensures ready { IfSome result (λ w. status_of self.old.records w.thread ≡ Some Ready) }
+        ensures once { (node : ANode) (place other : ℕ) → slice_get self.old.stale place ≡ Some node → slice_get self.old.stale other ≡ Some node → place ≡ other }
+        ensures reads { meter.new.ticket_reads ≡ counted_up meter.old.ticket_reads (edges_into_all (funding_in self.old) self.old.stale) }
+        ensures visits { MatchOption result (meter.new.tree_visits ≡ meter.old.tree_visits) (λ w. CountsReads self.old.thread_limit meter.old.tree_visits meter.new.tree_visits) }
+    {
+        self.queue.draw(&mut self.graph, d, meter)
+    }
+
+    /// Computes the values of all stale nodes again. Counts each edge into a node that was stale once.
+    pub fn settle(&mut self, meter: &mut Meter)
+        ensures settled { self.new ≡ record self.old { stale = [] } }
+        ensures counted { meter.new ≡ record meter.old { ticket_reads = counted_up meter.old.ticket_reads (edges_into_all (funding_in self.old) self.old.stale) } }
+    {
+        self.queue.settle(&mut self.graph, meter);
+    }
+
+    /// Tickets, lends and owners, to read.
+    pub fn graph(&self) -> &Graph
+        ensures { result.now ≡ limited_in self.now }
+    {
+        self.graph.graph()
+    }
+
+    /// Whether a ticket is active (4.4): whether what it funds is backed.
+    pub fn is_active(&self, ticket: u32) -> bool
+        ensures { IsTrue result ↔ IsActive (funding_in self.now) (live_in self.now.records) ticket }
+    {
+        self.graph.is_active(ticket)
+    }
+
+    /// The sum of the amounts of the active tickets of a currency (4.4), in tickets of the currency.
+    pub fn active_amount(&self, currency: u32) -> u64
+        requires currency { currency ≤ self.now.currency_limit }
+        ensures { result ≡ active_amount (funding_in self.now) (live_in self.now.records) currency }
+    {
+        self.graph.active_amount(currency)
+    }
+
+    /// What a node is worth (4.4), if it isn't stale.
+    pub fn value_of(&self, node: Node) -> u64
+        requires node { IsNodeOf (limited_in self.now) node }
+        ensures worth { ¬ IsStaleIn self.now node → HasEquation (funding_in self.now) node → result ≡ node_value self.now.unit (funding_in self.now) (live_in self.now.records) node }
+    {
+        self.graph.value_of(node)
+    }
+
+    /// What a thread is worth (4.4, 4.6, 6.1), in units of base, if it isn't stale.
+    pub fn worth_of(&self, thread: u32) -> u64
+        requires thread { IsThreadOf self.now thread }
+        requires fresh { ¬ IsStaleIn self.now (ThreadNode thread) }
+        ensures { result ≡ worth_in self.now thread }
+    {
+        self.graph.value_of(Node::Thread(thread))
+    }
+
+    /// What a ticket is worth (4.4), in units of base, if the currency that issued it isn't stale. If the ticket funds something,
+    /// that is one reading, which is counted; else it is worth nothing.
+    pub fn ticket_value(&self, ticket: u32, meter: &mut Meter) -> u64
+        requires fresh { (t : ATicket) → ticket_at (funding_in self.now) ticket ≡ Some t → ¬ IsStaleIn self.now (CurrencyNode t.issuer) }
+        ensures worth { (t : ATicket) → ticket_at (funding_in self.now) ticket ≡ Some t → result ≡ ticket_value self.now.unit (funding_in self.now) (live_in self.now.records) t }
+        ensures counted { IsFunding (funding_in self.now) ticket → meter.new ≡ record meter.old { ticket_reads = counted_up meter.old.ticket_reads 1 } }
+        ensures uncounted { ¬ IsFunding (funding_in self.now) ticket → meter.new ≡ meter.old }
+    {
+        self.graph.ticket_value(ticket, meter)
+    }
+
+    /// Whether a node is stale: its value is computed again before it is used.
+    pub fn is_stale(&self, node: Node) -> bool
+        requires node { IsNodeOf (limited_in self.now) node }
+        ensures { IsTrue result ↔ IsStaleIn self.now node }
+    {
+        self.graph.is_stale(node)
+    }
+
+    /// Whether edges lead from a node to another.
+    pub fn reaches(&mut self, from: Node, to: Node) -> bool
+        requires from { IsNodeOf (limited_in self.old) from }
+        requires to { IsNodeOf (limited_in self.old) to }
+        ensures reaches { IsTrue result ↔ Reaches (funding_in self.old) from to }
+        ensures unchanged { self.new ≡ self.old }
+    {
+        self.graph.reaches(from, to)
+    }
+
+    /// Each thread's name and script, thread 1 first.
+    pub fn threads(&self) -> &[Thread]
+        ensures { result.now ≡ self.now.threads }
+    {
+        &self.threads
+    }
+
+    /// What each thread is doing, thread 1 first.
+    pub fn records(&self) -> &[Record]
+        ensures { result.now ≡ self.now.records }
+    {
+        &self.records
+    }
+
+    /// What a thread is doing, `None` if and only if there is no such thread.
+    pub fn record(&self, thread: u32) -> Option<Record>
+        ensures record { result ≡ at_number self.now.records thread }
+        ensures timely { IfSome result (IsTimely self.now.quantum) }
+    {
+        let place = (thread as usize).checked_sub(1)?;
+        self.records.get(place).copied()
+    }
+
+    /// Whether a thread competes or runs.
+    pub fn is_live(&self, thread: u32) -> bool
+        ensures { IsTrue result ↔ IsLiveIn self.now thread }
+    {
+        match self.record(thread) {
+            Some(found) => is_live(found.status),
+            None => false,
+        }
+    }
+
+    /// Who runs on the processor, `None` if and only if nobody does. The ticks used are below the quantum.
+    pub fn runner(&self, processor: u32) -> Option<Runner>
+        ensures thread { MatchOption result (thread_on self.now.records processor ≡ None) (λ r. thread_on self.now.records processor ≡ Some r.thread) }
+        ensures used { IfSome result (λ r. used_by self.now.records processor r.thread ≡ Some r.used) }
+        ensures there { IfSome result (λ r. IsThreadOf self.now r.thread) }
+        ensures below { IfSome result (λ r. r.used < self.now.quantum) }
+    {
+        let Some(thread) = runner_on(&self.runners, processor) else {
+            return None;
+        };
+        let status = self.records[thread as usize - 1].status;
+        let Status::Running { used, .. } = status else {
+            unreachable!()
+        };
+        Some(Runner { thread, used })
+    }
+}
