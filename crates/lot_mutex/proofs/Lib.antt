@@ -1,0 +1,5 @@
+-- Lemmas, in the order in which they stand on each other.
+pub mod Owners
+pub mod Passing
+pub mod Worths
+pub mod Waiting

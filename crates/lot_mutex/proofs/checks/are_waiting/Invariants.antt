@@ -1,0 +1,12 @@
+-- Those that came before wait, and none stands at two places.
+use Rattle.std.proofs.Common.{◌≡◌, ℕ, ◌<◌, Some, slice_index, take}
+use Rattle.std.specs.List.{Contains}
+use Rattle.lot_machine.specs.declared.record.Status.TheVariants as status
+use Rattle.lot_machine.specs.State.{status_of}
+use Rattle.lot_mutex.proofs.checks.are_waiting.Given as goal
+
+abbrev pub invariant-loop-place : goal.invariant-loop-place
+invariant-loop-place l = record {
+  wait : (k : ℕ) → k < l.place → status_of l.threads.records (slice_index l.waiters k) ≡ Some (status.Waiting l.mutex);
+  first : (k : ℕ) → k < l.place → ¬ Contains (take k l.waiters) (slice_index l.waiters k);
+}

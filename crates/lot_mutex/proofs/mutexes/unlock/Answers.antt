@@ -1,0 +1,64 @@
+use Rattle.std.proofs.Common.{◌≡◌, ◌≢◌, ◌∙◌, Some, [], map, remove, slice_get, slice_index, unwrap_or, option_map, ◌<◌, length, ap, sym, subst, refl}
+use Rattle.std.specs.Option.{IfSome}
+use Rattle.std.proofs.lemmas.Option.{slice_get-get_or}
+use Rattle.lot_machine.specs.declared.drawn.Drawn.{Drawn}
+use Rattle.lot_machine.specs.declared.reply.Outcome.TheVariants.{Passed}
+use Rattle.lot_machine.specs.Lottery.{winner}
+use Rattle.lot_machine.specs.Mutexes.{MutexTrap, mutex_at}
+use Rattle.lot_machine.specs.Numbered.{set_number}
+use Rattle.lot_threads.specs.Threaded.{Threaded, MakesStaleIn, worth_in}
+use Rattle.lot_mutex.specs.Listed.{Listed, with_mutexes}
+use Rattle.lot_mutex.proofs.Owners.{owners-after, place-below, unlock-passes}
+use Rattle.lot_mutex.proofs.Passing.{pass-threads, settled-makes}
+use Rattle.lot_mutex.proofs.mutexes.unlock.Goals as goal
+
+pub returns-clause-outcome : goal.returns-clause-outcome
+returns-clause-outcome c =
+    let v = c.args.threads.now in
+    let mutexes = c.args.queues.now.mutexes in
+    let ws = (mutex_at mutexes c.args.mutex).waiters in
+    let place = unwrap_or (option_map (λ (w : Drawn). w.place) c.hold-drawn.result) 0 in
+    let listed : c.list.new.self.waiters ≡ ws = ap (λ (l : Listed). l.waiters) c.list.ensures in
+    let some : ws ≢ [] = λ none. let empty = c.if-is_empty.ensures.1 (listed ∙ none) in cc in
+    let drawn : c.hold-drawn.result ≡ winner (map (worth_in v) ws) c.args.d =
+    c.hold-drawn.ensures.drawn ∙ ap (λ (x : Threaded). winner (map (worth_in x) c.list.new.self.waiters) c.args.d) c.settle.ensures.settled ∙ ap (λ xs. winner (map (worth_in v) xs) c.args.d) listed in
+    let step = unlock-passes v.records mutexes (worth_in v) c.args.mutex c.args.d ws refl some c.hold-drawn.result drawn in
+    let next : c.picked-next.result ≡ slice_index ws place = c.picked-next.ensures ∙ ap (λ (l : Listed). slice_index l.waiters place) c.hold-drawn.ensures.same ∙ ap (λ xs. slice_index xs place) listed in
+    ap (λ t. Passed t c.drawn_numbers.result) next ∙ ap (Passed (slice_index ws place)) c.drawn_numbers.ensures ∙ sym (ap (λ (e : MutexTrap). e.outcome) step)
+
+pub returns-clause-threads : goal.returns-clause-threads
+returns-clause-threads c =
+    let v = c.args.threads.now in
+    let mutexes = c.args.queues.now.mutexes in
+    let ws = (mutex_at mutexes c.args.mutex).waiters in
+    let place = unwrap_or (option_map (λ (w : Drawn). w.place) c.hold-drawn.result) 0 in
+    let listed : c.list.new.self.waiters ≡ ws = ap (λ (l : Listed). l.waiters) c.list.ensures in
+    let some : ws ≢ [] = λ none. let empty = c.if-is_empty.ensures.1 (listed ∙ none) in cc in
+    let drawn : c.hold-drawn.result ≡ winner (map (worth_in v) ws) c.args.d =
+    c.hold-drawn.ensures.drawn ∙ ap (λ (x : Threaded). winner (map (worth_in x) c.list.new.self.waiters) c.args.d) c.settle.ensures.settled ∙ ap (λ xs. winner (map (worth_in v) xs) c.args.d) listed in
+    let step = unlock-passes v.records mutexes (worth_in v) c.args.mutex c.args.d ws refl some c.hold-drawn.result drawn in
+    let next : c.picked-next.result ≡ slice_index ws place = c.picked-next.ensures ∙ ap (λ (l : Listed). slice_index l.waiters place) c.hold-drawn.ensures.same ∙ ap (λ xs. slice_index xs place) listed in
+    let after = owners-after mutexes v.owners c.args.mutex (record { owner = Some (slice_index ws place); waiters = remove ws place }) c.requires.owners in
+    let passes = pass-threads v c.settle.new.self c.pass.new.threads c.picked-next.result (slice_index ws place) c.args.mutex _ c.settle.ensures.settled next after c.pass.ensures.threads in
+    passes ∙ sym (ap (λ (e : MutexTrap). with_mutexes v e c.pass.new.threads.stale) step)
+
+pub returns-clause-queues : goal.returns-clause-queues
+returns-clause-queues c =
+    let v = c.args.threads.now in
+    let mutexes = c.args.queues.now.mutexes in
+    let ws = (mutex_at mutexes c.args.mutex).waiters in
+    let place = unwrap_or (option_map (λ (w : Drawn). w.place) c.hold-drawn.result) 0 in
+    let listed : c.list.new.self.waiters ≡ ws = ap (λ (l : Listed). l.waiters) c.list.ensures in
+    let some : ws ≢ [] = λ none. let empty = c.if-is_empty.ensures.1 (listed ∙ none) in cc in
+    let drawn : c.hold-drawn.result ≡ winner (map (worth_in v) ws) c.args.d =
+    c.hold-drawn.ensures.drawn ∙ ap (λ (x : Threaded). winner (map (worth_in x) c.list.new.self.waiters) c.args.d) c.settle.ensures.settled ∙ ap (λ xs. winner (map (worth_in v) xs) c.args.d) listed in
+    let step = unlock-passes v.records mutexes (worth_in v) c.args.mutex c.args.d ws refl some c.hold-drawn.result drawn in
+    let next : c.picked-next.result ≡ slice_index ws place = c.picked-next.ensures ∙ ap (λ (l : Listed). slice_index l.waiters place) c.hold-drawn.ensures.same ∙ ap (λ xs. slice_index xs place) listed in
+    let below = place-below ws c.hold-drawn.result some (subst (λ xs. IfSome c.hold-drawn.result (λ (w : Drawn). w.place < length xs)) listed c.hold-drawn.ensures.within) in
+    let at : slice_get ws place ≡ Some c.picked-next.result = slice_get-get_or ws place 0 below ∙ ap Some (sym next) in
+    c.pass.ensures.queues place at
+    ∙ ap (λ t. record c.args.queues.now { mutexes = set_number mutexes c.args.mutex (record { owner = Some t; waiters = remove ws place }) }) next
+    ∙ sym (ap (λ (e : MutexTrap). record c.args.queues.now { mutexes = e.mutexes }) step)
+
+pub returns-clause-stale : goal.returns-clause-stale
+returns-clause-stale c = settled-makes c.args.threads.now c.pass.new.threads (subst (λ (x : Threaded). MakesStaleIn x c.pass.new.threads) c.settle.ensures.settled c.pass.ensures.stale)

@@ -1,0 +1,16 @@
+//! Lottery mutexes, with all that the waiters for a mutex lend to its owner (6.1).
+//!
+//! `lock` and `unlock` take the threads and the queues by reference, and change both as the machine's definitions say. The thread
+//! that makes the trap stays Running: what becomes of it is answered as an `After`. A lottery over the waiters' values is held in a
+//! `Lottery`, which has room for it; only `Lottery::new` takes memory.
+#![tactic(auto)]
+
+mod checks;
+mod lottery;
+mod mutexes;
+#[cfg(test)]
+mod tests;
+
+pub use checks::{are_waiting, have_same_owners};
+pub use lottery::Lottery;
+pub use mutexes::{lock, unlock};

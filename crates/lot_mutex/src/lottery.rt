@@ -1,0 +1,119 @@
+//! The lottery over what the waiters for a mutex are worth (6.1).
+ghost use Rattle.std.specs.Prelude.{◌≡◌, ◌≢◌, ◌<◌, ◌≤◌, ◌^◌, ◌↔◌, [], All, IfOk, IfSome, IsTrue, length, map, option_map, slice_index, unwrap_or, vec_capacity};
+ghost use Rattle.lot_machine.specs.declared.record.Status.TheVariants as status;
+ghost use Rattle.lot_machine.specs.Lottery as lottery;
+ghost use Rattle.lot_machine.specs.Mutexes.{mutex_at};
+ghost use Rattle.lot_machine.specs.Order.{IsQueue};
+ghost use Rattle.lot_graph.specs.Graphs.{IsMutex};
+ghost use Rattle.lot_queues.specs.QueueLists.{IsThere};
+ghost use Rattle.lot_threads.specs.Threaded.{IsThreadOf, funding_in, worth_in};
+
+use lot_draw::winner;
+use lot_machine::{Drawn, Node};
+use lot_queues::Queues;
+use lot_threads::Threads;
+use std::alloc::{AllocError, Global};
+use std::marker::Model;
+
+/// Room for the lottery of a mutex: who waits for it, and what each is worth.
+#[derive(Drop)]
+pub struct Lottery {
+    /// How many waiters there is room for.
+    room: u32,
+    waiters: Vec<u32>,
+    worths: Vec<u128>,
+}
+
+impl Model for Lottery {
+    ghost use Rattle.std.specs.Prelude.{◌≤◌, vec_len, vec_capacity};
+    ghost use Rattle.lot_mutex.specs.Listed.{Listed};
+
+    ghost Value = { Listed };
+
+    ghost view = { λ l. record { room = l.room; waiters = l.waiters.items } };
+
+    ghost invariant = { λ l. record {
+      waiters_room : l.room ≤ vec_capacity l.waiters;
+      worths_room : l.room ≤ vec_capacity l.worths;
+      few : vec_len l.waiters ≤ l.room;
+    } };
+}
+
+impl Lottery {
+    /// Room for this many waiters, and none yet. It takes all the memory that a lottery needs.
+    pub fn new(alloc: Global, threads: u32) -> Result<Lottery, AllocError>
+        ensures { IfOk result (λ made. made ≡ record { room = threads; waiters = [] }) }
+    {
+        Ok(Lottery {
+            room: threads,
+            waiters: Vec::with_capacity(alloc, threads as usize)?,
+            worths: Vec::with_capacity(alloc, threads as usize)?,
+        })
+    }
+
+    /// How many waiters there is room for.
+    pub fn room(&self) -> u32
+        ensures { result ≡ self.now.room }
+    {
+        self.room
+    }
+
+    /// Lists who waits for a mutex.
+    pub(crate) fn list(&mut self, queues: &Queues, mutex: u32)
+        requires mutex { IsThere queues.now.mutexes mutex }
+        requires room { queues.now.room ≡ self.old.room }
+        ensures { self.new ≡ record self.old { waiters = (mutex_at queues.now.mutexes mutex).waiters } }
+    {
+        queues.list_waiters(mutex, &mut self.waiters);
+    }
+
+    pub(crate) fn is_empty(&self) -> bool
+        ensures { IsTrue result ↔ (self.now.waiters ≡ []) }
+    {
+        self.waiters.is_empty()
+    }
+
+    /// Who of those listed is picked by a lottery: the winner, or the one that has waited longest if nobody wins.
+    pub(crate) fn picked(&self, drawn: Option<Drawn>) -> u32
+        requires some { self.now.waiters ≢ [] }
+        requires within { IfSome drawn (λ w. w.place < length self.now.waiters) }
+        ensures { result ≡ slice_index self.now.waiters (unwrap_or (option_map (λ w. w.place) drawn) 0) }
+    {
+        match drawn {
+            Some(won) => self.waiters[won.place],
+            None => self.waiters[0],
+        }
+    }
+
+    /// Holds a lottery with the number `d` over what those are worth who are listed and wait for the mutex: `None` if that is
+    /// nothing. No value is stale then.
+    pub(crate) fn hold(&mut self, threads: &Threads, mutex: u32, d: u64) -> Option<Drawn>
+        requires settled { threads.now.stale ≡ [] }
+        requires mutex { IsMutex (funding_in threads.now) mutex }
+        requires waiters { IsQueue threads.now.records (status.Waiting mutex) self.old.waiters }
+        ensures drawn { result ≡ lottery.winner (map (worth_in threads.now) self.old.waiters) d }
+        ensures within { IfSome result (λ w. w.place < length self.old.waiters) }
+        ensures fits { IfSome result (λ w. (w.number < 2 ^ 64) × (w.total < 2 ^ 64)) }
+        ensures same { self.new ≡ self.old }
+    {
+        if threads.value_of(Node::Mutex(mutex)) == 0 {
+            return None;
+        }
+        list_worths(threads, &self.waiters, &mut self.worths);
+        winner(&self.worths, d)
+    }
+}
+
+/// Lists what each of these threads is worth, none of which is stale.
+fn list_worths(threads: &Threads, waiters: &[u32], worths: &mut Vec<u128>)
+    requires settled { threads.now.stale ≡ [] }
+    requires there { All (IsThreadOf threads.now) waiters.now }
+    requires room { length waiters.now ≤ vec_capacity worths.old }
+    ensures worths { worths.new.items ≡ map (worth_in threads.now) waiters.now }
+    ensures room { vec_capacity worths.new ≡ vec_capacity worths.old }
+{
+    worths.clear();
+    for thread in waiters {
+        worths.push_reserved(u128::from(threads.worth_of(*thread)));
+    }
+}

@@ -1,0 +1,142 @@
+//! Locks and unlocks (6.1).
+ghost use Rattle.std.specs.Prelude.{◌≡◌, ◌≢◌, ◌<◌, ◌^◌, ℕ, [], IfSome, Some, length, option_map, remove, slice_get};
+ghost use Rattle.lot_machine.specs.declared.funding.Node.{Node as ANode};
+ghost use Rattle.lot_machine.specs.declared.record.Status.TheVariants as status;
+ghost use Rattle.lot_machine.specs.Mutexes as machine;
+ghost use Rattle.lot_machine.specs.Mutexes.{mutex_at};
+ghost use Rattle.lot_machine.specs.Numbered.{set_number};
+ghost use Rattle.lot_machine.specs.Order.{IsQueue};
+ghost use Rattle.lot_machine.specs.State.{change_record, status_of};
+ghost use Rattle.lot_queues.specs.QueueLists.{IsThere, IsNowhere, IsWaiter};
+ghost use Rattle.lot_value.specs.Caches.{edges_into_all};
+ghost use Rattle.lot_value.specs.Counts.{counted_up};
+ghost use Rattle.lot_threads.specs.Threaded.{IsLiveIn, IsStaleIn, MakesStaleIn, funding_in, with_records, worth_in};
+ghost use Rattle.lot_mutex.specs.Listed.{IsMutexTrap, owners_of, with_mutexes};
+
+use crate::lottery::Lottery;
+use lot_machine::{After, Drawn, Outcome, Status};
+use lot_queues::Queues;
+use lot_threads::{Effect, Threads};
+use lot_value::Meter;
+
+/// A lock by a thread that runs: a free mutex is taken; else the thread waits, after earlier ones.
+pub fn lock(threads: &mut Threads, queues: &mut Queues, thread: u32, mutex: u32) -> Effect
+    requires mutex { IsThere queues.old.mutexes mutex }
+    requires thread { IsLiveIn threads.old thread }
+    requires nowhere { IsNowhere queues.old thread }
+    requires same { length threads.old.records ≡ length queues.old.clients }
+    requires owners { owners_of queues.old.mutexes ≡ threads.old.owners }
+    ensures outcome { result.outcome ≡ (machine.lock threads.old.records queues.old.mutexes thread mutex).outcome }
+    ensures after { result.after ≡ (machine.lock threads.old.records queues.old.mutexes thread mutex).after }
+    ensures threads { threads.new ≡ with_mutexes threads.old (machine.lock threads.old.records queues.old.mutexes thread mutex) threads.new.stale }
+    ensures queues { queues.new ≡ record queues.old { mutexes = (machine.lock threads.old.records queues.old.mutexes thread mutex).mutexes } }
+    ensures kept { (node : ANode) → IsStaleIn threads.old node → IsStaleIn threads.new node }
+    ensures stale { MakesStaleIn threads.old threads.new }
+{
+    if queues.owner(mutex).is_some() {
+        queues.push_waiter(mutex, thread);
+        return Effect {
+            outcome: Outcome::Waits,
+            after: After::Leaves(Status::Waiting(mutex)),
+        };
+    }
+    queues.set_owner(mutex, Some(thread));
+    threads.take_mutex(mutex, thread);
+    Effect {
+        outcome: Outcome::Locked,
+        after: After::GoesOn,
+    }
+}
+
+/// An unlock by the owner, which runs: without waiters the mutex is free. Else what is stale is settled, and the lottery with the
+/// number `d` over what the waiters are worth picks the next owner; the first is picked if that is nothing.
+pub fn unlock(
+    threads: &mut Threads,
+    queues: &mut Queues,
+    lottery: &mut Lottery,
+    meter: &mut Meter,
+    owner: u32,
+    mutex: u32,
+    d: u64,
+) -> Effect
+    requires mutex { IsThere queues.old.mutexes mutex }
+    requires owner { (mutex_at queues.old.mutexes mutex).owner ≡ Some owner }
+    requires live { IsLiveIn threads.old owner }
+    requires waiters { IsQueue threads.old.records (status.Waiting mutex) (mutex_at queues.old.mutexes mutex).waiters }
+    requires same { length threads.old.records ≡ length queues.old.clients }
+    requires owners { owners_of queues.old.mutexes ≡ threads.old.owners }
+    requires room { queues.old.room ≡ lottery.old.room }
+    ensures outcome { result.outcome ≡ (machine.unlock threads.old.records queues.old.mutexes (worth_in threads.old) mutex d).outcome }
+    ensures after { result.after ≡ (machine.unlock threads.old.records queues.old.mutexes (worth_in threads.old) mutex d).after }
+    ensures threads { threads.new ≡ with_mutexes threads.old (machine.unlock threads.old.records queues.old.mutexes (worth_in threads.old) mutex d) threads.new.stale }
+    ensures queues { queues.new ≡ record queues.old { mutexes = (machine.unlock threads.old.records queues.old.mutexes (worth_in threads.old) mutex d).mutexes } }
+    ensures stale { MakesStaleIn threads.old threads.new }
+    ensures kept { (mutex_at queues.old.mutexes mutex).waiters ≡ [] → (node : ANode) → IsStaleIn threads.old node → IsStaleIn threads.new node }
+    ensures uncounted { (mutex_at queues.old.mutexes mutex).waiters ≡ [] → meter.new ≡ meter.old }
+    ensures counted { (mutex_at queues.old.mutexes mutex).waiters ≢ [] → meter.new ≡ record meter.old { ticket_reads = counted_up meter.old.ticket_reads (edges_into_all (funding_in threads.old) threads.old.stale) } }
+    ensures room { lottery.new.room ≡ lottery.old.room }
+{
+    lottery.list(queues, mutex);
+    if lottery.is_empty() {
+        return free(threads, queues, mutex);
+    }
+    threads.settle(meter);
+    let drawn = lottery.hold(threads, mutex, d);
+    let next = lottery.picked(drawn);
+    pass(threads, queues, owner, mutex, next);
+    Effect {
+        outcome: Outcome::Passed {
+            to: next,
+            draw: drawn_numbers(drawn),
+        },
+        after: After::Leaves(Status::Ready),
+    }
+}
+
+/// Frees a mutex for which nobody waits.
+fn free(threads: &mut Threads, queues: &mut Queues, mutex: u32) -> Effect
+    requires mutex { IsThere queues.old.mutexes mutex }
+    requires nobody { (mutex_at queues.old.mutexes mutex).waiters ≡ [] }
+    requires owners { owners_of queues.old.mutexes ≡ threads.old.owners }
+    ensures frees { (value : ℕ → ℕ) (d : ℕ) → IsMutexTrap threads.old queues.old (machine.unlock threads.old.records queues.old.mutexes value mutex d) result threads.new queues.new }
+    ensures kept { (node : ANode) → IsStaleIn threads.old node → IsStaleIn threads.new node }
+    ensures stale { MakesStaleIn threads.old threads.new }
+{
+    queues.set_owner(mutex, None);
+    threads.give_up_mutex(mutex);
+    Effect {
+        outcome: Outcome::Freed,
+        after: After::GoesOn,
+    }
+}
+
+/// The number and the total of a lottery, if one was held.
+fn drawn_numbers(drawn: Option<Drawn>) -> Option<(u64, u64)>
+    requires { IfSome drawn (λ w. (w.number < 2 ^ 64) × (w.total < 2 ^ 64)) }
+    ensures { result ≡ option_map (λ w. (w.number, w.total)) drawn }
+{
+    let won = drawn?;
+    Some((won.number as u64, won.total as u64))
+}
+
+/// Passes a mutex to one of its waiters: that one is Ready and owner, and the others go on waiting.
+fn pass(threads: &mut Threads, queues: &mut Queues, owner: u32, mutex: u32, next: u32)
+    requires mutex { IsThere queues.old.mutexes mutex }
+    requires owner { (mutex_at queues.old.mutexes mutex).owner ≡ Some owner }
+    requires live { IsLiveIn threads.old owner }
+    requires waits { status_of threads.old.records next ≡ Some (status.Waiting mutex) }
+    requires waiter { IsWaiter queues.old.mutexes next }
+    requires same { length threads.old.records ≡ length queues.old.clients }
+    requires owners { owners_of queues.old.mutexes ≡ threads.old.owners }
+    ensures threads { threads.new ≡ record (with_records threads.old (change_record (λ r. record r { status = status.Ready }) threads.old.records next) threads.new.stale) { owners = set_number threads.old.owners mutex (Some next) } }
+    ensures queues { (place : ℕ) → slice_get (mutex_at queues.old.mutexes mutex).waiters place ≡ Some next
+        → queues.new ≡ record queues.old { mutexes = set_number queues.old.mutexes mutex (record { owner = Some next; waiters = remove (mutex_at queues.old.mutexes mutex).waiters place }) } }
+    ensures kept { (node : ANode) → IsStaleIn threads.old node → IsStaleIn threads.new node }
+    ensures stale { MakesStaleIn threads.old threads.new }
+{
+    queues.take_waiter(next);
+    queues.set_owner(mutex, Some(next));
+    threads.set_status(next, Status::Ready);
+    threads.give_up_mutex(mutex);
+    threads.take_mutex(mutex, next);
+}
