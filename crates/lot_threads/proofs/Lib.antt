@@ -5,4 +5,7 @@ pub mod Running
 pub mod Together
 pub mod Adding
 pub mod Moving
+pub mod Leads
 pub mod Ways
+pub mod Last
+pub mod Ending

@@ -1,18 +1,14 @@
 -- Ways from a thread that competes or runs: it lends to nobody, so no edge leads from it.
-use Rattle.std.proofs.Common.{◌≡◌, ◌≢◌, ◌∙◌, ℕ, zero, suc, ◌<◌, ◌≤◌, length, arith, true, Option, Some, None, List, [], ◌∷◌, option_and_then, option_map, ap, sym, refl, subst}
+use Rattle.std.proofs.Common.{◌≡◌, ◌≢◌, ◌∙◌, ℕ, zero, suc, ◌<◌, ◌≤◌, length, arith, true, Option, Some, None, List, [], ◌∷◌, option_map, ap, sym, refl, subst}
 use Rattle.std.proofs.lemmas.List.{length-map}
 use Rattle.std.proofs.lemmas.Option.{slice_get_within}
 use Rattle.lot_machine.specs.declared.funding.Node.{Node}
 use Rattle.lot_machine.specs.declared.funding.Node.TheVariants as node
-use Rattle.lot_machine.specs.declared.funding.Edge.{Edge}
-use Rattle.lot_machine.specs.declared.funding.Edge.TheVariants.{OfTicket, OfLender, OfMutex}
 use Rattle.lot_machine.specs.declared.funding.Lend.TheVariants.{Nobody, ToThread, ToMutex}
-use Rattle.lot_machine.specs.declared.funding.Lend.{Lend}
 use Rattle.lot_machine.specs.declared.record.Record.{Record}
 use Rattle.lot_machine.specs.declared.record.Status.{Status}
 use Rattle.lot_machine.specs.declared.record.Status.TheVariants as status
-use Rattle.lot_machine.specs.declared.ticket.Ticket.{Ticket}
-use Rattle.lot_machine.specs.Funding.{Funding, ends_of, owner_of, target_node, ticket_at}
+use Rattle.lot_machine.specs.Funding.{Funding, IsEdge, lend_node}
 use Rattle.lot_machine.specs.Numbered.{at_number}
 use Rattle.lot_machine.specs.Lends.{IsLive}
 use Rattle.lot_machine.specs.State.{is_live_status, lend_of, live_in, status_of}
@@ -20,7 +16,7 @@ use Rattle.lot_machine.proofs.Tickets.{at_number-suc, some-injective}
 use Rattle.lot_machine.proofs.TrapCycles.{at_number-map, lend-at}
 use Rattle.lot_graph.specs.Graphs.{IsThread, LendReaches, Reaches}
 use Rattle.lot_threads.specs.Threaded.{Threaded, CanLend, IsLiveIn, IsThreadOf, funding_in, lends_in}
-use Rattle.lot_threads.proofs.Lending.{lent_ends}
+use Rattle.lot_threads.proofs.Leads.{lender-next}
 
 -- who competes or runs lends to nobody
 live-alone : (s : Status) → is_live_status s ≡ true → lend_of s ≡ Nobody
@@ -39,56 +35,18 @@ live-lends records t live = at_number-map (λ (r : Record). lend_of r.status) re
     by None is = cc
     by (Some r) is = ap Some (live-alone r.status (some-injective (is_live_status r.status) true is))
 
--- the node from which an edge with these ends leads
-abbrev from_end : Option (Node × Node) → Node
-from_end None = node.Currency 0
-from_end (Some (from, to)) = from
-
 module _ (f : Funding) (t : ℕ) (alone : at_number f.lends t ≡ Some Nobody) where
   -- no edge leads from who lends to nobody
-  no-edge : (edge : Edge) (to : Node) → ends_of f edge ≢ Some (node.Thread t, to)
-  no-edge (OfTicket n) to is = by (ticket_at f n) is
-    where
-      ends_from : Ticket → Option (Node × Node)
-      ends_from x = option_map (λ end. (node.Currency x.issuer, end)) (target_node x.target)
-
-      at : (issuer : ℕ) (end : Option Node) → option_map {T = Node} {U = Node × Node} (λ e. (node.Currency issuer, e)) end ≡ Some (node.Thread t, to) → ⊥
-      at issuer None none = cc
-      at issuer (Some e) ends = let same : node.Currency issuer ≡ node.Thread t = ap from_end ends in cc
-
-      by : (o : Option Ticket) → option_and_then ends_from o ≡ Some (node.Thread t, to) → ⊥
-      by None none = cc
-      by (Some x) some = at x.issuer (target_node x.target) some
-  no-edge (OfMutex m) to is = by (owner_of f m) is
-    where
-      owner_ends : ℕ → Node × Node
-      owner_ends owner = (node.Mutex m, node.Thread owner)
-
-      by : (o : Option ℕ) → option_map owner_ends o ≡ Some (node.Thread t, to) → ⊥
-      by None none = cc
-      by (Some owner) ends = let same : node.Mutex m ≡ node.Thread t = ap from_end ends in cc
-  no-edge (OfLender u) to is = by (at_number f.lends u) refl is
-    where
-      own : (lend : Lend) → at_number f.lends u ≡ Some lend → u ≡ t → lend ≡ Nobody
-      own lend at same = some-injective lend Nobody (sym at ∙ ap (at_number f.lends) same ∙ alone)
-
-      number : Node → ℕ
-      number (node.Thread n) = n
-      number other = 0
-
-      at : (lend : Lend) → at_number f.lends u ≡ Some lend → lent_ends u (Some lend) ≡ Some (node.Thread t, to) → ⊥
-      at Nobody there ends = cc
-      at (ToThread s) there ends = let same = own (ToThread s) there (ap (λ o. number (from_end o)) ends) in cc
-      at (ToMutex m) there ends = let same = own (ToMutex m) there (ap (λ o. number (from_end o)) ends) in cc
-
-      by : (o : Option Lend) → at_number f.lends u ≡ o → lent_ends u o ≡ Some (node.Thread t, to) → ⊥
-      by None none ends = cc
-      by (Some lend) there ends = at lend there ends
+  no-edge : (next : Node) → ¬ IsEdge f (node.Thread t) next
+  no-edge next edge =
+      let (lend, there, to) = lender-next f t next edge in
+      let none : None ≡ Some next = ap lend_node (some-injective Nobody lend (sym alone ∙ there)) ∙ to in
+      cc
 
   -- so it reaches itself alone
   pub reaches-itself : (to : Node) → Reaches f (node.Thread t) to → node.Thread t ≡ to
   reaches-itself to ([], is) = is
-  reaches-itself to (next ∷ rest, ((edge, ends), more)) = absurd (no-edge edge next ends)
+  reaches-itself to (next ∷ rest, (edge, more)) = absurd (no-edge next edge)
 
 -- ---- what is lent to one that competes or runs
 

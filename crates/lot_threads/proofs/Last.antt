@@ -1,0 +1,63 @@
+-- A change of threads, and then one of a record that the first change left: what a trap does, and what becomes of its thread.
+use Rattle.std.proofs.Common.{◌≡◌, ◌∙◌, ℕ, ◌⊎◌, inl, inr, suc, ◌-◌, Some, option_map, ap, sym}
+use Rattle.lot_machine.specs.declared.funding.Edge.{Edge}
+use Rattle.lot_machine.specs.declared.funding.Edge.TheVariants.{OfTicket, OfLender, OfMutex}
+use Rattle.lot_machine.specs.declared.record.Record.{Record}
+use Rattle.lot_machine.specs.Funding.{ends_of}
+use Rattle.lot_machine.specs.Numbered.{at_number, set_number}
+use Rattle.lot_machine.specs.State.{is_live_status, lend_of, live_in}
+use Rattle.lot_machine.specs.Touched.{EdgesBetween, LiveBetween}
+use Rattle.lot_machine.proofs.Changes.{number-set, number-there}
+use Rattle.lot_machine.proofs.TwoSteps.{edges-between, live-between}
+use Rattle.lot_machine.proofs.TrapCycles.{at_number-map}
+use Rattle.lot_threads.specs.Threaded.{Threaded, MakesStaleIn, funding_in, lends_in, with_records}
+use Rattle.lot_threads.proofs.Lending.{lent_ends}
+use Rattle.lot_threads.proofs.TwoChanges.{makes-both-in}
+
+module _ (a b c : Threaded) (t : ℕ) (was next : Record) (left : at_number a.records t ≡ Some was) (there : at_number b.records t ≡ Some was)
+    (last : c ≡ with_records b (set_number b.records t next) c.stale) where
+  -- each record in between is the one before or the one after
+  each-record : (u : ℕ) → (at_number b.records u ≡ at_number a.records u) ⊎ (at_number b.records u ≡ at_number c.records u)
+  each-record u = by (number-set b.records t next u)
+    where
+      by : (at_number (set_number b.records t next) u ≡ at_number b.records u) ⊎ ((u ≡ suc (t - 1)) × (at_number (set_number b.records t next) u ≡ Some next))
+          → (at_number b.records u ≡ at_number a.records u) ⊎ (at_number b.records u ≡ at_number c.records u)
+      by (inl same) = inr (sym (ap (λ (v : Threaded). at_number v.records u) last ∙ same))
+      by (inr (at, set)) = let is = at ∙ number-there b.records t was there in inl (ap (at_number b.records) is ∙ there ∙ sym left ∙ sym (ap (at_number a.records) is))
+
+  lend_seen : (v : Threaded) (u : ℕ) → at_number (lends_in v.records) u ≡ option_map (λ (r : Record). lend_of r.status) (at_number v.records u)
+  lend_seen v u = at_number-map (λ (r : Record). lend_of r.status) v.records u
+
+  life_seen : (v : Threaded) (u : ℕ) → at_number (live_in v.records) u ≡ option_map (λ (r : Record). is_live_status r.status) (at_number v.records u)
+  life_seen v u = at_number-map (λ (r : Record). is_live_status r.status) v.records u
+
+  pub edges-last : EdgesBetween (funding_in a) (funding_in b) (funding_in c)
+  edges-last = edges-between (funding_in a) (funding_in b) (funding_in c) each
+    where
+      each : (edge : Edge) → (ends_of (funding_in b) edge ≡ ends_of (funding_in a) edge) ⊎ (ends_of (funding_in b) edge ≡ ends_of (funding_in c) edge)
+      each (OfTicket n) = inr (sym (ap (λ (v : Threaded). ends_of (funding_in v) (OfTicket n)) last))
+      each (OfMutex m) = inr (sym (ap (λ (v : Threaded). ends_of (funding_in v) (OfMutex m)) last))
+      each (OfLender u) = by (each-record u)
+        where
+          lent : (v : Threaded) → at_number b.records u ≡ at_number v.records u → ends_of (funding_in b) (OfLender u) ≡ ends_of (funding_in v) (OfLender u)
+          lent v same = ap (lent_ends u) (lend_seen b u ∙ ap (option_map (λ (r : Record). lend_of r.status)) same ∙ sym (lend_seen v u))
+
+          by : (at_number b.records u ≡ at_number a.records u) ⊎ (at_number b.records u ≡ at_number c.records u)
+              → (ends_of (funding_in b) (OfLender u) ≡ ends_of (funding_in a) (OfLender u)) ⊎ (ends_of (funding_in b) (OfLender u) ≡ ends_of (funding_in c) (OfLender u))
+          by (inl same) = inl (lent a same)
+          by (inr same) = inr (lent c same)
+
+  pub live-last : LiveBetween (live_in a.records) (live_in b.records) (live_in c.records)
+  live-last = live-between (live_in a.records) (live_in b.records) (live_in c.records) (λ u. by u (each-record u))
+    where
+      lives : (v : Threaded) (u : ℕ) → at_number b.records u ≡ at_number v.records u → at_number (live_in b.records) u ≡ at_number (live_in v.records) u
+      lives v u same = life_seen b u ∙ ap (option_map (λ (r : Record). is_live_status r.status)) same ∙ sym (life_seen v u)
+
+      by : (u : ℕ) → (at_number b.records u ≡ at_number a.records u) ⊎ (at_number b.records u ≡ at_number c.records u)
+          → (at_number (live_in b.records) u ≡ at_number (live_in a.records) u) ⊎ (at_number (live_in b.records) u ≡ at_number (live_in c.records) u)
+      by u (inl same) = inl (lives a u same)
+      by u (inr same) = inr (lives c u same)
+
+  -- what both make stale is what a path reaches from a node that they touched together
+  pub makes-last : MakesStaleIn a b → MakesStaleIn b c → MakesStaleIn a c
+  makes-last = makes-both-in a b c edges-last live-last
