@@ -1,6 +1,11 @@
-pub mod LotteryLemmas
-pub mod NumberedLemmas
-pub mod OrderLemmas
-pub mod HeldLemmas
-pub mod RunningLemmas
-pub mod TrapLemmas
+pub mod Holding
+pub mod Untouched
+pub mod Leaving
+pub mod Finishing
+pub mod Trapping
+pub mod TrapEnds
+pub mod Drawing
+pub mod Commanding
+pub mod Counting
+pub mod Rows
+pub mod Opening

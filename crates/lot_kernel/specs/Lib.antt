@@ -1,3 +1,3 @@
+pub mod Snapshots
+pub mod Counted
 pub mod Trapped
-pub mod Held
-pub mod Draws

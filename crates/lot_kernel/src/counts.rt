@@ -1,19 +1,19 @@
 //! How many tickets a currency has (4.4).
-ghost use Rattle.std.specs.Prelude.{◌≡◌, ◌==◌, ◌<◌, ◌^◌, filter, filter_map, length};
+ghost use Rattle.std.specs.Prelude.{◌≡◌, ◌==◌, length};
 ghost use Rattle.lot_machine.specs.Funding as funding;
+ghost use Rattle.lot_machine.specs.Funding.{backing_currency, issued_in};
+ghost use Rattle.lot_machine.specs.Numbered.{option_any};
 
+use lot_graph::Graph;
 use lot_machine::{Target, Ticket};
 
 /// How many tickets the currency issues, active or not.
-pub(crate) fn count_issued(tickets: &[Option<Ticket>], currency: u32) -> u32
-    requires { length tickets.now < 2 ^ 32 }
-    ensures { result ≡ length (filter (λ t. t.issuer == currency) (filter_map (λ t. t) tickets.now)) }
+pub(crate) fn count_issued(graph: &Graph, currency: u32) -> u32
+    ensures { result ≡ length (issued_in graph.now.funding currency) }
 {
     let mut count = 0;
-    for ticket in tickets {
-        if let Some(ticket) = ticket
-            && ticket.issuer == currency
-        {
+    for place in 0..graph.ticket_count() {
+        if is_issued(graph.ticket(place + 1), currency) {
             count += 1;
         }
     }
@@ -21,25 +21,36 @@ pub(crate) fn count_issued(tickets: &[Option<Ticket>], currency: u32) -> u32
 }
 
 /// How many tickets fund the currency, active or not.
-pub(crate) fn count_backing(tickets: &[Option<Ticket>], currency: u32) -> u32
-    requires { length tickets.now < 2 ^ 32 }
-    ensures { result ≡ length (filter (λ t. funding.is_currency currency t.target) (filter_map (λ t. t) tickets.now)) }
+pub(crate) fn count_backing(graph: &Graph, currency: u32) -> u32
+    ensures { result ≡ length (backing_currency graph.now.funding currency) }
 {
     let mut count = 0;
-    for ticket in tickets {
-        if let Some(ticket) = ticket
-            && is_currency(ticket.target, currency)
-        {
+    for place in 0..graph.ticket_count() {
+        if is_backing(graph.ticket(place + 1), currency) {
             count += 1;
         }
     }
     count
 }
 
-fn is_currency(target: Target, currency: u32) -> bool
-    ensures { result ≡ funding.is_currency currency target }
+/// Whether the ticket is there, and the currency issues it.
+fn is_issued(ticket: Option<Ticket>, currency: u32) -> bool
+    ensures { result ≡ option_any (λ t. t.issuer == currency) ticket }
 {
-    match target {
+    match ticket {
+        Some(found) => found.issuer == currency,
+        None => false,
+    }
+}
+
+/// Whether the ticket is there, and funds the currency.
+fn is_backing(ticket: Option<Ticket>, currency: u32) -> bool
+    ensures { result ≡ option_any (λ t. funding.is_currency currency t.target) ticket }
+{
+    let Some(found) = ticket else {
+        return false;
+    };
+    match found.target {
         Target::Currency(other) => other == currency,
         _ => false,
     }

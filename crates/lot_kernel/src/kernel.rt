@@ -1,18 +1,24 @@
 //! The kernel and its events.
-ghost use Rattle.std.specs.Prelude.{◌≡◌, ◌<◌, ◌≤◌, ◌^◌, None, Some, IfOk, IfSome, MatchOption, length, option_map};
+ghost use Rattle.std.specs.Prelude.{◌≡◌, ◌<◌, ◌≤◌, ◌^◌, [], None, Some, IfNone, IfOk, IfSome, MatchOption, length, option_map};
 ghost use Rattle.lot_machine.specs.Numbered as numbered;
 ghost use Rattle.lot_machine.specs.State.{funding_of, opening, sizes_of, thread_on, used_by};
-ghost use Rattle.lot_machine.specs.Step.{step, replies, state_after};
+ghost use Rattle.lot_machine.specs.Step.{event_refusal, replies, state_after, step};
 ghost use Rattle.lot_machine.specs.Facts.{HasNoCycle, IsSound, base_value, live_value};
 ghost use Rattle.lot_machine.specs.Rows as rows;
+ghost use Rattle.lot_machine.specs.declared.ticket.Ticket.{Ticket as ATicket};
+ghost use Rattle.lot_machine.specs.Funding.{ticket_in};
+ghost use Rattle.lot_kernel.specs.Counted.{Counts, settled, with_ticket_read};
+ghost use Rattle.lot_kernel.specs.Snapshots.{MakesStale, starting};
 
-use crate::records::Runner;
 use crate::tables::Tables;
 use lot_machine::{CurrencyRow, Event, Limits, Reply, ThreadRow, TicketRow};
+use lot_threads::Runner;
+use lot_value::Meter;
 use std::alloc::{AllocError, Global};
 use std::marker::Model;
 
-/// A lottery-scheduled kernel. Contracts see it as the `State` of the machine's definitions.
+/// A lottery-scheduled kernel. Contracts see it as the `State` of the machine's definitions, with the nodes that are stale, whose
+/// values are computed again before they are used, and with what was counted.
 ///
 /// All its room is made by `new`, and no event takes memory.
 #[derive(Drop)]
@@ -21,22 +27,22 @@ pub struct Kernel {
 }
 
 impl Model for Kernel {
-    ghost use Rattle.lot_machine.specs.State.{State};
     ghost use Rattle.lot_machine.specs.Order.{IsInOrder};
+    ghost use Rattle.lot_kernel.specs.Snapshots.{Snapshot};
 
-    ghost Value = { State };
+    ghost Value = { Snapshot };
 
     ghost view = { λ k. k.tables };
 
-    ghost invariant = { λ k. IsInOrder k.tables };
+    ghost invariant = { λ k. IsInOrder k.tables.state };
 }
 
 impl Kernel {
     /// A kernel with base alone, empty ports and free mutexes. It takes all the memory that the kernel will ever use, and
     /// fails only for want of it.
     pub fn new(alloc: Global, limits: Limits) -> Result<Kernel, AllocError>
-        ensures opening { IfOk result (λ k. k ≡ opening (sizes_of limits)) }
-        ensures sound { IfOk result IsSound }
+        ensures opening { IfOk result (λ k. k ≡ starting (sizes_of limits)) }
+        ensures sound { IfOk result (λ k. IsSound k.state) }
     {
         Ok(Kernel {
             tables: Tables::new(alloc, limits)?,
@@ -45,37 +51,47 @@ impl Kernel {
 
     /// The limits that the kernel was made with.
     pub fn limits(&self) -> Limits
-        ensures { sizes_of result ≡ self.now.limits }
+        ensures { sizes_of result ≡ self.now.state.limits }
     {
         self.tables.limits()
     }
 
     /// How much one of base is worth: 1, or 256 for finer shares.
     pub fn unit(&self) -> u32
-        ensures { result ≡ self.now.limits.unit }
+        ensures { result ≡ self.now.state.limits.unit }
     {
         self.tables.limits().unit
     }
 
+    /// How many tickets, lends and owners were read for values, and how many places of the tree of weights were visited.
+    pub fn meter(&self) -> Meter
+        ensures { result ≡ self.now.meter }
+    {
+        self.tables.meter()
+    }
+
     /// How many tickets were made, including those removed since: they have the numbers from 1.
     pub fn ticket_count(&self) -> u32
-        ensures { result ≡ length self.now.tickets }
+        ensures { result ≡ length self.now.state.tickets }
     {
         self.tables.ticket_count()
     }
 
     /// How many currencies were made, including base and those removed since: they have the numbers from 0.
     pub fn currency_count(&self) -> u32
-        ensures { result ≡ length self.now.currencies }
+        ensures { result ≡ length self.now.state.currencies }
     {
         self.tables.currency_count()
     }
 
-    /// One event. It takes no memory. A refused event changes nothing; a trap that is answered as refused costs its ticks.
+    /// One event. It takes no memory. A refused event changes nothing; a trap that is answered as refused costs its ticks. Only
+    /// a draw that isn't refused, and an unlock, compute values.
     pub fn event(&mut self, event: &Event) -> Reply
-        ensures reply { result ≡ (step self.old event.now).reply }
-        ensures state { self.new ≡ (step self.old event.now).state }
-        ensures sound { IsSound self.new }
+        ensures reply { result ≡ (step self.old.state event.now).reply }
+        ensures state { self.new.state ≡ (step self.old.state event.now).state }
+        ensures sound { IsSound self.new.state }
+        ensures stale { MakesStale self.old self.new }
+        ensures counts { Counts event.now (event_refusal self.old.state event.now) result self.old self.new }
     {
         self.tables.event(event)
     }
@@ -83,54 +99,60 @@ impl Kernel {
     /// Events in order, and the reply to each in its place in `out`. It takes no memory.
     pub fn run(&mut self, events: &[Event], out: &mut [Reply])
         requires { length events.now ≡ length out.old }
-        ensures replies { out.new ≡ replies self.old events.now }
-        ensures state { self.new ≡ state_after self.old events.now }
+        ensures replies { out.new ≡ replies self.old.state events.now }
+        ensures state { self.new.state ≡ state_after self.old.state events.now }
     {
         for i in 0..events.len() {
             out[i] = self.event(&events[i]);
         }
     }
 
-    /// The row of the ticket with this number, `None` if and only if it isn't there. It changes nothing and takes no
-    /// memory.
+    /// The row of the ticket with this number, `None` if and only if it isn't there. Computes what is stale, and counts that, and
+    /// one reading of the ticket if it funds something. Changes nothing else, and takes no memory.
     pub fn ticket_row(&mut self, ticket: u32) -> Option<TicketRow>
-        ensures row { result ≡ rows.ticket_row self.old ticket }
-        ensures state { self.new ≡ self.old }
+        ensures row { result ≡ rows.ticket_row self.old.state ticket }
+        ensures state { self.new.state ≡ self.old.state }
+        ensures settled { (t : ATicket) → ticket_in self.old.state.tickets ticket ≡ Some t → self.new ≡ record (settled self.old) { meter = with_ticket_read (settled self.old).meter t } }
+        ensures unchanged { IfNone result (self.new ≡ self.old) }
     {
         self.tables.ticket_row(ticket)
     }
 
     /// The row of the currency with this number, `None` if and only if it isn't there; base is worth its active amount.
-    /// It changes nothing and takes no memory.
+    /// Computes what is stale, and counts that. Changes nothing else, and takes no memory.
     pub fn currency_row(&mut self, currency: u32) -> Option<CurrencyRow>
-        ensures row { result ≡ rows.currency_row self.old currency }
-        ensures state { self.new ≡ self.old }
+        ensures row { result ≡ rows.currency_row self.old.state currency }
+        ensures state { self.new.state ≡ self.old.state }
+        ensures settled { IfSome result (λ r. self.new ≡ settled self.old) }
+        ensures unchanged { IfNone result (self.new ≡ self.old) }
     {
         self.tables.currency_row(currency)
     }
 
-    /// The row of the thread with this number, `None` if and only if there is none. It changes nothing and takes no
-    /// memory.
+    /// The row of the thread with this number, `None` if and only if there is none. Computes what is stale, and counts that.
+    /// Changes nothing else, and takes no memory.
     pub fn thread_row(&mut self, thread: u32) -> Option<ThreadRow>
-        ensures row { result ≡ rows.thread_row self.old thread }
-        ensures state { self.new ≡ self.old }
+        ensures row { result ≡ rows.thread_row self.old.state thread }
+        ensures state { self.new.state ≡ self.old.state }
+        ensures settled { IfSome result (λ r. self.new ≡ settled self.old) }
+        ensures unchanged { IfNone result (self.new ≡ self.old) }
     {
         self.tables.thread_row(thread)
     }
 
     /// Who runs on the processor, `None` if and only if nobody does. The ticks used are below the quantum.
     pub fn runner(&self, processor: u32) -> Option<Runner>
-        ensures thread { MatchOption result (thread_on self.now.records processor ≡ None) (λ r. thread_on self.now.records processor ≡ Some r.thread) }
-        ensures used { IfSome result (λ r. used_by self.now.records processor r.thread ≡ Some r.used) }
-        ensures there { IfSome result (λ r. (0 < r.thread) × (r.thread ≤ length self.now.records)) }
-        ensures below { IfSome result (λ r. r.used < self.now.limits.quantum) }
+        ensures thread { MatchOption result (thread_on self.now.state.records processor ≡ None) (λ r. thread_on self.now.state.records processor ≡ Some r.thread) }
+        ensures used { IfSome result (λ r. used_by self.now.state.records processor r.thread ≡ Some r.used) }
+        ensures there { IfSome result (λ r. (0 < r.thread) × (r.thread ≤ length self.now.state.records)) }
+        ensures below { IfSome result (λ r. r.used < self.now.state.limits.quantum) }
     {
         self.tables.runner(processor)
     }
 
     /// The number of the script that the thread was made with, `None` if and only if there is no such thread.
     pub fn script_of(&self, thread: u32) -> Option<u32>
-        ensures { result ≡ option_map (λ t. t.script) (numbered.at_number self.now.threads thread) }
+        ensures { result ≡ option_map (λ t. t.script) (numbered.at_number self.now.state.threads thread) }
     {
         self.tables.script_of(thread)
     }

@@ -2,14 +2,9 @@
 #![tactic(auto)]
 
 mod counts;
-mod effect;
+mod ending;
 mod kernel;
-mod lotteries;
-mod mutexes;
 mod names;
-mod numbered;
-mod ports;
-mod records;
 mod tables;
 #[cfg(test)]
 mod tests;
@@ -19,4 +14,5 @@ pub use lot_machine::{
     Action, Command, CurrencyRow, Event, Kind, Limits, Name, Outcome, Refusal, Reply, Sizes,
     Status, ThreadRow, TicketRow, TrapRefusal,
 };
-pub use records::Runner;
+pub use lot_threads::Runner;
+pub use lot_value::Meter;

@@ -1,113 +1,109 @@
 //! The kernel's tables: what the machine's state is kept in.
 ghost use Rattle.std.specs.Prelude.{◌≡◌, IfOk, length};
-ghost use Rattle.lot_machine.specs.State.{opening, sizes_of};
-ghost use Rattle.lot_machine.specs.Step.{step};
 ghost use Rattle.lot_machine.specs.Order.{IsInOrder};
+ghost use Rattle.lot_machine.specs.State.{sizes_of};
+ghost use Rattle.lot_machine.specs.Step.{event_refusal, step};
+ghost use Rattle.lot_kernel.specs.Counted.{Counts};
+ghost use Rattle.lot_kernel.specs.Snapshots.{MakesStale, starting};
 
 mod commands;
 mod processors;
 mod rows;
 mod traps;
 
-use lot_machine::{Event, Limits, Name, Record, Reply, Thread, Ticket};
+use lot_machine::{Event, Limits, Name, Reply};
+use lot_mutex::Lottery;
 use lot_queues::Queues;
-use lot_rounds::Rounds;
+use lot_threads::Threads;
+use lot_value::Meter;
 use std::alloc::{AllocError, Global};
 use std::marker::Model;
 
-/// The records of the machine, and room to compute in. Contracts see the state that they hold.
+/// The names of currencies, the threads with what is worth what, who waits where, and what was counted. Contracts see the state
+/// that they hold.
 ///
 /// Each event also needs the state to be in order, and the kernel keeps it so.
 #[derive(Drop)]
 pub(crate) struct Tables {
     limits: Limits,
+    /// The name of each currency, base first; `None` where it was removed.
     currencies: Vec<Option<Name>>,
-    tickets: Vec<Option<Ticket>>,
-    threads: Vec<Thread>,
-    records: Vec<Record>,
+    threads: Threads,
     queues: Queues,
-    /// What is active and what everything is worth.
-    rounds: Rounds,
-    /// For a lottery: the Ready threads or the waiters for a mutex, and what each weighs.
-    ready: Vec<u32>,
-    weights: Vec<u128>,
+    /// Room for the lottery of a mutex.
+    lottery: Lottery,
+    meter: Meter,
 }
 
 impl Model for Tables {
-    ghost use Rattle.std.specs.Prelude.{◌≡◌, ◌+◌, ◌≤◌, All, length, vec_len, vec_capacity};
-    ghost use Rattle.lot_machine.specs.State.{State, sizes_of};
-    ghost use Rattle.lot_rounds.specs.Tables.{AreWithin};
-    ghost use Rattle.lot_kernel.specs.Held.{held, IsTimely};
+    ghost use Rattle.std.specs.Prelude.{◌≡◌, ◌+◌, ◌≤◌, length, vec_len, vec_capacity};
+    ghost use Rattle.lot_machine.specs.State.{sizes_of};
+    ghost use Rattle.lot_kernel.specs.Snapshots.{Snapshot, held, threads_of};
 
-    ghost Value = { State };
+    ghost Value = { Snapshot };
 
-    ghost view = { λ k. held (sizes_of k.limits) k.currencies.items k.tickets.items k.threads.items k.records.items k.queues };
+    ghost view = { λ k. record { state = held (sizes_of k.limits) k.currencies.items k.threads k.queues; stale = k.threads.stale; meter = k.meter } };
 
     ghost invariant = { λ k. record {
-      within : AreWithin (vec_len k.currencies) (vec_len k.records) k.tickets.items;
-      timely : All (IsTimely k.limits.quantum) k.records.items;
-      clients : length k.queues.clients ≡ vec_len k.records;
-      records : vec_len k.records ≡ vec_len k.threads;
-      tickets : vec_len k.tickets ≤ k.limits.tickets;
+      threads : k.threads ≡ threads_of (held (sizes_of k.limits) k.currencies.items k.threads k.queues) k.threads.stale;
+      count : length k.threads.threads ≡ length k.threads.records;
+      few : length k.threads.records ≤ k.limits.threads;
+      clients : length k.queues.clients ≡ length k.threads.records;
       currencies : vec_len k.currencies ≤ k.limits.currencies + 1;
-      threads : vec_len k.threads ≤ k.limits.threads;
-      ticket_room : k.limits.tickets ≤ vec_capacity k.tickets;
       currency_room : k.limits.currencies + 1 ≤ vec_capacity k.currencies;
-      thread_room : k.limits.threads ≤ vec_capacity k.threads;
-      record_room : k.limits.threads ≤ vec_capacity k.records;
       queue_room : k.queues.room ≡ k.limits.threads;
-      worths_room : length k.rounds.worths ≡ k.limits.currencies + 1;
-      values_room : length k.rounds.values ≡ k.limits.threads;
-      ready_room : k.limits.threads ≤ vec_capacity k.ready;
-      weights_room : k.limits.threads ≤ vec_capacity k.weights;
+      lottery_room : k.lottery.room ≡ k.limits.threads;
     } };
 }
 
 impl Tables {
     /// Base alone, empty ports and free mutexes, and all the memory that will ever be used.
     pub(crate) fn new(alloc: Global, limits: Limits) -> Result<Tables, AllocError>
-        ensures { IfOk result (λ k. k ≡ opening (sizes_of limits)) }
+        ensures { IfOk result (λ k. k ≡ starting (sizes_of limits)) }
     {
-        let threads = limits.threads as usize;
-        let currencies = limits.currencies as usize + 1;
-        let mut made = Vec::with_capacity(alloc, currencies)?;
-        made.push_reserved(Name::new("base"));
+        let mut currencies = Vec::with_capacity(alloc, limits.currencies as usize + 1)?;
+        currencies.push_reserved(Name::new("base"));
         Ok(Tables {
             limits,
-            currencies: made,
-            tickets: Vec::with_capacity(alloc, limits.tickets as usize)?,
-            threads: Vec::with_capacity(alloc, threads)?,
-            records: Vec::with_capacity(alloc, threads)?,
+            currencies,
+            threads: Threads::new(alloc, &limits)?,
             queues: Queues::new(alloc, limits.ports, limits.mutexes, limits.threads)?,
-            rounds: Rounds::new(alloc, currencies, threads)?,
-            ready: Vec::with_capacity(alloc, threads)?,
-            weights: Vec::with_capacity(alloc, threads)?,
+            lottery: Lottery::new(alloc, limits.threads)?,
+            meter: Meter::default(),
         })
     }
 
     pub(crate) fn limits(&self) -> Limits
-        ensures { sizes_of result ≡ self.now.limits }
+        ensures { sizes_of result ≡ self.now.state.limits }
     {
         self.limits
     }
 
-    pub(crate) fn ticket_count(&self) -> u32
-        ensures { result ≡ length self.now.tickets }
+    pub(crate) fn meter(&self) -> Meter
+        ensures { result ≡ self.now.meter }
     {
-        self.tickets.len() as u32
+        self.meter
+    }
+
+    pub(crate) fn ticket_count(&self) -> u32
+        ensures { result ≡ length self.now.state.tickets }
+    {
+        self.threads.graph().ticket_count()
     }
 
     pub(crate) fn currency_count(&self) -> u32
-        ensures { result ≡ length self.now.currencies }
+        ensures { result ≡ length self.now.state.currencies }
     {
         self.currencies.len() as u32
     }
 
     /// One event.
     pub(crate) fn event(&mut self, event: &Event) -> Reply
-        requires { IsInOrder self.old }
-        ensures reply { result ≡ (step self.old event.now).reply }
-        ensures state { self.new ≡ (step self.old event.now).state }
+        requires { IsInOrder self.old.state }
+        ensures reply { result ≡ (step self.old.state event.now).reply }
+        ensures state { self.new.state ≡ (step self.old.state event.now).state }
+        ensures stale { MakesStale self.old self.new }
+        ensures counts { Counts event.now (event_refusal self.old.state event.now) result self.old self.new }
     {
         match event {
             Event::Command(command) => self.command(command),

@@ -1,8 +1,9 @@
+mod reads;
 mod traps;
 
 use crate::{
     Action, Command, CurrencyRow, Event, Kernel, Kind, Limits, Name, Outcome, Refusal, Reply,
-    Sizes, Status, ThreadRow, TicketRow,
+    Sizes, Status, ThreadRow, TicketRow, TrapRefusal,
 };
 use std::alloc::Global;
 use std::process::Abort;

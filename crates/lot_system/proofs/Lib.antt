@@ -11,3 +11,4 @@ pub mod ListingFacts
 pub mod PlayingFacts
 pub mod ReadingFacts
 pub mod WorkFacts
+pub mod Openings

@@ -30,9 +30,9 @@ pub(crate) fn follow_command(
     kernel: &Kernel,
     reply: Reply,
 )
-    requires made { (s : State) × (before : List Context) × MakesThread s kernel.now reply × AreAt program.now s.threads places.old.items before × (s.limits.scripts ≡ length program.now.scripts) }
-    requires room { kernel.now.limits.threads ≤ vec_capacity places.old }
-    ensures at { (s : State) (before : List Context) → MakesThread s kernel.now reply → AreAt program.now s.threads places.old.items before → AreAt program.now kernel.now.threads places.new.items (before ++ new_contexts program.now s kernel.now) }
+    requires made { (s : State) × (before : List Context) × MakesThread s kernel.now.state reply × AreAt program.now s.threads places.old.items before × (s.limits.scripts ≡ length program.now.scripts) }
+    requires room { kernel.now.state.limits.threads ≤ vec_capacity places.old }
+    ensures at { (s : State) (before : List Context) → MakesThread s kernel.now.state reply → AreAt program.now s.threads places.old.items before → AreAt program.now kernel.now.state.threads places.new.items (before ++ new_contexts program.now s kernel.now.state) }
     ensures room { vec_capacity places.new ≡ vec_capacity places.old }
 {
     if let Some(thread) = made_thread(reply) {

@@ -63,7 +63,7 @@ impl Model for System {
     ghost invariant = { λ s. record {
       program : IsProgram s.program;
       legal : IsLegal s.program s.room s.history.items;
-      held : IsHeld s.program (system_run s.program s.history.items) s.kernel s.places.items s.generators.items s.spent;
+      held : IsHeld s.program (system_run s.program s.history.items) s.kernel.state s.places.items s.generators.items s.spent;
       generators : vec_len s.generators ≡ s.program.limits.processors;
       past : (system_run s.program s.history.items).history ≡ s.history.items;
       spent : s.spent ≡ count_by (λ actor. actor == 0) s.history.items;

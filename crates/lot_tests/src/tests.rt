@@ -1,4 +1,5 @@
 mod embedding;
+mod generated;
 mod histories;
 mod inputs;
 mod kernels;

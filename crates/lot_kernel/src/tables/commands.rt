@@ -1,26 +1,31 @@
 //! The commands of the console (4.7).
-ghost use Rattle.std.specs.Prelude.{◌≡◌, ◌<◌, length, IfSome};
+ghost use Rattle.std.specs.Prelude.{◌≡◌, ◌<◌, ◌+◌, ◌^◌, true, Some, IfNone, IfSome, OnSome, is_some, length, map, slice_get, if◌then◌else◌};
+ghost use Rattle.std.specs.Option.{SomeIff};
+ghost use Rattle.lot_machine.specs.declared.refusal.Refusal.TheVariants.{Cycle};
+ghost use Rattle.lot_machine.specs.declared.reply.Reply.TheVariants.{Done, Refused};
+ghost use Rattle.lot_machine.specs.declared.ticket.Target.TheVariants.{Thread as ToThread, Unfunded};
 ghost use Rattle.lot_machine.specs.declared.command.Command.TheVariants.{MakeTicket, RemoveTicket, MakeCurrency, RemoveCurrency, Fund, Unfund, MakeThread, MakeFunded};
 ghost use Rattle.lot_machine.specs.Commands as names;
 ghost use Rattle.lot_machine.specs.Commands.{command_step};
+ghost use Rattle.lot_machine.specs.Funding.{target_of, ticket_in, with_new_ticket, with_target};
+ghost use Rattle.lot_graph.specs.Graphs.{IsTarget};
+ghost use Rattle.lot_queues.specs.QueueLists.{IsThere};
 ghost use Rattle.lot_machine.specs.Order.{IsInOrder};
-ghost use Rattle.lot_rounds.specs.Tables.{IsTargetWithin};
-ghost use Rattle.lot_kernel.specs.Held as held;
+ghost use Rattle.lot_machine.specs.State.{funding_of};
+ghost use Rattle.lot_kernel.specs.Snapshots.{IsTargetThere, MakesStale};
 
-use crate::counts::{count_backing, count_issued};
 use crate::names::{currency_place, thread_place};
-use crate::numbered::{is_dead, remove, retarget, ticket_at};
 use crate::tables::Tables;
-use lot_machine::{
-    Command, Name, Record, Refusal, Reply, Status, Target, Thread, Ticket, is_good_name,
-};
+use lot_machine::{Command, Name, Refusal, Reply, Status, Target, Thread, Ticket, is_good_name};
 
 impl Tables {
     /// One command.
     pub(super) fn command(&mut self, command: &Command) -> Reply
-        requires { IsInOrder self.old }
-        ensures reply { result ≡ (command_step self.old command.now).reply }
-        ensures state { self.new ≡ (command_step self.old command.now).state }
+        requires { IsInOrder self.old.state }
+        ensures reply { result ≡ (command_step self.old.state command.now).reply }
+        ensures state { self.new.state ≡ (command_step self.old.state command.now).state }
+        ensures stale { MakesStale self.old self.new }
+        ensures meter { self.new.meter ≡ self.old.meter }
     {
         match command {
             Command::MakeTicket { amount, currency } => self.make_ticket(*amount, currency),
@@ -41,8 +46,10 @@ impl Tables {
     }
 
     fn make_ticket(&mut self, amount: u64, currency: &Name) -> Reply
-        ensures reply { result ≡ (command_step self.old (MakeTicket amount currency.now)).reply }
-        ensures state { self.new ≡ (command_step self.old (MakeTicket amount currency.now)).state }
+        ensures reply { result ≡ (command_step self.old.state (MakeTicket amount currency.now)).reply }
+        ensures state { self.new.state ≡ (command_step self.old.state (MakeTicket amount currency.now)).state }
+        ensures stale { self.new.stale ≡ self.old.stale }
+        ensures meter { self.new.meter ≡ self.old.meter }
     {
         if amount == 0 || amount > 4294967295 {
             return Reply::Refused(Refusal::BadAmount);
@@ -50,34 +57,45 @@ impl Tables {
         let Some(issuer) = currency_place(&self.currencies, currency) else {
             return Reply::Refused(Refusal::NoCurrency);
         };
-        if self.tickets.len() >= self.limits.tickets as usize {
-            return Reply::Refused(Refusal::Full);
+        match self.issue(issuer as u32, amount as u32) {
+            Some(ticket) => Reply::Ticket(ticket),
+            None => Reply::Refused(Refusal::Full),
         }
-        self.tickets.push_reserved(Some(Ticket {
-            amount: amount as u32,
-            issuer: issuer as u32,
-            target: Target::Unfunded,
-        }));
-        Reply::Ticket(self.tickets.len() as u32)
+    }
+
+    /// One more ticket, which funds nothing, and its number, or `None` if as many were made as there may be.
+    fn issue(&mut self, issuer: u32, amount: u32) -> Option<u32>
+        requires issuer { slice_get (map is_some self.old.state.currencies) issuer ≡ Some true }
+        requires amount { 0 < amount }
+        ensures number { SomeIff result (length self.old.state.tickets < self.old.state.limits.tickets) (length self.old.state.tickets + 1) }
+        ensures issued { OnSome result (self.new ≡ record self.old { state = record self.old.state { tickets = with_new_ticket self.old.state.tickets amount issuer Unfunded } }) }
+        ensures unchanged { IfNone result (self.new ≡ self.old) }
+    {
+        self.threads.issue(issuer, amount)
     }
 
     fn remove_ticket(&mut self, ticket: u64) -> Reply
-        ensures reply { result ≡ (command_step self.old (RemoveTicket ticket)).reply }
-        ensures state { self.new ≡ (command_step self.old (RemoveTicket ticket)).state }
+        requires { IsInOrder self.old.state }
+        ensures reply { result ≡ (command_step self.old.state (RemoveTicket ticket)).reply }
+        ensures state { self.new.state ≡ (command_step self.old.state (RemoveTicket ticket)).state }
+        ensures stale { self.new.stale ≡ self.old.stale }
+        ensures meter { self.new.meter ≡ self.old.meter }
     {
-        let Some(found) = ticket_at(&self.tickets, ticket) else {
+        let Some(found) = self.ticket_at(ticket) else {
             return Reply::Refused(Refusal::NoTicket);
         };
         if found.target != Target::Unfunded {
             return Reply::Refused(Refusal::Funding);
         }
-        remove(&mut self.tickets, ticket);
+        self.threads.destroy(ticket as u32);
         Reply::Done
     }
 
     fn make_currency(&mut self, name: &Name) -> Reply
-        ensures reply { result ≡ (command_step self.old (MakeCurrency name.now)).reply }
-        ensures state { self.new ≡ (command_step self.old (MakeCurrency name.now)).state }
+        ensures reply { result ≡ (command_step self.old.state (MakeCurrency name.now)).reply }
+        ensures state { self.new.state ≡ (command_step self.old.state (MakeCurrency name.now)).state }
+        ensures stale { self.new.stale ≡ self.old.stale }
+        ensures meter { self.new.meter ≡ self.old.meter }
     {
         if !is_good_name(name.as_bytes()) {
             return Reply::Refused(Refusal::BadName);
@@ -85,17 +103,18 @@ impl Tables {
         if self.target_named(name).is_some() {
             return Reply::Refused(Refusal::NameTaken);
         }
-        if self.currencies.len() > self.limits.currencies as usize {
+        let Some(number) = self.threads.make_currency() else {
             return Reply::Refused(Refusal::Full);
-        }
-        let number = self.currencies.len() as u32;
+        };
         self.currencies.push_reserved(Some(name.copied()));
         Reply::Currency(number)
     }
 
     fn remove_currency(&mut self, currency: &Name) -> Reply
-        ensures reply { result ≡ (command_step self.old (RemoveCurrency currency.now)).reply }
-        ensures state { self.new ≡ (command_step self.old (RemoveCurrency currency.now)).state }
+        ensures reply { result ≡ (command_step self.old.state (RemoveCurrency currency.now)).reply }
+        ensures state { self.new.state ≡ (command_step self.old.state (RemoveCurrency currency.now)).state }
+        ensures stale { self.new.stale ≡ self.old.stale }
+        ensures meter { self.new.meter ≡ self.old.meter }
     {
         let Some(place) = currency_place(&self.currencies, currency) else {
             return Reply::Refused(Refusal::NoCurrency);
@@ -103,23 +122,19 @@ impl Tables {
         if place == 0 {
             return Reply::Refused(Refusal::BaseFixed);
         }
-        if self.is_in_use(place as u32) {
+        if !self.threads.graph().is_unused(place as u32) {
             return Reply::Refused(Refusal::InUse);
         }
+        self.threads.remove_currency(place as u32);
         self.currencies[place] = None;
         Reply::Done
     }
 
-    /// Whether the currency has an issued or a backing ticket.
-    fn is_in_use(&self, currency: u32) -> bool
-        ensures { result ≡ names.is_in_use self.now currency }
-    {
-        count_issued(&self.tickets, currency) > 0 || count_backing(&self.tickets, currency) > 0
-    }
-
     fn make_thread(&mut self, name: &Name, script: u32) -> Reply
-        ensures reply { result ≡ (command_step self.old (MakeThread name.now script)).reply }
-        ensures state { self.new ≡ (command_step self.old (MakeThread name.now script)).state }
+        ensures reply { result ≡ (command_step self.old.state (MakeThread name.now script)).reply }
+        ensures state { self.new.state ≡ (command_step self.old.state (MakeThread name.now script)).state }
+        ensures stale { MakesStale self.old self.new }
+        ensures meter { self.new.meter ≡ self.old.meter }
     {
         if !is_good_name(name.as_bytes()) {
             return Reply::Refused(Refusal::BadName);
@@ -130,35 +145,32 @@ impl Tables {
         if script == 0 || script > self.limits.scripts {
             return Reply::Refused(Refusal::NoScript);
         }
-        if self.threads.len() >= self.limits.threads as usize {
+        if self.threads.threads().len() >= self.limits.threads as usize {
             return Reply::Refused(Refusal::Full);
         }
-        self.push_thread(name, script);
-        Reply::Thread(self.threads.len() as u32)
+        Reply::Thread(self.add_thread(name, script))
     }
 
-    /// One more thread: it is Ready and serves nobody.
-    fn push_thread(&mut self, name: &Name, script: u32)
-        requires { length self.old.threads < self.old.limits.threads }
-        ensures { self.new ≡ names.with_thread self.old name.now script }
+    /// One more thread, and its number: it is Ready and serves nobody.
+    fn add_thread(&mut self, name: &Name, script: u32) -> u32
+        requires { length self.old.state.threads < self.old.state.limits.threads }
+        ensures number { result ≡ length self.old.state.threads + 1 }
+        ensures state { self.new.state ≡ names.with_thread self.old.state name.now script }
+        ensures stale { MakesStale self.old self.new }
+        ensures meter { self.new.meter ≡ self.old.meter }
     {
-        self.threads.push_reserved(Thread {
+        self.queues.add_thread();
+        self.threads.add_thread(Thread {
             name: name.copied(),
             script,
-        });
-        self.records.push_reserved(Record {
-            status: Status::Ready,
-            compensation: None,
-            delivered: None,
-            quanta: 0,
-            ticks: 0,
-        });
-        self.queues.add_thread();
+        })
     }
 
     fn make_funded(&mut self, amount: u64, currency: &Name, name: &Name, script: u32) -> Reply
-        ensures reply { result ≡ (command_step self.old (MakeFunded amount currency.now name.now script)).reply }
-        ensures state { self.new ≡ (command_step self.old (MakeFunded amount currency.now name.now script)).state }
+        ensures reply { result ≡ (command_step self.old.state (MakeFunded amount currency.now name.now script)).reply }
+        ensures state { self.new.state ≡ (command_step self.old.state (MakeFunded amount currency.now name.now script)).state }
+        ensures stale { MakesStale self.old self.new }
+        ensures meter { self.new.meter ≡ self.old.meter }
     {
         if amount == 0 || amount > 4294967295 {
             return Reply::Refused(Refusal::BadAmount);
@@ -175,30 +187,36 @@ impl Tables {
         if script == 0 || script > self.limits.scripts {
             return Reply::Refused(Refusal::NoScript);
         }
-        if self.tickets.len() >= self.limits.tickets as usize
-            || self.threads.len() >= self.limits.threads as usize
-        {
+        if self.threads.threads().len() >= self.limits.threads as usize {
             return Reply::Refused(Refusal::Full);
         }
-        self.push_thread(name, script);
-        let thread = self.threads.len() as u32;
-        self.tickets.push_reserved(Some(Ticket {
-            amount: amount as u32,
-            issuer: issuer as u32,
-            target: Target::Thread(thread),
-        }));
-        Reply::Funded {
-            ticket: self.tickets.len() as u32,
-            thread,
-        }
+        let Some(ticket) = self.issue(issuer as u32, amount as u32) else {
+            return Reply::Refused(Refusal::Full);
+        };
+        let thread = self.add_thread(name, script);
+        self.fund_thread(ticket, thread);
+        Reply::Funded { ticket, thread }
+    }
+
+    /// Makes a ticket that funds nothing fund a thread.
+    fn fund_thread(&mut self, ticket: u32, thread: u32)
+        requires unfunded { target_of (funding_of self.old.state) ticket ≡ Some Unfunded }
+        requires thread { IsThere self.old.state.records thread }
+        ensures state { self.new.state ≡ record self.old.state { tickets = with_target self.old.state.tickets ticket (ToThread thread) } }
+        ensures stale { MakesStale self.old self.new }
+        ensures meter { self.new.meter ≡ self.old.meter }
+    {
+        let _ = self.threads.fund(ticket, Target::Thread(thread));
     }
 
     fn fund(&mut self, ticket: u64, target: &Name) -> Reply
-        requires { IsInOrder self.old }
-        ensures reply { result ≡ (command_step self.old (Fund ticket target.now)).reply }
-        ensures state { self.new ≡ (command_step self.old (Fund ticket target.now)).state }
+        requires { IsInOrder self.old.state }
+        ensures reply { result ≡ (command_step self.old.state (Fund ticket target.now)).reply }
+        ensures state { self.new.state ≡ (command_step self.old.state (Fund ticket target.now)).state }
+        ensures stale { MakesStale self.old self.new }
+        ensures meter { self.new.meter ≡ self.old.meter }
     {
-        let Some(found) = ticket_at(&self.tickets, ticket) else {
+        let Some(found) = self.ticket_at(ticket) else {
             return Reply::Refused(Refusal::NoTicket);
         };
         let Some(to) = self.target_named(target) else {
@@ -213,62 +231,74 @@ impl Tables {
         if found.target != Target::Unfunded {
             return Reply::Refused(Refusal::Funding);
         }
-        if self.is_cycle(found, to) {
+        self.fund_target(ticket as u32, to)
+    }
+
+    /// Makes a ticket that funds nothing fund a target, unless that would make a cycle.
+    fn fund_target(&mut self, ticket: u32, to: Target) -> Reply
+        requires order { IsInOrder self.old.state }
+        requires unfunded { target_of (funding_of self.old.state) ticket ≡ Some Unfunded }
+        requires target { IsTarget (funding_of self.old.state) to }
+        ensures reply { result ≡ (if names.is_cycle self.old.state ticket to then Refused Cycle else Done) }
+        ensures state { self.new.state ≡ (if names.is_cycle self.old.state ticket to then self.old.state else record self.old.state { tickets = with_target self.old.state.tickets ticket to }) }
+        ensures stale { MakesStale self.old self.new }
+        ensures meter { self.new.meter ≡ self.old.meter }
+    {
+        if self.threads.fund(ticket, to).is_err() {
             return Reply::Refused(Refusal::Cycle);
         }
-        retarget(&mut self.tickets, ticket, to);
         Reply::Done
     }
 
     fn unfund(&mut self, ticket: u64) -> Reply
-        ensures reply { result ≡ (command_step self.old (Unfund ticket)).reply }
-        ensures state { self.new ≡ (command_step self.old (Unfund ticket)).state }
+        requires { IsInOrder self.old.state }
+        ensures reply { result ≡ (command_step self.old.state (Unfund ticket)).reply }
+        ensures state { self.new.state ≡ (command_step self.old.state (Unfund ticket)).state }
+        ensures stale { MakesStale self.old self.new }
+        ensures meter { self.new.meter ≡ self.old.meter }
     {
-        let Some(found) = ticket_at(&self.tickets, ticket) else {
+        let Some(found) = self.ticket_at(ticket) else {
             return Reply::Refused(Refusal::NoTicket);
         };
         if found.target == Target::Unfunded {
             return Reply::Refused(Refusal::NotFunding);
         }
-        retarget(&mut self.tickets, ticket, Target::Unfunded);
+        self.threads.unfund(ticket as u32);
         Reply::Done
+    }
+
+    /// The ticket with this number, if it is there.
+    fn ticket_at(&self, number: u64) -> Option<Ticket>
+        ensures found { result ≡ ticket_in self.now.state.tickets number }
+        ensures small { IfSome result (λ t. number < 2 ^ 32) }
+    {
+        if number > u64::from(self.threads.graph().ticket_count()) {
+            return None;
+        }
+        self.threads.graph().ticket(number as u32)
     }
 
     /// The currency or thread with this name.
     fn target_named(&self, name: &Name) -> Option<Target>
-        ensures named { result ≡ names.target_named self.now name.now }
-        ensures there { IfSome result (IsTargetWithin (length self.now.currencies) (length self.now.records)) }
+        ensures named { result ≡ names.target_named self.now.state name.now }
+        ensures there { IfSome result (IsTargetThere self.now.state) }
     {
         if let Some(place) = currency_place(&self.currencies, name) {
             return Some(Target::Currency(place as u32));
         }
-        let place = thread_place(&self.threads, name)?;
+        let place = thread_place(self.threads.threads(), name)?;
         Some(Target::Thread(place as u32 + 1))
     }
 
     fn is_dead_thread(&self, target: Target) -> bool
-        ensures { result ≡ names.is_dead_thread self.now target }
+        ensures { result ≡ names.is_dead_thread self.now.state target }
     {
-        match target {
-            Target::Thread(thread) => is_dead(&self.records, thread),
-            _ => false,
-        }
-    }
-
-    /// Whether it would make a cycle if the ticket funded the target. It changes nothing.
-    fn is_cycle(&mut self, ticket: Ticket, target: Target) -> bool
-        requires order { IsInOrder self.old }
-        requires issuer { ticket.issuer < length self.old.currencies }
-        requires target { IsTargetWithin (length self.old.currencies) (length self.old.records) target }
-        ensures cycle { result ≡ held.makes_cycle self.old ticket target }
-        ensures state { self.new ≡ self.old }
-    {
-        match target {
-            Target::Currency(currency) => {
-                self.rounds
-                    .would_cycle(&self.tickets, ticket.issuer, currency)
-            }
-            _ => false,
+        let Target::Thread(thread) = target else {
+            return false;
+        };
+        match self.threads.record(thread) {
+            Some(record) => matches!(record.status, Status::Dead),
+            None => false,
         }
     }
 }

@@ -1,59 +1,62 @@
 //! What happens on a processor: draws, expiries and traps.
-ghost use Rattle.std.specs.Prelude.{◌≡◌, ◌<◌, ◌≤◌, Some, None, IfSome, MatchOption, length, map, option_map};
+ghost use Rattle.std.specs.Prelude.{◌≡◌, ◌<◌, ◌≤◌, Some, None, IfSome, MatchOption, length, option_map};
 ghost use Rattle.lot_machine.specs.declared.event.Event.TheVariants as event;
+ghost use Rattle.lot_machine.specs.declared.after.After.TheVariants.{Leaves};
+ghost use Rattle.lot_machine.specs.declared.record.Status.{Status as AStatus};
+ghost use Rattle.lot_machine.specs.Bounds.{IsBetween};
 ghost use Rattle.lot_machine.specs.Numbered as numbered;
-ghost use Rattle.lot_machine.specs.Step as steps;
-ghost use Rattle.lot_machine.specs.Step.{step};
-ghost use Rattle.lot_machine.specs.Lottery as lottery;
 ghost use Rattle.lot_machine.specs.Order.{IsInOrder};
-ghost use Rattle.lot_machine.specs.State.{ready_threads, thread_on, used_by, weight_of};
-ghost use Rattle.lot_kernel.specs.Draws.{winner_among};
-ghost use Rattle.lot_kernel.specs.Trapped.{IsRunning, trapped};
+ghost use Rattle.lot_machine.specs.State.{change_record, funding_of, lend_of, thread_on, used_by};
+ghost use Rattle.lot_machine.specs.Step as steps;
+ghost use Rattle.lot_machine.specs.Step.{event_refusal, step};
+ghost use Rattle.lot_machine.specs.Traps.{after_trap, with_ticks};
+ghost use Rattle.lot_machine.proofs.RecordsKept.{RunsAlone, StopsIfLeaves};
+ghost use Rattle.lot_threads.specs.Threaded.{CanLend};
+ghost use Rattle.lot_kernel.specs.Counted.{Counts, CountsTrap};
+ghost use Rattle.lot_kernel.specs.Snapshots.{MakesStale};
+ghost use Rattle.lot_kernel.specs.Trapped.{RunsOn, trapped};
 
-use crate::lotteries::{Winner, list_weights};
-use crate::records::{self, Runner, Trap, runner_on};
+use crate::ending::{Trap, ends_quantum, record_after};
 use crate::tables::Tables;
-use lot_draw::winner;
-use lot_machine::{Action, Refusal, Reply};
+use lot_machine::{Action, After, Refusal, Reply};
+use lot_threads::Runner;
 
 impl Tables {
     /// Who runs on the processor, `None` if and only if nobody does. The ticks used are below the quantum.
     pub(crate) fn runner(&self, processor: u32) -> Option<Runner>
-        ensures thread { MatchOption result (thread_on self.now.records processor ≡ None) (λ r. thread_on self.now.records processor ≡ Some r.thread) }
-        ensures used { IfSome result (λ r. used_by self.now.records processor r.thread ≡ Some r.used) }
-        ensures there { IfSome result (λ r. (0 < r.thread) × (r.thread ≤ length self.now.records)) }
-        ensures below { IfSome result (λ r. r.used < self.now.limits.quantum) }
+        ensures thread { MatchOption result (thread_on self.now.state.records processor ≡ None) (λ r. thread_on self.now.state.records processor ≡ Some r.thread) }
+        ensures used { IfSome result (λ r. used_by self.now.state.records processor r.thread ≡ Some r.used) }
+        ensures there { IfSome result (λ r. (0 < r.thread) × (r.thread ≤ length self.now.state.records)) }
+        ensures below { IfSome result (λ r. r.used < self.now.state.limits.quantum) }
     {
-        let _ = &self.limits;
-        runner_on(&self.records, processor)
+        self.threads.runner(processor)
     }
 
     /// The number of the script that the thread was made with, `None` if and only if there is no such thread.
     pub(crate) fn script_of(&self, thread: u32) -> Option<u32>
-        ensures { result ≡ option_map (λ t. t.script) (numbered.at_number self.now.threads thread) }
+        ensures { result ≡ option_map (λ t. t.script) (numbered.at_number self.now.state.threads thread) }
     {
-        if thread == 0 || thread as usize > self.threads.len() {
-            return None;
-        }
-        Some(self.threads[thread as usize - 1].script)
+        let place = (thread as usize).checked_sub(1)?;
+        Some(self.threads.threads().get(place)?.script)
     }
 
     /// A draw by a processor.
     pub(super) fn draw(&mut self, processor: u32, d: u64) -> Reply
-        requires { IsInOrder self.old }
-        ensures reply { result ≡ (step self.old (event.Draw processor d)).reply }
-        ensures state { self.new ≡ (step self.old (event.Draw processor d)).state }
+        ensures reply { result ≡ (step self.old.state (event.Draw processor d)).reply }
+        ensures state { self.new.state ≡ (step self.old.state (event.Draw processor d)).state }
+        ensures stale { MakesStale self.old self.new }
+        ensures counts { Counts (event.Draw processor d) (event_refusal self.old.state (event.Draw processor d)) result self.old self.new }
     {
         if self.is_bad_processor(processor) {
             return Reply::Refused(Refusal::BadProcessor);
         }
-        if runner_on(&self.records, processor).is_some() {
+        if self.threads.runner(processor).is_some() {
             return Reply::Refused(Refusal::Busy);
         }
-        let Some(winner) = self.hold_lottery(d) else {
+        let Some(winner) = self.threads.draw(d, &mut self.meter) else {
             return Reply::Idle;
         };
-        let delivered = records::start(&mut self.records, winner.thread, processor);
+        let delivered = self.threads.start(winner.thread, processor);
         Reply::Winner {
             thread: winner.thread,
             number: winner.number,
@@ -62,58 +65,37 @@ impl Tables {
         }
     }
 
-    /// The lottery over the weights of the Ready threads by rising number. It changes nothing.
-    fn hold_lottery(&mut self, d: u64) -> Option<Winner>
-        requires { IsInOrder self.old }
-        ensures winner { result ≡ winner_among (ready_threads self.old.records) (lottery.winner (map (weight_of self.old) (ready_threads self.old.records)) d) }
-        ensures there { IfSome result (λ w. (0 < w.thread) × (w.thread ≤ length self.new.records)) }
-        ensures state { self.new ≡ self.old }
-    {
-        self.rounds.settle(
-            &self.currencies,
-            &self.tickets,
-            &self.records,
-            self.queues.owners(),
-            self.limits.unit,
-        );
-        list_weights(
-            &self.records,
-            self.rounds.values(),
-            self.limits.quantum,
-            &mut self.ready,
-            &mut self.weights,
-        );
-        let drawn = winner(&self.weights, d);
-        Winner::among(&self.ready, drawn)
-    }
-
     /// The quantum ends on a processor.
     pub(super) fn expire(&mut self, processor: u32) -> Reply
-        ensures reply { result ≡ (step self.old (event.Expire processor)).reply }
-        ensures state { self.new ≡ (step self.old (event.Expire processor)).state }
+        ensures reply { result ≡ (step self.old.state (event.Expire processor)).reply }
+        ensures state { self.new.state ≡ (step self.old.state (event.Expire processor)).state }
+        ensures stale { MakesStale self.old self.new }
+        ensures meter { self.new.meter ≡ self.old.meter }
     {
         if self.is_bad_processor(processor) {
             return Reply::Refused(Refusal::BadProcessor);
         }
-        let Some(runner) = runner_on(&self.records, processor) else {
+        let Some(runner) = self.threads.runner(processor) else {
             return Reply::Refused(Refusal::NotRunning);
         };
         let thread = runner.thread;
         let ticks = self.limits.quantum - runner.used;
-        records::expire(&mut self.records, thread, ticks);
+        self.threads.expire(thread, ticks);
         Reply::Expired { thread, ticks }
     }
 
     /// A trap on a processor, with the ticks that were run before it.
     pub(super) fn trap(&mut self, processor: u32, ran: u32, action: Action) -> Reply
-        requires { IsInOrder self.old }
-        ensures reply { result ≡ (step self.old (event.Trap processor ran action)).reply }
-        ensures state { self.new ≡ (step self.old (event.Trap processor ran action)).state }
+        requires { IsInOrder self.old.state }
+        ensures reply { result ≡ (step self.old.state (event.Trap processor ran action)).reply }
+        ensures state { self.new.state ≡ (step self.old.state (event.Trap processor ran action)).state }
+        ensures stale { MakesStale self.old self.new }
+        ensures counts { Counts (event.Trap processor ran action) (event_refusal self.old.state (event.Trap processor ran action)) result self.old self.new }
     {
         if self.is_bad_processor(processor) {
             return Reply::Refused(Refusal::BadProcessor);
         }
-        let Some(runner) = runner_on(&self.records, processor) else {
+        let Some(runner) = self.threads.runner(processor) else {
             return Reply::Refused(Refusal::NotRunning);
         };
         if u64::from(runner.used) + u64::from(ran) + 1 > u64::from(self.limits.quantum) {
@@ -132,25 +114,46 @@ impl Tables {
 
     /// A trap that costs no more than what is left of its thread's quantum.
     fn make_trap(&mut self, trap: Trap, action: Action) -> Reply
-        requires order { IsInOrder self.old }
-        requires runs { IsRunning self.old.records trap.thread }
-        requires used { 0 < trap.used }
-        ensures reply { result ≡ (trapped self.old trap action).reply }
-        ensures state { self.new ≡ (trapped self.old trap action).state }
+        requires order { IsInOrder self.old.state }
+        requires processor { IsBetween 1 self.old.state.limits.processors trap.processor }
+        requires runs { RunsOn self.old.state.records trap.thread trap.processor }
+        requires ticks { (0 < trap.ticks) × (trap.ticks ≤ trap.used) }
+        ensures reply { result ≡ (trapped self.old.state trap action).reply }
+        ensures state { self.new.state ≡ (trapped self.old.state trap action).state }
+        ensures stale { MakesStale self.old self.new }
+        ensures counts { CountsTrap action self.old self.new }
     {
         let effect = self.act(trap.thread, action);
-        let quantum = self.limits.quantum;
-        records::finish(&mut self.records, trap, effect.after, quantum);
+        self.finish(trap, effect.after);
         Reply::Trapped {
             thread: trap.thread,
             ticks: trap.ticks,
             outcome: effect.outcome,
-            ends: records::has_ended(trap, effect.after, quantum),
+            ends: ends_quantum(trap, effect.after, self.limits.quantum),
         }
     }
 
+    /// The thread that made a trap stays on its processor, or leaves it with a status that isn't Running.
+    fn finish(&mut self, trap: Trap, after: After)
+        requires ticks { (0 < trap.ticks) × (trap.ticks ≤ trap.used) }
+        requires processor { IsBetween 1 self.old.state.limits.processors trap.processor }
+        requires runs { RunsOn self.old.state.records trap.thread trap.processor }
+        requires alone { RunsAlone self.old.state.records trap.processor trap.thread }
+        requires stops { StopsIfLeaves after }
+        requires lend { (status : AStatus) → after ≡ Leaves status → CanLend (funding_of self.old.state) trap.thread (lend_of status) }
+        ensures state { self.new.state ≡ record self.old.state { records = change_record (λ r. with_ticks trap.ticks (after_trap after trap.processor trap.used self.old.state.limits.quantum r)) self.old.state.records trap.thread } }
+        ensures stale { MakesStale self.old self.new }
+        ensures meter { self.new.meter ≡ self.old.meter }
+    {
+        let Some(before) = self.threads.record(trap.thread) else {
+            unreachable!()
+        };
+        let next = record_after(before, trap, after, self.limits.quantum);
+        self.threads.change(trap.thread, next);
+    }
+
     fn is_bad_processor(&self, processor: u32) -> bool
-        ensures { result ≡ steps.is_bad_processor self.now processor }
+        ensures { result ≡ steps.is_bad_processor self.now.state processor }
     {
         processor == 0 || processor > self.limits.processors
     }

@@ -1,9 +1,11 @@
 -- Those counted and those among the tickets that are left are all.
-use Rattle.std.proofs.Common.{◌≡◌, ◌==◌, ◌+◌, ◌≤◌, drop, filter, filter_map, length}
+use Rattle.std.proofs.Common.{◌≡◌, ◌==◌, ◌+◌, ◌≤◌, length}
+use Rattle.lot_machine.specs.Funding.{issued_in}
+use Rattle.lot_kernel.proofs.Counting.{count_after}
 use Rattle.lot_kernel.proofs.counts.count_issued.Given as goal
 
-abbrev pub invariant-loop-ticket : goal.invariant-loop-ticket
-invariant-loop-ticket l = record {
-  all : l.count + length (filter (λ t. t.issuer == l.currency) (filter_map (λ t. t) (drop l.ticket-index l.tickets))) ≡ length (filter (λ t. t.issuer == l.currency) (filter_map (λ t. t) l.tickets));
-  few : l.count ≤ l.ticket-index;
+abbrev pub invariant-loop-place : goal.invariant-loop-place
+invariant-loop-place l = record {
+  all : l.count + count_after (λ t. t.issuer == l.currency) l.graph.funding.tickets l.place ≡ length (issued_in l.graph.funding l.currency);
+  few : l.count ≤ l.place;
 }

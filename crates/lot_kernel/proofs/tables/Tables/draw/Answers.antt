@@ -1,13 +1,99 @@
-use Rattle.std.proofs.Common.{◌<◌, rules, arith}
-use Rattle.std.specs.List.{All}
-use Rattle.lot_kernel.specs.Held.{IsTimely}
-use Rattle.lot_kernel.proofs.HeldLemmas.{timely-changed}
+use Rattle.std.proofs.Common.{List, Some, [], ap, arith, false, is_some, length, option_and_then, rules, subst, sym, ℕ, ◌∙◌, ◌≡◌}
+use Rattle.std.specs.List.{Contains}
+use Rattle.lot_tree.specs.Visits.{CountsReads}
+use Rattle.lot_threads.specs.Threaded.{MakesStaleIn, Threaded, drawn_in, funding_in, with_records}
+use Rattle.lot_machine.specs.declared.funding.Node.{Node}
+use Rattle.lot_machine.specs.declared.record.Status.TheVariants.{Ready}
+use Rattle.lot_machine.specs.declared.record.Record.{Record}
+use Rattle.lot_machine.specs.Commands.{Step}
+use Rattle.lot_machine.specs.Numbered.{at_number}
+use Rattle.lot_machine.specs.State.{change_record, sizes_of, status_of, thread_on}
+use Rattle.lot_machine.proofs.EachOnce.{contains-nothing}
+use Rattle.lot_value.specs.Counts.{counted_up}
+use Rattle.lot_kernel.proofs.Drawing.{draw-allowed, start-fresh, step-idle, step-won}
+use Rattle.lot_value.specs.Caches.{edges_into_all}
+use Rattle.lot_kernel.specs.Snapshots.{held}
+use Rattle.lot_machine.specs.Step.{is_bad_processor, started}
+use Rattle.lot_kernel.specs.Counted.{settled}
+use Rattle.lot_kernel.proofs.Trapping.{status-there}
+use Rattle.lot_kernel.specs.contracts.tables.Tables.{the_view}
+use Rattle.lot_machine.specs.declared.reply.Reply.TheVariants as answer
 use Rattle.lot_kernel.proofs.tables.Tables.draw.Goals as goal
+use Rattle.lot_kernel.specs.contracts.tables.Tables.{the_view}
+use Rattle.lot_kernel.specs.contracts.tables.Tables.{the_view}
 
-pub invariant_of-self : goal.invariant_of-self
-invariant_of-self c =
-    let k = c.self-2.inside in
-    let some : 0 < k.limits.quantum = omega (arith, k.limits.within_bounds.of_quantum.0) in
-    let timely : All (IsTimely k.limits.quantum) c.start-delivered.new.records.items =
-    rw c.start-delivered.ensures.records (timely-changed _ _ _ _ (λ r h. (tt, some)) c.self-2.invariant.timely) in
-    search rules
+pub returns-in_default-clause-reply : goal.returns-in_default-clause-reply
+returns-in_default-clause-reply c =
+    let i = c.self.inside in
+    let s = (the_view i).state in
+    let good : is_bad_processor s c.args.processor ≡ false = search rules in
+    let free : is_some (thread_on s.records c.args.processor) ≡ false = search rules in
+    let none = ap (λ (v : Threaded). drawn_in v c.args.d) (sym c.self.invariant.threads) ∙ sym c.draw.ensures.winner ∙ c.in_default.is in
+    rw (← c.self.view_is) (sym (ap (λ (x : Step). x.reply) (step-idle s c.args.processor c.args.d good free i.threads.stale none)))
+
+pub returns-in_default-clause-state : goal.returns-in_default-clause-state
+returns-in_default-clause-state c =
+    let i = c.self.inside in
+    let s = (the_view i).state in
+    let good : is_bad_processor s c.args.processor ≡ false = search rules in
+    let free : is_some (thread_on s.records c.args.processor) ≡ false = search rules in
+    let none = ap (λ (v : Threaded). drawn_in v c.args.d) (sym c.self.invariant.threads) ∙ sym c.draw.ensures.winner ∙ c.in_default.is in
+    rw (← c.self.view_is) (ap (λ (v : Threaded). held (sizes_of i.limits) i.currencies.items v i.queues) c.draw.ensures.settled ∙ sym (ap (λ (x : Step). x.state) (step-idle s c.args.processor c.args.d good free i.threads.stale none)))
+
+pub returns-in_default-clause-counts : goal.returns-in_default-clause-counts
+returns-in_default-clause-counts c =
+    let i = c.self.inside in
+    let s = (the_view i).state in
+    let good : is_bad_processor s c.args.processor ≡ false = search rules in
+    let free : is_some (thread_on s.records c.args.processor) ≡ false = search rules in
+    let reads = ap (λ (v : Threaded). counted_up i.meter.ticket_reads (edges_into_all (funding_in v) v.stale)) c.self.invariant.threads in
+    rw (← c.self.view_is, draw-allowed s c.args.processor c.args.d good free)
+    (record { fresh = ap (λ (v : Threaded). v.stale) c.draw.ensures.settled; reads = c.draw.ensures.reads ∙ reads; visits = c.in_default.ensures.visits })
+
+pub start-delivered-requires-clause-thread : goal.start-delivered-requires-clause-thread
+start-delivered-requires-clause-thread c =
+    let there = status-there c.self.inside.threads.records c.in-Some.winner.thread Ready c.in-Some.ensures.ready in
+    (there.0, omega (arith, there.1, ap (λ (v : Threaded). length v.records) c.draw.ensures.settled))
+
+pub returns-clause-reply : goal.returns-clause-reply
+returns-clause-reply c =
+    let i = c.self.inside in
+    let s = (the_view i).state in
+    let w = c.in-Some.winner in
+    let good : is_bad_processor s c.args.processor ≡ false = search rules in
+    let free : is_some (thread_on s.records c.args.processor) ≡ false = search rules in
+    let some = ap (λ (v : Threaded). drawn_in v c.args.d) (sym c.self.invariant.threads) ∙ sym c.draw.ensures.winner ∙ c.in-Some.is in
+    let delivered = c.start-delivered.ensures.delivered ∙ ap (λ (v : Threaded). option_and_then (λ (r : Record). r.delivered) (at_number v.records w.thread)) c.draw.ensures.settled in
+    rw (← c.self.view_is) (ap (answer.Winner w.thread w.number w.total) delivered ∙ sym (ap (λ (x : Step). x.reply) (step-won s c.args.processor c.args.d good free i.threads.stale w some)))
+
+pub returns-clause-state : goal.returns-clause-state
+returns-clause-state c =
+    let i = c.self.inside in
+    let s = (the_view i).state in
+    let w = c.in-Some.winner in
+    let good : is_bad_processor s c.args.processor ≡ false = search rules in
+    let free : is_some (thread_on s.records c.args.processor) ≡ false = search rules in
+    let some = ap (λ (v : Threaded). drawn_in v c.args.d) (sym c.self.invariant.threads) ∙ sym c.draw.ensures.winner ∙ c.in-Some.is in
+    rw (← c.self.view_is) (ap (λ (v : Threaded). held (sizes_of i.limits) i.currencies.items v i.queues) c.start-delivered.ensures.started
+    ∙ ap (λ (v : Threaded). held (sizes_of i.limits) i.currencies.items (with_records v (change_record (started c.args.processor) v.records w.thread) v.stale) i.queues) c.draw.ensures.settled
+    ∙ sym (ap (λ (x : Step). x.state) (step-won s c.args.processor c.args.d good free i.threads.stale w some)))
+
+fresh : (v settled new : Threaded) (p t : ℕ) → settled ≡ record v { stale = [] } → status_of v.records t ≡ Some Ready → new ≡ with_records settled (change_record (started p) settled.records t) new.stale → MakesStaleIn settled new → new.stale ≡ []
+fresh v settled new p t is ready = start-fresh settled new p t (ap (λ (x : Threaded). x.stale) is) (ap (λ (x : Threaded). status_of x.records t) is ∙ ready)
+
+pub returns-clause-stale : goal.returns-clause-stale
+returns-clause-stale c x stale =
+    let none = fresh c.self.inside.threads c.draw.new.self c.start-delivered.new.self c.args.processor c.in-Some.winner.thread c.draw.ensures.settled c.in-Some.ensures.ready c.start-delivered.ensures.started c.start-delivered.ensures.stale in
+    absurd (contains-nothing x (subst (λ (nodes : List Node). Contains nodes x) none stale))
+
+pub returns-clause-counts : goal.returns-clause-counts
+returns-clause-counts c =
+    let i = c.self.inside in
+    let s = (the_view i).state in
+    let good : is_bad_processor s c.args.processor ≡ false = search rules in
+    let free : is_some (thread_on s.records c.args.processor) ≡ false = search rules in
+    let reads = ap (λ (v : Threaded). counted_up i.meter.ticket_reads (edges_into_all (funding_in v) v.stale)) c.self.invariant.threads in
+    let none = fresh i.threads c.draw.new.self c.start-delivered.new.self c.args.processor c.in-Some.winner.thread c.draw.ensures.settled c.in-Some.ensures.ready c.start-delivered.ensures.started c.start-delivered.ensures.stale in
+    let limit = ap (λ (v : Threaded). v.thread_limit) c.self.invariant.threads in
+    rw (← c.self.view_is, draw-allowed s c.args.processor c.args.d good free)
+    (record { fresh = none; reads = c.draw.ensures.reads ∙ reads; visits = subst (λ n. CountsReads n i.meter.tree_visits c.draw.new.meter.tree_visits) limit c.in-Some.ensures.visits })

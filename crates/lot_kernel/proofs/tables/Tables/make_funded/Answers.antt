@@ -1,20 +1,53 @@
-use Rattle.std.proofs.Common.{◌<◌, [], ◌∷◌, length, vec_len, ap, ◌∙◌, rules, arith}
-use Rattle.std.proofs.lemmas.List.{length-append}
-use Rattle.lot_machine.specs.State.{State}
-use Rattle.lot_rounds.specs.Tables.{AreWithin}
-use Rattle.lot_kernel.proofs.HeldLemmas.{within-pushed}
+use Rattle.std.proofs.Common.{List, Some, ap, length, option_map, rules, ℕ, ◌+◌, ◌∙◌, ◌≡◌}
+use Rattle.lot_kernel.specs.Snapshots.{Snapshot}
+use Rattle.lot_machine.specs.State.{State, funding_of}
+use Rattle.lot_machine.specs.declared.ticket.Target.TheVariants.{Thread, Unfunded}
+use Rattle.lot_machine.specs.declared.ticket.Ticket.{Ticket}
+use Rattle.lot_kernel.proofs.Commanding.{funded-new, last-number, makes-funded, named-there}
+use Rattle.std.specs.Option.{option_flatten}
+use Rattle.lot_machine.specs.Funding.{target_of, with_new_ticket, with_target}
+use Rattle.lot_kernel.specs.contracts.tables.Tables.{the_view}
+use Rattle.lot_machine.specs.Commands.{with_thread}
 use Rattle.lot_kernel.proofs.tables.Tables.make_funded.Goals as goal
+use Rattle.lot_kernel.specs.contracts.tables.Tables.{the_view}
 
-pub invariant_of-self : goal.invariant_of-self
-invariant_of-self c =
-    let k = c.self-2.inside in
-    let below : c.in-Some.issuer < vec_len c.self.inside.currencies = search rules in
-    let same = c.self-2.view_is ∙ c.push_thread.ensures in
-    let before = ap (λ (s : State). length s.currencies) c.self.view_is in
-    let currencies = ap (λ (s : State). length s.currencies) same in
-    let threads = ap (λ (s : State). length s.threads) same in
-    let more = length-append c.args.self.now.threads (record { name = c.args.name.now; script = c.args.script } ∷ []) in
-    let within : AreWithin (vec_len k.currencies) (vec_len k.records) c.push_reserved.new.self.items =
-    rw c.push_reserved.ensures.items (within-pushed _ _ _ _ k.tickets.items _ (omega arith) (omega arith) c.self-2.invariant.within
-    (omega (arith, below, before, currencies), (omega (arith, c.len-thread.ensures, threads, more), omega (arith, c.len-thread.ensures, c.self-2.invariant.records)))) in
-    search rules
+-- the state after a ticket was issued, a thread made, and the one made to fund the other
+made-state : (s issued added funded : State) (amount issuer script n t : ℕ) (name : List ℕ) → issued ≡ record s { tickets = with_new_ticket s.tickets amount issuer Unfunded } → added ≡ with_thread issued name script
+    → funded ≡ record added { tickets = with_target added.tickets n (Thread t) } → n ≡ length s.tickets + 1 → t ≡ length s.threads + 1
+    → funded ≡ record (with_thread s name script) { tickets = with_new_ticket s.tickets amount issuer (Thread (length s.threads + 1)) }
+made-state s issued added funded amount issuer script n t name first second third number thread =
+    third ∙ ap (λ (x : State). record x { tickets = with_target x.tickets n (Thread t) }) (second ∙ ap (λ (x : State). with_thread x name script) first)
+    ∙ ap (λ u. record (with_thread s name script) { tickets = with_target (with_new_ticket s.tickets amount issuer Unfunded) n (Thread u) }) thread
+    ∙ ap (λ m. record (with_thread s name script) { tickets = with_target (with_new_ticket s.tickets amount issuer Unfunded) m (Thread (length s.threads + 1)) }) number
+    ∙ ap (λ ts. record (with_thread s name script) { tickets = ts }) (funded-new s.tickets amount issuer (Thread (length s.threads + 1)))
+
+pub issue-requires-clause-issuer : goal.issue-requires-clause-issuer
+issue-requires-clause-issuer c =
+    let i = c.self.inside in
+    rw (← c.self.view_is) (named-there c.args.currency.now i.currencies.items c.in-Some.issuer (search rules))
+
+pub fund_thread-requires-clause-unfunded : goal.fund_thread-requires-clause-unfunded
+fund_thread-requires-clause-unfunded c =
+    let old = the_view c.self.inside in
+    let issued : c.issue.new.self ≡ record old { state = record old.state { tickets = with_new_ticket old.state.tickets c.args.amount c.in-Some.issuer Unfunded } } = search rules in
+    let number : c.in-Some-issue.ticket ≡ length old.state.tickets + 1 = search rules in
+    ap (λ (x : State). target_of (funding_of x) c.in-Some-issue.ticket) (c.add_thread-thread.ensures.state ∙ ap (λ (x : Snapshot). with_thread x.state c.args.name.now c.args.script) issued)
+    ∙ ap (λ n. target_of (funding_of (with_thread (record old.state { tickets = with_new_ticket old.state.tickets c.args.amount c.in-Some.issuer Unfunded }) c.args.name.now c.args.script)) n) number
+    ∙ ap (λ o. option_map (λ (t : Ticket). t.target) (option_flatten o)) (last-number old.state.tickets (Some (record { amount = c.args.amount; issuer = c.in-Some.issuer; target = Unfunded })))
+
+pub returns-clause-state : goal.returns-clause-state
+returns-clause-state c =
+    let old = the_view c.self.inside in
+    let issued : c.issue.new.self ≡ record old { state = record old.state { tickets = with_new_ticket old.state.tickets c.args.amount c.in-Some.issuer Unfunded } } = search rules in
+    let number : c.in-Some-issue.ticket ≡ length old.state.tickets + 1 = search rules in
+    let thread : c.add_thread-thread.result ≡ length old.state.threads + 1 = c.add_thread-thread.ensures.number ∙ ap (λ (x : Snapshot). length x.state.threads + 1) issued in
+    let made = made-state old.state c.issue.new.self.state c.add_thread-thread.new.self.state c.fund_thread.new.self.state c.args.amount c.in-Some.issuer c.args.script c.in-Some-issue.ticket c.add_thread-thread.result c.args.name.now
+    (ap (λ (x : Snapshot). x.state) issued) c.add_thread-thread.ensures.state c.fund_thread.ensures.state number thread in
+    search (rules, made)
+
+pub returns-clause-stale : goal.returns-clause-stale
+returns-clause-stale c =
+    let old = the_view c.self.inside in
+    let issued : c.issue.new.self ≡ record old { state = record old.state { tickets = with_new_ticket old.state.tickets c.args.amount c.in-Some.issuer Unfunded } } = search rules in
+    rw (← c.self.view_is) (makes-funded old c.issue.new.self c.add_thread-thread.new.self c.fund_thread.new.self c.args.amount c.in-Some.issuer c.args.script c.in-Some-issue.ticket c.add_thread-thread.result c.args.name.now
+    issued c.add_thread-thread.ensures.state c.fund_thread.ensures.state c.add_thread-thread.ensures.stale c.fund_thread.ensures.stale)

@@ -1,40 +1,72 @@
-use Rattle.std.proofs.Common.{ap, ◌∙◌, arith, rules}
-use Rattle.lot_machine.specs.State.{State}
-use Rattle.lot_machine.specs.Traps.{after_trap, with_ticks}
-use Rattle.lot_kernel.proofs.HeldLemmas.{timely-changed, timely-finished}
-use Rattle.lot_kernel.specs.Trapped.{effect_of}
-use Rattle.lot_kernel.specs.contracts.tables.Tables.{the_view}
-use Rattle.lot_kernel.proofs.TrapLemmas.{running-there, finished-reply, finished-state}
+use Rattle.std.proofs.Common.{ap, option_map, refl, subst, sym, ℕ, ◌∙◌, ◌≡◌}
+use Rattle.lot_machine.specs.declared.action.Action.{Action}
+use Rattle.lot_threads.specs.Threaded.{CanLend}
+use Rattle.lot_machine.specs.Order.{IsInOrder}
+use Rattle.lot_machine.specs.declared.record.Record.{Record}
+use Rattle.lot_machine.specs.declared.record.Status.TheVariants.{Running}
+use Rattle.lot_machine.proofs.RecordsKept.{RunsAlone, StopsIfLeaves}
+use Rattle.lot_kernel.specs.Trapped.{RunsOn, effect_of}
+use Rattle.lot_machine.specs.State.{State, funding_of, lend_of, status_of}
+use Rattle.lot_machine.specs.Numbered.{at_number}
+use Rattle.lot_kernel.proofs.Leaving.{effect-leaves}
+use Rattle.lot_kernel.proofs.TrapEnds.{effect-limits, effect-runs, finished-state, lends-there, makes-trap}
+use Rattle.lot_kernel.proofs.Finishing.{may-leave}
+use Rattle.lot_machine.proofs.Queues.{record-of}
 use Rattle.lot_kernel.proofs.tables.Tables.make_trap.Goals as goal
 
-pub finish-requires : goal.finish-requires
-finish-requires c =
-    let there = running-there c.args.self.now.records c.args.trap.thread c.requires.runs in
-    let count = rw (← c.self.view_is) at c.act-effect.ensures.count in
-    (there.0, omega (arith, there.1, count))
+-- the thread's record is as it was before the trap
+left-alone : (s : State) (order : IsInOrder s) (t p : ℕ) (action : Action) → RunsOn s.records t p → at_number (effect_of s t action).state.records t ≡ at_number s.records t
+left-alone s order t p action (used, runs) = effect-leaves s t p used action runs order.queues
 
-pub invariant_of-self : goal.invariant_of-self
-invariant_of-self c =
-    let quantum = c.self.inside.limits.quantum in
-    let trap = c.args.trap in
-    let after = c.act-effect.result.after in
-    let timely = timely-changed quantum c.self.inside.records.items (λ r. with_ticks trap.ticks (after_trap after trap.processor trap.used quantum r)) trap.thread
-    (timely-finished quantum trap.processor trap.used trap.ticks after c.requires.used (c.act-effect.ensures.leaves quantum)) c.self.invariant.timely in
-    search (rules, rw (← c.finish.ensures.records) at timely)
+pub finish-requires-clause-runs : goal.finish-requires-clause-runs
+finish-requires-clause-runs c =
+    let s = c.args.self.now.state in
+    let t = c.args.trap.thread in
+    let left = left-alone s c.requires.order t c.args.trap.processor c.args.action c.requires.runs in
+    (c.requires.runs.0, ap (λ (x : State). status_of x.records t) c.act-effect.ensures.state ∙ ap (option_map (λ (r : Record). r.status)) left ∙ c.requires.runs.1)
 
-pub returns-clause-reply : goal.returns-clause-reply
-returns-clause-reply c =
-    let trap = c.args.trap in
-    let effect = effect_of c.args.self.now trap.thread c.args.action in
-    let limits = ap (λ (s : State). s.limits) c.self.view_is ∙ c.act-effect.ensures.limits in
-    rw c.has_ended.ensures
-    (finished-reply c.args.self.now (the_view c.self.inside) trap.processor trap.thread trap.ticks trap.used effect c.act-effect.result.after (c.self.view_is ∙ c.act-effect.ensures.state) limits c.act-effect.ensures.after
-    c.act-effect.result.outcome c.act-effect.ensures.outcome)
+pub finish-requires-clause-alone : goal.finish-requires-clause-alone
+finish-requires-clause-alone c =
+    let s = c.args.self.now.state in
+    let t = c.args.trap.thread in
+    let p = c.args.trap.processor in
+    subst (λ (x : State). RunsAlone x.records p t) (sym c.act-effect.ensures.state) (effect-runs s t p c.requires.runs.0 c.args.action c.requires.order c.requires.runs.1).1
+
+pub finish-requires-clause-stops : goal.finish-requires-clause-stops
+finish-requires-clause-stops c =
+    let s = c.args.self.now.state in
+    let t = c.args.trap.thread in
+    let p = c.args.trap.processor in
+    subst StopsIfLeaves (sym c.act-effect.ensures.after) (effect-runs s t p c.requires.runs.0 c.args.action c.requires.order c.requires.runs.1).2
+
+pub finish-requires-clause-lend : goal.finish-requires-clause-lend
+finish-requires-clause-lend c status leaves =
+    let s = c.args.self.now.state in
+    let t = c.args.trap.thread in
+    let p = c.args.trap.processor in
+    let used = c.requires.runs.0 in
+    let runs = c.requires.runs.1 in
+    let left = left-alone s c.requires.order t p c.args.action c.requires.runs in
+    let leaving = sym c.act-effect.ensures.after ∙ leaves in
+    subst (λ (x : State). CanLend (funding_of x) t (lend_of status)) (sym c.act-effect.ensures.state)
+    (may-leave s (effect_of s t c.args.action).state t p used c.args.trap.ticks c.args.trap.used c.args.action c.requires.order runs c.requires.ticks.0 c.requires.ticks.1 refl
+    (ap (option_map (λ (r : Record). r.status)) left ∙ runs) status leaving (lends-there s t p used c.requires.order runs c.args.action status leaving))
 
 pub returns-clause-state : goal.returns-clause-state
 returns-clause-state c =
+    let s = c.args.self.now.state in
     let trap = c.args.trap in
-    let effect = effect_of c.args.self.now trap.thread c.args.action in
-    let limits = ap (λ (s : State). s.limits) c.self.view_is ∙ c.act-effect.ensures.limits in
-    rw c.finish.ensures.records
-    (finished-state c.args.self.now (the_view c.self.inside) trap.processor trap.thread trap.ticks trap.used effect c.act-effect.result.after (c.self.view_is ∙ c.act-effect.ensures.state) limits c.act-effect.ensures.after)
+    let effect = effect_of s trap.thread c.args.action in
+    let mid = c.act-effect.new.self.state in
+    c.finish.ensures.state
+    ∙ finished-state s mid trap.processor trap.thread trap.ticks trap.used effect c.act-effect.result.after c.act-effect.ensures.state
+    (ap (λ (x : State). x.limits) c.act-effect.ensures.state ∙ effect-limits s trap.thread c.args.action) c.act-effect.ensures.after
+
+pub returns-clause-stale : goal.returns-clause-stale
+returns-clause-stale c =
+    let s = c.args.self.now.state in
+    let trap = c.args.trap in
+    let left = left-alone s c.requires.order trap.thread trap.processor c.args.action c.requires.runs in
+    let was = record-of s.records trap.thread (Running trap.processor c.requires.runs.0) c.requires.runs.1 in
+    makes-trap c.args.self.now c.act-effect.new.self c.finish.new.self trap.thread _ was.0 was.1
+    (ap (λ (x : State). at_number x.records trap.thread) c.act-effect.ensures.state ∙ left ∙ was.1) c.finish.ensures.state c.act-effect.ensures.stale c.finish.ensures.stale

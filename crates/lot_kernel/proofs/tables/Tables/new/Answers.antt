@@ -1,10 +1,22 @@
-use Rattle.std.proofs.Common.{◌≡◌, ◌++◌, List, ℕ, Option, Some, [], ◌∷◌, codes, refl, ap, ◌∙◌, arith}
-use Rattle.lot_kernel.proofs.NumberedLemmas.{some-of}
+use Rattle.std.proofs.Common.{Some, [], arith, codes, refl, rules, ◌∷◌, ◌≡◌}
+use Rattle.lot_kernel.proofs.Opening.{opening-held}
+use Rattle.lot_machine.specs.State.{sizes_of}
 use Rattle.lot_kernel.proofs.tables.Tables.new.Goals as goal
 
-pub returns : goal.returns
-returns c =
-    let name : c.new.result ≡ Some (codes "base") = some-of c.new.result (codes "base") (c.new.ensures.fits.1 (omega arith)) c.new.ensures.bytes in
-    let base : c.push_reserved.new.self.items ≡ Some (codes "base") ∷ [] =
-    c.push_reserved.ensures.items ∙ ap (λ (xs : List (Option (List ℕ))). xs ++ c.new.result ∷ []) c.in_ok-made.ensures.items ∙ ap (λ (o : Option (List ℕ)). o ∷ []) name in
-    rw (base, c.in_ok-with_capacity.ensures.items, c.in_ok-with_capacity-2.ensures.items, c.in_ok-with_capacity-3.ensures.items, c.in_ok-new.ensures) refl
+pub invariant_of-result : goal.invariant_of-result
+invariant_of-result c =
+    let base : c.push_reserved.new.self.items ≡ Some (codes "base") ∷ [] = search rules in
+    let opening = c.in_ok-new.ensures.opening in
+    let empty = c.in_ok-new-2.ensures in
+    let room = c.in_ok-new-3.ensures in
+    let threads = opening-held (sizes_of c.args.limits) c.push_reserved.new.self.items c.in_ok-new.field-0 c.in_ok-new-2.field-0 base opening empty in
+    record {
+      threads = threads;
+      count = rw opening refl;
+      few = rw opening (omega arith);
+      clients = rw (opening, empty) refl;
+      currencies = search rules;
+      currency_room = search rules;
+      queue_room = rw empty refl;
+      lottery_room = rw room refl;
+    }

@@ -16,11 +16,11 @@ follow_command-requires-clause-made c =
     let i = c.self.invariant in
     let left = rw (← c.self.view_is) at c.requires.left in
     let w = system_run s.program s.history.items in
-    let below = command-left s.program w s.kernel s.places.items s.generators.items s.spent i.held left in
-    let next = command-next s.program w s.kernel s.places.items s.generators.items s.spent i.held c.commands.result.now c.copied.result c.index-commands-self.result below c.commands.ensures.commands c.index-commands-self.is c.copied.ensures in (
-      s.kernel,
+    let below = command-left s.program w s.kernel.state s.places.items s.generators.items s.spent i.held left in
+    let next = command-next s.program w s.kernel.state s.places.items s.generators.items s.spent i.held c.commands.result.now c.copied.result c.index-commands-self.result below c.commands.ensures.commands c.index-commands-self.is c.copied.ensures in (
+      s.kernel.state,
       w.contexts,
-      command-made s.program w s.kernel s.places.items s.generators.items s.spent i.held c.copied.result _ next c.event-reply.new.self c.event-reply.result c.event-reply.ensures.state c.event-reply.ensures.reply,
+      command-made s.program w s.kernel.state s.places.items s.generators.items s.spent i.held c.copied.result _ next c.event-reply.new.self.state c.event-reply.result c.event-reply.ensures.state c.event-reply.ensures.reply,
       i.held.places_at,
       ap (λ l. l.scripts) i.held.kept.limits ∙ sym i.program.script_count,
     )
@@ -30,7 +30,7 @@ unfolding follow_command-requires-clause-made
 follow_command-requires-clause-room c =
     let i = c.self.invariant in
     let made = follow_command-requires-clause-made c in
-    let kept = kept-made c.self.inside.program c.self.inside.kernel c.event-reply.new.self c.event-reply.result i.held.kept made.2 in
+    let kept = kept-made c.self.inside.program c.self.inside.kernel.state c.event-reply.new.self.state c.event-reply.result i.held.kept made.2 in
     omega (arith, ap (λ l. l.threads) kept.limits, i.threads)
 
 pub count_turn-requires-clause-bounded : goal.count_turn-requires-clause-bounded
@@ -45,14 +45,14 @@ invariant_of-self c =
     let i = c.self.invariant in
     let requires = rw (← c.self.view_is) at c.requires in
     let w = system_run s.program s.history.items in
-    let below = command-left s.program w s.kernel s.places.items s.generators.items s.spent i.held requires.left in
-    let next = command-next s.program w s.kernel s.places.items s.generators.items s.spent i.held c.commands.result.now c.copied.result c.index-commands-self.result below c.commands.ensures.commands c.index-commands-self.is c.copied.ensures in
-    let made = command-made s.program w s.kernel s.places.items s.generators.items s.spent i.held c.copied.result _ next c.event-reply.new.self c.event-reply.result c.event-reply.ensures.state c.event-reply.ensures.reply in
+    let below = command-left s.program w s.kernel.state s.places.items s.generators.items s.spent i.held requires.left in
+    let next = command-next s.program w s.kernel.state s.places.items s.generators.items s.spent i.held c.commands.result.now c.copied.result c.index-commands-self.result below c.commands.ensures.commands c.index-commands-self.is c.copied.ensures in
+    let made = command-made s.program w s.kernel.state s.places.items s.generators.items s.spent i.held c.copied.result _ next c.event-reply.new.self.state c.event-reply.result c.event-reply.ensures.state c.event-reply.ensures.reply in
     let held =
-    command-held s.program w s.kernel s.places.items s.generators.items s.spent i.held c.copied.result _ next c.event-reply.new.self c.event-reply.result c.event-reply.ensures.state c.event-reply.ensures.reply refl
-    c.follow_command.new.places.items (c.follow_command.ensures.at s.kernel w.contexts made i.held.places_at) in
+    command-held s.program w s.kernel.state s.places.items s.generators.items s.spent i.held c.copied.result _ next c.event-reply.new.self.state c.event-reply.result c.event-reply.ensures.state c.event-reply.ensures.reply refl
+    c.follow_command.new.places.items (c.follow_command.ensures.at s.kernel.state w.contexts made i.held.places_at) in
     let answer =
-    command-answer s.program w s.kernel s.places.items s.generators.items s.spent i.held c.copied.result _ next c.event-reply.new.self c.event-reply.result c.event-reply.ensures.state c.event-reply.ensures.reply in
+    command-answer s.program w s.kernel.state s.places.items s.generators.items s.spent i.held c.copied.result _ next c.event-reply.new.self.state c.event-reply.result c.event-reply.ensures.state c.event-reply.ensures.reply in
     let count = count-console s.history.items in
     let legal : IsLegal s.program s.room (s.history.items ++ 0 ∷ []) = legal-more s.program s.room s.history.items 0 i.legal (omega arith) requires.room (omega (arith, count, i.spent, below)) in
     rw c.remember.ensures.items (record {
@@ -75,7 +75,7 @@ returns-clause-answer c =
     let i = c.self.invariant in
     let requires = rw (← c.self.view_is) at c.requires in
     let w = system_run s.program s.history.items in
-    let below = command-left s.program w s.kernel s.places.items s.generators.items s.spent i.held requires.left in
-    let next = command-next s.program w s.kernel s.places.items s.generators.items s.spent i.held c.commands.result.now c.copied.result c.index-commands-self.result below c.commands.ensures.commands c.index-commands-self.is c.copied.ensures in
+    let below = command-left s.program w s.kernel.state s.places.items s.generators.items s.spent i.held requires.left in
+    let next = command-next s.program w s.kernel.state s.places.items s.generators.items s.spent i.held c.commands.result.now c.copied.result c.index-commands-self.result below c.commands.ensures.commands c.index-commands-self.is c.copied.ensures in
     subst (λ (x : Seen). (system_turn x.setting.program (world_of x) 0).answer ≡ Answered (event.Command c.copied.result) c.event-reply.result) c.self.view_is
-    (command-answer s.program w s.kernel s.places.items s.generators.items s.spent i.held c.copied.result _ next c.event-reply.new.self c.event-reply.result c.event-reply.ensures.state c.event-reply.ensures.reply)
+    (command-answer s.program w s.kernel.state s.places.items s.generators.items s.spent i.held c.copied.result _ next c.event-reply.new.self.state c.event-reply.result c.event-reply.ensures.state c.event-reply.ensures.reply)

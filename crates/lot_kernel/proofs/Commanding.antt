@@ -1,0 +1,178 @@
+-- What commands change: names, tickets and what they fund.
+use Rattle.std.proofs.Common.{◌≡◌, ◌∙◌, ◌↔◌, ◌⊎◌, inl, inr, ℕ, zero, suc, ◌+◌, ◌-◌, ◌<◌, Bool, true, false, Option, Some, None, is_some, List, [], ◌∷◌, ◌++◌, length, map, position, get_or, slice_get, slice_set, option_and_then, option_map, ap, sym, refl, subst, arith, if◌then◌else◌}
+use Rattle.std.specs.Prelude.{IsTrue}
+use Rattle.std.specs.Str.{bytes_eq}
+use Rattle.std.proofs.Math.Seq.{set-append_seam}
+use Rattle.std.specs.List.{Contains}
+use Rattle.std.specs.Option.{option_flatten}
+use Rattle.std.proofs.lemmas.List.{length-map, map-append}
+use Rattle.std.proofs.lemmas.List.Quantifiers.{position-Some}
+use Rattle.std.proofs.lemmas.Option.{slice_get-get_or, slice_get-map, slice_get_within}
+use Rattle.lot_machine.specs.declared.command.Command.TheVariants.{Fund}
+use Rattle.lot_machine.specs.declared.funding.Edge.{Edge}
+use Rattle.lot_machine.specs.declared.funding.Edge.TheVariants.{OfTicket, OfLender, OfMutex}
+use Rattle.lot_machine.specs.declared.funding.Lend.{Lend}
+use Rattle.lot_machine.specs.declared.funding.Lend.TheVariants.{Nobody}
+use Rattle.lot_machine.specs.declared.funding.Node.{Node}
+use Rattle.lot_machine.specs.declared.funding.Node.TheVariants as node
+use Rattle.lot_machine.specs.declared.record.Record.{Record}
+use Rattle.lot_machine.specs.declared.refusal.Refusal.TheVariants.{Cycle}
+use Rattle.lot_machine.specs.declared.reply.Reply.TheVariants as reply
+use Rattle.lot_machine.specs.declared.ticket.Target.{Target}
+use Rattle.lot_machine.specs.declared.ticket.Target.TheVariants.{Unfunded, Currency, Thread}
+use Rattle.lot_machine.specs.declared.ticket.Ticket.{Ticket}
+use Rattle.lot_machine.specs.Commands.{command_step, is_cycle, is_dead_thread, is_funding, target_named, with_thread}
+use Rattle.lot_machine.specs.Funding.{Funding, WouldCycle, ends_of, is_currency, issuer_of, lend_node, retargeted, target_node, target_of, ticket_at, ticket_in, with_new_ticket, with_target, would_cycle}
+use Rattle.lot_machine.specs.Numbered.{at_number, option_any, set_number}
+use Rattle.lot_machine.specs.Order.{IsInOrder}
+use Rattle.lot_machine.specs.State.{State, funding_of, lend_of, live_in}
+use Rattle.lot_machine.proofs.Changes.{number-push}
+use Rattle.lot_machine.proofs.TicketDepth.{would_cycle-exact}
+use Rattle.lot_machine.proofs.Tickets.{at_number-suc, some-injective}
+use Rattle.lot_machine.proofs.TwoSteps.{edges-between, live-between}
+use Rattle.lot_graph.specs.Graphs.{IsCycle, IsTarget}
+use Rattle.lot_threads.proofs.TwoChanges.{makes-both-in}
+use Rattle.lot_kernel.specs.Snapshots.{IsTargetThere, MakesStale, Snapshot, threads_of}
+
+-- a currency that has the name is there
+pub named-there : (name : List ℕ) (names : List (Option (List ℕ))) (c : ℕ) → position (option_any (bytes_eq name)) names ≡ Some c → slice_get (map is_some names) c ≡ Some true
+named-there name names c named =
+    let found = position-Some (option_any (bytes_eq name)) names c None named in
+    slice_get-map is_some names c ∙ ap (option_map is_some) (slice_get-get_or names c None found.0) ∙ ap Some (passes (get_or names c None) found.1)
+  where
+    passes : (o : Option (List ℕ)) → option_any (bytes_eq name) o ≡ true → is_some o ≡ true
+    passes None e = cc
+    passes (Some x) e = refl
+
+-- ---- funding
+
+-- a target that is there, and isn't base, may be funded
+pub target-funded : (s : State) (to : Target) → IsTargetThere s to → is_currency 0 to ≡ false → IsTarget (funding_of s) to
+target-funded s Unfunded there other = there
+target-funded s (Thread t) there other = (there.0, omega (arith, there.1, length-map s.records (λ (r : Record). lend_of r.status)))
+target-funded s (Currency zero) there other = cc
+target-funded s (Currency (suc c)) there other = (omega arith, there)
+
+thread-no-cycle : (f : Funding) (n u : ℕ) → ¬ IsCycle f n (Thread u)
+thread-no-cycle f n u (c, issuer, same, of, cycle) = cc
+
+-- whether a cycle would be made, as the graph says and as the definitions test
+module _ (s : State) (order : IsInOrder s) (n : ℕ) (t : Ticket) (here : ticket_in s.tickets n ≡ Some t) where
+  issued : issuer_of (funding_of s) n ≡ Some t.issuer
+  issued = ap (option_map (λ (u : Ticket). u.issuer)) here
+
+  test-of : (c : ℕ) → is_cycle s n (Currency c) ≡ would_cycle (funding_of s) t.issuer c
+  test-of c = ap (option_any (λ issuer. would_cycle (funding_of s) issuer c)) issued
+
+  exact : (c : ℕ) → c < length (funding_of s).currencies → (is_cycle s n (Currency c) ≡ true) ↔ IsCycle (funding_of s) n (Currency c)
+  exact c low = (
+    λ e. (c, t.issuer, refl, issued, (would_cycle-exact (funding_of s) order.no_cycle order.funds_there t.issuer c low).0 (sym (test-of c) ∙ e)),
+    λ (d, issuer, same, of, cycle). test-of c ∙ (would_cycle-exact (funding_of s) order.no_cycle order.funds_there t.issuer c low).1
+        (subst (λ i. WouldCycle (funding_of s) i c) (some-injective issuer t.issuer (sym of ∙ issued)) (subst (λ x. WouldCycle (funding_of s) issuer x) (sym (currency-same c d same)) cycle)),
+  )
+    where
+      currency-same : (x y : ℕ) → Currency x ≡ Currency y → x ≡ y
+      currency-same x y e = cc
+
+  pub cycle-tested : (to : Target) → IsTarget (funding_of s) to → (found : Bool) → (IsTrue found ↔ IsCycle (funding_of s) n to) → is_cycle s n to ≡ found
+  cycle-tested Unfunded there found is = absurd there
+  cycle-tested (Thread u) there true is = absurd (thread-no-cycle (funding_of s) n u (is.0 refl))
+  cycle-tested (Thread u) there false is = refl
+  cycle-tested (Currency c) there true is = (exact c (slice_get_within (funding_of s).currencies c true there.1)).1 (is.0 refl)
+  cycle-tested (Currency c) there false is = by (is_cycle s n (Currency c)) refl
+    where
+      by : (b : Bool) → is_cycle s n (Currency c) ≡ b → is_cycle s n (Currency c) ≡ false
+      by true e = let never : false ≡ true = is.1 ((exact c (slice_get_within (funding_of s).currencies c true there.1)).0 e) in cc
+      by false e = e
+
+-- a command to fund that passes the checks before the last
+pub fund-step : (s : State) (n : ℕ) (name : List ℕ) (t : Ticket) (to : Target) (cycle : Bool) → ticket_in s.tickets n ≡ Some t → target_named s name ≡ Some to → is_currency 0 to ≡ false → is_dead_thread s to ≡ false
+    → is_funding t ≡ false → is_cycle s n to ≡ cycle
+    → command_step s (Fund n name) ≡ record { state = if cycle then s else record s { tickets = with_target s.tickets n to }; reply = if cycle then reply.Refused Cycle else reply.Done }
+fund-step s n name t to true here named base dead funding test = rw (here, named, base, dead, funding, test) refl
+fund-step s n name t to false here named base dead funding test = rw (here, named, base, dead, funding, test) refl
+
+-- ---- a new ticket that funds a new thread
+
+-- the last of a list after one was pushed
+last-place : {A : Type 0} (xs : List A) (x : A) → slice_get (xs ++ x ∷ []) (length xs) ≡ Some x
+last-place [] x = refl
+last-place (y ∷ ys) x = last-place ys x
+
+-- it has the number after the count
+pub last-number : {A : Type 0} (xs : List A) (x : A) → at_number (xs ++ x ∷ []) (length xs + 1) ≡ Some x
+last-number xs x = let next : length xs + 1 ≡ suc (length xs) = omega arith in ap (at_number (xs ++ x ∷ [])) next ∙ at_number-suc (xs ++ x ∷ []) (length xs) ∙ last-place xs x
+
+-- what was made fund nothing, and then funds the target
+pub funded-new : (tickets : List (Option Ticket)) (amount issuer : ℕ) (to : Target) → with_target (with_new_ticket tickets amount issuer Unfunded) (length tickets + 1) to ≡ with_new_ticket tickets amount issuer to
+funded-new tickets amount issuer to =
+    let new : Ticket = record { amount = amount; issuer = issuer; target = Unfunded } in
+    let last = last-number tickets (Some new) in
+    ap (λ o. set_number (tickets ++ Some new ∷ []) (length tickets + 1) (option_map (retargeted to) (option_flatten o))) last
+    ∙ ap (λ i. slice_set (tickets ++ Some new ∷ []) i (Some (retargeted to new))) (before-last (length tickets)) ∙ set-append_seam tickets (Some new) [] (Some (retargeted to new))
+  where
+    before-last : (n : ℕ) → n + 1 - 1 ≡ n
+    before-last n = omega arith
+
+-- an unfunded ticket more adds no edge
+pub unfunded-ends : (f : Funding) (amount issuer : ℕ) (edge : Edge) → ends_of (record f { tickets = with_new_ticket f.tickets amount issuer Unfunded }) edge ≡ ends_of f edge
+unfunded-ends f amount issuer (OfLender t) = refl
+unfunded-ends f amount issuer (OfMutex m) = refl
+unfunded-ends f amount issuer (OfTicket n) = by (number-push f.tickets (Some (record { amount = amount; issuer = issuer; target = Unfunded })) n)
+  where
+    seen : Option (Option Ticket) → Option (Node × Node)
+    seen o = option_and_then (λ t. option_map (λ to. (node.Currency t.issuer, to)) (target_node t.target)) (option_flatten o)
+
+    by : (at_number (with_new_ticket f.tickets amount issuer Unfunded) n ≡ at_number f.tickets n) ⊎ ((at_number f.tickets n ≡ None) × (at_number (with_new_ticket f.tickets amount issuer Unfunded) n ≡ Some (Some (record { amount = amount; issuer = issuer; target = Unfunded }))))
+        → seen (at_number (with_new_ticket f.tickets amount issuer Unfunded) n) ≡ seen (at_number f.tickets n)
+    by (inl same) = ap seen same
+    by (inr (none, new)) = ap seen new ∙ sym (ap seen none)
+
+-- one more thread, which lends to nobody, adds no edge
+pub newborn-ends : (f : Funding) (edge : Edge) → ends_of (record f { lends = f.lends ++ Nobody ∷ [] }) edge ≡ ends_of f edge
+newborn-ends f (OfTicket n) = refl
+newborn-ends f (OfMutex m) = refl
+newborn-ends f (OfLender t) = by (number-push f.lends Nobody t)
+  where
+    seen : Option Lend → Option (Node × Node)
+    seen o = option_and_then (λ lend. option_map (λ to. (node.Thread t, to)) (lend_node lend)) o
+
+    by : (at_number (f.lends ++ Nobody ∷ []) t ≡ at_number f.lends t) ⊎ ((at_number f.lends t ≡ None) × (at_number (f.lends ++ Nobody ∷ []) t ≡ Some Nobody)) → seen (at_number (f.lends ++ Nobody ∷ []) t) ≡ seen (at_number f.lends t)
+    by (inl same) = ap seen same
+    by (inr (none, new)) = ap seen new ∙ sym (ap seen none)
+
+-- what a ticket, a thread and what the one funds of the other make stale together
+module _ (old issued added funded : Snapshot) (amount issuer script n t : ℕ) (name : List ℕ)
+    (first : issued ≡ record old { state = record old.state { tickets = with_new_ticket old.state.tickets amount issuer Unfunded } })
+    (second : added.state ≡ with_thread issued.state name script)
+    (third : funded.state ≡ record added.state { tickets = with_target added.state.tickets n (Thread t) }) where
+  abbrev graph-of : Snapshot → Funding
+  graph-of x = funding_of x.state
+
+  issued-ends : (edge : Edge) → ends_of (graph-of issued) edge ≡ ends_of (graph-of old) edge
+  issued-ends edge = ap (λ (x : Snapshot). ends_of (graph-of x) edge) first ∙ unfunded-ends (graph-of old) amount issuer edge
+
+  added-ends : (edge : Edge) → ends_of (graph-of added) edge ≡ ends_of (graph-of old) edge
+  added-ends edge =
+      ap (λ (x : State). ends_of (funding_of x) edge) second
+      ∙ ap (λ (ls : List Lend). ends_of (record (graph-of issued) { lends = ls }) edge) (map-append (λ (r : Record). lend_of r.status) issued.state.records _)
+      ∙ newborn-ends (graph-of issued) edge ∙ issued-ends edge
+
+  pub makes-funded : MakesStale issued added → MakesStale added funded → MakesStale old funded
+  makes-funded makes_added makes_funded =
+      let start = makes-both-in (threads_of old.state old.stale) (threads_of issued.state issued.stale) (threads_of added.state added.stale)
+      (edges-between (graph-of old) (graph-of issued) (graph-of added) (λ edge. inl (issued-ends edge)))
+      (live-between (live_in old.state.records) (live_in issued.state.records) (live_in added.state.records) (λ u. inl (ap (λ (x : Snapshot). at_number (live_in x.state.records) u) first)))
+      (λ x stale. inl (subst (λ (y : Snapshot). Contains y.stale x) first stale)) makes_added in
+      makes-both-in (threads_of old.state old.stale) (threads_of added.state added.stale) (threads_of funded.state funded.stale)
+      (edges-between (graph-of old) (graph-of added) (graph-of funded) (λ edge. inl (added-ends edge)))
+      (live-between (live_in old.state.records) (live_in added.state.records) (live_in funded.state.records) (λ u. inr (sym (ap (λ (x : State). at_number (live_in x.records) u) third))))
+      start makes_funded
+
+-- a ticket with a target is there
+pub ticket-with : (f : Funding) (n : ℕ) (to : Target) → target_of f n ≡ Some to → (t : Ticket) × (ticket_at f n ≡ Some t)
+ticket-with f n to is = by (ticket_at f n) refl is
+  where
+    by : (o : Option Ticket) → ticket_at f n ≡ o → option_map {T = Ticket} {U = Target} (λ t. t.target) o ≡ Some to → (t : Ticket) × (ticket_at f n ≡ Some t)
+    by None none e = cc
+    by (Some t) some e = (t, some)

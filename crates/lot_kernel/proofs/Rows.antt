@@ -1,0 +1,31 @@
+-- Rows, put together from what was read.
+use Rattle.std.proofs.Common.{◌≡◌, ℕ, Bool, true, false, Option, Some, List, [], option_and_then, unwrap_or, ap, refl, sym}
+use Rattle.lot_machine.specs.declared.record.Record.{Record}
+use Rattle.lot_machine.specs.declared.row.ThreadRow.{ThreadRow}
+use Rattle.lot_machine.specs.declared.row.TicketRow.{TicketRow}
+use Rattle.lot_machine.specs.declared.ticket.Ticket.{Ticket}
+use Rattle.lot_machine.specs.Activity.{is_active}
+use Rattle.lot_machine.specs.Funding.{ticket_in}
+use Rattle.lot_machine.specs.Lottery.{weight}
+use Rattle.lot_machine.specs.Numbered.{at_number}
+use Rattle.lot_machine.specs.Rows.{currency_name, target_name, thread_name, thread_row, ticket_row}
+use Rattle.lot_machine.specs.State.{State, funding_of, live_of, value_of, weight_of}
+use Rattle.lot_machine.specs.Value.{ticket_value}
+
+module _ (s : State) where
+  pub thread-row-of : (t : ℕ) (r : Record) (name : List ℕ) (value weighs : ℕ) → at_number s.records t ≡ Some r → thread_name s t ≡ Some name → value ≡ value_of s t → weighs ≡ weight value r.compensation s.limits.quantum
+      → ◌≡◌ {A = Option ThreadRow} (Some (record { name = name; status = r.status; value = value; weight = weighs; quanta = r.quanta; ticks = r.ticks })) (thread_row s t)
+  thread-row-of t r name value weighs found named is weighs_is =
+      let weight_is : weight_of s t ≡ weight (value_of s t) r.compensation s.limits.quantum = ap (λ o. weight (value_of s t) (option_and_then (λ (x : Record). x.compensation) o) s.limits.quantum) found in
+      rw (found, named, weighs_is, is, weight_is) refl
+
+  pub ticket-row-of : (n : ℕ) (t : Ticket) (issuer : List ℕ) (target : Option (List ℕ)) (active : Bool) (value : ℕ) → ticket_in s.tickets n ≡ Some t → unwrap_or (currency_name s t.issuer) [] ≡ issuer → target ≡ target_name s t.target
+      → active ≡ is_active (funding_of s) (live_of s) t → value ≡ ticket_value s.limits.unit (funding_of s) (live_of s) t
+      → ◌≡◌ {A = Option TicketRow} (Some (record { amount = t.amount; issuer = issuer; target = target; is_active = active; value = value })) (ticket_row s n)
+  ticket-row-of n t issuer target active value found named targeted is worth = rw (found, named, targeted, is, worth) refl
+
+-- what is so if and only if the other is, is the same
+pub same-truth : (a b : Bool) → (a ≡ true → b ≡ true) → (b ≡ true → a ≡ true) → a ≡ b
+same-truth true b to from = sym (to refl)
+same-truth false true to from = from refl
+same-truth false false to from = refl

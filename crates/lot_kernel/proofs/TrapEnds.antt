@@ -1,0 +1,161 @@
+-- How a whole trap goes: what it does, and then how its thread goes on or leaves.
+use Rattle.std.proofs.Common.{◌≡◌, ◌∙◌, ℕ, ◌-◌, Option, Some, None, List, [], ◌∷◌, ◌++◌, length, map, ap, sym, refl, subst, arith}
+use Rattle.std.proofs.Math.ListN.{length-set}
+use Rattle.std.proofs.lemmas.List.{length-map}
+use Rattle.lot_machine.specs.declared.action.Action.{Action}
+use Rattle.lot_machine.specs.declared.action.Action.TheVariants.{Yield, Call, Receive, Reply as ReplyTo, Lock, Unlock, Exit}
+use Rattle.lot_machine.specs.declared.after.After.{After}
+use Rattle.lot_machine.specs.declared.after.After.TheVariants.{GoesOn, Leaves, Ends}
+use Rattle.lot_machine.specs.declared.funding.Lend.{Lend}
+use Rattle.lot_machine.specs.declared.funding.Lend.TheVariants.{Nobody}
+use Rattle.lot_machine.specs.declared.funding.Node.{Node}
+use Rattle.lot_machine.specs.declared.record.Record.{Record}
+use Rattle.lot_machine.specs.declared.record.Status.{Status}
+use Rattle.lot_machine.specs.declared.record.Status.TheVariants.{Ready, Running, Receiving, Queued, Served, Waiting}
+use Rattle.lot_machine.specs.declared.refusal.TrapRefusal.{TrapRefusal}
+use Rattle.lot_machine.specs.Funding.{Funding, lend_node}
+use Rattle.lot_machine.specs.Mutexes.{mutex_at}
+use Rattle.lot_machine.specs.Numbered.{at_number, set_number}
+use Rattle.lot_machine.specs.Order.{IsInOrder, IsQueue}
+use Rattle.lot_machine.specs.Ports.{port_at}
+use Rattle.lot_machine.specs.State.{State, Mutex, QueuedCall, change_record, funding_of, lend_of, status_of}
+use Rattle.lot_machine.specs.Step.{Effect, finish_trap, trap_effect, trap_refusal}
+use Rattle.lot_machine.specs.Traps.{after_trap, with_ticks}
+use Rattle.lot_machine.proofs.RecordsKept.{RunsAlone, runs-alone}
+use Rattle.lot_machine.proofs.StepsKept.{IsApart, effect-apart}
+use Rattle.lot_graph.specs.Graphs.{IsBorrower}
+use Rattle.lot_queues.specs.QueueLists.{IsThere}
+use Rattle.lot_threads.specs.Threaded.{with_records}
+use Rattle.lot_threads.proofs.Last.{makes-last}
+use Rattle.lot_kernel.specs.Snapshots.{Snapshot, MakesStale, threads_of}
+use Rattle.lot_kernel.specs.Trapped.{effect_of}
+use Rattle.lot_kernel.proofs.Leaving.{receivers-queue}
+use Rattle.lot_kernel.proofs.Trapping.{change-count, lock-there, status-there}
+
+-- a trap leaves the limits
+pub effect-limits : (s : State) (t : ℕ) (action : Action) → (effect_of s t action).state.limits ≡ s.limits
+effect-limits s t action = by (trap_refusal s t action) refl
+  where
+    done : (a : Action) → (trap_effect s t a).state.limits ≡ s.limits
+    done Yield = refl
+    done (Call p number) = refl
+    done (Receive p) = refl
+    done (ReplyTo number) = refl
+    done (Lock m) = refl
+    done (Unlock m d) = refl
+    done Exit = refl
+
+    by : (o : Option TrapRefusal) → trap_refusal s t action ≡ o → (effect_of s t action).state.limits ≡ s.limits
+    by None is = rw is (done action)
+    by (Some refusal) is = rw is refl
+
+-- its thread still has its processor alone, and leaves it with a status that isn't Running
+pub effect-runs : (s : State) (t p used : ℕ) (action : Action) → IsInOrder s → status_of s.records t ≡ Some (Running p used) → IsApart p t (effect_of s t action).state.records (effect_of s t action).after
+effect-runs s t p used action order runs = by (trap_refusal s t action) refl
+  where
+    alone : RunsAlone s.records p t
+    alone = runs-alone s.records p t used order.runs_apart runs
+
+    by : (o : Option TrapRefusal) → trap_refusal s t action ≡ o → IsApart p t (effect_of s t action).state.records (effect_of s t action).after
+    by None is = rw is (effect-apart s p t t action order.runs_apart alone)
+    by (Some refusal) is = rw is (order.runs_apart, alone, tt)
+
+-- ---- whom a thread that leaves lends to
+
+-- whoever leaves this way lends to somebody that is there, or to nobody
+abbrev LendsThere : State → After → Type 0
+LendsThere s after = (status : Status) → after ≡ Leaves status → (node : Node) → lend_node (lend_of status) ≡ Some node → IsBorrower (funding_of s) (lend_of status)
+
+leaves-same : (now then : Status) → Leaves now ≡ Leaves then → now ≡ then
+leaves-same now then e = cc
+
+goes-nowhere : (status : Status) → ¬ (GoesOn ≡ Leaves status)
+goes-nowhere status e = cc
+
+ends-nowhere : (status : Status) → ¬ (Ends ≡ Leaves status)
+ends-nowhere status e = cc
+
+-- who leaves this way lends to nobody
+lends-nothing : (now status : Status) → lend_of now ≡ Nobody → Leaves now ≡ Leaves status → (node : Node) → ¬ (lend_node (lend_of status) ≡ Some node)
+lends-nothing now status nobody e node to =
+    let none : None ≡ Some node = ap lend_node (sym nobody ∙ ap lend_of (leaves-same now status e)) ∙ to in
+    cc
+
+-- or to a thread or a mutex that is there
+served-there : (f : Funding) (records : List Record) (server : ℕ) → IsThere records server → (status : Status) → Leaves (Served server) ≡ Leaves status → f.lends ≡ map (λ r. lend_of r.status) records → IsBorrower f (lend_of status)
+served-there f records server there status e lends =
+    subst (λ (now : Status). IsBorrower f (lend_of now)) (leaves-same (Served server) status e) (there.0, omega (arith, there.1, ap (λ (ls : List Lend). length ls) lends, length-map records (λ (r : Record). lend_of r.status)))
+
+waits-there : (f : Funding) (mutexes : List Mutex) (m : ℕ) → IsThere mutexes m → (status : Status) → Leaves (Waiting m) ≡ Leaves status → f.owners ≡ map (λ x. x.owner) mutexes → IsBorrower f (lend_of status)
+waits-there f mutexes m there status e owners =
+    subst (λ (now : Status). IsBorrower f (lend_of now)) (leaves-same (Waiting m) status e) (there.0, omega (arith, there.1, ap (λ (os : List (Option ℕ)). length os) owners, length-map mutexes (λ (x : Mutex). x.owner)))
+
+module _ (s : State) (t p used : ℕ) (order : IsInOrder s) (runs : status_of s.records t ≡ Some (Running p used)) where
+  call-there : (port number : ℕ) → LendsThere (trap_effect s t (Call port number)).state (trap_effect s t (Call port number)).after
+  call-there port number = by (port_at s.ports port).receivers refl
+    where
+      by : (o : List ℕ) → (port_at s.ports port).receivers ≡ o → LendsThere (trap_effect s t (Call port number)).state (trap_effect s t (Call port number)).after
+      by [] is = rw is (λ status e node to. absurd (lends-nothing (Queued port) status refl e node to))
+      by (server ∷ others) is =
+          let queue : IsQueue s.records (Receiving port) (server ∷ others) = subst (λ ts. IsQueue s.records (Receiving port) ts) is (receivers-queue s.records t p used runs s.clients s.ports s.mutexes order.queues port) in
+          let there = status-there s.records server (Receiving port) (queue.each 0 server refl) in
+          let count = change-count (λ r. record r { status = Ready; delivered = Some number }) s.records server in
+          rw is (λ status e node to. served-there (record (funding_of s) { lends = map (λ r. lend_of r.status) (change_record (λ r. record r { status = Ready; delivered = Some number }) s.records server) }) (change_record (λ r. record r { status = Ready; delivered = Some number }) s.records server) server (there.0, omega (arith, there.1, count)) status e refl)
+
+  receive-there : (port : ℕ) → LendsThere (trap_effect s t (Receive port)).state (trap_effect s t (Receive port)).after
+  receive-there port = by (port_at s.ports port).calls refl
+    where
+      by : (o : List QueuedCall) → (port_at s.ports port).calls ≡ o → LendsThere (trap_effect s t (Receive port)).state (trap_effect s t (Receive port)).after
+      by [] is = rw is (λ status e node to. absurd (lends-nothing (Receiving port) status refl e node to))
+      by (first ∷ others) is = rw is (λ status e. absurd (goes-nowhere status e))
+
+  lock-lends : (m : ℕ) → trap_refusal s t (Lock m) ≡ None → LendsThere (trap_effect s t (Lock m)).state (trap_effect s t (Lock m)).after
+  lock-lends m allowed = by (mutex_at s.mutexes m).owner refl
+    where
+      by : (o : Option ℕ) → (mutex_at s.mutexes m).owner ≡ o → LendsThere (trap_effect s t (Lock m)).state (trap_effect s t (Lock m)).after
+      by None is = rw is (λ status e. absurd (goes-nowhere status e))
+      by (Some owner) is =
+          let there = lock-there s t m allowed in
+          let new : Mutex = record { owner = Some owner; waiters = (mutex_at s.mutexes m).waiters ++ t ∷ [] } in
+          rw is (λ status e node to. waits-there (record (funding_of s) { owners = map (λ x. x.owner) (set_number s.mutexes m new) }) (set_number s.mutexes m new) m (there.0, omega (arith, there.1, length-set s.mutexes (m - 1) new)) status e refl)
+
+  unlock-there : (m d : ℕ) → LendsThere (trap_effect s t (Unlock m d)).state (trap_effect s t (Unlock m d)).after
+  unlock-there m d = by (mutex_at s.mutexes m).waiters refl
+    where
+      by : (o : List ℕ) → (mutex_at s.mutexes m).waiters ≡ o → LendsThere (trap_effect s t (Unlock m d)).state (trap_effect s t (Unlock m d)).after
+      by [] is = rw is (λ status e. absurd (goes-nowhere status e))
+      by (w ∷ ws) is = rw is (λ status e node to. absurd (lends-nothing Ready status refl e node to))
+
+  pub lends-there : (action : Action) → LendsThere (effect_of s t action).state (effect_of s t action).after
+  lends-there action = by (trap_refusal s t action) refl
+    where
+      done : (a : Action) → trap_refusal s t a ≡ None → LendsThere (trap_effect s t a).state (trap_effect s t a).after
+      done Yield allowed = λ status e node to. absurd (lends-nothing Ready status refl e node to)
+      done (Call port number) allowed = call-there port number
+      done (Receive port) allowed = receive-there port
+      done (ReplyTo number) allowed = λ status e. absurd (goes-nowhere status e)
+      done (Lock m) allowed = lock-lends m allowed
+      done (Unlock m d) allowed = unlock-there m d
+      done Exit allowed = λ status e. absurd (ends-nowhere status e)
+
+      by : (o : Option TrapRefusal) → trap_refusal s t action ≡ o → LendsThere (effect_of s t action).state (effect_of s t action).after
+      by None allowed = rw allowed (done action allowed)
+      by (Some refusal) refused = rw refused (λ status e. absurd (goes-nowhere status e))
+
+-- ---- the end of a trap
+
+module _ (s now : State) (p t ticks used : ℕ) (e : Effect) (after : After) (state : now ≡ e.state) (limits : now.limits ≡ s.limits) (same : after ≡ e.after) where
+  pub finished-state : record now { records = change_record (λ r. with_ticks ticks (after_trap after p used now.limits.quantum r)) now.records t } ≡ (finish_trap s p t ticks used e).state
+  finished-state = rw (← limits, ← state, ← same) refl
+
+-- what a trap makes stale, and its thread's last change
+pub makes-trap : (old mid new : Snapshot) (t : ℕ) (change : Record → Record) (was : Record) → at_number old.state.records t ≡ Some was → at_number mid.state.records t ≡ Some was
+    → new.state ≡ record mid.state { records = change_record change mid.state.records t } → MakesStale old mid → MakesStale mid new → MakesStale old new
+makes-trap old mid new t change was left there is =
+    makes-last (threads_of old.state old.stale) (threads_of mid.state mid.stale) (threads_of new.state new.stale) t was (change was) left there last
+  where
+    set : change_record change mid.state.records t ≡ set_number mid.state.records t (change was)
+    set = rw there refl
+
+    last : threads_of new.state new.stale ≡ with_records (threads_of mid.state mid.stale) (set_number mid.state.records t (change was)) new.stale
+    last = ap (λ (x : State). threads_of x new.stale) is ∙ ap (λ (records : List Record). with_records (threads_of mid.state mid.stale) records new.stale) set

@@ -1,0 +1,189 @@
+-- What a trap's checks say, and what it leaves in the tables.
+use Rattle.std.proofs.Common.{◌≡◌, ◌≢◌, ◌∙◌, ◌↔◌, ◌⊎◌, inl, inr, ℕ, zero, suc, ◌-◌, ◌<◌, ◌≤◌, ne_eqb, Bool, true, false, Option, Some, None, is_none, List, [], ◌∷◌, length, slice_get, unwrap_or, ap, sym, refl, subst, arith, if◌then◌else◌}
+use Rattle.std.proofs.Math.ListN.{length-set}
+use Rattle.std.specs.Prelude.{IsTrue}
+use Rattle.std.proofs.lemmas.Bool.{eq-eqb}
+use Rattle.lot_machine.specs.declared.action.Action.TheVariants as action
+use Rattle.lot_machine.specs.declared.record.Record.{Record}
+use Rattle.lot_machine.specs.declared.record.Status.{Status}
+use Rattle.lot_machine.specs.declared.record.Status.TheVariants.{Running}
+use Rattle.lot_machine.specs.declared.refusal.TrapRefusal.TheVariants.{NoMutex, AlreadyOwner, LockCycle}
+use Rattle.lot_machine.specs.declared.sizes.Sizes.{Sizes}
+use Rattle.lot_machine.specs.Commands.{first_failing}
+use Rattle.lot_machine.specs.declared.funding.Node.TheVariants as node
+use Rattle.lot_machine.specs.Facts.{HasNoCycle}
+use Rattle.lot_machine.specs.Funding.{Funding}
+use Rattle.lot_machine.specs.Lends.{LendsLead, borrower_of, lends_lead, lends_on_to}
+use Rattle.lot_machine.specs.Mutexes.{MutexTrap, mutex_at, lock, unlock}
+use Rattle.lot_machine.specs.Numbered.{at_number, option_any}
+use Rattle.lot_machine.specs.Order.{IsInOrder}
+use Rattle.lot_machine.specs.Ports.{PortTrap, call, receive, reply, first_client, port_at}
+use Rattle.lot_machine.specs.State.{State, Mutex, Port, QueuedCall, change_record, funding_of, status_of, value_of}
+use Rattle.lot_machine.specs.Step.{of_mutexes, of_ports, owns, trap_refusal}
+use Rattle.lot_machine.proofs.LendDepth.{lends_lead-exact}
+use Rattle.lot_machine.proofs.Queues.{record-of}
+use Rattle.lot_machine.proofs.Tickets.{at_number-suc}
+use Rattle.lot_graph.specs.Graphs.{Reaches}
+use Rattle.lot_queues.specs.QueueLists.{QueueLists, IsNowhere, IsThere}
+use Rattle.lot_queues.proofs.Callers.{nowhere-running}
+use Rattle.lot_threads.specs.Threaded.{Threaded, with_records, worth_in}
+use Rattle.lot_threads.proofs.Leads.{reaches-leads}
+use Rattle.lot_value.specs.declared.meter.Meter.{Meter}
+use Rattle.lot_ports.specs.Traps.{with_ports}
+use Rattle.lot_mutex.specs.Listed.{with_mutexes}
+use Rattle.lot_kernel.specs.Snapshots.{held}
+use Rattle.lot_kernel.specs.Trapped.{IsRunning, effect_of}
+use Rattle.lot_kernel.proofs.Holding.{IsHeld, held-records}
+
+-- ---- numbers
+
+place-there : {A : Type 0} (xs : List A) (i : ℕ) → i < length xs → is_none (slice_get xs i) ≡ false
+place-there [] i below = absurd (omega (arith, below))
+place-there (x ∷ xs) zero below = refl
+place-there (x ∷ xs) (suc i) below = place-there xs i (omega (arith, below))
+
+place-within : {A : Type 0} (xs : List A) (i : ℕ) → is_none (slice_get xs i) ≡ false → suc i ≤ length xs
+place-within [] i some = cc
+place-within (x ∷ xs) zero some = omega arith
+place-within (x ∷ xs) (suc i) some = omega (arith, place-within xs i some)
+
+-- a number that is within has its element
+pub number-there : {A : Type 0} (xs : List A) (n : ℕ) → IsThere xs n → is_none (at_number xs n) ≡ false
+number-there xs zero there = absurd (omega (arith, there.0))
+number-there xs (suc i) there = ap is_none (at_number-suc xs i) ∙ place-there xs i (omega (arith, there.1))
+
+-- and one that has its element is within
+pub number-within : {A : Type 0} (xs : List A) (n : ℕ) → is_none (at_number xs n) ≡ false → IsThere xs n
+number-within xs zero is = cc
+number-within xs (suc i) is = (omega arith, place-within xs i (sym (ap is_none (at_number-suc xs i)) ∙ is))
+
+-- a thread with a status is there
+pub status-there : (records : List Record) (t : ℕ) (now : Status) → status_of records t ≡ Some now → IsThere records t
+status-there records t now is = let r = record-of records t now is in number-within records t (ap is_none r.1)
+
+-- one that runs is there, and waits nowhere
+pub running-there : (records : List Record) (t : ℕ) → IsRunning records t → IsThere records t
+running-there records t (processor, (used, runs)) = status-there records t (Running processor used) runs
+
+pub running-nowhere : (sizes : Sizes) (names : List (Option (List ℕ))) (v : Threaded) (q : QueueLists) (t : ℕ) → IsInOrder (held sizes names v q) → IsRunning v.records t → IsNowhere q t
+running-nowhere sizes names v q t order (processor, (used, runs)) = nowhere-running v.records q t processor used order.queues runs
+
+-- ---- what isn't refused
+
+module _ (s : State) (t : ℕ) where
+  pub call-done : (p number : ℕ) → IsThere s.ports p → effect_of s t (action.Call p number) ≡ of_ports s (call s.records s.clients s.ports t p number)
+  call-done p number there = rw (number-there s.ports p there) refl
+
+  pub receive-done : (p : ℕ) → IsThere s.ports p → effect_of s t (action.Receive p) ≡ of_ports s (receive s.records s.clients s.ports t p)
+  receive-done p there = rw (number-there s.ports p there) refl
+
+  pub reply-done : (client number : ℕ) → first_client s.clients t ≡ Some client → effect_of s t (action.Reply number) ≡ of_ports s (reply s.records s.clients s.ports t number)
+  reply-done client number some = rw some refl
+
+  pub lock-done : (m : ℕ) → trap_refusal s t (action.Lock m) ≡ None → effect_of s t (action.Lock m) ≡ of_mutexes s (lock s.records s.mutexes t m)
+  lock-done m none = rw none refl
+
+  pub unlock-done : (m d : ℕ) → IsThere s.mutexes m → (mutex_at s.mutexes m).owner ≡ Some t → effect_of s t (action.Unlock m d) ≡ of_mutexes s (unlock s.records s.mutexes (value_of s) m d)
+  unlock-done m d there owned = rw (number-there s.mutexes m there, owned, eq-eqb t t refl) refl
+
+  -- nothing is refused only if the mutex is there
+  pub lock-there : (m : ℕ) → trap_refusal s t (action.Lock m) ≡ None → IsThere s.mutexes m
+  lock-there m none = at (is_none (at_number s.mutexes m)) refl none
+    where
+      at : (b : Bool) → is_none (at_number s.mutexes m) ≡ b → (if b then Some NoMutex else first_failing ((owns s t m, AlreadyOwner) ∷ (option_any (λ owner. lends_on_to (funding_of s) owner t) (mutex_at s.mutexes m).owner, LockCycle) ∷ [])) ≡ None → IsThere s.mutexes m
+      at true is e = cc
+      at false is e = number-within s.mutexes m is
+
+  -- an owned mutex is refused if its owner's lends lead on to the thread
+  pub lock-checked : (m owner : ℕ) (cycle : Bool) → IsThere s.mutexes m → (mutex_at s.mutexes m).owner ≡ Some owner → (owner ≡ t → ⊥) → lends_on_to (funding_of s) owner t ≡ cycle
+      → trap_refusal s t (action.Lock m) ≡ (if cycle then Some LockCycle else None)
+  lock-checked m owner cycle there owned other is = rw (number-there s.mutexes m there, owned, ne_eqb owner t other, is) refl
+
+-- ---- what traps leave in the tables
+
+-- a change of a record leaves how many there are
+pub change-count : (change : Record → Record) (records : List Record) (t : ℕ) → length (change_record change records t) ≡ length records
+change-count change records t = by (at_number records t) refl
+  where
+    by : (o : Option Record) → at_number records t ≡ o → length (change_record change records t) ≡ length records
+    by None is = rw is refl
+    by (Some r) is = rw is (length-set records (t - 1) (change r))
+
+-- the trap leaves how many records and clients there are
+pub record Keeps (rs : List Record) (cs : List (List ℕ)) (trap : PortTrap) : Type 0 where
+  pub records : length trap.records ≡ length rs
+  pub clients : length trap.clients ≡ length cs
+
+module _ (rs : List Record) (cs : List (List ℕ)) (ports : List Port) (t : ℕ) where
+  pub call-keeps : (p number : ℕ) → Keeps rs cs (call rs cs ports t p number)
+  call-keeps p number = by (port_at ports p).receivers refl
+    where
+      by : (o : List ℕ) → (port_at ports p).receivers ≡ o → Keeps rs cs (call rs cs ports t p number)
+      by [] is = rw is (record { records = refl; clients = refl })
+      by (server ∷ others) is = rw is (record { records = change-count _ rs server; clients = length-set cs (server - 1) _ })
+
+  pub receive-keeps : (p : ℕ) → Keeps rs cs (receive rs cs ports t p)
+  receive-keeps p = by (port_at ports p).calls refl
+    where
+      by : (o : List QueuedCall) → (port_at ports p).calls ≡ o → Keeps rs cs (receive rs cs ports t p)
+      by [] is = rw is (record { records = refl; clients = refl })
+      by (first ∷ others) is = rw is (record { records = change-count _ rs first.caller; clients = length-set cs (t - 1) _ })
+
+  pub reply-keeps : (number : ℕ) → Keeps rs cs (reply rs cs ports t number)
+  reply-keeps number = record { records = change-count _ rs (unwrap_or (first_client cs t) 0); clients = length-set cs (t - 1) _ }
+
+-- locks and unlocks leave how many records there are
+pub lock-count : (records : List Record) (mutexes : List Mutex) (t m : ℕ) → length (lock records mutexes t m).records ≡ length records
+lock-count records mutexes t m = by (mutex_at mutexes m).owner refl
+  where
+    by : (o : Option ℕ) → (mutex_at mutexes m).owner ≡ o → length (lock records mutexes t m).records ≡ length records
+    by None is = rw is refl
+    by (Some owner) is = rw is refl
+
+pub unlock-count : (records : List Record) (mutexes : List Mutex) (value : ℕ → ℕ) (m d : ℕ) → length (unlock records mutexes value m d).records ≡ length records
+unlock-count records mutexes value m d = by (mutex_at mutexes m).waiters refl
+  where
+    by : (o : List ℕ) → (mutex_at mutexes m).waiters ≡ o → length (unlock records mutexes value m d).records ≡ length records
+    by [] is = rw is refl
+    by (w ∷ ws) is = rw is (change-count _ records _)
+
+module _ (sizes : Sizes) (names : List (Option (List ℕ))) (v new : Threaded) (q left : QueueLists) (was : IsHeld sizes names v q) where
+  pub ports-held : (trap : PortTrap) → new ≡ with_records v trap.records new.stale → left ≡ with_ports q trap → IsHeld sizes names new left
+  ports-held trap is left_is = subst (λ (l : QueueLists). IsHeld sizes names new l) (sym left_is) (held-records sizes names v new q was trap.records is)
+
+  pub ports-state : (trap : PortTrap) → new ≡ with_records v trap.records new.stale → left ≡ with_ports q trap → held sizes names new left ≡ (of_ports (held sizes names v q) trap).state
+  ports-state trap is left_is =
+      subst (λ n. held sizes names n left ≡ (of_ports (held sizes names v q) trap).state) (sym is) (ap (λ (l : QueueLists). held sizes names (with_records v trap.records new.stale) l) left_is)
+
+  pub mutexes-state : (trap : MutexTrap) → new ≡ with_mutexes v trap new.stale → left ≡ record q { mutexes = trap.mutexes } → held sizes names new left ≡ (of_mutexes (held sizes names v q) trap).state
+  mutexes-state trap is left_is =
+      subst (λ n. held sizes names n left ≡ (of_mutexes (held sizes names v q) trap).state) (sym is) (ap (λ (l : QueueLists). held sizes names (with_mutexes v trap new.stale) l) left_is)
+
+-- ---- locks and unlocks
+
+-- an unlock by what waiters are worth is one by what they are worth in the state
+pub unlock-same : (sizes : Sizes) (names : List (Option (List ℕ))) (v : Threaded) (q : QueueLists) → IsHeld sizes names v q → (m d : ℕ) → unlock v.records q.mutexes (worth_in v) m d ≡ unlock v.records q.mutexes (value_of (held sizes names v q)) m d
+unlock-same sizes names v q was m d = ap (λ (w : Threaded). unlock v.records q.mutexes (worth_in w) m d) was
+
+-- it counts nothing, or what it settles
+pub unlock-counts : (waiters : List ℕ) (meter new settled : Meter) → (waiters ≡ [] → new ≡ meter) → (waiters ≢ [] → new ≡ settled) → (new ≡ meter) ⊎ (new ≡ settled)
+unlock-counts [] meter new settled none some = inl (none refl)
+unlock-counts (w ∷ ws) meter new settled none some = inr (some (λ e. cc))
+
+-- whether a thread's lends lead on to another is whether it reaches it
+module _ (f : Funding) (no_cycle : HasNoCycle f) (t u : ℕ) (other : t ≢ u) where
+  on-from : LendsLead f t u → lends_on_to f t u ≡ true
+  on-from ([], same) = absurd (other same)
+  on-from (s ∷ rest, (lends, leads)) = ap (option_any (λ v. lends_lead f v u)) lends ∙ (lends_lead-exact f no_cycle.lends s u).1 (rest, leads)
+
+  on-to : (o : Option ℕ) → borrower_of f t ≡ o → option_any (λ v. lends_lead f v u) o ≡ true → LendsLead f t u
+  on-to None is e = cc
+  on-to (Some s) is e = let (chain, leads) = (lends_lead-exact f no_cycle.lends s u).0 e in (s ∷ chain, (is, leads))
+
+  pub reaches-on : (found : Bool) → (IsTrue found ↔ Reaches f (node.Thread t) (node.Thread u)) → found ≡ lends_on_to f t u
+  reaches-on true is = sym (on-from ((reaches-leads f t u).0 (is.0 refl)))
+  reaches-on false is = by (lends_on_to f t u) refl
+    where
+      by : (b : Bool) → lends_on_to f t u ≡ b → false ≡ lends_on_to f t u
+      by true on = let never : false ≡ true = is.1 ((reaches-leads f t u).1 (on-to (borrower_of f t) refl on)) in cc
+      by false off = sym off

@@ -1,0 +1,19 @@
+use Rattle.std.proofs.Common.{ap, subst, ◌↔◌}
+use Rattle.lot_machine.specs.Funding.{Funding}
+use Rattle.std.specs.Prelude.{IsTrue}
+use Rattle.lot_machine.specs.Equations.{Reaches}
+use Rattle.lot_threads.specs.Threaded.{funding_in}
+use Rattle.lot_machine.specs.State.{funding_of}
+use Rattle.lot_kernel.proofs.Trapping.{reaches-on}
+use Rattle.lot_kernel.specs.contracts.tables.Tables.{the_view}
+use Rattle.lot_machine.specs.declared.funding.Node.TheVariants as node
+use Rattle.lot_kernel.proofs.tables.Tables.lends_on_to.Goals as goal
+use Rattle.lot_kernel.specs.contracts.tables.Tables.{the_view}
+
+pub returns-clause-leads : goal.returns-clause-leads
+returns-clause-leads c =
+    let i = c.self.inside in
+    let order = rw (← c.self.view_is) at c.requires.order in
+    let same = ap funding_in c.self.invariant.threads in
+    rw (← c.self.view_is) (reaches-on (funding_of (the_view i).state) order.no_cycle c.args.lender c.args.thread c.requires.other c.reaches.result
+    (subst (λ (f : Funding). IsTrue c.reaches.result ↔ Reaches f (node.Thread c.args.lender) (node.Thread c.args.thread)) same c.reaches.ensures.reaches))

@@ -1,0 +1,8 @@
+use Rattle.std.proofs.Common.{rules}
+use Rattle.lot_kernel.proofs.Commanding.{named-there}
+use Rattle.lot_kernel.proofs.tables.Tables.target_named.Goals as goal
+
+pub returns-in-Some-clause-there : goal.returns-in-Some-clause-there
+returns-in-Some-clause-there c =
+    let i = c.self.inside in
+    rw (← c.self.view_is) (named-there c.args.name.now i.currencies.items c.in-Some.place (search rules))

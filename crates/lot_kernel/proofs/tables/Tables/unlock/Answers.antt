@@ -1,0 +1,64 @@
+use Rattle.std.proofs.Common.{Some, ap, arith, rules, sym, ◌∙◌, ◌≡◌}
+use Rattle.lot_machine.specs.Step.{Effect, of_mutexes}
+use Rattle.lot_queues.specs.QueueLists.{IsThere}
+use Rattle.lot_machine.specs.Mutexes.{MutexTrap, mutex_at, unlock}
+use Rattle.lot_threads.specs.Threaded.{Threaded, funding_in, worth_in}
+use Rattle.lot_value.specs.Counts.{counted_up}
+use Rattle.lot_value.specs.Caches.{edges_into_all}
+use Rattle.lot_kernel.proofs.Holding.{held-mutexes, makes-held}
+use Rattle.lot_kernel.proofs.Trapping.{mutexes-state, unlock-count, unlock-counts, unlock-done, unlock-same}
+use Rattle.lot_kernel.specs.Counted.{settled_meter}
+use Rattle.lot_machine.specs.State.{sizes_of}
+use Rattle.lot_kernel.specs.contracts.tables.Tables.{the_view}
+use Rattle.lot_kernel.proofs.tables.Tables.unlock.Goals as goal
+use Rattle.lot_kernel.specs.contracts.tables.Tables.{the_view}
+
+pub invariant_of-self : goal.invariant_of-self
+invariant_of-self c =
+    let i = c.self.inside in
+    let left = unlock i.threads.records i.queues.mutexes (worth_in i.threads) c.args.mutex c.args.d in
+    let count = unlock-count i.threads.records i.queues.mutexes (worth_in i.threads) c.args.mutex c.args.d in
+    let threads = held-mutexes (sizes_of i.limits) i.currencies.items i.threads c.unlock.new.threads i.queues c.self.invariant.threads left c.unlock.new.queues c.unlock.ensures.threads c.unlock.ensures.queues in
+    search (rules, threads, count)
+
+pub returns-clause-outcome : goal.returns-clause-outcome
+returns-clause-outcome c =
+    let i = c.self.inside in
+    let s = (the_view i).state in
+    let there : IsThere i.queues.mutexes c.args.mutex = (omega (arith, c.if-mutex-eq0.false), omega (arith, c.if-mutex-mutexes.false, c.mutexes.ensures)) in
+    let owned : (mutex_at i.queues.mutexes c.args.mutex).owner ≡ Some c.args.thread = search rules in
+    rw (← c.self.view_is) (c.unlock.ensures.outcome ∙ ap (λ (e : MutexTrap). e.outcome) (unlock-same (sizes_of i.limits) i.currencies.items i.threads i.queues c.self.invariant.threads c.args.mutex c.args.d)
+    ∙ sym (ap (λ (e : Effect). e.outcome) (unlock-done s c.args.thread c.args.mutex c.args.d there owned)))
+
+pub returns-clause-after : goal.returns-clause-after
+returns-clause-after c =
+    let i = c.self.inside in
+    let s = (the_view i).state in
+    let there : IsThere i.queues.mutexes c.args.mutex = (omega (arith, c.if-mutex-eq0.false), omega (arith, c.if-mutex-mutexes.false, c.mutexes.ensures)) in
+    let owned : (mutex_at i.queues.mutexes c.args.mutex).owner ≡ Some c.args.thread = search rules in
+    rw (← c.self.view_is) (c.unlock.ensures.after ∙ ap (λ (e : MutexTrap). e.after) (unlock-same (sizes_of i.limits) i.currencies.items i.threads i.queues c.self.invariant.threads c.args.mutex c.args.d)
+    ∙ sym (ap (λ (e : Effect). e.after) (unlock-done s c.args.thread c.args.mutex c.args.d there owned)))
+
+pub returns-clause-state : goal.returns-clause-state
+returns-clause-state c =
+    let i = c.self.inside in
+    let s = (the_view i).state in
+    let left = unlock i.threads.records i.queues.mutexes (worth_in i.threads) c.args.mutex c.args.d in
+    let there : IsThere i.queues.mutexes c.args.mutex = (omega (arith, c.if-mutex-eq0.false), omega (arith, c.if-mutex-mutexes.false, c.mutexes.ensures)) in
+    let owned : (mutex_at i.queues.mutexes c.args.mutex).owner ≡ Some c.args.thread = search rules in
+    rw (← c.self.view_is) (mutexes-state (sizes_of i.limits) i.currencies.items i.threads c.unlock.new.threads i.queues c.unlock.new.queues c.self.invariant.threads left c.unlock.ensures.threads c.unlock.ensures.queues
+    ∙ ap (λ (e : MutexTrap). (of_mutexes s e).state) (unlock-same (sizes_of i.limits) i.currencies.items i.threads i.queues c.self.invariant.threads c.args.mutex c.args.d)
+    ∙ sym (ap (λ (e : Effect). e.state) (unlock-done s c.args.thread c.args.mutex c.args.d there owned)))
+
+pub returns-clause-stale : goal.returns-clause-stale
+returns-clause-stale c =
+    let i = c.self.inside in
+    let left = unlock i.threads.records i.queues.mutexes (worth_in i.threads) c.args.mutex c.args.d in
+    let threads = held-mutexes (sizes_of i.limits) i.currencies.items i.threads c.unlock.new.threads i.queues c.self.invariant.threads left c.unlock.new.queues c.unlock.ensures.threads c.unlock.ensures.queues in
+    rw (← c.self.view_is) (makes-held (sizes_of i.limits) i.currencies.items i.currencies.items i.threads c.unlock.new.threads i.queues c.unlock.new.queues i.meter c.unlock.new.meter c.self.invariant.threads threads c.unlock.ensures.stale)
+
+pub returns-clause-counts : goal.returns-clause-counts
+returns-clause-counts c =
+    let i = c.self.inside in
+    let reads = ap (λ (v : Threaded). record i.meter { ticket_reads = counted_up i.meter.ticket_reads (edges_into_all (funding_in v) v.stale) }) c.self.invariant.threads in
+    rw (← c.self.view_is) (unlock-counts (mutex_at i.queues.mutexes c.args.mutex).waiters i.meter c.unlock.new.meter (settled_meter (the_view i)) c.unlock.ensures.uncounted (λ some. c.unlock.ensures.counted some ∙ reads))

@@ -1,0 +1,78 @@
+//! How a thread leaves its processor after a trap, or stays on it (3.4, 4.5).
+ghost use Rattle.std.specs.Prelude.{◌≡◌};
+ghost use Rattle.lot_machine.specs.declared.after.After.TheVariants.{GoesOn};
+ghost use Rattle.lot_machine.specs.Step as steps;
+ghost use Rattle.lot_machine.specs.Traps.{after_trap, with_ticks};
+
+use lot_machine::{After, Record, Status};
+
+/// A trap that is made: by whom and where, the ticks that it and the work before it cost, and how much of the quantum is used
+/// then.
+#[derive(Clone, Copy, Debug)]
+pub(crate) struct Trap {
+    pub(crate) processor: u32,
+    pub(crate) thread: u32,
+    pub(crate) ticks: u32,
+    pub(crate) used: u32,
+}
+
+/// The record of the thread that made a trap, after it.
+pub(crate) fn record_after(before: Record, trap: Trap, after: After, quantum: u32) -> Record
+    ensures { result ≡ with_ticks trap.ticks (after_trap after trap.processor trap.used quantum before) }
+{
+    let then = leaving(before, trap, after, quantum);
+    Record {
+        ticks: then.ticks.saturating_add(u64::from(trap.ticks)),
+        ..then
+    }
+}
+
+/// The record of a thread after its trap, but for its ticks.
+fn leaving(before: Record, trap: Trap, after: After, quantum: u32) -> Record
+    ensures { result ≡ after_trap after trap.processor trap.used quantum before }
+{
+    match after {
+        After::GoesOn => going_on(before, trap, quantum),
+        After::Leaves(status) => Record {
+            status,
+            compensation: if trap.used < quantum {
+                Some(trap.used)
+            } else {
+                None
+            },
+            ..before
+        },
+        After::Ends => Record {
+            status: Status::Dead,
+            compensation: None,
+            ..before
+        },
+    }
+}
+
+/// The record of a thread that runs on after its trap, if its quantum isn't used up.
+fn going_on(before: Record, trap: Trap, quantum: u32) -> Record
+    ensures { result ≡ after_trap GoesOn trap.processor trap.used quantum before }
+{
+    if trap.used < quantum {
+        return Record {
+            status: Status::Running {
+                processor: trap.processor,
+                used: trap.used,
+            },
+            ..before
+        };
+    }
+    Record {
+        status: Status::Ready,
+        compensation: None,
+        ..before
+    }
+}
+
+/// Whether the quantum of a thread that made a trap has ended with it.
+pub(crate) fn ends_quantum(trap: Trap, after: After, quantum: u32) -> bool
+    ensures { result ≡ steps.ends_quantum after trap.used quantum }
+{
+    matches!(after, After::GoesOn) && trap.used >= quantum
+}

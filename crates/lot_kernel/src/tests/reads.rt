@@ -1,0 +1,165 @@
+//! What draws, unlocks and rows read.
+use super::*;
+use crate::Meter;
+
+/// A step of a row of counts.
+#[derive(Clone, Copy)]
+enum Count<'a> {
+    /// A command that is done and reads nothing.
+    Does(Line<'a>),
+    /// A draw by processor 1 that this thread wins, the number, the total, and how many edges it reads.
+    Draws(u64, Winner, u64),
+    /// The end of the quantum on processor 1, which reads nothing.
+    Expires,
+    /// A trap on processor 1, what comes of it, and how many edges it reads.
+    Traps(Action, Outcome, u64),
+    /// The row of a thread is asked for, and so many edges are read.
+    ThreadRow(u32, u64),
+    /// The row of a ticket is asked for, and so many edges are read.
+    TicketRow(u32, u64),
+}
+
+/// What was read since the counts were these.
+fn read_since(kernel: &Kernel, before: Meter) -> u64 {
+    kernel
+        .meter()
+        .ticket_reads
+        .saturating_sub(before.ticket_reads)
+}
+
+/// Takes a step, and answers how many edges it is to read.
+fn take_step(rt: &impl Abort, kernel: &mut Kernel, step: Count<'_>) -> Result<u64, Fail> {
+    match step {
+        Count::Does(line) => {
+            let reply = answer(kernel, line)?;
+            assert!(rt; !matches!(reply, Reply::Refused(_)));
+            Ok(0)
+        }
+        Count::Draws(d, winner, reads) => {
+            assert_eq!(rt; kernel.event(&Event::Draw(1, d)), winning(winner, None));
+            Ok(reads)
+        }
+        Count::Expires => {
+            let reply = kernel.event(&Event::Expire(1));
+            assert!(rt; matches!(reply, Reply::Expired { .. }));
+            Ok(0)
+        }
+        Count::Traps(action, outcome, reads) => {
+            take_trap(rt, kernel, action, outcome);
+            Ok(reads)
+        }
+        Count::ThreadRow(thread, reads) => {
+            assert!(rt; kernel.thread_row(thread).is_some());
+            Ok(reads)
+        }
+        Count::TicketRow(ticket, reads) => {
+            assert!(rt; kernel.ticket_row(ticket).is_some());
+            Ok(reads)
+        }
+    }
+}
+
+/// Makes a trap on processor 1 without work before it, and compares what comes of it.
+fn take_trap(rt: &impl Abort, kernel: &mut Kernel, action: Action, wanted: Outcome) {
+    match kernel.event(&Event::Trap(1, 0, action)) {
+        Reply::Trapped { outcome, .. } => assert_eq!(rt; outcome, wanted),
+        _ => panic!(rt; "a trap"),
+    }
+}
+
+/// Takes the steps in a new kernel of the largest tables, and compares what each reads.
+fn count_all(rt: &impl Abort, alloc: Global, steps: &[Count<'_>]) -> Result<(), Fail> {
+    let mut kernel = largest(alloc, 1)?;
+    for step in steps {
+        let before = kernel.meter();
+        let wanted = take_step(rt, &mut kernel, *step)?;
+        assert_eq!(rt; read_since(&kernel, before), wanted);
+    }
+    Ok(())
+}
+
+// 100 base fund `g`, which three threads share. A second ticket of base makes `g` and the three stale: the two tickets
+// that fund `g` are read, and one for each thread.
+const SHARED: &[Count<'static>] = &[
+    Count::Does(Line::Mkcur("g")),
+    Count::Does(Line::Mktkt(100, "base")),
+    Count::Does(Line::Fund(1, "g")),
+    Count::Does(Line::Fundx(1, "g", "a", 1)),
+    Count::Does(Line::Fundx(1, "g", "b", 1)),
+    Count::Does(Line::Fundx(1, "g", "c", 1)),
+    Count::Draws(0, (1, 0, 99), 4),
+    Count::Expires,
+    Count::Draws(0, (1, 0, 99), 0),
+    Count::Expires,
+    Count::Does(Line::Mktkt(50, "base")),
+    Count::Does(Line::Fund(5, "g")),
+    Count::Draws(149, (3, 149, 150), 5),
+];
+
+// A listing settles what is stale once; a draw after it reads nothing. A ticket's row reads the ticket besides.
+const LISTED: &[Count<'static>] = &[
+    Count::Does(Line::Fundx(10, "base", "a", 1)),
+    Count::Does(Line::Fundx(5, "base", "b", 1)),
+    Count::Does(Line::Mktkt(7, "base")),
+    Count::ThreadRow(1, 2),
+    Count::ThreadRow(2, 0),
+    Count::TicketRow(1, 1),
+    Count::TicketRow(3, 0),
+    Count::Draws(10, (2, 10, 15), 0),
+];
+
+// An unlock for which nobody waits, and all traps that are refused or aren't unlocks, read nothing.
+const TRAPPED: &[Count<'static>] = &[
+    Count::Does(Line::Fundx(10, "base", "a", 1)),
+    Count::Draws(0, (1, 0, 10), 1),
+    Count::Traps(Action::Lock(1), Outcome::Locked, 0),
+    Count::Traps(Action::Lock(9), Outcome::Refused(TrapRefusal::NoMutex), 0),
+    Count::Traps(Action::Unlock(1, 5), Outcome::Freed, 0),
+    Count::Traps(Action::Receive(1), Outcome::Waits, 0),
+];
+
+#[test]
+fn what_is_read(rt: HostRuntime) -> Result<(), Fail> {
+    count_all(&rt, rt.alloc(), SHARED)?;
+    count_all(&rt, rt.alloc(), LISTED)?;
+    count_all(&rt, rt.alloc(), TRAPPED)
+}
+
+/// Makes this many threads with 1 of base each.
+fn make_threads(kernel: &mut Kernel, alloc: Global, count: u32) -> Result<(), Fail> {
+    for number in 0..count {
+        let text = format!(in alloc; "t{number}")?;
+        answer(kernel, Line::Fundx(1, "base", text.as_str(), 1))?;
+    }
+    Ok(())
+}
+
+/// A draw visits places of the tree of weights, 1 to 10.
+fn check_visits(rt: &impl Abort, kernel: &mut Kernel, d: u64) {
+    let before = kernel.meter().tree_visits;
+    let reply = kernel.event(&Event::Draw(1, d));
+    assert!(rt; matches!(reply, Reply::Winner { .. }));
+    let visits = kernel.meter().tree_visits.saturating_sub(before);
+    assert!(rt; 1 <= visits && visits <= 10, "{visits} visits");
+    let _ = kernel.event(&Event::Expire(1));
+}
+
+#[test]
+fn a_draw_among_a_thousand(rt: HostRuntime) -> Result<(), Fail> {
+    let mut kernel = small(rt.alloc(), 1000, 1, 1000)?;
+    make_threads(&mut kernel, rt.alloc(), 1000)?;
+    for d in [0, 1, 499, 500, 511, 512, 998, 999] {
+        check_visits(&rt, &mut kernel, d);
+    }
+    Ok(())
+}
+
+// An idle draw reads what is stale, and visits nothing.
+#[test]
+fn an_idle_draw(rt: HostRuntime) -> Result<(), Fail> {
+    let mut kernel = largest(rt.alloc(), 1)?;
+    answer(&mut kernel, Line::Mkthr("a", 1))?;
+    assert_eq!(rt; kernel.event(&Event::Draw(1, 0)), Reply::Idle);
+    assert_eq!(rt; kernel.meter(), Meter::default());
+    Ok(())
+}
