@@ -29,7 +29,6 @@ use std::marker::Model;
 ///
 /// Contracts see it as its program, its room and its history: all else is what the program's run over the history comes
 /// to. All its room is made by `open`, and no turn takes memory.
-#[derive(Drop)]
 pub struct System {
     kernel: Kernel,
     program: Program,
@@ -45,6 +44,23 @@ pub struct System {
     /// All actors'.
     total: Counts,
     room: u32,
+}
+
+impl Drop for System {
+    // A call: what lets go of a `System` is proved without a look at all of its parts.
+    fn drop(self) {
+        let Self {
+            kernel: _,
+            program: _,
+            spent: _,
+            generators: _,
+            places: _,
+            history: _,
+            counts: _,
+            total: _,
+            room: _,
+        } = self;
+    }
 }
 
 impl Model for System {

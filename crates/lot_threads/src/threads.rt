@@ -40,7 +40,6 @@ const NEWBORN: Record = Record {
 
 /// The threads by number, with the funding graph in which they are, the queue in which they compete, and who runs on each
 /// processor.
-#[derive(Drop)]
 pub struct Threads {
     graph: ValuedGraph,
     queue: RunQueue,
@@ -48,6 +47,19 @@ pub struct Threads {
     records: Vec<Record>,
     /// By processor, processor 1 first.
     runners: Vec<Option<u32>>,
+}
+
+impl Drop for Threads {
+    // A call: what lets go of a `Threads` is proved without a look at all of its parts.
+    fn drop(self) {
+        let Self {
+            graph: _,
+            queue: _,
+            threads: _,
+            records: _,
+            runners: _,
+        } = self;
+    }
 }
 
 impl Model for Threads {

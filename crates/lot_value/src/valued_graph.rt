@@ -33,11 +33,21 @@ use std::marker::Model;
 /// Tickets and what they fund, what threads lend and who owns mutexes; which threads are live, and so which tickets are active;
 /// and what each currency, thread and mutex is worth (4.4), if it isn't stale. Each change of the first two makes stale what it
 /// has to, and reads nothing for a value.
-#[derive(Drop)]
 pub struct ValuedGraph {
     graph: Graph,
     active: Active,
     values: Values,
+}
+
+impl Drop for ValuedGraph {
+    // A call: what lets go of a `ValuedGraph` is proved without a look at all of its parts.
+    fn drop(self) {
+        let Self {
+            graph: _,
+            active: _,
+            values: _,
+        } = self;
+    }
 }
 
 impl Model for ValuedGraph {
