@@ -6,8 +6,6 @@ mod ending;
 mod kernel;
 mod names;
 mod tables;
-#[cfg(test)]
-mod tests;
 
 pub use kernel::Kernel;
 pub use lot_machine::{

@@ -11,7 +11,7 @@ use std::marker::Model;
 #[derive(Clone, Copy, Debug, Default, PartialEq, Eq)]
 pub(crate) struct OpenLoop {
     /// The line at which its body begins.
-    pub(crate) body: usize,
+    pub(crate) body: u32,
     /// How many copies of the body come after this one.
     pub(crate) left: u32,
 }
@@ -101,7 +101,7 @@ impl OpenLoops {
     {
         match line {
             Line::Loop(times) => self.push(OpenLoop {
-                body: number + 1,
+                body: number as u32 + 1,
                 left: times - 1,
             }),
             Line::End => {

@@ -122,7 +122,7 @@ impl Place {
     {
         self.leave_line();
         self.loops.push(OpenLoop {
-            body: self.line,
+            body: self.line as u32,
             left: times - 1,
         });
     }
@@ -139,7 +139,7 @@ impl Place {
             self.leave_line();
             return;
         }
-        self.line = innermost.body;
+        self.line = innermost.body as usize;
         self.done = 0;
         self.loops.push(OpenLoop {
             body: innermost.body,

@@ -25,6 +25,3 @@ pub use playing::{Played, play, refuse};
 pub use slices::slice_for;
 pub use system::System;
 pub use turn::{Answer, Work};
-
-#[cfg(test)]
-mod tests;

@@ -19,6 +19,3 @@ pub use fault::ParseFault;
 pub use input::parse;
 pub use program::Program;
 pub use watched::Watched;
-
-#[cfg(test)]
-mod tests;

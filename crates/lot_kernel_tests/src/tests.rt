@@ -1,7 +1,7 @@
 mod reads;
 mod traps;
 
-use crate::{
+use lot_kernel::{
     Action, Command, CurrencyRow, Event, Kernel, Kind, Limits, Name, Outcome, Refusal, Reply,
     Sizes, Status, ThreadRow, TicketRow, TrapRefusal,
 };

@@ -1,7 +1,7 @@
 //! For runs in which one allocation is refused, each in turn.
 
 use super::{CALL_AND_REPLY, make_turns, program_of};
-use crate::{PlayFault, Played, System, play};
+use lot_system::{PlayFault, Played, System, play};
 use lot_text::Watched;
 use std::io;
 use std::io::Write;

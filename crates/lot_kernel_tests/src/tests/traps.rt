@@ -2,7 +2,7 @@
 use super::{
     Line, Step, answer, check_run, check_thread, largest, play, take_all, thread_row, won,
 };
-use crate::{Action, Event, Kernel, Outcome, Refusal, Reply, Status, TrapRefusal};
+use lot_kernel::{Action, Event, Kernel, Outcome, Refusal, Reply, Status, TrapRefusal};
 use std::alloc::Global;
 use std::process::Abort;
 use std::test::Fail;

@@ -1,6 +1,6 @@
 //! The texts of faults.
 
-use crate::{PlayFault, TurnFault};
+use lot_system::{PlayFault, TurnFault};
 use std::alloc::Global;
 use std::fmt::Display;
 use std::process::Abort;

@@ -1,9 +1,9 @@
 //! Reports with their histories, and what those are made of.
 
 use super::{SPINNER, make_turns, program_of};
-use crate::{PlayFault, System, write_end};
 use lot_kernel::Kernel;
 use lot_machine::{Command, Event, Limits, Name, Reply, Sizes};
+use lot_system::{PlayFault, System, write_end};
 use lot_text::Watched;
 use std::alloc::Global;
 use std::io;

@@ -1,9 +1,9 @@
 ghost use Rattle.std.specs.Prelude.{◌≤◌, IfOk};
 
-use crate::*;
 use lot_machine::{Command, Kind, Limits, Name, Sizes};
 use lot_script::Script;
 use lot_simulation::{InputFault, InputRefusal, Line};
+use lot_text::{ParseFault, Program, Watched, parse};
 use std::alloc::{AllocError, Global};
 use std::fmt::Debug;
 use std::io;

@@ -5,7 +5,7 @@ mod memory;
 mod reports;
 mod turns;
 
-use crate::System;
+use lot_system::System;
 use lot_text::{Program, parse};
 use std::alloc::Global;
 use std::test::Fail;

@@ -1,6 +1,6 @@
 //! What draws, unlocks and rows read.
 use super::*;
-use crate::Meter;
+use lot_kernel::Meter;
 
 /// A step of a row of counts.
 #[derive(Clone, Copy)]

@@ -1,9 +1,9 @@
 //! Turns of small systems, in order: what each answers, and the faults.
 
 use super::{SPINNER, program_of};
-use crate::{Answer, System, TurnFault};
 use lot_machine::{Outcome, Reply};
 use lot_script::Slice;
+use lot_system::{Answer, System, TurnFault};
 use lot_text::Program;
 use std::alloc::Global;
 use std::process::Abort;
