@@ -1,7 +1,9 @@
 //! Locks and unlocks (6.1).
-ghost use Rattle.std.specs.Prelude.{◌≡◌, ◌≢◌, ◌<◌, ◌^◌, ℕ, [], IfSome, Some, length, option_map, remove, slice_get};
+ghost use Rattle.std.specs.Prelude.{◌≡◌, ◌≢◌, ◌<◌, ◌^◌, ℕ, [], IfSome, Option, Some, length, option_map, remove, slice_get};
 ghost use Rattle.lot_machine.specs.declared.funding.Node.{Node as ANode};
+ghost use Rattle.lot_machine.specs.declared.funding.Node.TheVariants.{Thread as ThreadNode};
 ghost use Rattle.lot_machine.specs.declared.record.Status.TheVariants as status;
+ghost use Rattle.lot_machine.specs.declared.reply.Outcome.TheVariants.{Freed, Passed};
 ghost use Rattle.lot_machine.specs.Mutexes as machine;
 ghost use Rattle.lot_machine.specs.Mutexes.{mutex_at};
 ghost use Rattle.lot_machine.specs.Numbered.{set_number};
@@ -74,6 +76,7 @@ pub fn unlock(
     ensures kept { (mutex_at queues.old.mutexes mutex).waiters ≡ [] → (node : ANode) → IsStaleIn threads.old node → IsStaleIn threads.new node }
     ensures uncounted { (mutex_at queues.old.mutexes mutex).waiters ≡ [] → meter.new ≡ meter.old }
     ensures counted { (mutex_at queues.old.mutexes mutex).waiters ≢ [] → meter.new ≡ record meter.old { ticket_reads = counted_up meter.old.ticket_reads (edges_into_all (funding_in threads.old) threads.old.stale) } }
+    ensures next { (next : ℕ) (draw : Option (ℕ × ℕ)) → result.outcome ≡ Passed next draw → IsStaleIn threads.new (ThreadNode next) }
     ensures room { lottery.new.room ≡ lottery.old.room }
 {
     lottery.list(queues, mutex);
@@ -98,6 +101,7 @@ fn free(threads: &mut Threads, queues: &mut Queues, mutex: u32) -> Effect
     requires mutex { IsThere queues.old.mutexes mutex }
     requires nobody { (mutex_at queues.old.mutexes mutex).waiters ≡ [] }
     requires owners { owners_of queues.old.mutexes ≡ threads.old.owners }
+    ensures freed { result.outcome ≡ Freed }
     ensures frees { (value : ℕ → ℕ) (d : ℕ) → IsMutexTrap threads.old queues.old (machine.unlock threads.old.records queues.old.mutexes value mutex d) result threads.new queues.new }
     ensures kept { (node : ANode) → IsStaleIn threads.old node → IsStaleIn threads.new node }
     ensures stale { MakesStaleIn threads.old threads.new }
@@ -133,10 +137,10 @@ fn pass(threads: &mut Threads, queues: &mut Queues, owner: u32, mutex: u32, next
         → queues.new ≡ record queues.old { mutexes = set_number queues.old.mutexes mutex (record { owner = Some next; waiters = remove (mutex_at queues.old.mutexes mutex).waiters place }) } }
     ensures kept { (node : ANode) → IsStaleIn threads.old node → IsStaleIn threads.new node }
     ensures stale { MakesStaleIn threads.old threads.new }
+    ensures next { IsStaleIn threads.new (ThreadNode next) }
 {
     queues.take_waiter(next);
     queues.set_owner(mutex, Some(next));
     threads.set_status(next, Status::Ready);
-    threads.give_up_mutex(mutex);
-    threads.take_mutex(mutex, next);
+    threads.move_mutex(mutex, owner, next);
 }

@@ -29,6 +29,8 @@ enum Step {
     /// A thread becomes the owner of a mutex.
     Take(u32, u32),
     GiveUp(u32),
+    /// A mutex moves from one thread to another.
+    Move(u32, u32, u32),
     /// A drawn number, and who wins.
     Wins(u64, Won),
     /// The same, with how many edges the draw reads.
@@ -133,6 +135,14 @@ fn give_up(rt: &impl Abort, threads: &mut Threads, mutex: u32) {
     threads.give_up_mutex(mutex);
 }
 
+fn move_mutex(rt: &impl Abort, threads: &mut Threads, mutex: u32, owner: u32, next: u32) {
+    let graph = threads.graph();
+    assert!(rt; 0 < mutex && mutex <= graph.mutexes() && graph.owner(mutex) == Some(owner));
+    assert!(rt; 0 < next && next <= graph.threads() && owner != next);
+    assert!(rt; threads.is_live(owner) && threads.is_live(next));
+    threads.move_mutex(mutex, owner, next);
+}
+
 fn is_won(winner: Option<Winner>, (thread, number, total): Won) -> bool {
     match winner {
         Some(won) => won.thread == thread && won.number == number && won.total == total,
@@ -170,6 +180,7 @@ fn make_change(rt: &impl Abort, threads: &mut Threads, step: Step) {
         Step::Change(thread, status, used) => change(rt, threads, thread, status, used),
         Step::Take(mutex, owner) => take(rt, threads, mutex, owner),
         Step::GiveUp(mutex) => give_up(rt, threads, mutex),
+        Step::Move(mutex, owner, next) => move_mutex(rt, threads, mutex, owner, next),
         _ => {}
     }
 }
@@ -299,7 +310,7 @@ fn clients_lend(rt: HostRuntime) -> Result<(), Fail> {
     play(&rt, rt.alloc(), small_limits(), &SERVED)
 }
 
-const WAITING: [Step; 17] = [
+const WAITING: [Step; 20] = [
     Step::AddThread,
     Step::AddThread,
     Step::AddThread,
@@ -317,6 +328,9 @@ const WAITING: [Step; 17] = [
     Step::Take(1, 2),
     Step::Wins(110, (2, 110, 111)),
     Step::Worth(Node::Thread(2), 110),
+    Step::Move(1, 2, 1),
+    Step::Worth(Node::Thread(1), 101),
+    Step::Worth(Node::Thread(2), 10),
 ];
 
 // Waiters lend to the owner of the mutex, whoever it is.

@@ -1,5 +1,5 @@
 //! The threads, and all that follows from what each is doing.
-ghost use Rattle.std.specs.Prelude.{◌≡◌, ◌+◌, ◌<◌, ◌≤◌, ◌↔◌, ◌++◌, ◌∷◌, ℕ, true, false, [], Some, None, IfOk, IfSome, IfNone, IsErr, IsTrue, OnOk, OnErr, OnSome, MatchOption, length, replicate, slice_get, slice_set};
+ghost use Rattle.std.specs.Prelude.{◌≡◌, ◌+◌, ◌<◌, ◌≤◌, ◌↔◌, ◌++◌, ◌∷◌, ◌≢◌, ℕ, true, false, [], Some, None, IfOk, IfSome, IfNone, IsErr, IsTrue, OnOk, OnErr, OnSome, MatchOption, length, replicate, slice_get, slice_set};
 ghost use Rattle.std.specs.Option.{SomeIff};
 ghost use Rattle.lot_machine.specs.declared.funding.Node.{Node as ANode};
 ghost use Rattle.lot_machine.specs.declared.funding.Node.TheVariants.{Currency as CurrencyNode, Thread as ThreadNode, Mutex as MutexNode};
@@ -274,6 +274,22 @@ impl Threads {
         ensures stale { MakesStaleIn self.old self.new }
     {
         self.graph.take_mutex(mutex, owner);
+    }
+
+    /// Makes another live thread the owner of a mutex that a live thread owns. What waiting threads lend to the mutex goes on to the
+    /// new owner (6.1). Computes no value, and puts nothing to sleep.
+    pub fn move_mutex(&mut self, mutex: u32, owner: u32, next: u32)
+        requires mutex { IsMutex (funding_in self.old) mutex }
+        requires owner { owner_of (funding_in self.old) mutex ≡ Some owner }
+        requires next { IsThread (funding_in self.old) next }
+        requires other { owner ≢ next }
+        requires live { IsLiveIn self.old owner × IsLiveIn self.old next }
+        ensures moved { self.new ≡ record self.old { owners = set_number self.old.owners mutex (Some next); stale = self.new.stale } }
+        ensures kept { (node : ANode) → IsStaleIn self.old node → IsStaleIn self.new node }
+        ensures stale { MakesStaleIn self.old self.new }
+        ensures owners { IsStaleIn self.new (ThreadNode owner) × IsStaleIn self.new (ThreadNode next) }
+    {
+        self.graph.move_mutex(mutex, owner, next);
     }
 
     /// Holds a draw with the number `d` among the Ready threads (2, 4.2): `None` if their weights sum to 0. Settles what is stale,

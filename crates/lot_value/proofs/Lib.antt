@@ -16,5 +16,6 @@ pub mod Touches
 pub mod Following
 pub mod OneEdge
 pub mod GraphCalls
+pub mod Moving
 pub mod Unchanged
 pub mod TicketWorth

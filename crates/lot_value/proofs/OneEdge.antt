@@ -27,7 +27,7 @@ edge-number (OfLender n) = n
 edge-number (OfMutex n) = n
 
 -- two edges are the same or not
-same-or-not : (a b : Edge) → (a ≡ b) ⊎ (¬ (a ≡ b))
+pub same-or-not : (a b : Edge) → (a ≡ b) ⊎ (¬ (a ≡ b))
 same-or-not (OfTicket m) (OfTicket n) = by (cases_eq m n)
   where
     by : (m ≡ n) ⊎ (¬ (m ≡ n)) → (OfTicket m ≡ OfTicket n) ⊎ (¬ (OfTicket m ≡ OfTicket n))
@@ -56,7 +56,7 @@ has-same f g same (Thread t) has = (has.0, omega (arith, has.1, same))
 has-same f g same (Mutex m) has = has
 
 -- an edge that isn't there has no ends
-no-ends : (f : Funding) (edge : Edge) (from to : Node) → ends_of_edge f edge ≡ None → ends_of f edge ≡ Some (from, to) → ⊥
+pub no-ends : (f : Funding) (edge : Edge) (from to : Node) → ends_of_edge f edge ≡ None → ends_of f edge ≡ Some (from, to) → ⊥
 no-ends f edge from to none at = let no = sym none ∙ edge-there f edge from to at in cc
 
 -- the edge came, or it went

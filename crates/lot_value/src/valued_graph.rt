@@ -1,5 +1,5 @@
 //! A funding graph with what is active in it and what everything is worth, kept together.
-ghost use Rattle.std.specs.Prelude.{◌≡◌, ◌+◌, ◌<◌, ◌≤◌, ◌↔◌, ◌++◌, ◌∷◌, Bool, true, false, List, [], Some, None, IfOk, IfSome, IfNone, IsErr, IsTrue, OnOk, OnErr, OnSome, length, slice_set};
+ghost use Rattle.std.specs.Prelude.{◌≡◌, ◌+◌, ◌<◌, ◌≤◌, ◌↔◌, ◌++◌, ◌∷◌, ◌≢◌, Bool, true, false, List, [], Some, None, IfOk, IfSome, IfNone, IsErr, IsTrue, OnOk, OnErr, OnSome, length, slice_set};
 ghost use Rattle.std.specs.Option.{SomeIff};
 ghost use Rattle.lot_machine.specs.declared.funding.Node.{Node as ANode};
 ghost use Rattle.lot_machine.specs.declared.funding.Node.TheVariants.{Currency as CurrencyNode, Thread as ThreadNode, Mutex as MutexNode};
@@ -8,6 +8,7 @@ ghost use Rattle.lot_machine.specs.declared.ticket.Target.TheVariants.{Unfunded}
 ghost use Rattle.lot_machine.specs.Numbered.{at_number, set_number};
 ghost use Rattle.lot_machine.specs.Funding.{edge_count_into, ticket_at, target_of, owner_of, issued_in, backing_currency, with_target, with_new_ticket, without_ticket};
 ghost use Rattle.lot_machine.specs.Activity.{IsActive, active_amount};
+ghost use Rattle.lot_machine.specs.Lends.{IsLive};
 ghost use Rattle.lot_machine.specs.declared.funding.Lend.TheVariants.{Nobody};
 ghost use Rattle.lot_machine.specs.Equations.{HasEquation, Reaches};
 ghost use Rattle.lot_machine.specs.Value.{node_value, ticket_value};
@@ -245,6 +246,29 @@ impl ValuedGraph {
         self.graph.take_mutex(mutex, owner);
         let edge = Edge::OfMutex(mutex);
         attach(&self.graph, &mut self.active, &mut self.values, edge);
+    }
+
+    /// Makes another live thread, which doesn't reach it, the owner of a mutex that a live thread owns (6.1). Both are backed before
+    /// it and after it, so that nothing is put to sleep or woken, and both are stale then.
+    pub fn move_mutex(&mut self, mutex: u32, owner: u32, next: u32)
+        requires mutex { IsMutex self.old.now.funding mutex }
+        requires owner { owner_of self.old.now.funding mutex ≡ Some owner }
+        requires next { IsThread self.old.now.funding next }
+        requires other { owner ≢ next }
+        requires live { IsLive self.old.live owner × IsLive self.old.live next }
+        requires apart { ¬ Reaches self.old.now.funding (ThreadNode next) (MutexNode mutex) }
+        ensures moved { self.new.now ≡ with_owners self.old.now (set_number self.old.now.funding.owners mutex (Some next)) }
+        ensures live { self.new.live ≡ self.old.live }
+        ensures known { self.new.known ≡ record self.old.known { stale = self.new.known.stale } }
+        ensures kept { (node : ANode) → IsStale self.old.known node → IsStale self.new.known node }
+        ensures stale { MakesStale self.old self.new }
+        ensures owners { IsStale self.new.known (ThreadNode owner) × IsStale self.new.known (ThreadNode next) }
+    {
+        let graph = &mut self.graph;
+        graph.give_up_mutex(mutex);
+        graph.take_mutex(mutex, next);
+        self.values.touch(&self.graph, Node::Thread(owner));
+        self.values.touch(&self.graph, Node::Thread(next));
     }
 
     /// The graph, to read.

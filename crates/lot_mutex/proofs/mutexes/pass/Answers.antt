@@ -1,28 +1,44 @@
-use Rattle.std.proofs.Common.{◌≡◌, ◌∙◌, ℕ, Option, Some, List, remove, ap, sym, refl}
+use Rattle.std.specs.Option.{option_flatten}
+use Rattle.std.proofs.Common.{◌∙◌, ℕ, Option, Some, List, remove, ap, sym, refl}
 use Rattle.lot_machine.specs.declared.record.Record.{Record}
 use Rattle.lot_machine.specs.declared.record.Status.TheVariants as status
 use Rattle.lot_machine.specs.Mutexes.{mutex_at}
 use Rattle.lot_machine.specs.Numbered.{at_number}
 use Rattle.lot_machine.specs.State.{change_record, status_of}
-use Rattle.lot_machine.proofs.Queues.{status-now}
+use Rattle.lot_machine.proofs.Queues.{status-now, status-other}
 use Rattle.lot_queues.proofs.Callers.{mutex-passed}
 use Rattle.lot_threads.specs.Threaded.{Threaded}
-use Rattle.lot_threads.proofs.Ways.{live-apart, live-other, live-status}
+use Rattle.lot_threads.proofs.Ways.{live-other, live-status}
 use Rattle.lot_mutex.proofs.Owners.{owner-at}
-use Rattle.lot_mutex.proofs.Passing.{passed, passes-stale}
+use Rattle.lot_mutex.proofs.Passing.{live-same, passed, passes-stale}
 use Rattle.lot_mutex.proofs.mutexes.pass.Goals as goal
 
-pub take_mutex-requires-clause-apart : goal.take_mutex-requires-clause-apart
-take_mutex-requires-clause-apart c =
-    live-apart c.give_up_mutex.new.self c.args.next c.args.mutex
-    (live-status c.give_up_mutex.new.self.records c.args.next status.Ready
-    (ap (λ (v : Threaded). status_of v.records c.args.next) (c.give_up_mutex.ensures.freed) ∙ ap (λ (v : Threaded). status_of v.records c.args.next) c.set_status.ensures.set
-    ∙ status-now (λ (r : Record). record r { status = status.Ready }) c.args.threads.now.records c.args.next (status.Waiting c.args.mutex) status.Ready c.requires.waits (λ r. refl)) refl)
+-- the record of the thread that wakes
+abbrev awake : Record → Record
+awake r = record r { status = status.Ready }
+
+pub move_mutex-requires-clause-other : goal.move_mutex-requires-clause-other
+move_mutex-requires-clause-other c = live-other c.args.threads.now c.args.owner c.args.next c.args.mutex c.requires.live c.requires.waits
+
+pub move_mutex-requires-clause-owner : goal.move_mutex-requires-clause-owner
+move_mutex-requires-clause-owner c =
+    let v = c.args.threads.now in
+    ap (λ (x : Threaded). option_flatten (at_number x.owners c.args.mutex)) c.set_status.ensures.set
+    ∙ ap option_flatten (ap (λ (xs : List (Option ℕ)). at_number xs c.args.mutex) (sym c.requires.owners) ∙ owner-at c.args.queues.now.mutexes c.args.mutex c.requires.mutex ∙ ap Some c.requires.owner)
+
+pub move_mutex-requires-clause-live : goal.move_mutex-requires-clause-live
+move_mutex-requires-clause-live c =
+    let v = c.args.threads.now in
+    let records = ap (λ (x : Threaded). x.records) c.set_status.ensures.set in
+    let other = live-other v c.args.owner c.args.next c.args.mutex c.requires.live c.requires.waits in (
+      live-same v.records c.set_status.new.self.records c.args.owner (ap (λ (rs : List Record). status_of rs c.args.owner) records ∙ status-other awake v.records c.args.next c.args.owner other) c.requires.live,
+      live-status c.set_status.new.self.records c.args.next status.Ready
+          (ap (λ (rs : List Record). status_of rs c.args.next) records ∙ status-now awake v.records c.args.next (status.Waiting c.args.mutex) status.Ready c.requires.waits (λ r. refl)) refl,
+    )
 
 pub returns-clause-threads : goal.returns-clause-threads
 returns-clause-threads c =
-    passed c.args.threads.now c.set_status.new.self c.give_up_mutex.new.self c.take_mutex.new.self c.args.mutex c.args.owner c.args.next
-    (change_record (λ (r : Record). record r { status = status.Ready }) c.args.threads.now.records c.args.next) c.set_status.ensures.set c.give_up_mutex.ensures.freed c.take_mutex.ensures.owned
+    passed c.args.threads.now c.set_status.new.self c.move_mutex.new.self c.args.mutex c.args.next (change_record awake c.args.threads.now.records c.args.next) c.set_status.ensures.set c.move_mutex.ensures.moved
 
 pub returns-clause-queues : goal.returns-clause-queues
 returns-clause-queues c place at =
@@ -31,12 +47,9 @@ returns-clause-queues c place at =
     refl
 
 pub returns-clause-kept : goal.returns-clause-kept
-returns-clause-kept c node stale = c.take_mutex.ensures.kept node (c.give_up_mutex.ensures.kept node (c.set_status.ensures.kept node stale))
+returns-clause-kept c node stale = c.move_mutex.ensures.kept node (c.set_status.ensures.kept node stale)
 
 pub returns-clause-stale : goal.returns-clause-stale
 returns-clause-stale c =
-    let v = c.args.threads.now in
-    let owned : at_number v.owners c.args.mutex ≡ Some (Some c.args.owner) = ap (λ (xs : List (Option ℕ)). at_number xs c.args.mutex) (sym c.requires.owners) ∙ owner-at c.args.queues.now.mutexes c.args.mutex c.requires.mutex ∙ ap Some c.requires.owner in
-    passes-stale v c.set_status.new.self c.give_up_mutex.new.self c.take_mutex.new.self c.args.mutex c.args.owner c.args.next
-    (change_record (λ (r : Record). record r { status = status.Ready }) v.records c.args.next) c.set_status.ensures.set c.give_up_mutex.ensures.freed c.take_mutex.ensures.owned
-    owned (live-other v c.args.owner c.args.next c.args.mutex c.requires.live c.requires.waits) c.set_status.ensures.stale c.give_up_mutex.ensures.stale c.take_mutex.ensures.stale
+    passes-stale c.args.threads.now c.set_status.new.self c.move_mutex.new.self c.args.mutex c.args.next (change_record awake c.args.threads.now.records c.args.next) c.set_status.ensures.set c.move_mutex.ensures.moved c.set_status.ensures.stale
+    c.move_mutex.ensures.stale

@@ -2,14 +2,15 @@ use Rattle.std.proofs.Common.{◌≡◌, ◌≢◌, ◌∙◌, Some, [], map, re
 use Rattle.std.specs.Option.{IfSome}
 use Rattle.std.proofs.lemmas.Option.{slice_get-get_or}
 use Rattle.lot_machine.specs.declared.drawn.Drawn.{Drawn}
-use Rattle.lot_machine.specs.declared.reply.Outcome.TheVariants.{Passed}
+use Rattle.lot_machine.specs.declared.funding.Node.TheVariants.{Thread}
+use Rattle.lot_machine.specs.declared.reply.Outcome.TheVariants.{Freed, Passed}
 use Rattle.lot_machine.specs.Lottery.{winner}
 use Rattle.lot_machine.specs.Mutexes.{MutexTrap, mutex_at}
 use Rattle.lot_machine.specs.Numbered.{set_number}
-use Rattle.lot_threads.specs.Threaded.{Threaded, MakesStaleIn, worth_in}
+use Rattle.lot_threads.specs.Threaded.{Threaded, IsStaleIn, MakesStaleIn, worth_in}
 use Rattle.lot_mutex.specs.Listed.{Listed, with_mutexes}
 use Rattle.lot_mutex.proofs.Owners.{owners-after, place-below, unlock-passes}
-use Rattle.lot_mutex.proofs.Passing.{pass-threads, settled-makes}
+use Rattle.lot_mutex.proofs.Passing.{next-owner, pass-threads, settled-makes}
 use Rattle.lot_mutex.proofs.mutexes.unlock.Goals as goal
 
 pub returns-clause-outcome : goal.returns-clause-outcome
@@ -62,3 +63,9 @@ returns-clause-queues c =
 
 pub returns-clause-stale : goal.returns-clause-stale
 returns-clause-stale c = settled-makes c.args.threads.now c.pass.new.threads (subst (λ (x : Threaded). MakesStaleIn x c.pass.new.threads) c.settle.ensures.settled c.pass.ensures.stale)
+
+pub returns-then-is_empty-clause-next : goal.returns-then-is_empty-clause-next
+returns-then-is_empty-clause-next c next draw passed = let never : Freed ≡ Passed next draw = sym c.free.ensures.freed ∙ passed in cc
+
+pub returns-clause-next : goal.returns-clause-next
+returns-clause-next c next draw passed = subst (λ t. IsStaleIn c.pass.new.threads (Thread t)) (ap next-owner passed) c.pass.ensures.next
