@@ -1,13 +1,11 @@
 -- What commands change: names, tickets and what they fund.
-use Rattle.std.proofs.Common.{◌≡◌, ◌∙◌, ◌↔◌, ◌⊎◌, inl, inr, ℕ, zero, suc, ◌+◌, ◌-◌, ◌<◌, Bool, true, false, Option, Some, None, is_some, List, [], ◌∷◌, ◌++◌, length, map, position, get_or, slice_get, slice_set, option_and_then, option_map, ap, sym, refl, subst, arith, if◌then◌else◌}
+use Rattle.std.proofs.Common.{◌≡◌, ◌∙◌, ◌↔◌, ◌⊎◌, inl, inr, ℕ, zero, suc, ◌+◌, ◌-◌, ◌<◌, Bool, true, false, Option, Some, None, List, [], ◌∷◌, ◌++◌, length, map, slice_get, slice_set, option_and_then, option_map, ap, sym, refl, subst, arith, if◌then◌else◌}
 use Rattle.std.specs.Prelude.{IsTrue}
-use Rattle.std.specs.Str.{bytes_eq}
 use Rattle.std.proofs.Math.Seq.{set-append_seam}
 use Rattle.std.specs.List.{Contains}
 use Rattle.std.specs.Option.{option_flatten}
 use Rattle.std.proofs.lemmas.List.{length-map, map-append}
-use Rattle.std.proofs.lemmas.List.Quantifiers.{position-Some}
-use Rattle.std.proofs.lemmas.Option.{slice_get-get_or, slice_get-map, slice_get_within}
+use Rattle.std.proofs.lemmas.Option.{slice_get_within}
 use Rattle.lot_machine.specs.declared.command.Command.TheVariants.{Fund}
 use Rattle.lot_machine.specs.declared.funding.Edge.{Edge}
 use Rattle.lot_machine.specs.declared.funding.Edge.TheVariants.{OfTicket, OfLender, OfMutex}
@@ -33,16 +31,6 @@ use Rattle.lot_machine.proofs.TwoSteps.{edges-between, live-between}
 use Rattle.lot_graph.specs.Graphs.{IsCycle, IsTarget}
 use Rattle.lot_threads.proofs.TwoChanges.{makes-both-in}
 use Rattle.lot_kernel.specs.Snapshots.{IsTargetThere, MakesStale, Snapshot, threads_of}
-
--- a currency that has the name is there
-pub named-there : (name : List ℕ) (names : List (Option (List ℕ))) (c : ℕ) → position (option_any (bytes_eq name)) names ≡ Some c → slice_get (map is_some names) c ≡ Some true
-named-there name names c named =
-    let found = position-Some (option_any (bytes_eq name)) names c None named in
-    slice_get-map is_some names c ∙ ap (option_map is_some) (slice_get-get_or names c None found.0) ∙ ap Some (passes (get_or names c None) found.1)
-  where
-    passes : (o : Option (List ℕ)) → option_any (bytes_eq name) o ≡ true → is_some o ≡ true
-    passes None e = cc
-    passes (Some x) e = refl
 
 -- ---- funding
 

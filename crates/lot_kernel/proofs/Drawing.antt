@@ -11,7 +11,7 @@ use Rattle.lot_machine.specs.Commands.{Step}
 use Rattle.lot_machine.specs.Lottery.{winner}
 use Rattle.lot_machine.specs.Numbered.{at_number}
 use Rattle.lot_machine.specs.State.{State, change_record, is_live_status, lend_of, live_in, ready_threads, status_of, thread_on, weight_of}
-use Rattle.lot_machine.specs.Step.{draw, event_refusal, is_bad_processor, started, step}
+use Rattle.lot_machine.specs.Step.{draw, is_bad_processor, started, step}
 use Rattle.lot_machine.proofs.Queues.{record-of}
 use Rattle.lot_machine.proofs.Tickets.{some-injective}
 use Rattle.lot_draw.specs.declared.competing.Winner.{Winner}
@@ -26,10 +26,6 @@ none-some : (w : Winner) → ¬ (None ≡ Some w)
 none-some w e = cc
 
 module _ (s : State) (p d : ℕ) (good : is_bad_processor s p ≡ false) (free : is_some (thread_on s.records p) ≡ false) where
-  -- it isn't refused
-  pub draw-allowed : event_refusal s (event.Draw p d) ≡ None
-  draw-allowed = rw (good, free) refl
-
   -- nobody wins
   pub step-idle : (stale : List Node) → drawn_in (threads_of s stale) d ≡ None → step s (event.Draw p d) ≡ record { state = s; reply = answer.Idle }
   step-idle stale none = rw (good, free) (by (winner (map (weight_of s) (ready_threads s.records)) d) refl none)

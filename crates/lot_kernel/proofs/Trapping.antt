@@ -1,5 +1,5 @@
 -- What a trap's checks say, and what it leaves in the tables.
-use Rattle.std.proofs.Common.{◌≡◌, ◌≢◌, ◌∙◌, ◌↔◌, ◌⊎◌, inl, inr, ℕ, zero, suc, ◌-◌, ◌<◌, ◌≤◌, ne_eqb, Bool, true, false, Option, Some, None, is_none, List, [], ◌∷◌, length, slice_get, unwrap_or, ap, sym, refl, subst, arith, if◌then◌else◌}
+use Rattle.std.proofs.Common.{◌≡◌, ◌≢◌, ◌∙◌, ◌↔◌, ℕ, zero, suc, ◌-◌, ◌<◌, ◌≤◌, ne_eqb, Bool, true, false, Option, Some, None, is_none, List, [], ◌∷◌, length, slice_get, unwrap_or, ap, sym, refl, subst, arith, if◌then◌else◌}
 use Rattle.std.proofs.Math.ListN.{length-set}
 use Rattle.std.specs.Prelude.{IsTrue}
 use Rattle.std.proofs.lemmas.Bool.{eq-eqb}
@@ -28,7 +28,6 @@ use Rattle.lot_queues.specs.QueueLists.{QueueLists, IsNowhere, IsThere}
 use Rattle.lot_queues.proofs.Callers.{nowhere-running}
 use Rattle.lot_threads.specs.Threaded.{Threaded, with_records, worth_in}
 use Rattle.lot_threads.proofs.Leads.{reaches-leads}
-use Rattle.lot_value.specs.declared.meter.Meter.{Meter}
 use Rattle.lot_ports.specs.Traps.{with_ports}
 use Rattle.lot_mutex.specs.Listed.{with_mutexes}
 use Rattle.lot_kernel.specs.Snapshots.{held}
@@ -164,11 +163,6 @@ module _ (sizes : Sizes) (names : List (Option (List ℕ))) (v new : Threaded) (
 -- an unlock by what waiters are worth is one by what they are worth in the state
 pub unlock-same : (sizes : Sizes) (names : List (Option (List ℕ))) (v : Threaded) (q : QueueLists) → IsHeld sizes names v q → (m d : ℕ) → unlock v.records q.mutexes (worth_in v) m d ≡ unlock v.records q.mutexes (value_of (held sizes names v q)) m d
 unlock-same sizes names v q was m d = ap (λ (w : Threaded). unlock v.records q.mutexes (worth_in w) m d) was
-
--- it counts nothing, or what it settles
-pub unlock-counts : (waiters : List ℕ) (meter new settled : Meter) → (waiters ≡ [] → new ≡ meter) → (waiters ≢ [] → new ≡ settled) → (new ≡ meter) ⊎ (new ≡ settled)
-unlock-counts [] meter new settled none some = inl (none refl)
-unlock-counts (w ∷ ws) meter new settled none some = inr (some (λ e. cc))
 
 -- whether a thread's lends lead on to another is whether it reaches it
 module _ (f : Funding) (no_cycle : HasNoCycle f) (t u : ℕ) (other : t ≢ u) where

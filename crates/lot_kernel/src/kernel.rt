@@ -2,7 +2,7 @@
 ghost use Rattle.std.specs.Prelude.{◌≡◌, ◌<◌, ◌≤◌, ◌^◌, [], None, Some, IfNone, IfOk, IfSome, MatchOption, length, option_map};
 ghost use Rattle.lot_machine.specs.Numbered as numbered;
 ghost use Rattle.lot_machine.specs.State.{funding_of, opening, sizes_of, thread_on, used_by};
-ghost use Rattle.lot_machine.specs.Step.{event_refusal, replies, state_after, step};
+ghost use Rattle.lot_machine.specs.Step.{replies, state_after, step};
 ghost use Rattle.lot_machine.specs.Facts.{HasNoCycle, IsSound, base_value, live_value};
 ghost use Rattle.lot_machine.specs.Rows as rows;
 ghost use Rattle.lot_machine.specs.declared.ticket.Ticket.{Ticket as ATicket};
@@ -91,13 +91,13 @@ impl Kernel {
     }
 
     /// One event. It takes no memory. A refused event changes nothing; a trap that is answered as refused costs its ticks. Only
-    /// a draw that isn't refused, and an unlock, compute values.
+    /// a draw that isn't refused, and an unlock that passes its mutex on, compute values.
     pub fn event(&mut self, event: &Event) -> Reply
         ensures reply { result ≡ (step self.old.state event.now).reply }
         ensures state { self.new.state ≡ (step self.old.state event.now).state }
         ensures sound { IsSound self.new.state }
         ensures stale { MakesStale self.old self.new }
-        ensures counts { Counts event.now (event_refusal self.old.state event.now) result self.old self.new }
+        ensures counts { Counts event.now result self.old self.new }
     {
         self.tables.event(event)
     }

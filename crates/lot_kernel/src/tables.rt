@@ -2,7 +2,7 @@
 ghost use Rattle.std.specs.Prelude.{◌≡◌, IfOk, length};
 ghost use Rattle.lot_machine.specs.Order.{IsInOrder};
 ghost use Rattle.lot_machine.specs.State.{sizes_of};
-ghost use Rattle.lot_machine.specs.Step.{event_refusal, step};
+ghost use Rattle.lot_machine.specs.Step.{step};
 ghost use Rattle.lot_kernel.specs.Counted.{Counts};
 ghost use Rattle.lot_kernel.specs.Snapshots.{MakesStale, starting};
 
@@ -103,7 +103,7 @@ impl Tables {
         ensures reply { result ≡ (step self.old.state event.now).reply }
         ensures state { self.new.state ≡ (step self.old.state event.now).state }
         ensures stale { MakesStale self.old self.new }
-        ensures counts { Counts event.now (event_refusal self.old.state event.now) result self.old self.new }
+        ensures counts { Counts event.now result self.old self.new }
     {
         match event {
             Event::Command(command) => self.command(command),

@@ -1,5 +1,5 @@
 -- No command makes a cycle, or leaves a ticket that funds a currency which isn't there.
-use Rattle.std.proofs.Common.{◌≡◌, ℕ, ◌+◌, ◌==◌, Bool, true, false, Option, Some, None, is_some, is_none, List, [], ◌∷◌, ◌++◌, length, map, refl, sym, ◌∙◌, ap, subst, arith, nat_lt, option_map, unwrap_or, get_or, slice_get, slice_set}
+use Rattle.std.proofs.Common.{◌≡◌, ℕ, ◌+◌, ◌==◌, Bool, true, false, Option, Some, None, is_some, is_none, List, [], ◌∷◌, ◌++◌, length, map, position, refl, sym, ◌∙◌, ap, subst, arith, nat_lt, option_map, unwrap_or, get_or, slice_get, slice_set}
 use Rattle.std.specs.Option.{option_or}
 use Rattle.std.specs.Str.{bytes_eq}
 use Rattle.std.proofs.lemmas.Bool.{ltb-false, or_parts}
@@ -53,10 +53,10 @@ none-of : {A : Type 0} (xs : List A) → nat_lt 0 (length xs) ≡ false → leng
 none-of xs e = omega (arith, ltb-false 0 (length xs) e)
 
 -- a currency that has the name is there
-named-there : (s : State) (name : List ℕ) (c : ℕ) → currency_named s name ≡ Some c → slice_get (map is_some s.currencies) c ≡ Some true
-named-there s name c named =
-    let found = position-Some (option_any (bytes_eq name)) s.currencies c None named in
-    slice_get-map is_some s.currencies c ∙ ap (option_map is_some) (slice_get-get_or s.currencies c None found.0) ∙ ap Some (passes (get_or s.currencies c None) found.1)
+pub named-there : (name : List ℕ) (names : List (Option (List ℕ))) (c : ℕ) → position (option_any (bytes_eq name)) names ≡ Some c → slice_get (map is_some names) c ≡ Some true
+named-there name names c named =
+    let found = position-Some (option_any (bytes_eq name)) names c None named in
+    slice_get-map is_some names c ∙ ap (option_map is_some) (slice_get-get_or names c None found.0) ∙ ap Some (passes (get_or names c None) found.1)
   where
     passes : (o : Option (List ℕ)) → option_any (bytes_eq name) o ≡ true → is_some o ≡ true
     passes None e = cc
@@ -144,7 +144,7 @@ command-keeps s (Fund n name) no_cycle there =
         → IsFunded (record s { tickets = with_target s.tickets n (unwrap_or o Unfunded) })
     funds None is named apart here = cc
     funds (Some to) is named apart here =
-        keeps-target s no_cycle there n to (λ c same. (apart, named-there s name c (target-currency s name c (is ∙ ap Some same)))) here
+        keeps-target s no_cycle there n to (λ c same. (apart, named-there name s.currencies c (target-currency s name c (is ∙ ap Some same)))) here
 command-keeps s (Unfund n) no_cycle there =
     unrefused IsFunded s _ (command_effect s (Unfund n)) (no_cycle, there) (λ _. keeps-unfund s no_cycle there n Unfunded refl)
 command-keeps s (MakeThread name script) no_cycle there =

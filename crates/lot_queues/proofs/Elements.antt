@@ -3,11 +3,9 @@ use Rattle.std.proofs.Common.{◌≡◌, ℕ, zero, suc, ◌+◌, ◌-◌, ◌<�
 use Rattle.std.specs.List.{remove}
 use Rattle.std.proofs.lemmas.List.{take-append-drop, get_or-map, length-map, get_or_default}
 use Rattle.std.proofs.lemmas.List.Elements.{Contains-append_left, Contains-append_right, Contains-append_cases}
+pub use Rattle.lot_machine.proofs.EachOnce.{contains-nothing}
 use Rattle.lot_machine.specs.State.{QueuedCall}
 use Rattle.lot_queues.specs.Fields.{call_of}
-
-pub contains-nothing : {A : Type 0} (x : A) → ¬ Contains [] x
-contains-nothing x w = absurd (omega (arith, w.1))
 
 pub contains-drop : {A : Type 0} (xs : List A) (k : ℕ) (x : A) → Contains (drop k xs) x → Contains xs x
 contains-drop {A} xs k x w = subst (λ (ys : List A). Contains ys x) (take-append-drop k xs) (Contains-append_right (take k xs) (drop k xs) x w)

@@ -12,6 +12,7 @@ ghost use Rattle.lot_graph.specs.Graphs.{IsTarget};
 ghost use Rattle.lot_queues.specs.QueueLists.{IsThere};
 ghost use Rattle.lot_machine.specs.Order.{IsInOrder};
 ghost use Rattle.lot_machine.specs.State.{funding_of};
+ghost use Rattle.lot_kernel.specs.Counted.{KeepsStale};
 ghost use Rattle.lot_kernel.specs.Snapshots.{IsTargetThere, MakesStale};
 
 use crate::names::{currency_place, thread_place};
@@ -25,6 +26,7 @@ impl Tables {
         ensures reply { result ≡ (command_step self.old.state command.now).reply }
         ensures state { self.new.state ≡ (command_step self.old.state command.now).state }
         ensures stale { MakesStale self.old self.new }
+        ensures kept { KeepsStale self.old self.new }
         ensures meter { self.new.meter ≡ self.old.meter }
     {
         match command {
@@ -134,6 +136,7 @@ impl Tables {
         ensures reply { result ≡ (command_step self.old.state (MakeThread name.now script)).reply }
         ensures state { self.new.state ≡ (command_step self.old.state (MakeThread name.now script)).state }
         ensures stale { MakesStale self.old self.new }
+        ensures kept { KeepsStale self.old self.new }
         ensures meter { self.new.meter ≡ self.old.meter }
     {
         if !is_good_name(name.as_bytes()) {
@@ -157,6 +160,7 @@ impl Tables {
         ensures number { result ≡ length self.old.state.threads + 1 }
         ensures state { self.new.state ≡ names.with_thread self.old.state name.now script }
         ensures stale { MakesStale self.old self.new }
+        ensures kept { KeepsStale self.old self.new }
         ensures meter { self.new.meter ≡ self.old.meter }
     {
         self.queues.add_thread();
@@ -170,6 +174,7 @@ impl Tables {
         ensures reply { result ≡ (command_step self.old.state (MakeFunded amount currency.now name.now script)).reply }
         ensures state { self.new.state ≡ (command_step self.old.state (MakeFunded amount currency.now name.now script)).state }
         ensures stale { MakesStale self.old self.new }
+        ensures kept { KeepsStale self.old self.new }
         ensures meter { self.new.meter ≡ self.old.meter }
     {
         if amount == 0 || amount > 4294967295 {
@@ -204,6 +209,7 @@ impl Tables {
         requires thread { IsThere self.old.state.records thread }
         ensures state { self.new.state ≡ record self.old.state { tickets = with_target self.old.state.tickets ticket (ToThread thread) } }
         ensures stale { MakesStale self.old self.new }
+        ensures kept { KeepsStale self.old self.new }
         ensures meter { self.new.meter ≡ self.old.meter }
     {
         let _ = self.threads.fund(ticket, Target::Thread(thread));
@@ -214,6 +220,7 @@ impl Tables {
         ensures reply { result ≡ (command_step self.old.state (Fund ticket target.now)).reply }
         ensures state { self.new.state ≡ (command_step self.old.state (Fund ticket target.now)).state }
         ensures stale { MakesStale self.old self.new }
+        ensures kept { KeepsStale self.old self.new }
         ensures meter { self.new.meter ≡ self.old.meter }
     {
         let Some(found) = self.ticket_at(ticket) else {
@@ -242,6 +249,7 @@ impl Tables {
         ensures reply { result ≡ (if names.is_cycle self.old.state ticket to then Refused Cycle else Done) }
         ensures state { self.new.state ≡ (if names.is_cycle self.old.state ticket to then self.old.state else record self.old.state { tickets = with_target self.old.state.tickets ticket to }) }
         ensures stale { MakesStale self.old self.new }
+        ensures kept { KeepsStale self.old self.new }
         ensures meter { self.new.meter ≡ self.old.meter }
     {
         if self.threads.fund(ticket, to).is_err() {
@@ -255,6 +263,7 @@ impl Tables {
         ensures reply { result ≡ (command_step self.old.state (Unfund ticket)).reply }
         ensures state { self.new.state ≡ (command_step self.old.state (Unfund ticket)).state }
         ensures stale { MakesStale self.old self.new }
+        ensures kept { KeepsStale self.old self.new }
         ensures meter { self.new.meter ≡ self.old.meter }
     {
         let Some(found) = self.ticket_at(ticket) else {

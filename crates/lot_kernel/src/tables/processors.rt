@@ -1,5 +1,5 @@
 //! What happens on a processor: draws, expiries and traps.
-ghost use Rattle.std.specs.Prelude.{◌≡◌, ◌<◌, ◌≤◌, Some, None, IfSome, MatchOption, length, option_map};
+ghost use Rattle.std.specs.Prelude.{◌≡◌, ◌<◌, ◌≤◌, ℕ, Some, None, IfSome, MatchOption, length, option_map};
 ghost use Rattle.lot_machine.specs.declared.event.Event.TheVariants as event;
 ghost use Rattle.lot_machine.specs.declared.after.After.TheVariants.{Leaves};
 ghost use Rattle.lot_machine.specs.declared.record.Status.{Status as AStatus};
@@ -8,11 +8,11 @@ ghost use Rattle.lot_machine.specs.Numbered as numbered;
 ghost use Rattle.lot_machine.specs.Order.{IsInOrder};
 ghost use Rattle.lot_machine.specs.State.{change_record, funding_of, lend_of, thread_on, used_by};
 ghost use Rattle.lot_machine.specs.Step as steps;
-ghost use Rattle.lot_machine.specs.Step.{event_refusal, step};
+ghost use Rattle.lot_machine.specs.Step.{step};
 ghost use Rattle.lot_machine.specs.Traps.{after_trap, with_ticks};
 ghost use Rattle.lot_machine.proofs.RecordsKept.{RunsAlone, StopsIfLeaves};
 ghost use Rattle.lot_threads.specs.Threaded.{CanLend};
-ghost use Rattle.lot_kernel.specs.Counted.{Counts, CountsTrap};
+ghost use Rattle.lot_kernel.specs.Counted.{Counts, KeepsStale};
 ghost use Rattle.lot_kernel.specs.Snapshots.{MakesStale};
 ghost use Rattle.lot_kernel.specs.Trapped.{RunsOn, trapped};
 
@@ -45,7 +45,7 @@ impl Tables {
         ensures reply { result ≡ (step self.old.state (event.Draw processor d)).reply }
         ensures state { self.new.state ≡ (step self.old.state (event.Draw processor d)).state }
         ensures stale { MakesStale self.old self.new }
-        ensures counts { Counts (event.Draw processor d) (event_refusal self.old.state (event.Draw processor d)) result self.old self.new }
+        ensures counts { Counts (event.Draw processor d) result self.old self.new }
     {
         if self.is_bad_processor(processor) {
             return Reply::Refused(Refusal::BadProcessor);
@@ -70,6 +70,7 @@ impl Tables {
         ensures reply { result ≡ (step self.old.state (event.Expire processor)).reply }
         ensures state { self.new.state ≡ (step self.old.state (event.Expire processor)).state }
         ensures stale { MakesStale self.old self.new }
+        ensures kept { KeepsStale self.old self.new }
         ensures meter { self.new.meter ≡ self.old.meter }
     {
         if self.is_bad_processor(processor) {
@@ -90,7 +91,7 @@ impl Tables {
         ensures reply { result ≡ (step self.old.state (event.Trap processor ran action)).reply }
         ensures state { self.new.state ≡ (step self.old.state (event.Trap processor ran action)).state }
         ensures stale { MakesStale self.old self.new }
-        ensures counts { Counts (event.Trap processor ran action) (event_refusal self.old.state (event.Trap processor ran action)) result self.old self.new }
+        ensures counts { Counts (event.Trap processor ran action) result self.old self.new }
     {
         if self.is_bad_processor(processor) {
             return Reply::Refused(Refusal::BadProcessor);
@@ -121,7 +122,7 @@ impl Tables {
         ensures reply { result ≡ (trapped self.old.state trap action).reply }
         ensures state { self.new.state ≡ (trapped self.old.state trap action).state }
         ensures stale { MakesStale self.old self.new }
-        ensures counts { CountsTrap action self.old self.new }
+        ensures counts { (ran : ℕ) → Counts (event.Trap trap.processor ran action) result self.old self.new }
     {
         let effect = self.act(trap.thread, action);
         self.finish(trap, effect.after);
@@ -143,6 +144,7 @@ impl Tables {
         requires lend { (status : AStatus) → after ≡ Leaves status → CanLend (funding_of self.old.state) trap.thread (lend_of status) }
         ensures state { self.new.state ≡ record self.old.state { records = change_record (λ r. with_ticks trap.ticks (after_trap after trap.processor trap.used self.old.state.limits.quantum r)) self.old.state.records trap.thread } }
         ensures stale { MakesStale self.old self.new }
+        ensures kept { KeepsStale self.old self.new }
         ensures meter { self.new.meter ≡ self.old.meter }
     {
         let Some(before) = self.threads.record(trap.thread) else {

@@ -7,7 +7,7 @@ ghost use Rattle.lot_machine.specs.Lends as lends;
 ghost use Rattle.lot_machine.specs.Order.{IsInOrder};
 ghost use Rattle.lot_machine.specs.State.{funding_of};
 ghost use Rattle.lot_machine.specs.Step.{trap_refusal};
-ghost use Rattle.lot_kernel.specs.Counted.{CountsTrap};
+ghost use Rattle.lot_kernel.specs.Counted.{CountsTrap, KeepsStale};
 ghost use Rattle.lot_kernel.specs.Snapshots.{MakesStale};
 ghost use Rattle.lot_kernel.specs.Trapped.{IsRunning, effect_of};
 
@@ -24,7 +24,7 @@ impl Tables {
         ensures after { result.after ≡ (effect_of self.old.state thread action).after }
         ensures state { self.new.state ≡ (effect_of self.old.state thread action).state }
         ensures stale { MakesStale self.old self.new }
-        ensures counts { CountsTrap action self.old self.new }
+        ensures counts { CountsTrap action result.outcome self.old self.new }
     {
         match action {
             Action::Yield => Effect {
@@ -50,6 +50,7 @@ impl Tables {
         ensures after { result.after ≡ (effect_of self.old.state thread (action.Call port number)).after }
         ensures state { self.new.state ≡ (effect_of self.old.state thread (action.Call port number)).state }
         ensures stale { MakesStale self.old self.new }
+        ensures kept { KeepsStale self.old self.new }
         ensures meter { self.new.meter ≡ self.old.meter }
     {
         if port == 0 || port > self.queues.ports() {
@@ -65,6 +66,7 @@ impl Tables {
         ensures after { result.after ≡ (effect_of self.old.state thread (action.Receive port)).after }
         ensures state { self.new.state ≡ (effect_of self.old.state thread (action.Receive port)).state }
         ensures stale { MakesStale self.old self.new }
+        ensures kept { KeepsStale self.old self.new }
         ensures meter { self.new.meter ≡ self.old.meter }
     {
         if port == 0 || port > self.queues.ports() {
@@ -79,6 +81,7 @@ impl Tables {
         ensures after { result.after ≡ (effect_of self.old.state thread (action.Reply number)).after }
         ensures state { self.new.state ≡ (effect_of self.old.state thread (action.Reply number)).state }
         ensures stale { MakesStale self.old self.new }
+        ensures kept { KeepsStale self.old self.new }
         ensures meter { self.new.meter ≡ self.old.meter }
     {
         let Some(client) = self.queues.first_client(thread) else {
@@ -94,6 +97,7 @@ impl Tables {
         ensures after { result.after ≡ (effect_of self.old.state thread (action.Lock mutex)).after }
         ensures state { self.new.state ≡ (effect_of self.old.state thread (action.Lock mutex)).state }
         ensures stale { MakesStale self.old self.new }
+        ensures kept { KeepsStale self.old self.new }
         ensures meter { self.new.meter ≡ self.old.meter }
     {
         if let Some(refusal) = self.lock_refusal(thread, mutex) {
@@ -144,7 +148,7 @@ impl Tables {
         ensures after { result.after ≡ (effect_of self.old.state thread (action.Unlock mutex d)).after }
         ensures state { self.new.state ≡ (effect_of self.old.state thread (action.Unlock mutex d)).state }
         ensures stale { MakesStale self.old self.new }
-        ensures counts { CountsTrap (action.Unlock mutex d) self.old self.new }
+        ensures counts { CountsTrap (action.Unlock mutex d) result.outcome self.old self.new }
     {
         if mutex == 0 || mutex > self.queues.mutexes() {
             return refused(TrapRefusal::NoMutex);

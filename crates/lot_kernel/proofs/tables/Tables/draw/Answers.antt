@@ -10,7 +10,7 @@ use Rattle.lot_machine.specs.Numbered.{at_number}
 use Rattle.lot_machine.specs.State.{change_record, sizes_of, status_of, thread_on}
 use Rattle.lot_machine.proofs.EachOnce.{contains-nothing}
 use Rattle.lot_value.specs.Counts.{counted_up}
-use Rattle.lot_kernel.proofs.Drawing.{draw-allowed, start-fresh, step-idle, step-won}
+use Rattle.lot_kernel.proofs.Drawing.{start-fresh, step-idle, step-won}
 use Rattle.lot_value.specs.Caches.{edges_into_all}
 use Rattle.lot_kernel.specs.Snapshots.{held}
 use Rattle.lot_machine.specs.Step.{is_bad_processor, started}
@@ -43,12 +43,8 @@ returns-in_default-clause-state c =
 pub returns-in_default-clause-counts : goal.returns-in_default-clause-counts
 returns-in_default-clause-counts c =
     let i = c.self.inside in
-    let s = (the_view i).state in
-    let good : is_bad_processor s c.args.processor ≡ false = search rules in
-    let free : is_some (thread_on s.records c.args.processor) ≡ false = search rules in
     let reads = ap (λ (v : Threaded). counted_up i.meter.ticket_reads (edges_into_all (funding_in v) v.stale)) c.self.invariant.threads in
-    rw (← c.self.view_is, draw-allowed s c.args.processor c.args.d good free)
-    (record { fresh = ap (λ (v : Threaded). v.stale) c.draw.ensures.settled; reads = c.draw.ensures.reads ∙ reads; visits = c.in_default.ensures.visits })
+    rw (← c.self.view_is) (record { fresh = ap (λ (v : Threaded). v.stale) c.draw.ensures.settled; reads = c.draw.ensures.reads ∙ reads }, c.in_default.ensures.visits)
 
 pub start-delivered-requires-clause-thread : goal.start-delivered-requires-clause-thread
 start-delivered-requires-clause-thread c =
@@ -89,11 +85,7 @@ returns-clause-stale c x stale =
 pub returns-clause-counts : goal.returns-clause-counts
 returns-clause-counts c =
     let i = c.self.inside in
-    let s = (the_view i).state in
-    let good : is_bad_processor s c.args.processor ≡ false = search rules in
-    let free : is_some (thread_on s.records c.args.processor) ≡ false = search rules in
     let reads = ap (λ (v : Threaded). counted_up i.meter.ticket_reads (edges_into_all (funding_in v) v.stale)) c.self.invariant.threads in
     let none = fresh i.threads c.draw.new.self c.start-delivered.new.self c.args.processor c.in-Some.winner.thread c.draw.ensures.settled c.in-Some.ensures.ready c.start-delivered.ensures.started c.start-delivered.ensures.stale in
     let limit = ap (λ (v : Threaded). v.thread_limit) c.self.invariant.threads in
-    rw (← c.self.view_is, draw-allowed s c.args.processor c.args.d good free)
-    (record { fresh = none; reads = c.draw.ensures.reads ∙ reads; visits = subst (λ n. CountsReads n i.meter.tree_visits c.draw.new.meter.tree_visits) limit c.in-Some.ensures.visits })
+    rw (← c.self.view_is) (record { fresh = none; reads = c.draw.ensures.reads ∙ reads }, subst (λ n. CountsReads n i.meter.tree_visits c.draw.new.meter.tree_visits) limit c.in-Some.ensures.visits)

@@ -1,9 +1,10 @@
-use Rattle.std.proofs.Common.{List, Some, ap, length, option_map, rules, ℕ, ◌+◌, ◌∙◌, ◌≡◌}
+use Rattle.std.proofs.Common.{Contains, List, Some, ap, length, option_map, rules, subst, sym, ℕ, ◌+◌, ◌∙◌, ◌≡◌}
 use Rattle.lot_kernel.specs.Snapshots.{Snapshot}
 use Rattle.lot_machine.specs.State.{State, funding_of}
 use Rattle.lot_machine.specs.declared.ticket.Target.TheVariants.{Thread, Unfunded}
 use Rattle.lot_machine.specs.declared.ticket.Ticket.{Ticket}
-use Rattle.lot_kernel.proofs.Commanding.{funded-new, last-number, makes-funded, named-there}
+use Rattle.lot_kernel.proofs.Commanding.{funded-new, last-number, makes-funded}
+use Rattle.lot_machine.proofs.CommandsKept.{named-there}
 use Rattle.std.specs.Option.{option_flatten}
 use Rattle.lot_machine.specs.Funding.{target_of, with_new_ticket, with_target}
 use Rattle.lot_kernel.specs.contracts.tables.Tables.{the_view}
@@ -51,3 +52,10 @@ returns-clause-stale c =
     let issued : c.issue.new.self ≡ record old { state = record old.state { tickets = with_new_ticket old.state.tickets c.args.amount c.in-Some.issuer Unfunded } } = search rules in
     rw (← c.self.view_is) (makes-funded old c.issue.new.self c.add_thread-thread.new.self c.fund_thread.new.self c.args.amount c.in-Some.issuer c.args.script c.in-Some-issue.ticket c.add_thread-thread.result c.args.name.now
     issued c.add_thread-thread.ensures.state c.fund_thread.ensures.state c.add_thread-thread.ensures.stale c.fund_thread.ensures.stale)
+
+pub returns-clause-kept : goal.returns-clause-kept
+returns-clause-kept c x stale =
+    let old = the_view c.self.inside in
+    let issued : c.issue.new.self ≡ record old { state = record old.state { tickets = with_new_ticket old.state.tickets c.args.amount c.in-Some.issuer Unfunded } } = search rules in
+    let here : Contains old.stale x = rw (← c.self.view_is) at stale in
+    c.fund_thread.ensures.kept x (c.add_thread-thread.ensures.kept x (subst (λ (y : Snapshot). Contains y.stale x) (sym issued) here))

@@ -1,5 +1,5 @@
 use Rattle.std.proofs.Common.{rules}
-use Rattle.lot_kernel.proofs.Commanding.{named-there}
+use Rattle.lot_machine.proofs.CommandsKept.{named-there}
 use Rattle.lot_kernel.proofs.tables.Tables.make_ticket.Goals as goal
 
 pub issue-requires-clause-issuer : goal.issue-requires-clause-issuer

@@ -1,3 +1,4 @@
+use Rattle.lot_kernel.proofs.Metering.{trap-then}
 use Rattle.std.proofs.Common.{ap, option_map, refl, subst, sym, ℕ, ◌∙◌, ◌≡◌}
 use Rattle.lot_machine.specs.declared.action.Action.{Action}
 use Rattle.lot_threads.specs.Threaded.{CanLend}
@@ -70,3 +71,6 @@ returns-clause-stale c =
     let was = record-of s.records trap.thread (Running trap.processor c.requires.runs.0) c.requires.runs.1 in
     makes-trap c.args.self.now c.act-effect.new.self c.finish.new.self trap.thread _ was.0 was.1
     (ap (λ (x : State). at_number x.records trap.thread) c.act-effect.ensures.state ∙ left ∙ was.1) c.finish.ensures.state c.act-effect.ensures.stale c.finish.ensures.stale
+
+pub returns-clause-counts : goal.returns-clause-counts
+returns-clause-counts c ran = trap-then c.args.self.now c.act-effect.new.self c.finish.new.self c.finish.ensures.kept c.finish.ensures.meter c.args.action c.act-effect.result.outcome c.act-effect.ensures.counts

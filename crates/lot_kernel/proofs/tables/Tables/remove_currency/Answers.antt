@@ -1,7 +1,7 @@
 use Rattle.std.proofs.Common.{ap, arith, rules, slice_get, ◌∙◌}
 use Rattle.lot_threads.specs.Threaded.{Threaded}
 use Rattle.lot_kernel.proofs.Holding.{held-removed}
-use Rattle.lot_kernel.proofs.Commanding.{named-there}
+use Rattle.lot_machine.proofs.CommandsKept.{named-there}
 use Rattle.lot_machine.specs.State.{sizes_of}
 use Rattle.lot_kernel.proofs.tables.Tables.remove_currency.Goals as goal
 

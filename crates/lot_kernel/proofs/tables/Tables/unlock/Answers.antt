@@ -6,8 +6,9 @@ use Rattle.lot_threads.specs.Threaded.{Threaded, funding_in, worth_in}
 use Rattle.lot_value.specs.Counts.{counted_up}
 use Rattle.lot_value.specs.Caches.{edges_into_all}
 use Rattle.lot_kernel.proofs.Holding.{held-mutexes, makes-held}
-use Rattle.lot_kernel.proofs.Trapping.{mutexes-state, unlock-count, unlock-counts, unlock-done, unlock-same}
-use Rattle.lot_kernel.specs.Counted.{settled_meter}
+use Rattle.lot_kernel.proofs.Trapping.{mutexes-state, unlock-count, unlock-done, unlock-same}
+use Rattle.lot_kernel.proofs.Metering.{unlock-counts}
+use Rattle.lot_kernel.specs.Snapshots.{held}
 use Rattle.lot_machine.specs.State.{sizes_of}
 use Rattle.lot_kernel.specs.contracts.tables.Tables.{the_view}
 use Rattle.lot_kernel.proofs.tables.Tables.unlock.Goals as goal
@@ -61,4 +62,5 @@ pub returns-clause-counts : goal.returns-clause-counts
 returns-clause-counts c =
     let i = c.self.inside in
     let reads = ap (λ (v : Threaded). record i.meter { ticket_reads = counted_up i.meter.ticket_reads (edges_into_all (funding_in v) v.stale) }) c.self.invariant.threads in
-    rw (← c.self.view_is) (unlock-counts (mutex_at i.queues.mutexes c.args.mutex).waiters i.meter c.unlock.new.meter (settled_meter (the_view i)) c.unlock.ensures.uncounted (λ some. c.unlock.ensures.counted some ∙ reads))
+    rw (← c.self.view_is) (unlock-counts i.threads.records i.queues.mutexes (worth_in i.threads) c.args.mutex c.args.d (the_view i) (record { state = held (sizes_of i.limits) i.currencies.items c.unlock.new.threads c.unlock.new.queues; stale = c.unlock.new.threads.stale; meter = c.unlock.new.meter }) c.unlock.result.outcome
+    c.unlock.ensures.outcome c.unlock.ensures.kept c.unlock.ensures.uncounted (λ some. c.unlock.ensures.counted some ∙ reads) c.unlock.ensures.next)

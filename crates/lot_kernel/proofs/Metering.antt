@@ -1,0 +1,57 @@
+-- What is counted, through the parts of an event.
+use Rattle.std.proofs.Common.{◌≡◌, ◌≢◌, ◌∙◌, ℕ, Option, List, [], ◌∷◌, Contains, map, slice_index, option_map, unwrap_or, refl, subst, sym}
+use Rattle.lot_machine.specs.declared.action.Action.{Action}
+use Rattle.lot_machine.specs.declared.action.Action.TheVariants.{Yield, Call, Receive, Reply, Lock, Unlock, Exit}
+use Rattle.lot_machine.specs.declared.drawn.Drawn.{Drawn}
+use Rattle.lot_machine.specs.declared.funding.Node.TheVariants.{Thread}
+use Rattle.lot_machine.specs.declared.record.Record.{Record}
+use Rattle.lot_machine.specs.declared.reply.Outcome.{Outcome}
+use Rattle.lot_machine.specs.declared.reply.Outcome.TheVariants as outcome
+use Rattle.lot_machine.specs.Lottery.{winner}
+use Rattle.lot_machine.specs.Mutexes.{mutex_at, unlock}
+use Rattle.lot_machine.specs.State.{Mutex}
+use Rattle.lot_kernel.specs.Counted.{CountsNothing, CountsTrap, KeepsStale, settled_meter}
+use Rattle.lot_kernel.specs.Snapshots.{Snapshot}
+
+-- two parts count nothing
+nothing-twice : (old mid new : Snapshot) → CountsNothing old mid → KeepsStale mid new → new.meter ≡ mid.meter → CountsNothing old new
+nothing-twice old mid new first kept meter = record { kept = λ x is. kept x (first.kept x is); meter = meter ∙ first.meter }
+
+module _ (old mid new : Snapshot) (kept : KeepsStale mid new) (meter : new.meter ≡ mid.meter) where
+  -- what follows a trap counts nothing
+  pub trap-then : (action : Action) (o : Outcome) → CountsTrap action o old mid → CountsTrap action o old new
+  trap-then Yield o first = nothing-twice old mid new first kept meter
+  trap-then (Call p n) o first = nothing-twice old mid new first kept meter
+  trap-then (Receive p) o first = nothing-twice old mid new first kept meter
+  trap-then (Reply n) o first = nothing-twice old mid new first kept meter
+  trap-then (Lock m) o first = nothing-twice old mid new first kept meter
+  trap-then Exit o first = nothing-twice old mid new first kept meter
+  trap-then (Unlock m d) (outcome.Passed to draw) first = (meter ∙ first.0, kept (Thread to) first.1)
+  trap-then (Unlock m d) outcome.Yielded first = nothing-twice old mid new first kept meter
+  trap-then (Unlock m d) (outcome.ServedBy s) first = nothing-twice old mid new first kept meter
+  trap-then (Unlock m d) outcome.Queued first = nothing-twice old mid new first kept meter
+  trap-then (Unlock m d) outcome.Waits first = nothing-twice old mid new first kept meter
+  trap-then (Unlock m d) (outcome.Received client number) first = nothing-twice old mid new first kept meter
+  trap-then (Unlock m d) (outcome.Replied client) first = nothing-twice old mid new first kept meter
+  trap-then (Unlock m d) outcome.Locked first = nothing-twice old mid new first kept meter
+  trap-then (Unlock m d) outcome.Freed first = nothing-twice old mid new first kept meter
+  trap-then (Unlock m d) outcome.Exited first = nothing-twice old mid new first kept meter
+  trap-then (Unlock m d) (outcome.Refused why) first = nothing-twice old mid new first kept meter
+
+-- an unlock that passes its mutex on counts what it settles, and one that frees it nothing
+pub unlock-counts : (records : List Record) (mutexes : List Mutex) (value : ℕ → ℕ) (m d : ℕ) (old new : Snapshot) (o : Outcome) → o ≡ (unlock records mutexes value m d).outcome → ((mutex_at mutexes m).waiters ≡ [] → KeepsStale old new)
+    → ((mutex_at mutexes m).waiters ≡ [] → new.meter ≡ old.meter) → ((mutex_at mutexes m).waiters ≢ [] → new.meter ≡ settled_meter old) → ((to : ℕ) (draw : Option (ℕ × ℕ)) → o ≡ outcome.Passed to draw → Contains new.stale (Thread to))
+    → CountsTrap (Unlock m d) o old new
+unlock-counts records mutexes value m d old new o is kept uncounted counted next = by (mutex_at mutexes m).waiters refl
+  where
+    by : (waiters : List ℕ) → (mutex_at mutexes m).waiters ≡ waiters → CountsTrap (Unlock m d) o old new
+    by [] none =
+        let freed : o ≡ outcome.Freed = rw none at is in
+        subst (λ x. CountsTrap (Unlock m d) x old new) (sym freed) (record { kept = kept none; meter = uncounted none })
+    by (w ∷ ws) some =
+        let drawn : Option Drawn = winner (map value (w ∷ ws)) d in
+        let place = unwrap_or (option_map (λ (x : Drawn). x.place) drawn) 0 in
+        let to = slice_index (w ∷ ws) place in
+        let numbers = option_map (λ (x : Drawn). (x.number, x.total)) drawn in
+        let passed : o ≡ outcome.Passed to numbers = rw some at is in
+        subst (λ x. CountsTrap (Unlock m d) x old new) (sym passed) (counted (λ none. let no = sym some ∙ none in cc), next to numbers passed)
