@@ -16,14 +16,14 @@ pub record IsNarrowed (ws : List ℕ) (number level base rest : ℕ) : Type 0 wh
   pub passed : sum (take base ws) + rest ≡ number
   pub reached : number < sum (take (base + 2 ^ level) ws)
 
--- at first that is every place
-pub IsNarrowed_none : (ws : List ℕ) (number digits : ℕ) → number < sum ws → length ws < 2 ^ digits → IsNarrowed ws number digits 0 number
-IsNarrowed_none ws number digits drawn enough = record {
+-- at first that is every place that may have a weight
+pub IsNarrowed_reach : (ws : List ℕ) (number digits : ℕ) → number < sum ws → sum (take (2 ^ digits) ws) ≡ sum ws → IsNarrowed ws number digits 0 number
+IsNarrowed_reach ws number digits drawn all = record {
   block = 0;
   aligned = omega arith;
   within = omega arith;
   passed = omega arith;
-  reached = rw (take_all (0 + 2 ^ digits) ws (omega arith)) drawn;
+  reached = let from : 0 + 2 ^ digits ≡ 2 ^ digits = omega arith in rw (from, all) drawn;
 }
 
 -- ---- one step down, from blocks of 2 ^ upper places to their halves of `size`

@@ -1,12 +1,12 @@
 -- What a write of one weight and of the partial sums over it leaves true, level by level.
-use Rattle.std.proofs.Common.{ℕ, suc, zero, ◌≡◌, ◌≢◌, ◌+◌, ◌-◌, ◌*◌, ◌/◌, ◌%◌, ◌^◌, ◌<◌, ◌≤◌, ◌⊎◌, inl, inr, List, length, sum, set, get_or, ap, arith, refl, length-set}
+use Rattle.std.proofs.Common.{ℕ, suc, zero, ◌≡◌, ◌≢◌, ◌+◌, ◌-◌, ◌*◌, ◌/◌, ◌%◌, ◌^◌, ◌<◌, ◌≤◌, ◌⊎◌, inl, inr, List, length, sum, take, set, get_or, add-one, ap, sym, subst, ◌∙◌, arith, refl, length-set}
 use Rattle.std.proofs.lemmas.List.{get_or-set_same, get_or-set_other}
-use Rattle.std.proofs.lemmas.List.Sums.{sum_by-take-le}
+use Rattle.std.proofs.lemmas.List.Sums.{sum_by-set, sum_by-take-le}
 use Rattle.std.proofs.lemmas.Bool.{cases_lt, cases_eq}
-use Rattle.std.proofs.lemmas.Nat.{pow_pos, div-add-mod', mod_below, same_from_place}
+use Rattle.std.proofs.lemmas.Nat.{pow-add, pow_pos, div-add-mod', mod_below, same_from_place}
 use Rattle.std.proofs.Math.Nat.{pow-suc, pow-le-pow_right, mul-le-mul_right}
-use Rattle.lot_tree.specs.Sums.{IsPartialSum, ArePartialSumsAt}
-use Rattle.lot_tree.proofs.Sums.{sum-take-set, sum-take-set_past, weight-le}
+use Rattle.lot_tree.specs.Sums.{AreKept, ArePartialSumsAt, IsPartialSum, Kept}
+use Rattle.lot_tree.proofs.Sums.{sum-take-le, sum-take-set, sum-take-set_past, weight-le}
 
 -- twice an odd multiple, written as an odd multiple of the double
 double : (p a : ℕ) → (2 * a + 1) * (p * 2) ≡ 2 * ((2 * a + 1) * p)
@@ -98,39 +98,32 @@ ArePartialSumsAt-set_other ws sums k level pair value other held block whole =
     IsPartialSum-set_other ws sums _ _ _ _ (level_apart k level block pair other) (held block whole)
 
 -- ---- level by level
--- the partial sums of the levels below `level` are those after the write, and the others those before it
-pub record IsWrittenBelow (ws sums : List ℕ) (i w level : ℕ) : Type 0 where
+-- the partial sums of the levels below `level` are those after the write, and those of the others below the height are those before it
+pub record IsWrittenBelow (ws sums : List ℕ) (i w height level : ℕ) : Type 0 where
   pub written : (k : ℕ) → k < level → ArePartialSumsAt (set ws i w) sums k
-  pub unwritten : (k : ℕ) → level ≤ k → ArePartialSumsAt ws sums k
+  pub unwritten : (k : ℕ) → level ≤ k → k < height → ArePartialSumsAt ws sums k
 
-module _ (ws sums : List ℕ) (i w level : ℕ) (place : i < length ws) (done : IsWrittenBelow ws sums i w level) where
+module _ (ws sums : List ℕ) (i w height level : ℕ) (place : i < length ws) (low : level < height) (done : IsWrittenBelow ws sums i w height level) where
   -- one level more, at which the block of i is an odd one or not whole
-  IsWrittenBelow_skipped : ((pair : ℕ) → 2 * pair ≡ i / 2 ^ level → length ws < (2 * pair + 1) * 2 ^ level) → IsWrittenBelow ws sums i w (level + 1)
+  IsWrittenBelow_skipped : ((pair : ℕ) → 2 * pair ≡ i / 2 ^ level → length ws < (2 * pair + 1) * 2 ^ level) → IsWrittenBelow ws sums i w height (level + 1)
   IsWrittenBelow_skipped none = record {
     written = λ k below. elim (cases_eq k level) [
-      | inl same ↦ rw same (ArePartialSumsAt-set_skipped ws sums i w level place (done.unwritten level (omega arith)) none)
+      | inl same ↦ rw same (ArePartialSumsAt-set_skipped ws sums i w level place (done.unwritten level (omega arith) low) none)
       | inr other ↦ done.written k (omega arith)
     ];
-    unwritten = λ k above. done.unwritten k (omega arith);
+    unwritten = λ k above few. done.unwritten k (omega arith) few;
   }
 
   -- one level more, at which the block of i has a partial sum
   IsWrittenBelow_written : (pair : ℕ) → 2 * pair ≡ i / 2 ^ level → (2 * pair + 1) * 2 ^ level ≤ length sums
-      → IsWrittenBelow ws (set sums ((2 * pair + 1) * 2 ^ level - 1) (get_or sums ((2 * pair + 1) * 2 ^ level - 1) 0 - get_or ws i 0 + w)) i w (level + 1)
+      → IsWrittenBelow ws (set sums ((2 * pair + 1) * 2 ^ level - 1) (get_or sums ((2 * pair + 1) * 2 ^ level - 1) 0 - get_or ws i 0 + w)) i w height (level + 1)
   IsWrittenBelow_written pair its kept = record {
     written = λ k below. elim (cases_eq k level) [
-      | inl same ↦ rw same (ArePartialSumsAt-set_written ws sums i w level place (done.unwritten level (omega arith)) pair its kept)
+      | inl same ↦ rw same (ArePartialSumsAt-set_written ws sums i w level place (done.unwritten level (omega arith) low) pair its kept)
       | inr other ↦ ArePartialSumsAt-set_other (set ws i w) sums k level pair _ other (done.written k (omega arith))
     ];
-    unwritten = λ k above. ArePartialSumsAt-set_other ws sums k level pair _ (λ same. absurd (omega arith)) (done.unwritten k (omega arith));
+    unwritten = λ k above few. ArePartialSumsAt-set_other ws sums k level pair _ (λ same. absurd (omega arith)) (done.unwritten k (omega arith) few);
   }
-
--- past the levels that the number of places has binary digits there is no whole block
-pub IsWrittenBelow_all : (ws sums : List ℕ) (i w digits level : ℕ) → length ws < 2 ^ digits → digits ≤ level → IsWrittenBelow ws sums i w level → (k : ℕ) → ArePartialSumsAt (set ws i w) sums k
-IsWrittenBelow_all ws sums i w digits level enough past done k pair whole = elim (cases_lt k digits) [
-  | inl below ↦ done.written k (omega arith) pair whole
-  | inr above ↦ absurd (omega (arith, length-set ws i w, pow-le-pow_right {n = 2} (omega arith) above, ends_past (2 ^ k) (2 * pair)))
-]
 
 -- ---- the step of the code: `last` is the last place of the block of i, and `size` its length
 -- a weight is within the partial sum over it, which stays within the sum of all
@@ -140,7 +133,7 @@ IsPartialSum-within ws sums i w from to place after before held =
     let least : get_or ws i 0 ≤ get_or sums (to - 1) 0 = omega (arith, held.adds, weight-le ws i from to place after before) in
     (least, omega (arith, held.adds, sum-take-set ws i w to place before, sum_by-take-le (λ x. x) (set ws i w) to))
 
-module _ (ws sums : List ℕ) (i w level size : ℕ) (place : i < length ws) (same_length : length sums ≡ length ws) (is_size : size ≡ 2 ^ level) (done : IsWrittenBelow ws sums i w level) where
+module _ (ws sums : List ℕ) (i w height level size : ℕ) (place : i < length ws) (same_length : length sums ≡ length ws) (is_size : size ≡ 2 ^ level) (low : level < height) (done : IsWrittenBelow ws sums i w height level) where
   -- if the block of i is even and whole, its partial sum is the last one of the left half of a pair
   its_pair : i / 2 ^ level % 2 ≡ 0 → size ≤ length ws - i / 2 ^ level * size
       → (pair : ℕ) × (2 * pair ≡ i / 2 ^ level) × ((2 * pair + 1) * 2 ^ level ≤ length ws) × (i / 2 ^ level * size + size ≡ (2 * pair + 1) * 2 ^ level)
@@ -157,17 +150,98 @@ module _ (ws sums : List ℕ) (i w level size : ℕ) (place : i < length ws) (sa
     last_sum_within =
         let found = its_pair even whole in
         let around = block_around (2 ^ level) i (pow_pos level) in
-        rw found.3 (IsPartialSum-within ws sums i w (2 * found.0 * 2 ^ level) _ place (rw found.1 around.0) (rw found.1 around.1) (done.unwritten level (omega arith) found.0 found.2))
+        rw found.3 (IsPartialSum-within ws sums i w (2 * found.0 * 2 ^ level) _ place (rw found.1 around.0) (rw found.1 around.1) (done.unwritten level (omega arith) low found.0 found.2))
 
-    pub last_sum_written : IsWrittenBelow ws (set sums (i / 2 ^ level * size + size - 1) (get_or sums (i / 2 ^ level * size + size - 1) 0 - get_or ws i 0 + w)) i w (level + 1)
+    pub last_sum_written : IsWrittenBelow ws (set sums (i / 2 ^ level * size + size - 1) (get_or sums (i / 2 ^ level * size + size - 1) 0 - get_or ws i 0 + w)) i w height (level + 1)
     last_sum_written =
         let found = its_pair even whole in
-        rw found.3 (IsWrittenBelow_written ws sums i w level place done found.0 found.1 (omega (arith, found.2)))
+        rw found.3 (IsWrittenBelow_written ws sums i w height level place low done found.0 found.1 (omega (arith, found.2)))
 
-  pub odd_skipped : i / 2 ^ level % 2 ≢ 0 → IsWrittenBelow ws sums i w (level + 1)
-  odd_skipped odd = IsWrittenBelow_skipped ws sums i w level place done (λ pair its. absurd (odd (omega arith)))
+  pub odd_skipped : i / 2 ^ level % 2 ≢ 0 → IsWrittenBelow ws sums i w height (level + 1)
+  odd_skipped odd = IsWrittenBelow_skipped ws sums i w height level place low done (λ pair its. absurd (odd (omega arith)))
 
-  pub short_skipped : length ws - i / 2 ^ level * size < size → IsWrittenBelow ws sums i w (level + 1)
-  short_skipped short = IsWrittenBelow_skipped ws sums i w level place done (λ pair its.
+  pub short_skipped : length ws - i / 2 ^ level * size < size → IsWrittenBelow ws sums i w height (level + 1)
+  short_skipped short = IsWrittenBelow_skipped ws sums i w height level place low done (λ pair its.
       let same : i / 2 ^ level * size + size ≡ (2 * pair + 1) * 2 ^ level = rw (is_size, ← its) (omega arith) in
       omega arith)
+
+  -- it ends within the first 2 ^ height places
+  pub last_below : i < 2 ^ height → i / 2 ^ level * size + size ≤ 2 ^ height
+  last_below reached =
+      let more = height - level in
+      let split : 2 ^ height ≡ 2 ^ more * 2 ^ level = ap (λ n. 2 ^ n) (omega (arith, low)) ∙ pow-add 2 more level in
+      let around = block_around (2 ^ level) i (pow_pos level) in
+      elim (cases_lt (i / 2 ^ level) (2 ^ more)) [
+        | inl below ↦ rw is_size (omega (arith, split, mul-le-mul_right {m = i / 2 ^ level + 1} {n = 2 ^ more} (2 ^ level) (omega (arith, below))))
+        | inr above ↦ absurd (omega (arith, reached, split, around.0, mul-le-mul_right {m = 2 ^ more} {n = i / 2 ^ level} (2 ^ level) above))
+      ]
+
+-- ---- one level more
+-- all the weight is in the first places, and so it is in more of them
+pub reach-more : (ws : List ℕ) (few more : ℕ) → few ≤ more → sum (take few ws) ≡ sum ws → sum (take more ws) ≡ sum ws
+reach-more ws few more past all = omega (arith, all, sum-take-le ws few more past, sum_by-take-le (λ x. x) ws more)
+
+module _ (ws : List ℕ) (kept : Kept) (total : ℕ) (held : AreKept ws kept) (whole : total ≡ sum ws) (room : 2 ^ kept.height ≤ length ws) (few : kept.height < 64) where
+  abbrev at : ℕ
+  at = 2 ^ kept.height - 1
+
+  last-is : (2 * 0 + 1) * 2 ^ kept.height - 1 ≡ at
+  last-is = omega arith
+
+  -- at the new level the first block has all the weight, and the others have none
+  grown-block : (pair : ℕ) → (2 * pair + 1) * 2 ^ kept.height ≤ length ws → IsPartialSum ws (set kept.sums at total) (2 * pair * 2 ^ kept.height) ((2 * pair + 1) * 2 ^ kept.height)
+  grown-block zero within =
+      let some = pow_pos kept.height in
+      let low : at < length kept.sums = omega (arith, held.same_length, room, some) in
+      let here : get_or (set kept.sums at total) ((2 * 0 + 1) * 2 ^ kept.height - 1) 0 ≡ total = rw last-is (get_or-set_same kept.sums at total 0 low) in
+      let none : sum (take (2 * 0 * 2 ^ kept.height) ws) ≡ 0 = let z : 2 * 0 * 2 ^ kept.height ≡ 0 = omega arith in rw z refl in
+      let end : (2 * 0 + 1) * 2 ^ kept.height ≡ 2 ^ kept.height = omega arith in
+      record { adds = omega (arith, here, none, whole, held.reach, ap (λ n. sum (take n ws)) end) }
+  grown-block (suc p) within =
+      let some = pow_pos kept.height in
+      let from : 2 ^ kept.height ≤ 2 * suc p * 2 ^ kept.height = omega arith in
+      let to : 2 ^ kept.height ≤ (2 * suc p + 1) * 2 ^ kept.height = omega arith in
+      let past : 2 ^ kept.height ≤ (2 * suc p + 1) * 2 ^ kept.height - 1 = omega (arith, some) in
+      let other : (2 * suc p + 1) * 2 ^ kept.height - 1 ≢ at = λ same. absurd (omega (arith, some, past, same)) in
+      let here = get_or-set_other kept.sums at _ total 0 other ∙ held.blank ((2 * suc p + 1) * 2 ^ kept.height - 1) past in
+      record { adds = omega (arith, here, reach-more ws (2 ^ kept.height) (2 * suc p * 2 ^ kept.height) from held.reach, reach-more ws (2 ^ kept.height) ((2 * suc p + 1) * 2 ^ kept.height) to held.reach) }
+
+  pub AreKept-grown : AreKept ws (record { sums = set kept.sums at total; height = kept.height + 1 })
+  AreKept-grown =
+      let twice : 2 ^ (kept.height + 1) ≡ 2 * 2 ^ kept.height = rw add-one (omega (arith, pow-suc 2 kept.height)) in
+      let some = pow_pos kept.height in
+      record {
+        same_length = length-set kept.sums at total ∙ held.same_length;
+        partial = λ level low. elim (cases_eq level kept.height) [
+          | inl same ↦ subst (ArePartialSumsAt ws (set kept.sums at total)) (sym same) grown-block
+          | inr other ↦ subst (λ n. ArePartialSumsAt ws (set kept.sums n total) level) last-is (ArePartialSumsAt-set_other ws kept.sums level kept.height 0 total other (held.partial level (omega (arith, low, other))))
+        ];
+        blank = λ place past.
+            let other : place ≢ at = λ same. absurd (omega (arith, some, past, twice, same)) in
+            get_or-set_other kept.sums at place total 0 other ∙ held.blank place (omega (arith, past, twice));
+        reach = reach-more ws (2 ^ kept.height) (2 ^ (kept.height + 1)) (omega (arith, twice)) held.reach;
+        fits = omega (arith, twice, room);
+        some = λ n. omega arith;
+        few = omega (arith, few);
+      }
+
+-- after a write of a weight and of the partial sums over it
+pub AreKept-written : (ws sums : List ℕ) (kept : Kept) (i w : ℕ) → AreKept ws kept → i < length ws → i < 2 ^ kept.height → length sums ≡ length kept.sums
+    → ((level : ℕ) → level < kept.height → ArePartialSumsAt (set ws i w) sums level)
+    → ((place : ℕ) → 2 ^ kept.height ≤ place → get_or sums place 0 ≡ get_or kept.sums place 0)
+    → AreKept (set ws i w) (record { sums = sums; height = kept.height })
+AreKept-written ws sums kept i w held place reached length-same partial others = record {
+  same_length = length-same ∙ held.same_length ∙ sym (length-set ws i w);
+  partial = partial;
+  blank = λ at past. others at past ∙ held.blank at past;
+  reach = omega (arith, sum-take-set ws i w (2 ^ kept.height) place reached, sum_by-set (λ x. x) ws i w 0 place, held.reach, sum_by-take-le (λ x. x) ws (2 ^ kept.height));
+  fits = omega (arith, held.fits, length-set ws i w);
+  some = λ n. held.some (omega (arith, n, length-set ws i w));
+  few = held.few;
+}
+
+-- a level that a place needs has a whole block among the places up to it
+pub level-room : (i level digits : ℕ) → level < digits → 2 ^ digits ≤ 2 * i + 1 → 2 ^ level ≤ i
+level-room i level digits low needed =
+    let twice : 2 ^ (level + 1) ≡ 2 * 2 ^ level = rw add-one (omega (arith, pow-suc 2 level)) in
+    omega (arith, twice, needed, pow-le-pow_right {n = 2} (omega arith) {i = level + 1} {j = digits} (omega (arith, low)))

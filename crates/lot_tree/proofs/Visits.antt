@@ -52,13 +52,21 @@ digits_least n digits other needed enough = elim (cases_lt other digits) [
   | inr more ↦ more
 ]
 
--- at the end of a descent over one place or more
-pub CountsReads-from_IsCounted : (n digits level base old new : ℕ) → level ≡ 0 → 0 < n → n < 2 ^ digits → 2 ^ digits ≤ 2 * n + 1 → IsUncounted digits level base old new ⊎ IsCounted digits level old new → CountsReads n old new
-CountsReads-from_IsCounted n digits level base old new end some enough needed (inl start) =
-    let one : 2 ^ digits ≡ 1 = rw (← start.at_top, end) refl in absurd (omega arith)
-CountsReads-from_IsCounted n digits level base old new end some enough needed (inr all) = record {
+-- at the end of a descent over one level or more
+pub CountsReads-from_IsCounted : (n digits level base old new : ℕ) → level ≡ 0 → 0 < digits → 2 ^ digits ≤ 2 * n + 1 → IsUncounted digits level base old new ⊎ IsCounted digits level old new → CountsReads n old new
+CountsReads-from_IsCounted n digits level base old new end some needed (inl start) = absurd (omega (arith, start.at_top, end, some))
+CountsReads-from_IsCounted n digits level base old new end some needed (inr all) = record {
   reads = all.reads;
   some = all.some;
   few = λ other fits. omega (arith, all.few, digits_least n digits other needed fits);
   counted = all.counted;
+}
+
+-- what was counted from 0 on is counted besides what was counted before
+pub CountsReads-more : (n old reads new : ℕ) → CountsReads n 0 reads → new ≡ counted_up old reads → CountsReads n old new
+CountsReads-more n old reads new counts is = record {
+  reads = counts.reads;
+  some = counts.some;
+  few = counts.few;
+  counted = omega (arith, is, counts.counted);
 }

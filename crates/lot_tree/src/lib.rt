@@ -14,7 +14,7 @@ ghost use Rattle.lot_tree.specs.Visits.{CountsReads};
 
 mod partial_sums;
 
-use partial_sums::{PartialSums, binary_digits};
+use partial_sums::PartialSums;
 use std::alloc::{AllocError, Global};
 use std::marker::Model;
 
@@ -72,7 +72,10 @@ impl SumTree {
         ensures { self.new ≡ slice_set self.old i w }
     {
         let old = self.get(i);
-        self.sums.follow(&self.weights, i, w);
+        if w == old {
+            return;
+        }
+        self.sums.follow(&self.weights, i, w, self.total);
         self.weights[i] = w;
         self.total = self.total - old + w;
     }
@@ -99,17 +102,19 @@ impl SumTree {
         let n = self.sums.len();
         let mut base = 0;
         let mut rest = d;
-        for level in (0..binary_digits(n)).rev() {
+        let mut reads = 0;
+        for level in (0..self.sums.height()).rev() {
             let size = 1usize << level;
             // A left half that is cut short has all the places that are left.
             if size <= n - base {
-                let left = self.sums.read(base + size - 1, visits);
+                let left = self.sums.read(base + size - 1, &mut reads);
                 if left <= rest {
                     rest -= left;
                     base += size;
                 }
             }
         }
+        *visits = visits.saturating_add(reads);
         base
     }
 }

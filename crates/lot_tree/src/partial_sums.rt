@@ -1,61 +1,78 @@
 //! The partial sums of a tree, which can be read only by a call that counts the reading.
-ghost use Rattle.std.specs.Prelude.{◌≡◌, ℕ, ◌+◌, ◌*◌, ◌^◌, ◌<◌, ◌≤◌, List, length, sum, slice_index, slice_set, IfOk, replicate};
-ghost use Rattle.lot_tree.specs.Sums.{ArePartialSumsAt};
+ghost use Rattle.std.specs.Prelude.{◌≡◌, ℕ, ◌+◌, ◌*◌, ◌^◌, ◌<◌, ◌≤◌, length, min, sum, slice_index, slice_set, IfOk, replicate};
+ghost use Rattle.lot_tree.specs.Sums.{AreKept, ArePartialSumsAt};
 ghost use Rattle.lot_tree.specs.Visits.{counted_up};
 
 use std::alloc::{AllocError, Global};
 use std::marker::Model;
 
-/// A partial sum for each place. `read` is the one way to one of them from outside of this module.
+/// The partial sums of weights. Only blocks of fewer than 2^height places keep theirs, and the first 2^height places have all the
+/// weight that there is: so a tree with room for many places is as low as those in use allow. `read` is the one way to a partial sum
+/// from outside of this module.
 #[derive(Debug, Drop)]
 pub(crate) struct PartialSums {
     sums: Vec<u128>,
+    height: u32,
 }
 
-// Clauses see the sums.
 impl Model for PartialSums {
-    ghost Value = { List ℕ };
+    ghost use Rattle.lot_tree.specs.Sums.{Kept};
 
-    ghost view = { λ s. s.sums.items };
+    ghost Value = { Kept };
+
+    ghost view = { λ s. record { sums = s.sums.items; height = s.height } };
 }
 
 impl PartialSums {
     /// Partial sums of 0 for `n` places, or an error if memory runs out.
     pub(crate) fn new(alloc: Global, n: usize) -> Result<PartialSums, AllocError>
-        ensures { IfOk result (λ sums. sums ≡ replicate n 0) }
+        ensures { IfOk result (λ made. made ≡ record { sums = replicate n 0; height = min n 1 }) }
     {
         let sums = vec![in alloc; 0; n]?;
-        Ok(PartialSums { sums })
+        Ok(PartialSums {
+            sums,
+            height: n.min(1) as u32,
+        })
     }
 
     /// The number of places.
     pub(crate) fn len(&self) -> usize
-        ensures { result ≡ length self.now }
+        ensures { result ≡ length self.now.sums }
     {
         self.sums.len()
+    }
+
+    /// How many levels of blocks keep their sums.
+    pub(crate) fn height(&self) -> u32
+        ensures { result ≡ self.now.height }
+    {
+        self.height
     }
 
     /// The partial sum at `place`, which is less than the number of places. Adds one to `visits`, which stops at the
     /// greatest `u64`.
     pub(crate) fn read(&self, place: usize, visits: &mut u64) -> u128
-        requires { place < length self.now }
-        ensures value { result ≡ slice_index self.now place }
+        requires { place < length self.now.sums }
+        ensures value { result ≡ slice_index self.now.sums place }
         ensures counted { visits.new ≡ counted_up visits.old 1 }
     {
         *visits = visits.saturating_add(1);
         self.sums[place]
     }
 
-    /// Takes the partial sums of `weights` to those of the weights with `w` at the place `i`.
-    pub(crate) fn follow(&mut self, weights: &[u128], i: usize, w: u128)
+    /// Takes the partial sums of `weights`, whose sum is `total`, to those of the weights with `w` at the place `i`.
+    pub(crate) fn follow(&mut self, weights: &[u128], i: usize, w: u128, total: u128)
         requires within { i < length weights.now }
-        requires same_length { length self.old ≡ length weights.now }
         requires limited { sum (slice_set weights.now i w) < 2 ^ 112 }
-        requires partial { (level : ℕ) → ArePartialSumsAt weights.now self.old level }
-        ensures same_length { length self.new ≡ length self.old }
-        ensures partial { (level : ℕ) → ArePartialSumsAt (slice_set weights.now i w) self.new level }
+        requires total { total ≡ sum weights.now }
+        requires kept { AreKept weights.now self.old }
+        ensures kept { AreKept (slice_set weights.now i w) self.new }
     {
-        set_partial_sums(&mut self.sums, weights, i, w);
+        for level in self.height..binary_digits(i) {
+            self.sums[(1usize << level) - 1] = total;
+            self.height = level + 1;
+        }
+        set_partial_sums(&mut self.sums, weights, i, w, self.height);
     }
 }
 
@@ -68,17 +85,20 @@ pub(crate) fn binary_digits(n: usize) -> u32
     usize::BITS - n.leading_zeros()
 }
 
-/// Takes the partial sums of `weights` to those of the weights with `w` at the place `i`.
-fn set_partial_sums(sums: &mut [u128], weights: &[u128], i: usize, w: u128)
+/// Takes the partial sums of `weights` at the levels below `height` to those of the weights with `w` at the place `i`.
+fn set_partial_sums(sums: &mut [u128], weights: &[u128], i: usize, w: u128, height: u32)
     requires within { i < length weights.now }
     requires same_length { length sums.old ≡ length weights.now }
     requires limited { sum (slice_set weights.now i w) < 2 ^ 112 }
-    requires partial { (level : ℕ) → ArePartialSumsAt weights.now sums.old level }
-    ensures partial { (level : ℕ) → ArePartialSumsAt (slice_set weights.now i w) sums.new level }
+    requires height { height ≤ 64 }
+    requires reached { i < 2 ^ height }
+    requires partial { (level : ℕ) → level < height → ArePartialSumsAt weights.now sums.old level }
+    ensures partial { (level : ℕ) → level < height → ArePartialSumsAt (slice_set weights.now i w) sums.new level }
+    ensures others { (place : ℕ) → 2 ^ height ≤ place → slice_index sums.new place ≡ slice_index sums.old place }
 {
     let n = weights.len();
     let old = weights[i];
-    for level in 0..binary_digits(n) {
+    for level in 0..height {
         let size = 1usize << level;
         let block = i >> level;
         let from = block * size;

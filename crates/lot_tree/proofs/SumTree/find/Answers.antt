@@ -1,37 +1,37 @@
 -- Each level narrows the places to one half, and counts its read.
-use Rattle.std.proofs.Common.{◌-◌, inl, inr, refl, arith}
+use Rattle.std.proofs.Common.{◌+◌, ◌-◌, ◌*◌, ◌^◌, ◌<◌, ◌≤◌, inl, inr, length, refl, arith}
 use Rattle.std.proofs.lemmas.Nat.{one_shl}
-use Rattle.lot_tree.proofs.Descent.{IsNarrowed_none, IsNarrowed_right, IsNarrowed_left, IsNarrowed_short, IsDrawn-from_IsNarrowed}
-use Rattle.lot_tree.proofs.Visits.{IsCounted_read, IsCounted_short, CountsReads-from_IsCounted}
+use Rattle.lot_tree.proofs.Descent.{IsNarrowed_reach, IsNarrowed_right, IsNarrowed_left, IsNarrowed_short, IsDrawn-from_IsNarrowed}
+use Rattle.lot_tree.proofs.Visits.{IsCounted_read, IsCounted_short, CountsReads-from_IsCounted, CountsReads-more}
 use Rattle.lot_tree.proofs.SumTree.find.Goals as goal
 
 pub loop-level-init : goal.loop-level-init
 loop-level-init c = record {
-  narrowed = IsNarrowed_none _ _ _ (rw c.self.view_is c.requires) (omega (arith, c.binary_digits-level.ensures.enough));
+  narrowed = IsNarrowed_reach _ _ _ (rw c.self.view_is c.requires) (rw c.height-level.ensures c.self.invariant.held.reach);
   counted = inl (record { at_top = refl; at_start = refl; same = refl });
 }
 
 pub loop-level-preserved-then-left-rest : goal.loop-level-preserved-then-left-rest
 loop-level-preserved-then-left-rest c = record {
-  narrowed = IsNarrowed_right c.self.inside.weights.items c.self.inside.sums c.args.d c.loop-level.level (c.loop-level.level - 1) _ c.loop-level.base c.loop-level.rest
-      (omega arith) (one_shl (c.loop-level.level - 1) 64 (omega arith)) c.loop-level.invariant.narrowed (c.self.invariant.partial (c.loop-level.level - 1)) (omega arith)
+  narrowed = IsNarrowed_right c.self.inside.weights.items c.self.inside.sums.sums c.args.d c.loop-level.level (c.loop-level.level - 1) _ c.loop-level.base c.loop-level.rest
+      (omega arith) (one_shl (c.loop-level.level - 1) 64 (omega arith)) c.loop-level.invariant.narrowed (c.self.invariant.held.partial (c.loop-level.level - 1) (omega (arith, c.loop-level.auto.level, c.height-level.ensures))) (omega arith)
       c.read-left.result c.read-left.ensures.value c.if-left-rest.true;
-  counted = inr (IsCounted_read c.binary_digits-level.result c.loop-level.level (c.loop-level.level - 1) c.args.visits.now c.loop-level.visits (omega arith) c.loop-level.auto.level c.loop-level.base _ c.loop-level.invariant.counted c.read-left.ensures.counted);
+  counted = inr (IsCounted_read c.height-level.result c.loop-level.level (c.loop-level.level - 1) 0 c.loop-level.reads (omega arith) c.loop-level.auto.level c.loop-level.base _ c.loop-level.invariant.counted c.read-left.ensures.counted);
 }
 
 pub loop-level-preserved-else-left-rest : goal.loop-level-preserved-else-left-rest
 loop-level-preserved-else-left-rest c = record {
-  narrowed = IsNarrowed_left c.self.inside.weights.items c.self.inside.sums c.args.d c.loop-level.level (c.loop-level.level - 1) _ c.loop-level.base c.loop-level.rest
-      (omega arith) (one_shl (c.loop-level.level - 1) 64 (omega arith)) c.loop-level.invariant.narrowed (c.self.invariant.partial (c.loop-level.level - 1)) (omega arith)
+  narrowed = IsNarrowed_left c.self.inside.weights.items c.self.inside.sums.sums c.args.d c.loop-level.level (c.loop-level.level - 1) _ c.loop-level.base c.loop-level.rest
+      (omega arith) (one_shl (c.loop-level.level - 1) 64 (omega arith)) c.loop-level.invariant.narrowed (c.self.invariant.held.partial (c.loop-level.level - 1) (omega (arith, c.loop-level.auto.level, c.height-level.ensures))) (omega arith)
       c.read-left.result c.read-left.ensures.value c.if-left-rest.false;
-  counted = inr (IsCounted_read c.binary_digits-level.result c.loop-level.level (c.loop-level.level - 1) c.args.visits.now c.loop-level.visits (omega arith) c.loop-level.auto.level c.loop-level.base _ c.loop-level.invariant.counted c.read-left.ensures.counted);
+  counted = inr (IsCounted_read c.height-level.result c.loop-level.level (c.loop-level.level - 1) 0 c.loop-level.reads (omega arith) c.loop-level.auto.level c.loop-level.base _ c.loop-level.invariant.counted c.read-left.ensures.counted);
 }
 
 pub loop-level-preserved : goal.loop-level-preserved
 loop-level-preserved c = record {
-  narrowed = IsNarrowed_short c.self.inside.weights.items c.self.inside.sums c.args.d c.loop-level.level (c.loop-level.level - 1) _ c.loop-level.base c.loop-level.rest
+  narrowed = IsNarrowed_short c.self.inside.weights.items c.self.inside.sums.sums c.args.d c.loop-level.level (c.loop-level.level - 1) _ c.loop-level.base c.loop-level.rest
       (omega arith) (one_shl (c.loop-level.level - 1) 64 (omega arith)) c.loop-level.invariant.narrowed (omega arith);
-  counted = inr (IsCounted_short c.binary_digits-level.result c.loop-level.level (c.loop-level.level - 1) c.args.visits.now c.loop-level.visits (omega arith) c.loop-level.auto.level c.len-n.result c.loop-level.base _ (one_shl (c.loop-level.level - 1) 64 (omega arith)) c.binary_digits-level.ensures.needed (omega arith) c.loop-level.invariant.counted);
+  counted = inr (IsCounted_short c.height-level.result c.loop-level.level (c.loop-level.level - 1) 0 c.loop-level.reads (omega arith) c.loop-level.auto.level c.len-n.result c.loop-level.base _ (one_shl (c.loop-level.level - 1) 64 (omega arith)) (rw (c.height-level.ensures, c.len-n.ensures, c.self.invariant.held.same_length) c.self.invariant.held.fits) (omega arith) c.loop-level.invariant.counted);
 }
 
 pub returns-clause-within : goal.returns-clause-within
@@ -45,5 +45,10 @@ returns-clause-walk c = rw (← c.self.view_is) (IsDrawn-from_IsNarrowed _ _ _ _
 
 pub returns-clause-counted : goal.returns-clause-counted
 returns-clause-counted c =
-    let drawn = IsDrawn-from_IsNarrowed c.self.inside.weights.items c.args.d c.loop-level.level c.loop-level.base c.loop-level.rest (omega arith) c.loop-level.invariant.narrowed in
-    rw (← c.self.view_is) (CountsReads-from_IsCounted _ _ _ _ _ _ (omega arith) (omega (arith, drawn.within)) (omega arith) (omega arith) c.loop-level.invariant.counted)
+    let ws = c.self.inside.weights.items in
+    let held = c.self.invariant.held in
+    let drawn = IsDrawn-from_IsNarrowed ws c.args.d c.loop-level.level c.loop-level.base c.loop-level.rest (omega arith) c.loop-level.invariant.narrowed in
+    let some : 0 < c.height-level.result = omega (arith, c.height-level.ensures, held.some (omega (arith, drawn.within))) in
+    let fits : 2 ^ c.height-level.result ≤ 2 * length ws + 1 = rw c.height-level.ensures held.fits in
+    let counts = CountsReads-from_IsCounted (length ws) _ _ _ _ _ (omega arith) some fits c.loop-level.invariant.counted in
+    rw (← c.self.view_is) (CountsReads-more (length ws) c.args.visits.now c.loop-level.reads _ counts (omega arith))

@@ -6,5 +6,5 @@ use Rattle.lot_tree.proofs.SumTree.find.Given as goal
 abbrev pub invariant-loop-level : goal.invariant-loop-level
 invariant-loop-level l = record {
   narrowed : IsNarrowed l.self-inside.weights.items l.d l.level l.base l.rest;
-  counted : IsUncounted l.initial.level l.level l.base l.fn.visits l.visits ⊎ IsCounted l.initial.level l.level l.fn.visits l.visits;
+  counted : IsUncounted l.initial.level l.level l.base 0 l.reads ⊎ IsCounted l.initial.level l.level 0 l.reads;
 }
