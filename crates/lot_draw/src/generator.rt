@@ -40,6 +40,7 @@ impl ParkMiller {
     }
 
     /// Goes on to the next value, and answers it: 1 to 2147483646.
+    #[inline(always)]
     pub fn next(&mut self) -> u32
         ensures value { result ≡ next_seed self.old }
         ensures after { self.new ≡ result }
@@ -50,6 +51,7 @@ impl ParkMiller {
     }
 
     /// The number that is drawn from the next two values: 0 to 4611686009837453315.
+    #[inline(always)]
     pub fn number(&mut self) -> u64
         ensures number { result ≡ drawn_number self.old }
         ensures after { self.new ≡ seed_after_number self.old }

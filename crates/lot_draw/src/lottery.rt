@@ -1,5 +1,5 @@
 //! Weights, and the lottery over them.
-ghost use Rattle.std.specs.Prelude.{◌≡◌, ◌^◌, ◌<◌, length, sum, IfSome};
+ghost use Rattle.std.specs.Prelude.{◌≡◌, ◌*◌, ◌/◌, ◌%◌, ◌^◌, ◌<◌, length, sum, IfSome};
 ghost use Rattle.lot_machine.specs.Lottery as lottery;
 ghost use Rattle.lot_machine.specs.Lottery.{running_sums};
 
@@ -16,7 +16,19 @@ pub fn weight(value: u64, compensation: Option<u32>, quantum: u32) -> u128
 {
     match compensation {
         None => u128::from(value),
-        Some(used) => u128::from(value) * u128::from(quantum) / u128::from(used),
+        Some(used) => inflated(value, quantum, used),
+    }
+}
+
+/// A value as if the whole quantum were used. Nearly all products fit 64 bits, which divide faster.
+fn inflated(value: u64, quantum: u32, used: u32) -> u128
+    requires { 0 < used }
+    ensures inflated { result ≡ value * quantum / used }
+    ensures small { result < 2 ^ 96 }
+{
+    match value.checked_mul(u64::from(quantum)) {
+        Some(whole) => u128::from(whole / u64::from(used)),
+        None => u128::from(value) * u128::from(quantum) / u128::from(used),
     }
 }
 
@@ -31,12 +43,23 @@ pub fn winner(weights: &[u128], d: u64) -> Option<Drawn>
     if total == 0 {
         return None;
     }
-    let number = u128::from(d) % total;
+    let number = reduced(d, total);
     Some(Drawn {
         place: first_above(weights, number),
         number,
         total,
     })
+}
+
+/// The number modulo the total. Nearly all totals fit 64 bits, which divide faster.
+pub(crate) fn reduced(d: u64, total: u128) -> u128
+    requires { 0 < total }
+    ensures { result ≡ d % total }
+{
+    match u64::try_from(total) {
+        Ok(small) => u128::from(d % small),
+        Err(_) => u128::from(d),
+    }
 }
 
 /// The first place whose running sum is strictly greater than `number`; the count of places if none is.

@@ -13,7 +13,7 @@ ghost use Rattle.lot_draw.specs.Competing.{HasTicks, competitor_at, weight_with,
 ghost use Rattle.lot_draw.specs.Queued.{AreWeights, CompetesIn, IsChanged, IsPlaced, IsSettled};
 
 use crate::competing::{Competitor, Winner};
-use crate::lottery::weight;
+use crate::lottery::{reduced, weight};
 use lot_lists::Lists;
 use lot_machine::{Limits, Node};
 use lot_tree::SumTree;
@@ -196,7 +196,7 @@ impl RunQueue {
         if total == 0 {
             return None;
         }
-        let number = u128::from(d) % total;
+        let number = reduced(d, total);
         let place = self.tree.find(number, &mut meter.tree_visits);
         Some(Winner {
             thread: place as u32 + 1,

@@ -1,5 +1,5 @@
 //! How one stale node gets its value.
-ghost use Rattle.std.specs.Prelude.{◌≡◌, ◌^◌, ◌<◌, ℕ, Bool, List, Contains, Some, length};
+ghost use Rattle.std.specs.Prelude.{◌≡◌, ◌^◌, ◌*◌, ◌/◌, ◌<◌, ℕ, Bool, List, Contains, Some, length};
 ghost use Rattle.std.specs.Bool.{OnTrue, OnFalse};
 ghost use Rattle.lot_lists.specs.NodeLists.{nodes_of};
 ghost use Rattle.lot_machine.specs.declared.funding.Node.{Node as ANode};
@@ -29,6 +29,18 @@ pub(crate) struct Sources<'a> {
     pub(crate) active: &'a Active,
     pub(crate) values: &'a [u64],
     pub(crate) unit: u32,
+}
+
+/// Moves the node at the front of the list to the back, if there is one. Of the nodes that a touch made stale the one that was touched
+/// stands in front, and so its value is most often computed first.
+pub(crate) fn turn_over(stale: &mut Lists)
+    requires list { IsStaleList stale.old stale.old.nodes }
+    ensures list { IsStaleList stale.new stale.old.nodes }
+    ensures reordered { IsReordered (nodes_of stale.old 0) (nodes_of stale.new 0) }
+{
+    if let Some(place) = stale.first(STALE) {
+        stale.move_to(place, STALE);
+    }
 }
 
 /// Moves the stale sources of a node to the back of the list. Answers whether there are any.
@@ -100,6 +112,23 @@ fn ticket_share(sources: Sources, number: u32) -> u64
     if ticket.issuer == 0 {
         return u64::from(ticket.amount) * u64::from(sources.unit);
     }
-    let whole = u128::from(sources.values[ticket.issuer as usize]) * u128::from(ticket.amount);
-    (whole / u128::from(sources.active.active_amount(ticket.issuer))) as u64
+    let value = sources.values[ticket.issuer as usize];
+    let active = sources.active.active_amount(ticket.issuer);
+    share_of(value, ticket.amount, active)
+}
+
+/// The share of a value that an amount has, of all active amounts, rounded down once (4.4). An amount that is all of them needs no
+/// division, and nearly all products fit 64 bits, which divide faster.
+fn share_of(value: u64, amount: u32, active: u64) -> u64
+    requires active { 0 < active }
+    requires fits { value * amount / active < 2 ^ 64 }
+    ensures { result ≡ value * amount / active }
+{
+    if active == u64::from(amount) {
+        return value;
+    }
+    match value.checked_mul(u64::from(amount)) {
+        Some(whole) => whole / active,
+        None => (u128::from(value) * u128::from(amount) / u128::from(active)) as u64,
+    }
 }

@@ -16,7 +16,7 @@ ghost use Rattle.lot_value.specs.Caches.{IsStale, IsOnce, IsRight, IsRightBut, I
 
 use crate::marking::{STALE, mark};
 use crate::meter::Meter;
-use crate::settling::{Sources, raise_sources, read_share, read_value};
+use crate::settling::{Sources, raise_sources, read_share, read_value, turn_over};
 use lot_active::Active;
 use lot_graph::{Graph, Layout};
 use lot_lists::Lists;
@@ -149,6 +149,7 @@ impl Values {
         ensures counted { IfSome result (λ node. meter.new ≡ record meter.old { ticket_reads = counted_up meter.old.ticket_reads (edge_count_into graph.now.funding node) }) }
         ensures none { IfNone result ((self.old.stale ≡ []) × (self.new ≡ self.old) × (meter.new ≡ meter.old)) }
     {
+        turn_over(&mut self.stale);
         while let Some(place) = self.stale.last(STALE) {
             let node = self.layout.node_of(place);
             if !raise_sources(graph, &mut self.stale, node) {

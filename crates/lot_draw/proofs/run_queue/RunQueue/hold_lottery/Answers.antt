@@ -1,4 +1,4 @@
-use Rattle.std.proofs.Common.{◌<◌, ◌%◌, ap, arith, length}
+use Rattle.std.proofs.Common.{◌<◌, arith, length}
 use Rattle.lot_draw.proofs.Lotteries.{drawn-is}
 use Rattle.lot_draw.proofs.run_queue.RunQueue.hold_lottery.Goals as goal
 
@@ -8,4 +8,4 @@ returns-clause-winner c =
     let total = c.total-total.result in
     let low : c.find-place.result < length i.competitors.items = omega (arith, c.find-place.ensures.within, c.self.invariant.places) in
     rw (← c.self.view_is)
-    (drawn-is i.competitors.items i.tree c.args.d c.find-place.result _ total c.total-total.ensures.value (omega arith) (ap (λ n. n % total) c.from.ensures) c.find-place.ensures.walk low)
+    (drawn-is i.competitors.items i.tree c.args.d c.find-place.result _ total c.total-total.ensures.value (omega arith) c.reduced-number.ensures c.find-place.ensures.walk low)

@@ -1,4 +1,4 @@
-use Rattle.std.proofs.Common.{◌≡◌, ◌≤◌, length, ap, refl, arith}
+use Rattle.std.proofs.Common.{◌≡◌, length, ap, refl, arith}
 use Rattle.lot_graph.specs.Graphs.{LimitedFunding}
 use Rattle.lot_draw.proofs.Together.{competes-more, weights-follow}
 use Rattle.lot_draw.proofs.tests.Room.unfund.Goals as goal

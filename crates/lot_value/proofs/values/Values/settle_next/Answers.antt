@@ -11,7 +11,7 @@ use Rattle.lot_graph.proofs.SpreadLemmas.{list-back}
 use Rattle.lot_value.specs.Caches.{Known, IsRight, Settles}
 use Rattle.lot_value.specs.Sources.{AreSources}
 use Rattle.lot_value.specs.Marking.{IsStaleList, IsReordered, LeadsFromPlace}
-use Rattle.lot_value.proofs.Listed.{listed-low, reordered-then, reordered-same}
+use Rattle.lot_value.proofs.Listed.{listed-low, reordered-then}
 use Rattle.lot_value.proofs.Mapped.{reordered-mapped}
 use Rattle.lot_value.proofs.Nodes.{within-node}
 use Rattle.lot_value.proofs.Rightness.{sources-small}
@@ -20,14 +20,17 @@ use Rattle.lot_value.proofs.values.Values.settle_next.Goals as goal
 
 pub loop-place-init : goal.loop-place-init
 loop-place-init c = record {
-  list = c.self.invariant.0;
+  list = subst (IsStaleList c.turn_over.new.stale) c.self.invariant.0.nodes c.turn_over.ensures.list;
   places = c.self.invariant.1;
   unit = ap (λ (k : Known). k.unit) c.self.view_is;
   layout = ap (λ (k : Known). k.layout) c.self.view_is;
   values = ap (λ (k : Known). k.values) c.self.view_is;
-  reordered = subst (λ (xs : List Node). IsReordered xs (map (node_of c.self.inside.layout) (nodes_of c.self.inside.stale 0))) (ap (λ (k : Known). k.stale) c.self.view_is) (reordered-same (map (node_of c.self.inside.layout) (nodes_of c.self.inside.stale 0)));
+  reordered = subst (λ (xs : List Node). IsReordered xs (map (node_of c.self.inside.layout) (nodes_of c.turn_over.new.stale 0))) (ap (λ (k : Known). k.stale) c.self.view_is) (reordered-mapped (node_of c.self.inside.layout) (nodes_of c.self.inside.stale 0) (nodes_of c.turn_over.new.stale 0) c.turn_over.ensures.reordered);
   meter = refl;
 }
+
+pub turn_over-requires : goal.turn_over-requires
+turn_over-requires c = record { list = record { one = c.self.invariant.0.one; nodes = refl; consistent = c.self.invariant.0.consistent } }
 
 pub node_of-node-requires : goal.node_of-node-requires
 node_of-node-requires c = listed-low c.loop-place.self-inside.stale (node_count c.loop-place.self-inside.layout) _ c.in-Some.place c.loop-place.invariant.list (sym c.last.ensures ∙ c.in-Some.is)
