@@ -92,6 +92,7 @@ impl Kernel {
 
     /// One event. It takes no memory. A refused event changes nothing; a trap that is answered as refused costs its ticks. Only
     /// a draw that isn't refused, and an unlock that passes its mutex on, compute values.
+    #[inline(always)]
     pub fn event(&mut self, event: &Event) -> Reply
         ensures reply { result ≡ (step self.old.state event.now).reply }
         ensures state { self.new.state ≡ (step self.old.state event.now).state }

@@ -98,6 +98,7 @@ impl Tables {
     }
 
     /// One event.
+    #[inline(always)]
     pub(crate) fn event(&mut self, event: &Event) -> Reply
         requires { IsInOrder self.old.state }
         ensures reply { result ≡ (step self.old.state event.now).reply }

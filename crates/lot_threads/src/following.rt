@@ -35,9 +35,30 @@ pub(crate) fn is_live(status: Status) -> bool
     matches!(status, Status::Ready | Status::Running { .. })
 }
 
+/// Takes up in the graph what another status of a thread means: whether the thread is live, and what it lends. If both stay, it does
+/// nothing.
+#[inline(always)]
+pub(crate) fn follow_status(graph: &mut ValuedGraph, thread: u32, before: Status, now: Status)
+    requires thread { IsThread graph.old.now.funding thread }
+    requires lend { CanLend graph.old.now.funding thread (states.lend_of now) }
+    requires lent { at_number graph.old.now.funding.lends thread ≡ Some (states.lend_of before) }
+    requires lived { at_number graph.old.live thread ≡ Some (states.is_live_status before) }
+    ensures now { graph.new.now ≡ with_lends graph.old.now (set_number graph.old.now.funding.lends thread (states.lend_of now)) }
+    ensures live { graph.new.live ≡ set_number graph.old.live thread (states.is_live_status now) }
+    ensures known { graph.new.known ≡ record graph.old.known { stale = graph.new.known.stale } }
+    ensures kept { (node : ANode) → IsStale graph.old.known node → IsStale graph.new.known node }
+    ensures stale { MakesStale graph.old graph.new }
+{
+    let live = is_live(now);
+    let lend = lend_of(now);
+    if live != is_live(before) || lend != lend_of(before) {
+        follow(graph, thread, live, lend);
+    }
+}
+
 /// Makes a thread live or not, and makes it lend this. A thread that is live before or after is so all the time, so that a server
 /// doesn't sleep while a client's funding moves to it.
-pub(crate) fn follow(graph: &mut ValuedGraph, thread: u32, live: bool, lend: Lend)
+fn follow(graph: &mut ValuedGraph, thread: u32, live: bool, lend: Lend)
     requires thread { IsThread graph.old.now.funding thread }
     requires lend { CanLend graph.old.now.funding thread lend }
     ensures now { graph.new.now ≡ with_lends graph.old.now (set_number graph.old.now.funding.lends thread lend) }

@@ -20,7 +20,9 @@ ghost use Rattle.lot_value.specs.Caches.{edges_into_all};
 ghost use Rattle.lot_threads.specs.Threaded.{IsLiveIn, IsThreadOf, IsStaleIn, CanLend, CanRun, CanChange, MakesStaleIn, drawn_in, funding_in, limited_in, newborn, with_records, worth_in};
 ghost use Rattle.lot_threads.specs.Timely.{IsTimely};
 
-use crate::following::{can_lend, competitor_of, follow, is_live, is_thread, is_timely, lend_of};
+use crate::following::{
+    can_lend, competitor_of, follow_status, is_live, is_thread, is_timely, lend_of,
+};
 use crate::runners::{Runner, move_runner, runner_on};
 use lot_draw::{RunQueue, Winner};
 use lot_graph::{Cycle, Graph};
@@ -137,6 +139,7 @@ impl Threads {
 
     /// Gives a thread another record, and all that follows from it: whether the thread is live and what it lends, whether it
     /// competes and with what, and where it runs. Computes no value.
+    #[inline(always)]
     pub fn change(&mut self, thread: u32, next: Record)
         requires { CanChange self.old thread next }
         ensures changed { self.new ≡ with_records self.old (set_number self.old.records thread next) self.new.stale }
@@ -146,7 +149,7 @@ impl Threads {
         let place = thread as usize - 1;
         let before = self.records[place].status;
         let now = next.status;
-        follow(&mut self.graph, thread, is_live(now), lend_of(now));
+        follow_status(&mut self.graph, thread, before, now);
         self.queue.set_competitor(thread, competitor_of(next));
         move_runner(&mut self.runners, thread, before, now);
         self.records[place] = next;

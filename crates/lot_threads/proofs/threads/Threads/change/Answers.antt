@@ -1,23 +1,24 @@
-use Rattle.std.proofs.Common.{◌≡◌, ◌∙◌, ◌≤◌, ℕ, List, Option, Some, option_map, ap, sym, subst}
+use Rattle.std.proofs.Common.{◌≡◌, ◌∙◌, ◌≤◌, ℕ, Bool, List, Option, Some, option_map, ap, sym, subst}
 use Rattle.std.specs.Vec.{vec_capacity}
 use Rattle.lot_machine.specs.declared.record.Record.{Record}
 use Rattle.lot_machine.specs.declared.funding.Lend.{Lend}
 use Rattle.lot_machine.specs.declared.record.Status.TheVariants.{Running}
 use Rattle.lot_machine.specs.declared.record.Status.{Status}
 use Rattle.lot_machine.specs.Bounds.{IsBetween}
-use Rattle.lot_machine.specs.State.{lend_of, live_in, status_of}
+use Rattle.lot_machine.specs.State.{is_live_status, lend_of, live_in, status_of}
 use Rattle.lot_machine.specs.Numbered.{at_number, set_number}
 use Rattle.lot_draw.specs.declared.competing.Competitor.{Competitor}
 use Rattle.lot_graph.specs.Changes.{with_lends}
 use Rattle.lot_graph.specs.Graphs.{LimitedFunding}
-use Rattle.lot_threads.specs.Threaded.{Threaded, AreOf, IsThreadOf, CanRun, lends_in}
+use Rattle.lot_machine.specs.Funding.{Funding}
+use Rattle.lot_machine.proofs.TrapCycles.{at_number-map}
+use Rattle.lot_threads.specs.Threaded.{Threaded, AreOf, IsThreadOf, CanLend, CanRun, lends_in}
 use Rattle.lot_threads.specs.Runners.{with_runner, without_runner}
 use Rattle.lot_threads.specs.Timely.{IsTimely}
 use Rattle.lot_threads.proofs.Lending.{number-read}
 use Rattle.lot_threads.proofs.Running.{runner-within}
 use Rattle.lot_threads.proofs.Together.{changed-of, graph-is, stale-of}
 use Rattle.lot_threads.specs.Threaded.{funding_in}
-use Rattle.lot_threads.proofs.Together.{lend-same}
 use Rattle.lot_threads.proofs.threads.Threads.change.Goals as goal
 
 -- who runs may run there
@@ -40,13 +41,13 @@ invariant_of-self c =
     let thread = subst (λ (x : Threaded). IsThreadOf x t) (sym c.self.view_is) c.requires.there in
     let timely = subst (λ (x : Threaded). IsTimely x.quantum next) (sym c.self.view_is) c.requires.timely in
     let there = number-read i.records.items t c.index.result.now thread.0 thread.1 c.index.ensures in
-    let now = c.follow.ensures.now ∙ ap (λ (l : Lend). with_lends i.graph.now (set_number i.graph.now.funding.lends t l)) c.lend_of.ensures in
-    let live = c.follow.ensures.live ∙ ap (set_number i.graph.live t) c.is_live.ensures in
+    let now = c.follow_status.ensures.now in
+    let live = c.follow_status.ensures.live in
     let set = c.set_competitor.ensures.set ∙ ap (λ (o : Option Competitor). record i.queue { competitors = set_number i.queue.competitors t o; changed = c.set_competitor.new.self.changed }) c.competitor_of.ensures in
-    let together = changed-of i.graph c.follow.new.graph i.queue c.set_competitor.new.self i.threads.items i.records.items i.runners.items t next c.self.invariant.together thread.0 thread.1 c.index.result.now there now live c.follow.ensures.known c.follow.ensures.kept set c.set_competitor.ensures.weights timely
+    let together = changed-of i.graph c.follow_status.new.graph i.queue c.set_competitor.new.self i.threads.items i.records.items i.runners.items t next c.self.invariant.together thread.0 thread.1 c.index.result.now there now live c.follow_status.ensures.known c.follow_status.ensures.kept set c.set_competitor.ensures.weights timely
     (λ p used is. subst (λ (x : Threaded). IsBetween 1 x.processors p × ((u more : ℕ) → status_of x.records u ≡ Some (Running p more) → u ≡ t)) (sym c.self.view_is) (run-on c.args.self.now t next.status p used is c.requires.run)) in
     record {
-      together = subst (λ (rs : List (Option ℕ)). AreOf c.follow.new.graph c.set_competitor.new.self i.threads.items after rs) (sym c.move_runner.ensures.table) together;
+      together = subst (λ (rs : List (Option ℕ)). AreOf c.follow_status.new.graph c.set_competitor.new.self i.threads.items after rs) (sym c.move_runner.ensures.table) together;
       thread_room = subst (λ (w : LimitedFunding). w.thread_limit ≤ vec_capacity i.threads) (sym now) c.self.invariant.thread_room;
       record_room = subst (λ (w : LimitedFunding). w.thread_limit ≤ vec_capacity i.records) (sym now) c.self.invariant.record_room;
     }
@@ -60,18 +61,32 @@ returns-clause-stale c =
     let thread = subst (λ (x : Threaded). IsThreadOf x t) (sym c.self.view_is) c.requires.there in
     let timely = subst (λ (x : Threaded). IsTimely x.quantum next) (sym c.self.view_is) c.requires.timely in
     let there = number-read i.records.items t c.index.result.now thread.0 thread.1 c.index.ensures in
-    let now = c.follow.ensures.now ∙ ap (λ (l : Lend). with_lends i.graph.now (set_number i.graph.now.funding.lends t l)) c.lend_of.ensures in
-    let live = c.follow.ensures.live ∙ ap (set_number i.graph.live t) c.is_live.ensures in
+    let now = c.follow_status.ensures.now in
+    let live = c.follow_status.ensures.live in
     let set = c.set_competitor.ensures.set ∙ ap (λ (o : Option Competitor). record i.queue { competitors = set_number i.queue.competitors t o; changed = c.set_competitor.new.self.changed }) c.competitor_of.ensures in
-    let together = changed-of i.graph c.follow.new.graph i.queue c.set_competitor.new.self i.threads.items i.records.items i.runners.items t next c.self.invariant.together thread.0 thread.1 c.index.result.now there now live c.follow.ensures.known c.follow.ensures.kept set c.set_competitor.ensures.weights timely
+    let together = changed-of i.graph c.follow_status.new.graph i.queue c.set_competitor.new.self i.threads.items i.records.items i.runners.items t next c.self.invariant.together thread.0 thread.1 c.index.result.now there now live c.follow_status.ensures.known c.follow_status.ensures.kept set c.set_competitor.ensures.weights timely
     (λ p used is. subst (λ (x : Threaded). IsBetween 1 x.processors p × ((u more : ℕ) → status_of x.records u ≡ Some (Running p more) → u ≡ t)) (sym c.self.view_is) (run-on c.args.self.now t next.status p used is c.requires.run)) in
     let was = graph-is i.graph i.queue i.threads.items i.records.items i.runners.items c.self.invariant.together in
-    let then = graph-is c.follow.new.graph c.set_competitor.new.self i.threads.items after (with_runner t next.status (without_runner c.index.result.now.status i.runners.items)) together in
-    rw (← c.self.view_is) (stale-of i.graph c.follow.new.graph (with_lends i.graph.now (lends_in i.records.items)) (with_lends c.follow.new.graph.now (lends_in after)) (live_in i.records.items) (live_in after) was then c.self.invariant.together.live together.live c.follow.ensures.stale)
+    let then = graph-is c.follow_status.new.graph c.set_competitor.new.self i.threads.items after (with_runner t next.status (without_runner c.index.result.now.status i.runners.items)) together in
+    rw (← c.self.view_is) (stale-of i.graph c.follow_status.new.graph (with_lends i.graph.now (lends_in i.records.items)) (with_lends c.follow_status.new.graph.now (lends_in after)) (live_in i.records.items) (live_in after) was then c.self.invariant.together.live together.live c.follow_status.ensures.stale)
 
-pub follow-requires-clause-lend : goal.follow-requires-clause-lend
-follow-requires-clause-lend c =
+pub follow_status-requires-clause-lend : goal.follow_status-requires-clause-lend
+follow_status-requires-clause-lend c =
     let i = c.self.inside in
     let was = graph-is i.graph i.queue i.threads.items i.records.items i.runners.items c.self.invariant.together in
     let same : i.graph.now.funding ≡ funding_in c.args.self.now = ap (λ (w : LimitedFunding). w.funding) was ∙ ap funding_in c.self.view_is in
-    lend-same (funding_in c.args.self.now) i.graph.now.funding c.args.thread (lend_of c.args.next.status) c.lend_of.result (sym same) (sym c.lend_of.ensures) c.requires.lend
+    subst (λ (f : Funding). CanLend f c.args.thread (lend_of c.args.next.status)) (sym same) c.requires.lend
+
+pub follow_status-requires-clause-lent : goal.follow_status-requires-clause-lent
+follow_status-requires-clause-lent c =
+    let i = c.self.inside in
+    let thread = subst (λ (x : Threaded). IsThreadOf x c.args.thread) (sym c.self.view_is) c.requires.there in
+    let there = number-read i.records.items c.args.thread c.index.result.now thread.0 thread.1 c.index.ensures in
+    subst (λ (ls : List Lend). at_number ls c.args.thread ≡ Some (lend_of c.index.result.now.status)) (sym c.self.invariant.together.lends) (at_number-map (λ (r : Record). lend_of r.status) i.records.items c.args.thread ∙ ap (option_map (λ (r : Record). lend_of r.status)) there)
+
+pub follow_status-requires-clause-lived : goal.follow_status-requires-clause-lived
+follow_status-requires-clause-lived c =
+    let i = c.self.inside in
+    let thread = subst (λ (x : Threaded). IsThreadOf x c.args.thread) (sym c.self.view_is) c.requires.there in
+    let there = number-read i.records.items c.args.thread c.index.result.now thread.0 thread.1 c.index.ensures in
+    subst (λ (ls : List Bool). at_number ls c.args.thread ≡ Some (is_live_status c.index.result.now.status)) (sym c.self.invariant.together.live) (at_number-map (λ (r : Record). is_live_status r.status) i.records.items c.args.thread ∙ ap (option_map (λ (r : Record). is_live_status r.status)) there)
