@@ -1,3 +1,4 @@
 pub mod Drafts
 pub mod Places
 pub mod Slices
+pub mod Stacks

@@ -3,7 +3,6 @@ ghost use Rattle.std.specs.Prelude.{◌≡◌, ◌↔◌, ◌<◌, [], ◌∷◌
 ghost use Rattle.lot_script.specs.Drafts.{CanNest, IsLine};
 ghost use Rattle.lot_script.specs.Places.{AreCopies, IsCopy, open_after};
 
-use arrayvec::ArrayVec;
 use lot_simulation::Line;
 use std::marker::Model;
 
@@ -11,9 +10,9 @@ use std::marker::Model;
 #[derive(Clone, Copy, Debug, Default, PartialEq, Eq)]
 pub(crate) struct OpenLoop {
     /// The line at which its body begins.
-    pub(crate) body: u32,
+    pub(crate) body: u16,
     /// How many copies of the body come after this one.
-    pub(crate) left: u32,
+    pub(crate) left: u16,
 }
 
 impl OpenLoop {
@@ -25,28 +24,35 @@ impl OpenLoop {
     }
 }
 
+/// How many loops may be open at once.
+const DEPTH_LIMIT: usize = 8;
+
+/// What stands where no loop is open.
+const BLANK: OpenLoop = OpenLoop { body: 0, left: 0 };
+
 /// The loops that are open somewhere, at most 8. The contracts see the innermost first.
-#[derive(Debug, PartialEq, Eq, Drop)]
+#[derive(Clone, Copy, Debug, PartialEq, Eq)]
 pub(crate) struct OpenLoops {
-    /// The outermost first.
-    stack: ArrayVec<OpenLoop, 8>,
+    /// The outermost first, and blanks after the innermost: an array is copied faster than a list of some length.
+    stack: [OpenLoop; DEPTH_LIMIT],
+    depth: usize,
 }
 
 impl Model for OpenLoops {
-    ghost use Rattle.std.specs.Prelude.{◌≤◌, List, length, reverse};
-    ghost use Rattle.std.proofs.Common.{ap};
-    ghost use Rattle.std.proofs.lemmas.List.{reverse-reverse};
+    ghost use Rattle.std.specs.Prelude.{List, length, reverse, take};
+    ghost use Rattle.std.proofs.Common.{ap₂};
     ghost use Rattle.lot_script.specs.declared.open_loops.OpenLoop.{OpenLoop};
+    ghost use Rattle.lot_script.specs.Stacks.{depth-back, stack-back, stack_of, IsStack};
 
     ghost Value = { List OpenLoop };
 
-    ghost view = { λ l. reverse l.stack.items };
+    ghost view = { λ l. reverse (take l.depth l.stack) };
 
-    ghost inverse = { λ loops. record { stack = record { items = reverse loops } } };
+    ghost inverse = { λ loops. record { stack = stack_of loops; depth = length loops } };
 
-    ghost inverse_ok = { λ l h. ap (λ loops. record { stack = record { items = loops } }) (reverse-reverse l.stack.items) };
+    ghost inverse_ok = { λ l h. ap₂ (λ stack depth. record { stack = stack; depth = depth }) (stack-back l.stack l.depth h) (depth-back l.stack l.depth h) };
 
-    ghost invariant = { λ l. length l.stack.items ≤ 8 };
+    ghost invariant = { λ l. IsStack l.stack l.depth };
 }
 
 impl OpenLoops {
@@ -55,24 +61,32 @@ impl OpenLoops {
         ensures { result ≡ [] }
     {
         OpenLoops {
-            stack: ArrayVec::new(),
+            stack: [BLANK; DEPTH_LIMIT],
+            depth: 0,
         }
     }
 
     /// The same loops again. It takes no memory.
+    #[inline(always)]
     pub(crate) fn copied(&self) -> Self
         ensures { result ≡ self.now }
     {
-        let mut stack = ArrayVec::new();
-        let _ = stack.try_extend_from_slice(self.stack.as_slice());
-        OpenLoops { stack }
+        *self
     }
 
     /// Whether they are the same loops, with as many copies left of each.
+    #[inline(always)]
     pub(crate) fn is_same(&self, other: &OpenLoops) -> bool
         ensures { IsTrue result ↔ (self.now ≡ other.now) }
     {
-        self.stack.as_slice() == other.stack.as_slice()
+        self.open() == other.open()
+    }
+
+    /// The loops that are open, the outermost first.
+    fn open(&self) -> &[OpenLoop]
+        ensures { reverse result.now ≡ self.now }
+    {
+        &self.stack[..self.depth]
     }
 
     /// This loop is innermost now.
@@ -80,7 +94,8 @@ impl OpenLoops {
         requires { length self.old < 8 }
         ensures { self.new ≡ innermost ∷ self.old }
     {
-        self.stack.push(innermost);
+        self.stack[self.depth] = innermost;
+        self.depth += 1;
     }
 
     /// Takes the innermost loop out.
@@ -89,7 +104,10 @@ impl OpenLoops {
         ensures innermost { self.old ≡ result ∷ self.new }
         ensures room { length self.new < 8 }
     {
-        self.stack.pop().unwrap()
+        self.depth -= 1;
+        let innermost = self.stack[self.depth];
+        self.stack[self.depth] = BLANK;
+        innermost
     }
 
     /// Goes past the line of this number: a `loop` opens a loop, in its first copy, and an `end` closes one.
@@ -101,8 +119,8 @@ impl OpenLoops {
     {
         match line {
             Line::Loop(times) => self.push(OpenLoop {
-                body: number as u32 + 1,
-                left: times - 1,
+                body: number as u16 + 1,
+                left: (times - 1) as u16,
             }),
             Line::End => {
                 self.pop();
@@ -115,7 +133,7 @@ impl OpenLoops {
     pub(crate) fn are_copies(&self, firsts: &OpenLoops) -> bool
         ensures { IsTrue result ↔ AreCopies self.now firsts.now }
     {
-        are_copies(self.stack.as_slice(), firsts.stack.as_slice())
+        are_copies(self.open(), firsts.open())
     }
 }
 

@@ -17,6 +17,7 @@ pub(crate) enum Advance {
 }
 
 /// The trap that the line is, if it is one.
+#[inline(always)]
 fn trap_on(line: Line) -> Option<ScriptTrap>
     ensures trap { IfSome result (λ trap. items_of line ≡ Traps trap ∷ []) }
     ensures marks { IfNone result (IsMarked line) }
@@ -34,6 +35,7 @@ fn trap_on(line: Line) -> Option<ScriptTrap>
 
 impl Script {
     /// Passes marks at the place, at least one and at most `most`; or makes the trap that stands there.
+    #[inline(always)]
     pub(crate) fn advance(&self, place: &mut Place, most: u32) -> Advance
         requires fits { Fits self.now place.old }
         requires some { 0 < most }
@@ -50,6 +52,7 @@ impl Script {
     }
 
     /// Passes marks of the line at the place, at least one and at most `most`. Answers how many.
+    #[inline(always)]
     fn pass(&self, place: &mut Place, line: Line, most: u32) -> u32
         requires stands { Stands self.now place.old line }
         requires marked { IsMarked line }
@@ -70,6 +73,7 @@ impl Script {
     }
 
     /// The line that comes next, or `None` after the last.
+    #[inline(always)]
     pub(crate) fn next_line(&self, place: &Place) -> Option<Line>
         ensures line { result ≡ slice_get self.now place.now.line }
         ensures legal { IsScript self.now }

@@ -1,5 +1,6 @@
 //! Where a thread is in its script.
 ghost use Rattle.std.specs.Prelude.{◌≡◌, ◌↔◌, ◌+◌, ◌-◌, ◌%◌, ◌<◌, ◌≤◌, ◌∷◌, length, List, min, IsTrue};
+ghost use Rattle.lot_machine.specs.Bounds.{IsBetween};
 ghost use Rattle.lot_script.specs.declared.open_loops.OpenLoop.{OpenLoop as OpenLoopRecord};
 
 use crate::open_loops::{OpenLoop, OpenLoops};
@@ -29,6 +30,7 @@ impl Model for Place {
 
 impl Place {
     /// The same place again. It takes no memory.
+    #[inline(always)]
     pub fn copied(&self) -> Self
         ensures { result ≡ self.now }
     {
@@ -41,6 +43,7 @@ impl Place {
     }
 
     /// Whether the other is the same place with the same accumulator.
+    #[inline(always)]
     pub fn is_same(&self, other: &Place) -> bool
         ensures { IsTrue result ↔ (self.now ≡ other.now) }
     {
@@ -58,6 +61,7 @@ impl Place {
     }
 
     /// The same place with this accumulator, as for a thread that was handed a number.
+    #[inline(always)]
     pub fn with_accumulator(self, accumulator: u32) -> Self
         ensures { result ≡ record self { accumulator = accumulator } }
     {
@@ -70,6 +74,7 @@ impl Place {
     }
 
     /// Goes on with the next line.
+    #[inline(always)]
     pub(crate) fn leave_line(&mut self)
         requires { self.old.line < 1024 }
         ensures { self.new ≡ record self.old { line = self.old.line + 1; done = 0 } }
@@ -79,6 +84,7 @@ impl Place {
     }
 
     /// Does work of a `compute` of this many ticks, as much as is left of it and at most `most`. Answers how much.
+    #[inline(always)]
     pub(crate) fn work(&mut self, ticks: u32, most: u32) -> u32
         requires line { self.old.line < 1024 }
         requires left { self.old.done < ticks }
@@ -116,14 +122,14 @@ impl Place {
     /// Enters a loop of this many copies.
     pub(crate) fn enter(&mut self, times: u32)
         requires line { self.old.line < 1024 }
-        requires times { 0 < times }
+        requires times { IsBetween 1 65535 times }
         requires room { length self.old.loops < 8 }
         ensures { self.new ≡ record self.old { line = self.old.line + 1; done = 0; loops = record { body = self.old.line + 1; left = times - 1 } ∷ self.old.loops } }
     {
         self.leave_line();
         self.loops.push(OpenLoop {
-            body: self.line as u32,
-            left: times - 1,
+            body: self.line as u16,
+            left: (times - 1) as u16,
         });
     }
 
@@ -139,7 +145,7 @@ impl Place {
             self.leave_line();
             return;
         }
-        self.line = innermost.body as usize;
+        self.line = usize::from(innermost.body);
         self.done = 0;
         self.loops.push(OpenLoop {
             body: innermost.body,

@@ -90,6 +90,7 @@ impl<'a> Slice<'a> {
 impl Script {
     /// What a thread of this script does from `start` with a budget of 1 to 1000 ticks. It takes no memory, and as many
     /// steps as lines are passed.
+    #[inline(always)]
     pub fn slice(&self, start: Place, budget: u32) -> Slice<'_>
         requires fits { Fits self.now start }
         requires budget { IsBetween 1 1000 budget }

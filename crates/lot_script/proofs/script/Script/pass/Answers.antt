@@ -17,7 +17,7 @@ pub enter-requires-clause-line : goal.enter-requires-clause-line
 enter-requires-clause-line c = stands-within _ _ _ c.requires.stands
 
 pub enter-requires-clause-times : goal.enter-requires-clause-times
-enter-requires-clause-times c = (stands-good _ _ _ (rw c.in-Loop.is at c.requires.stands)).0
+enter-requires-clause-times c = stands-good _ _ _ (rw c.in-Loop.is at c.requires.stands)
 
 pub enter-requires-clause-room : goal.enter-requires-clause-room
 enter-requires-clause-room c = stands-nests _ _ _ (rw c.in-Loop.is at c.requires.stands)
