@@ -46,7 +46,7 @@ fn write_schedule_line<W: Write>(writer: &mut Watched<W>, actors: &[u8]) -> Resu
     requires few { length actors.now ≤ 64 }
     ensures { Writes W.contents writer.old writer.new result (reports.schedule_line actors.now) }
 {
-    let mut line = Line::new();
+    let mut line = Line::<272>::new();
     line.push_text("schedule");
     for actor in actors {
         line.push_field(" ", *actor);

@@ -1,5 +1,6 @@
 //! A line that is put together, and then written by one call.
-ghost use Rattle.std.specs.Prelude.{◌≡◌, ◌≤◌, ◌+◌, ◌++◌, [], false, length};
+ghost use Rattle.std.specs.Prelude.{◌≡◌, ◌<◌, ◌≤◌, ◌+◌, ◌++◌, ◌∷◌, [], false, length};
+ghost use Rattle.std.specs.Fmt.{decimal};
 ghost use Rattle.lot_print.specs.Writing.{Writes};
 
 use crate::WriteFault;
@@ -9,13 +10,13 @@ use lot_text::Watched;
 use std::io::Write;
 use std::marker::Model;
 
-/// A line, or a part of one, of at most 272 bytes. It takes no memory.
+/// A line, or a part of one, of at most `N` bytes. It takes no memory.
 #[derive(Debug, Drop)]
-pub(crate) struct Line {
-    bytes: ArrayVec<u8, 272>,
+pub(crate) struct Line<const N: usize> {
+    bytes: ArrayVec<u8, N>,
 }
 
-impl Model for Line {
+impl<const N: usize> Model for Line<N> {
     ghost use Rattle.std.specs.Prelude.{List, ℕ};
 
     ghost Value = { List ℕ };
@@ -25,8 +26,9 @@ impl Model for Line {
     ghost inverse = { λ bytes. record { bytes = record { items = bytes } } };
 }
 
-impl Line {
+impl<const N: usize> Line<N> {
     /// An empty line.
+    #[inline(always)]
     pub(crate) fn new() -> Self
         ensures { result ≡ [] }
     {
@@ -36,8 +38,9 @@ impl Line {
     }
 
     /// Puts the text at the end.
+    #[inline(always)]
     pub(crate) fn push_text(&mut self, text: &str)
-        requires { length self.old + length text.now ≤ 272 }
+        requires { length self.old + length text.now ≤ N }
         ensures text { self.new ≡ self.old ++ text.now }
         ensures len { length self.new ≡ length self.old + length text.now }
     {
@@ -45,8 +48,9 @@ impl Line {
     }
 
     /// Puts the bytes at the end.
+    #[inline(always)]
     pub(crate) fn push_bytes(&mut self, bytes: &[u8])
-        requires { length self.old + length bytes.now ≤ 272 }
+        requires { length self.old + length bytes.now ≤ N }
         ensures text { self.new ≡ self.old ++ bytes.now }
         ensures len { length self.new ≡ length self.old + length bytes.now }
     {
@@ -54,8 +58,9 @@ impl Line {
     }
 
     /// Puts the number at the end.
+    #[inline(always)]
     pub(crate) fn push_number<I: Integer>(&mut self, number: I)
-        requires { length self.old + I.MAX_STR_LEN ≤ 272 }
+        requires { length self.old + I.MAX_STR_LEN ≤ N }
         ensures text { self.new ≡ self.old ++ I.text number }
         ensures len { length self.new ≤ length self.old + I.MAX_STR_LEN }
     {
@@ -64,8 +69,9 @@ impl Line {
     }
 
     /// Puts the text and then the number at the end.
+    #[inline(always)]
     pub(crate) fn push_field<I: Integer>(&mut self, text: &str, number: I)
-        requires { length self.old + length text.now + I.MAX_STR_LEN ≤ 272 }
+        requires { length self.old + length text.now + I.MAX_STR_LEN ≤ N }
         ensures text { self.new ≡ self.old ++ (text.now ++ I.text number) }
         ensures len { length self.new ≤ length self.old + length text.now + I.MAX_STR_LEN }
     {
@@ -73,7 +79,77 @@ impl Line {
         self.push_number(number);
     }
 
+    /// Puts the text and then the number at the end. A number below 1000, as most are, is put digit by digit, since a buffer of its
+    /// own costs more.
+    #[inline(always)]
+    pub(crate) fn push_count(&mut self, text: &str, number: u32)
+        requires { length self.old + length text.now + 10 ≤ N }
+        ensures text { self.new ≡ self.old ++ (text.now ++ decimal number) }
+        ensures len { length self.new ≤ length self.old + length text.now + 10 }
+    {
+        self.push_text(text);
+        if number < 1000 {
+            self.push_digits(number);
+        } else {
+            self.push_number(number);
+        }
+    }
+
+    /// The same of a number that may be wider.
+    #[inline(always)]
+    pub(crate) fn push_wide(&mut self, text: &str, number: u128)
+        requires { length self.old + length text.now + 39 ≤ N }
+        ensures text { self.new ≡ self.old ++ (text.now ++ decimal number) }
+        ensures len { length self.new ≤ length self.old + length text.now + 39 }
+    {
+        match u32::try_from(number) {
+            Ok(count) => self.push_count(text, count),
+            Err(_) => self.push_field(text, number),
+        }
+    }
+
+    /// Puts the digits of a number below 1000 at the end.
+    #[inline(always)]
+    fn push_digits(&mut self, number: u32)
+        requires { (length self.old + 3 ≤ N) × (number < 1000) }
+        ensures text { self.new ≡ self.old ++ decimal number }
+        ensures len { length self.new ≤ length self.old + 3 }
+    {
+        if number < 10 {
+            self.push_digit(number);
+            return;
+        }
+        self.push_two_digits(number / 10);
+        self.push_digit(number % 10);
+    }
+
+    /// Puts the digits of a number below 100 at the end.
+    #[inline(always)]
+    fn push_two_digits(&mut self, number: u32)
+        requires { (length self.old + 2 ≤ N) × (number < 100) }
+        ensures text { self.new ≡ self.old ++ decimal number }
+        ensures len { length self.new ≤ length self.old + 2 }
+    {
+        if number < 10 {
+            self.push_digit(number);
+            return;
+        }
+        self.push_digit(number / 10);
+        self.push_digit(number % 10);
+    }
+
+    /// Puts a digit, 0 to 9, at the end.
+    #[inline(always)]
+    fn push_digit(&mut self, digit: u32)
+        requires { (length self.old + 1 ≤ N) × (digit < 10) }
+        ensures text { self.new ≡ self.old ++ (48 + digit) ∷ [] }
+        ensures len { length self.new ≡ length self.old + 1 }
+    {
+        let _ = self.bytes.try_push(b'0' + digit as u8);
+    }
+
     /// Writes the line.
+    #[inline(always)]
     pub(crate) fn write_to<W: Write>(&self, writer: &mut Watched<W>) -> Result<(), WriteFault>
         requires { writer.old.failed ≡ false }
         ensures { Writes W.contents writer.old writer.new result self.now }
@@ -82,7 +158,14 @@ impl Line {
     }
 }
 
+/// The line of a turn: none is longer, whatever its numbers are.
+pub(crate) type TurnLine = Line<144>;
+
+/// The line of a row of a listing, of the report, or of an input's refusal.
+pub(crate) type RowLine = Line<256>;
+
 /// Writes the bytes. No failed write is tried again.
+#[inline(always)]
 pub(crate) fn write_bytes<W: Write>(writer: &mut Watched<W>, bytes: &[u8]) -> Result<(), WriteFault>
     requires { writer.old.failed ≡ false }
     ensures { Writes W.contents writer.old writer.new result bytes.now }

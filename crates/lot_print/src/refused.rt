@@ -5,7 +5,7 @@ ghost use Rattle.lot_simulation.specs.Texts.{newline, refused, refusal_code as c
 ghost use Rattle.lot_print.specs.Writing.{Writes};
 
 use crate::WriteFault;
-use crate::line::Line;
+use crate::line::{Line, RowLine};
 use lot_machine::{Refusal, TrapRefusal};
 use lot_simulation::{InputFault, InputRefusal};
 use lot_text::Watched;
@@ -16,14 +16,14 @@ pub fn write_fault<W: Write>(writer: &mut Watched<W>, fault: InputFault) -> Resu
     requires { writer.old.failed ≡ false }
     ensures { Writes W.contents writer.old writer.new result (fault_line fault) }
 {
-    let mut line = Line::new();
+    let mut line = RowLine::new();
     line.push_field("refused line ", fault.line);
     push_reason(&mut line, fault.refusal);
     line.write_to(writer)
 }
 
 /// Puts why an input is refused, and the line's end.
-fn push_reason(line: &mut Line, refusal: InputRefusal)
+fn push_reason(line: &mut RowLine, refusal: InputRefusal)
     requires { length line.old ≤ 46 }
     ensures { line.new ≡ line.old ++ (codes " " ++ (decimal (input_code_of refusal) ++ (codes " " ++ (input_name_of refusal ++ newline)))) }
 {
@@ -37,8 +37,8 @@ fn push_reason(line: &mut Line, refusal: InputRefusal)
 }
 
 /// Puts a refusal: its code and its name.
-pub(crate) fn push_refused(line: &mut Line, code: u32, name: &str)
-    requires { (length line.old ≤ 46) × (length name.now ≤ 14) }
+pub(crate) fn push_refused<const N: usize>(line: &mut Line<N>, code: u32, name: &str)
+    requires { (length line.old ≤ 46) × (length name.now ≤ 14) × (79 ≤ N) }
     ensures text { line.new ≡ line.old ++ refused code name.now }
     ensures len { length line.new ≤ 79 }
 {
@@ -46,8 +46,8 @@ pub(crate) fn push_refused(line: &mut Line, code: u32, name: &str)
 }
 
 /// Puts a text, and then the code and the name of a refusal.
-fn push_code(line: &mut Line, text: &str, code: u32, name: &str)
-    requires { (length line.old ≤ 46) × (length text.now ≤ 8) × (length name.now ≤ 14) }
+fn push_code<const N: usize>(line: &mut Line<N>, text: &str, code: u32, name: &str)
+    requires { (length line.old ≤ 46) × (length text.now ≤ 8) × (length name.now ≤ 14) × (79 ≤ N) }
     ensures text { line.new ≡ line.old ++ (text.now ++ (decimal code ++ (codes " " ++ name.now))) }
     ensures len { length line.new ≤ 79 }
 {

@@ -6,7 +6,7 @@ ghost use Rattle.lot_simulation.specs.Texts.{delivered_text, drawn_text, ends_te
 ghost use Rattle.lot_print.specs.Writing.{Writes};
 
 use crate::WriteFault;
-use crate::line::Line;
+use crate::line::TurnLine;
 use crate::refused::{
     push_refused, refusal_code, refusal_name, trap_refusal_code, trap_refusal_name,
 };
@@ -24,8 +24,8 @@ pub fn write_reply<W: Write>(
     requires { writer.old.failed ≡ false }
     ensures { Writes W.contents writer.old writer.new result (decimal actor ++ (codes " " ++ plain_text event.now reply)) }
 {
-    let mut line = Line::new();
-    line.push_number(actor);
+    let mut line = TurnLine::new();
+    line.push_count("", actor);
     line.push_text(" ");
     push_reply(&mut line, event, reply);
     line.write_to(writer)
@@ -36,8 +36,8 @@ pub fn write_ended<W: Write>(writer: &mut Watched<W>, actor: u32) -> Result<(), 
     requires { writer.old.failed ≡ false }
     ensures { Writes W.contents writer.old writer.new result (decimal actor ++ (codes " " ++ (refused 41 (codes "Ended") ++ newline))) }
 {
-    let mut line = Line::new();
-    line.push_number(actor);
+    let mut line = TurnLine::new();
+    line.push_count("", actor);
     line.push_text(" ");
     push_refused(&mut line, 41, "Ended");
     line.push_text("\n");
@@ -45,7 +45,7 @@ pub fn write_ended<W: Write>(writer: &mut Watched<W>, actor: u32) -> Result<(), 
 }
 
 /// Puts the reply to the event, and the line's end.
-fn push_reply(line: &mut Line, event: &Event, reply: Reply)
+fn push_reply(line: &mut TurnLine, event: &Event, reply: Reply)
     requires { length line.old ≤ 11 }
     ensures { line.new ≡ line.old ++ plain_text event.now reply }
 {
@@ -84,7 +84,7 @@ fn push_reply(line: &mut Line, event: &Event, reply: Reply)
 }
 
 /// Puts why the event was refused, and the line's end.
-fn push_refusal(line: &mut Line, why: Refusal)
+fn push_refusal(line: &mut TurnLine, why: Refusal)
     requires { length line.old ≤ 11 }
     ensures { line.new ≡ line.old ++ (refused (texts.refusal_code why) (texts.refusal_name why) ++ newline) }
 {
@@ -93,7 +93,7 @@ fn push_refusal(line: &mut Line, why: Refusal)
 }
 
 /// Puts the word and the number of what was made, and the line's end.
-fn push_made(line: &mut Line, word: &str, number: u32)
+fn push_made(line: &mut TurnLine, word: &str, number: u32)
     requires { (length line.old ≤ 50) × (length word.now ≤ 9) }
     ensures { line.new ≡ line.old ++ (word.now ++ (decimal number ++ newline)) }
 {
@@ -102,32 +102,34 @@ fn push_made(line: &mut Line, word: &str, number: u32)
 }
 
 /// Puts the draw that this thread won with this number of this total, and the line's end.
-fn push_winner(line: &mut Line, thread: u32, drawn: (u128, u128), delivered: Option<u32>)
+#[inline(always)]
+fn push_winner(line: &mut TurnLine, thread: u32, drawn: (u128, u128), delivered: Option<u32>)
     requires { length line.old ≤ 11 }
     ensures { line.new ≡ line.old ++ (codes "draw " ++ (decimal drawn.0 ++ (codes " of " ++ (decimal drawn.1 ++ (codes " thread " ++ (decimal thread ++ (delivered_text delivered ++ newline))))))) }
 {
     let (number, total) = drawn;
-    line.push_field("draw ", number);
-    line.push_field(" of ", total);
-    line.push_field(" thread ", thread);
+    line.push_wide("draw ", number);
+    line.push_wide(" of ", total);
+    line.push_count(" thread ", thread);
     if let Some(number) = delivered {
-        line.push_field(" got ", number);
+        line.push_count(" got ", number);
     }
     line.push_text("\n");
 }
 
 /// Puts the thread that ran, and for how many ticks.
-fn push_ran(line: &mut Line, thread: u32, ticks: u32)
+#[inline(always)]
+fn push_ran(line: &mut TurnLine, thread: u32, ticks: u32)
     requires { length line.old ≤ 11 }
     ensures text { line.new ≡ line.old ++ (codes "thread " ++ (decimal thread ++ (codes " ticks " ++ decimal ticks))) }
     ensures len { length line.new ≤ 45 }
 {
-    line.push_field("thread ", thread);
-    line.push_field(" ticks ", ticks);
+    line.push_count("thread ", thread);
+    line.push_count(" ticks ", ticks);
 }
 
 /// Puts what the event, a trap, came to, whether the quantum was used up, and the line's end.
-fn push_trap_of(line: &mut Line, event: &Event, outcome: Outcome, ends: bool)
+fn push_trap_of(line: &mut TurnLine, event: &Event, outcome: Outcome, ends: bool)
     requires { length line.old ≤ 45 }
     ensures { line.new ≡ line.old ++ (codes " " ++ (trap_text_of event.now outcome ++ (ends_text ends ++ newline))) }
 {
@@ -139,10 +141,10 @@ fn push_trap_of(line: &mut Line, event: &Event, outcome: Outcome, ends: bool)
 }
 
 /// Puts what a trap came to. An outcome that the action never has is no text.
-fn push_trap(line: &mut Line, action: Action, outcome: Outcome)
+fn push_trap(line: &mut TurnLine, action: Action, outcome: Outcome)
     requires { length line.old ≤ 46 }
     ensures text { line.new ≡ line.old ++ trap_text action outcome }
-    ensures len { length line.new ≤ 150 }
+    ensures len { length line.new ≤ 130 }
 {
     match (action, outcome) {
         (_, Outcome::Refused(why)) => {
@@ -150,23 +152,23 @@ fn push_trap(line: &mut Line, action: Action, outcome: Outcome)
         }
         (Action::Yield, Outcome::Yielded) => line.push_text("yield"),
         (Action::Call(port, _), Outcome::ServedBy(server)) => {
-            line.push_field("call ", port);
-            line.push_field(" served by ", server);
+            line.push_count("call ", port);
+            line.push_count(" served by ", server);
         }
         (Action::Call(port, _), Outcome::Queued) => push_state(line, "call ", port, " queued"),
         (Action::Receive(port), Outcome::Received { client, number }) => {
-            line.push_field("receive ", port);
-            line.push_field(" client ", client);
-            line.push_field(" got ", number);
+            line.push_count("receive ", port);
+            line.push_count(" client ", client);
+            line.push_count(" got ", number);
         }
         (Action::Receive(port), Outcome::Waits) => push_state(line, "receive ", port, " waits"),
-        (Action::Reply(_), Outcome::Replied(client)) => line.push_field("reply client ", client),
+        (Action::Reply(_), Outcome::Replied(client)) => line.push_count("reply client ", client),
         (Action::Lock(mutex), Outcome::Locked) => push_state(line, "lock ", mutex, " taken"),
         (Action::Lock(mutex), Outcome::Waits) => push_state(line, "lock ", mutex, " waits"),
         (Action::Unlock(mutex, _), Outcome::Freed) => push_state(line, "unlock ", mutex, " free"),
         (Action::Unlock(mutex, _), Outcome::Passed { to, draw }) => {
-            line.push_field("unlock ", mutex);
-            line.push_field(" to ", to);
+            line.push_count("unlock ", mutex);
+            line.push_count(" to ", to);
             push_drawn(line, draw);
         }
         (Action::Exit, Outcome::Exited) => line.push_text("exit"),
@@ -175,20 +177,20 @@ fn push_trap(line: &mut Line, action: Action, outcome: Outcome)
 }
 
 /// Puts the port or mutex of a trap, and what the trap came to there.
-fn push_state(line: &mut Line, word: &str, number: u32, state: &str)
+fn push_state(line: &mut TurnLine, word: &str, number: u32, state: &str)
     requires { (length line.old ≤ 46) × (length word.now ≤ 8) × (length state.now ≤ 7) }
     ensures text { line.new ≡ line.old ++ (word.now ++ (decimal number ++ state.now)) }
     ensures len { length line.new ≤ 71 }
 {
-    line.push_field(word, number);
+    line.push_count(word, number);
     line.push_text(state);
 }
 
 /// Puts how the mutex was passed on: by a lottery, or to the one that had waited longest.
-fn push_drawn(line: &mut Line, drawn: Option<(u64, u64)>)
-    requires { length line.old ≤ 90 }
+fn push_drawn(line: &mut TurnLine, drawn: Option<(u64, u64)>)
+    requires { length line.old ≤ 80 }
     ensures text { line.new ≡ line.old ++ drawn_text drawn }
-    ensures len { length line.new ≤ 150 }
+    ensures len { length line.new ≤ 130 }
 {
     match drawn {
         None => line.push_text(" oldest"),

@@ -6,7 +6,7 @@ ghost use Rattle.lot_print.specs.Listings.{listing_line, target_text, used_text}
 ghost use Rattle.lot_print.specs.Writing.{Writes};
 
 use crate::WriteFault;
-use crate::line::Line;
+use crate::line::RowLine;
 use lot_machine::{CurrencyRow, Kind, Limits, Name, Status, ThreadRow, TicketRow};
 use lot_text::Watched;
 use std::io::Write;
@@ -21,7 +21,7 @@ pub fn write_listing_line<W: Write>(
     requires { writer.old.failed ≡ false }
     ensures { Writes W.contents writer.old writer.new result (decimal actor ++ (codes " " ++ listing_line kind rows)) }
 {
-    let mut line = Line::new();
+    let mut line = RowLine::new();
     line.push_number(actor);
     match kind {
         Kind::Tickets => line.push_field(" lstkt ", rows),
@@ -46,10 +46,10 @@ pub fn write_ticket<W: Write>(
 }
 
 /// A ticket's line.
-fn ticket_text(limits: Limits, number: u32, row: &TicketRow) -> Line
+fn ticket_text(limits: Limits, number: u32, row: &TicketRow) -> RowLine
     ensures { result ≡ ticket_line limits.unit number row.now }
 {
-    let mut line = Line::new();
+    let mut line = RowLine::new();
     line.push_field("ticket ", number);
     line.push_field(" amount ", row.amount);
     line.push_text(" in ");
@@ -63,7 +63,7 @@ fn ticket_text(limits: Limits, number: u32, row: &TicketRow) -> Line
 }
 
 /// Puts what a ticket funds; `-` if it funds nothing.
-fn push_target(line: &mut Line, target: &Option<Name>)
+fn push_target(line: &mut RowLine, target: &Option<Name>)
     requires { length line.old ≤ 200 }
     ensures text { line.new ≡ line.old ++ target_text target.now }
     ensures len { length line.new ≤ length line.old + 16 }
@@ -75,7 +75,7 @@ fn push_target(line: &mut Line, target: &Option<Name>)
 }
 
 /// Puts whether a ticket is active.
-fn push_activity(line: &mut Line, is_active: bool)
+fn push_activity(line: &mut RowLine, is_active: bool)
     requires { length line.old ≤ 200 }
     ensures text { line.new ≡ line.old ++ activity_text is_active }
     ensures len { length line.new ≤ length line.old + 9 }
@@ -97,10 +97,10 @@ pub fn write_currency<W: Write>(
 }
 
 /// A currency's line.
-fn currency_text(limits: Limits, number: u32, row: &CurrencyRow) -> Line
+fn currency_text(limits: Limits, number: u32, row: &CurrencyRow) -> RowLine
     ensures { result ≡ currency_line limits.unit number row.now }
 {
-    let mut line = Line::new();
+    let mut line = RowLine::new();
     push_named(&mut line, "currency ", number, &row.name);
     line.push_field(" backing ", row.backing);
     line.push_field(" issued ", row.issued);
@@ -124,10 +124,10 @@ pub fn write_thread<W: Write>(
 }
 
 /// A thread's line.
-fn thread_text(limits: Limits, number: u32, row: &ThreadRow) -> Line
+fn thread_text(limits: Limits, number: u32, row: &ThreadRow) -> RowLine
     ensures { result ≡ thread_line limits.unit number row.now }
 {
-    let mut line = Line::new();
+    let mut line = RowLine::new();
     push_named(&mut line, "thread ", number, &row.name);
     line.push_text(" ");
     push_status(&mut line, row.status);
@@ -138,7 +138,7 @@ fn thread_text(limits: Limits, number: u32, row: &ThreadRow) -> Line
 }
 
 /// Puts what a thread is doing.
-fn push_status(line: &mut Line, status: Status)
+fn push_status(line: &mut RowLine, status: Status)
     requires { length line.old ≤ 50 }
     ensures text { line.new ≡ line.old ++ status_text status }
     ensures len { length line.new ≤ length line.old + 34 }
@@ -158,7 +158,7 @@ fn push_status(line: &mut Line, status: Status)
 }
 
 /// Puts a word, a number and its name.
-pub(crate) fn push_named(line: &mut Line, word: &str, number: u32, name: &Name)
+pub(crate) fn push_named(line: &mut RowLine, word: &str, number: u32, name: &Name)
     requires { (length line.old ≤ 20) × (length word.now ≤ 9) }
     ensures text { line.new ≡ line.old ++ (word.now ++ (decimal number ++ (codes " " ++ name.now))) }
     ensures len { length line.new ≤ length line.old + 36 }
@@ -169,7 +169,7 @@ pub(crate) fn push_named(line: &mut Line, word: &str, number: u32, name: &Name)
 }
 
 /// Puts the end of a line: draws that were won, and ticks that were used.
-pub(crate) fn push_used(line: &mut Line, quanta: u64, ticks: u64)
+pub(crate) fn push_used(line: &mut RowLine, quanta: u64, ticks: u64)
     requires { length line.old ≤ 200 }
     ensures { line.new ≡ line.old ++ used_text quanta ticks }
 {

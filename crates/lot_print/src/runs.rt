@@ -5,7 +5,7 @@ ghost use Rattle.lot_simulation.specs.Report.{run_text, runs_in, runs_line, runs
 ghost use Rattle.lot_print.specs.Writing.{Writes};
 
 use crate::WriteFault;
-use crate::line::{Line, write_bytes};
+use crate::line::{RowLine, write_bytes};
 use lot_text::Watched;
 use std::io::Write;
 
@@ -58,7 +58,7 @@ fn write_run<W: Write>(writer: &mut Watched<W>, actor: u8, count: usize) -> Resu
     requires { writer.old.failed ≡ false }
     ensures { Writes W.contents writer.old writer.new result (run_text (record { actor = actor; count = count })) }
 {
-    let mut line = Line::new();
+    let mut line = RowLine::new();
     line.push_field(" ", actor);
     line.push_field(" ", count);
     line.write_to(writer)

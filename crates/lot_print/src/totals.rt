@@ -5,7 +5,7 @@ ghost use Rattle.lot_print.specs.Totals.{processor_line, total_line};
 ghost use Rattle.lot_print.specs.Writing.{Writes};
 
 use crate::WriteFault;
-use crate::line::{Line, write_bytes};
+use crate::line::{RowLine, write_bytes};
 use crate::rows::{push_named, push_used};
 use lot_machine::ThreadRow;
 use lot_text::Watched;
@@ -45,7 +45,7 @@ pub fn write_thread_total<W: Write>(
     requires { writer.old.failed ≡ false }
     ensures { Writes W.contents writer.old writer.new result (thread_total number row.now) }
 {
-    let mut line = Line::new();
+    let mut line = RowLine::new();
     push_named(&mut line, "thread ", number, &row.name);
     push_used(&mut line, row.quanta, row.ticks);
     line.write_to(writer)
@@ -59,7 +59,7 @@ pub fn write_processor_total<W: Write>(
     requires { writer.old.failed ≡ false }
     ensures { Writes W.contents writer.old writer.new result (processor_line total.processor total.quanta total.idles total.ticks) }
 {
-    let mut line = Line::new();
+    let mut line = RowLine::new();
     line.push_field("processor ", total.processor);
     line.push_field(" quanta ", total.quanta);
     line.push_field(" idle ", total.idles);
@@ -76,7 +76,7 @@ pub fn write_whole_total<W: Write>(
     requires { writer.old.failed ≡ false }
     ensures { Writes W.contents writer.old writer.new result (total_line total.turns total.quanta total.ticks) }
 {
-    let mut line = Line::new();
+    let mut line = RowLine::new();
     line.push_field("total turns ", total.turns);
     push_used(&mut line, total.quanta, total.ticks);
     line.write_to(writer)
