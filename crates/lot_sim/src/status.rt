@@ -22,6 +22,9 @@ const COMMAND_LINE: u8 = 2;
 /// Memory was refused, a read or a write failed, or workers stopped early.
 const FAILED: u8 = 3;
 
+/// How many bytes of output are written at a time.
+const BUFFER: usize = 65536;
+
 /// Runs the program with these words, of which the first is its own name, and answers its exit status. Nothing more is
 /// written to an output after its first error.
 pub(crate) fn status<
@@ -47,7 +50,7 @@ fn request_status<H: Threads + Wait + Sync, R: Read + Drop, W: Write + Drop>(
     reader: R,
     output: Watched<W>,
 ) -> u8 {
-    let Ok(buffered) = BufWriter::new(alloc, output) else {
+    let Ok(buffered) = BufWriter::with_capacity(alloc, BUFFER, output) else {
         return FAILED;
     };
     let mut reader = Watched::new(reader);

@@ -31,6 +31,7 @@ impl Counts {
     };
 
     /// With one more turn, which got this reply.
+    #[inline(always)]
     pub(crate) fn with_turn(self, reply: Reply) -> Counts
         requires { (n : ℕ) × (n < 4294967295) × IsSmall n self }
         ensures exact { result ≡ counted_with self reply }
@@ -67,6 +68,7 @@ pub(crate) fn no_counts(alloc: Global, actors: usize) -> Result<Vec<Counts>, All
 }
 
 /// Counts an actor's turn that got this reply.
+#[inline(always)]
 pub(crate) fn count_turn(counts: &mut Vec<Counts>, actor: u32, reply: Reply)
     requires there { actor < vec_len counts.old }
     requires bounded { (turns : List ActorTurn) × (n : ℕ) × (n < 4294967295) × AreCounts turns n counts.old.items }

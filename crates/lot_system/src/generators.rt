@@ -23,22 +23,41 @@ pub(crate) fn generators_of(alloc: Global, program: &Program) -> Result<Vec<Park
     Ok(generators)
 }
 
+/// A processor's next number, and its generator after it.
+#[derive(Clone, Copy, Debug)]
+pub(crate) struct NextNumber {
+    pub(crate) number: u64,
+    after: ParkMiller,
+}
+
 /// The processor's next number, which stays its next one.
-pub(crate) fn next_number(generators: &[ParkMiller], processor: u32) -> u64
+#[inline(always)]
+pub(crate) fn next_number(generators: &[ParkMiller], processor: u32) -> NextNumber
     requires { IsBetween 1 (length generators.now) processor }
-    ensures { result ≡ drawn_number (unwrap_or (at_number generators.now processor) 0) }
+    ensures number { result.number ≡ drawn_number (unwrap_or (at_number generators.now processor) 0) }
+    ensures after { result.after ≡ seed_after_number (unwrap_or (at_number generators.now processor) 0) }
 {
-    let mut generator = generators[processor as usize - 1];
-    generator.number()
+    let mut after = generators[processor as usize - 1];
+    NextNumber {
+        number: after.number(),
+        after,
+    }
 }
 
 /// Takes the processor's next number, if the event takes one.
-pub(crate) fn pass_number(generators: &mut Vec<ParkMiller>, processor: u32, event: &Event)
-    requires { IsBetween 1 (vec_len generators.old) processor }
+#[inline(always)]
+pub(crate) fn pass_number(
+    generators: &mut Vec<ParkMiller>,
+    processor: u32,
+    event: &Event,
+    next: NextNumber,
+)
+    requires processor { IsBetween 1 (vec_len generators.old) processor }
+    requires next { next.after ≡ seed_after_number (unwrap_or (at_number generators.old.items processor) 0) }
     ensures values { generators.new.items ≡ (if world.takes_number event.now then set_number generators.old.items processor (seed_after_number (unwrap_or (at_number generators.old.items processor) 0)) else generators.old.items) }
     ensures count { vec_len generators.new ≡ vec_len generators.old }
 {
     if takes_number(event) {
-        generators[processor as usize - 1].number();
+        generators[processor as usize - 1] = next.after;
     }
 }

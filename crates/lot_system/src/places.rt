@@ -61,6 +61,7 @@ fn begin(program: &Program, script: u32) -> Place
 
 /// After a processor's turn: a winner has what was delivered to it, and the thread that ran is at its slice's end, and has
 /// what it received.
+#[inline(always)]
 pub(crate) fn follow_turn(places: &mut Vec<Place>, slice: &Option<Slice>, reply: Reply)
     requires { (t : ℕ) × OfGiven (length places.old.items) t slice.now reply }
     ensures follows { places.new.items ≡ places_after places.old.items slice.now reply }
@@ -73,6 +74,7 @@ pub(crate) fn follow_turn(places: &mut Vec<Place>, slice: &Option<Slice>, reply:
 }
 
 /// A winner has what was delivered to it.
+#[inline(always)]
 fn follow_draw(places: &mut Vec<Place>, reply: Reply)
     requires { OfDraw (length places.old.items) reply }
     ensures follows { places.new.items ≡ places_after places.old.items None reply }
@@ -90,6 +92,7 @@ fn follow_draw(places: &mut Vec<Place>, reply: Reply)
 }
 
 /// The thread that ran is at its slice's end, and has what it received.
+#[inline(always)]
 fn follow_slice(places: &mut Vec<Place>, slice: &Slice, reply: Reply)
     requires { (t : ℕ) × (IsBetween 1 (length places.old.items) t × OfRun t reply) }
     ensures follows { places.new.items ≡ places_after places.old.items (Some slice.now) reply }
@@ -110,6 +113,7 @@ fn follow_slice(places: &mut Vec<Place>, slice: &Slice, reply: Reply)
 }
 
 /// The number that was received with a call.
+#[inline(always)]
 fn number_delivered(outcome: Outcome) -> Option<u32>
     ensures { result ≡ number_delivered_in outcome }
 {
@@ -120,6 +124,7 @@ fn number_delivered(outcome: Outcome) -> Option<u32>
 }
 
 /// The place, with the number that was handed over as its accumulator.
+#[inline(always)]
 fn delivered_to(place: Place, number: Option<u32>) -> Place
     ensures { result ≡ delivered_to_place number place }
 {

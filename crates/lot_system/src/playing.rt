@@ -16,12 +16,14 @@ ghost use Rattle.lot_system.specs.Reading.{Reads};
 ghost use Rattle.lot_system.specs.Seen.{world_of};
 ghost use Rattle.lot_system.specs.Turns.{IsFresh};
 ghost use Rattle.lot_system.specs.Writing.{IsFaultOf, Writes};
+ghost use Rattle.lot_text.specs.Faults.{IsFaultOf as IsParseFaultOf};
 
 use crate::listing::write_listing;
 use crate::report::write_report;
-use crate::slices::slice_of;
+use crate::slices::slice_of_kept;
+use crate::turn::Unmade;
 use crate::writing::flush;
-use crate::{PlayFault, System, TurnFault, read_input};
+use crate::{PlayFault, System, read_input};
 use lot_machine::{Event, Reply};
 use lot_print::{write_ended, write_fault, write_reply};
 use lot_script::Slice;
@@ -54,24 +56,32 @@ pub fn play<R: Read, W: Write>(
     ensures fault { IfErr result (λ fault. PlayLeaves R.remaining reader.old reader.new W.contents writer.old writer.new fault) }
 {
     let bytes = read_input(alloc, reader)?;
-    play_bytes(alloc, &bytes, writer)
+    play_bytes(alloc, bytes, writer)
 }
 
 /// Plays what these bytes say, or writes why they are refused.
 fn play_bytes<W: Write>(
     alloc: Global,
-    bytes: &[u8],
+    bytes: Vec<u8>,
     writer: &mut Watched<W>,
 ) -> Result<Played, PlayFault>
     requires { writer.old.failed ≡ false }
     ensures flushed { OnOk result (writer.new.flushed ≡ true) }
-    ensures played { Plays W.contents writer.old writer.new result (came_of (program_in bytes.now)) (output bytes.now) }
+    ensures played { Plays W.contents writer.old writer.new result (came_of (program_in bytes.items)) (output bytes.items) }
 {
-    match parse(alloc, bytes) {
+    match program_of(alloc, bytes) {
         Ok(program) => play_program(alloc, &program, writer),
         Err(ParseFault::Memory) => Err(PlayFault::Memory),
         Err(ParseFault::Input(fault)) => refuse(fault, writer),
     }
+}
+
+/// What the bytes say. Their memory is free again when it is played.
+fn program_of(alloc: Global, bytes: Vec<u8>) -> Result<Program, ParseFault>
+    ensures program { IfOk result (λ program. program_in bytes.items ≡ Ok program) }
+    ensures fault { IfErr result (IsParseFaultOf (program_in bytes.items)) }
+{
+    parse(alloc, &bytes)
 }
 
 /// Writes the one line of a refused input, as `play` does.
@@ -137,6 +147,7 @@ fn play_turns<W: Write>(
 }
 
 /// Makes one turn, with the slice of the actor's work, and writes what it answers.
+#[inline(always)]
 fn play_turn<W: Write>(
     program: &Program,
     system: &mut System,
@@ -150,27 +161,50 @@ fn play_turn<W: Write>(
     ensures played { IsPlayed system.old actor system.new }
     ensures text { Writes W.contents writer.old writer.new result (turn_text actor (turn_in system.old actor)) }
 {
-    let slice = slice_in(system, program, actor);
-    match system.turn(actor, slice) {
-        Ok(answer) => write_answer(system, actor, &answer.event, answer.reply, writer),
-        Err(TurnFault::Ended) => Ok(write_ended(writer, actor)?),
-        Err(TurnFault::Stale(_)) => unreachable!(),
-        Err(TurnFault::HistoryFull) => unreachable!(),
+    // Two calls, since with a slice and without one a turn does different things, each of which is compiled for itself.
+    match slice_in(system, program, actor) {
+        Some(slice) => play_slice(system, actor, Some(slice), writer),
+        None => play_slice(system, actor, None, writer),
+    }
+}
+
+/// Makes one turn with this slice, which is that of the actor's work, and writes what it answers.
+#[inline(always)]
+fn play_slice<W: Write>(
+    system: &mut System,
+    actor: u32,
+    slice: Option<Slice>,
+    writer: &mut Watched<W>,
+) -> Result<(), PlayFault>
+    requires there { actor ≤ system.old.setting.program.limits.processors }
+    requires fresh { IsFresh system.old actor slice }
+    requires room { length system.old.history < system.old.setting.room }
+    requires working { writer.old.failed ≡ false }
+    ensures played { IsPlayed system.old actor system.new }
+    ensures text { Writes W.contents writer.old writer.new result (turn_text actor (turn_in system.old actor)) }
+{
+    match system.try_turn(actor, &slice) {
+        Ok(made) => write_answer(system, actor, &made.0, made.1, writer),
+        Err(Unmade::Ended) => Ok(write_ended(writer, actor)?),
+        Err(Unmade::Stale) => unreachable!(),
+        Err(Unmade::HistoryFull) => unreachable!(),
     }
 }
 
 /// The slice of the actor's work, if it has any.
+#[inline(always)]
 fn slice_in<'a>(system: &System, program: &'a Program, actor: u32) -> Option<Slice<'a>>
     requires { system.now.setting.program ≡ program.now }
     ensures { IsFresh system.now actor result }
 {
-    match system.work(actor) {
-        Some(work) => Some(slice_of(program, work)),
+    match system.kept_work(actor) {
+        Some(work) => Some(slice_of_kept(program, &work)),
         None => None,
     }
 }
 
 /// Writes what a turn answered: a line, or the listing that was asked for.
+#[inline(always)]
 fn write_answer<W: Write>(
     system: &mut System,
     actor: u32,

@@ -7,6 +7,7 @@ ghost use Rattle.lot_system.specs.Held.{script_lines};
 ghost use Rattle.lot_system.specs.Turns.{IsSliceOf, Matches};
 ghost use Rattle.lot_system.specs.Fitting.{FitsIn, IsStale};
 
+use crate::turn::KeptWork;
 use crate::{TurnFault, Work};
 use lot_machine::Sizes;
 use lot_script::{Script, Slice};
@@ -28,11 +29,21 @@ pub fn slice_for(program: &Program, work: Option<Work>) -> Result<Option<Slice<'
 }
 
 /// The slice of a work that fits the program.
+#[inline(always)]
 pub(crate) fn slice_of(program: &Program, work: Work) -> Slice<'_>
     requires { FitsIn program.now work }
     ensures { IsSliceOf program.now work result }
 {
     script_numbered(program, work.script).slice(work.place, work.budget)
+}
+
+/// The slice of a work that fits the program, from where its place is kept. It takes no memory.
+#[inline(always)]
+pub(crate) fn slice_of_kept<'a>(program: &'a Program, work: &KeptWork<'_>) -> Slice<'a>
+    requires { FitsIn program.now work.now }
+    ensures { IsSliceOf program.now work.now result }
+{
+    script_numbered(program, work.script).slice(work.place.copied(), work.budget)
 }
 
 /// Whether the program has the work's script, its place is one of that script, and its budget is 1 to 1000 ticks.
@@ -52,6 +63,7 @@ fn has_script(program: &Program, number: u32) -> bool
 }
 
 /// The script with this number.
+#[inline(always)]
 pub(crate) fn script_numbered(program: &Program, number: u32) -> &Script
     requires { IsBetween 1 (length program.now.scripts) number }
     ensures lines { result.now ≡ script_lines program.now number }

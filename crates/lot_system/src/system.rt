@@ -9,14 +9,14 @@ ghost use Rattle.lot_simulation.specs.Report.{turns_made, turns_of};
 ghost use Rattle.lot_system.specs.Counted.{counted};
 ghost use Rattle.lot_system.specs.Listing.{given_count};
 ghost use Rattle.lot_system.specs.Seen.{after_turn, world_of};
-ghost use Rattle.lot_system.specs.Turns.{Answers, Faults, Goes, IfStale, IsEnded, IsFresh, IsWorkOf};
+ghost use Rattle.lot_system.specs.Turns.{Answers, Faults, Goes, IfStale, IsEnded, IsFresh, IsWorkOf, Prevents};
 
 use crate::TurnFault;
 use crate::counts::{Counts, count_turn, no_counts};
 use crate::generators::{generators_of, next_number, pass_number};
 use crate::places::{follow_command, follow_turn, places_for};
 use crate::slices::script_numbered;
-use crate::turn::{Answer, Work, event_of, matches_work};
+use crate::turn::{Answer, KeptWork, Unmade, Work, event_of, matches_work};
 use lot_draw::ParkMiller;
 use lot_kernel::Kernel;
 use lot_machine::{CurrencyRow, Event, Kind, Limits, Reply, ThreadRow, TicketRow};
@@ -130,27 +130,37 @@ impl System {
     }
 
     /// What the thread on the processor is to do next, if one runs there. The console has none.
+    #[inline(always)]
     pub fn work(&self, actor: u32) -> Option<Work>
         ensures work { IsWorkOf self.now actor result }
         ensures legal { IsLegal self.now.setting.program self.now.setting.room self.now.history }
     {
         let _ = &self.spent;
+        Some(self.kept_work(actor)?.copied())
+    }
+
+    /// The same, with its place where it is kept.
+    #[inline(always)]
+    pub(crate) fn kept_work(&self, actor: u32) -> Option<KeptWork<'_>>
+        ensures { IsWorkOf self.now actor result }
+    {
         if actor == 0 {
             return None;
         }
         let runner = self.kernel.runner(actor)?;
         let script = self.kernel.script_of(runner.thread).unwrap();
         let _lines = script_numbered(&self.program, script);
-        Some(Work {
+        Some(KeptWork {
             thread: runner.thread,
             script,
-            place: self.places[runner.thread as usize - 1].copied(),
+            place: &self.places[runner.thread as usize - 1],
             budget: self.kernel.limits().quantum - runner.used,
         })
     }
 
     /// One turn of an actor: the console's next command, a draw of a processor without a thread, or the slice of the
     /// thread on a processor. A fault changes nothing. It takes no memory.
+    #[inline(always)]
     pub fn turn(&mut self, actor: u32, slice: Option<Slice>) -> Result<Answer, TurnFault>
         requires { actor ≤ self.old.setting.program.limits.processors }
         ensures ok { IfOk result (λ answer. Goes self.old actor slice.entry × (self.new ≡ after_turn self.old actor) × Answers self.old actor answer) }
@@ -158,25 +168,45 @@ impl System {
         ensures stale { IfErr result (λ fault. IfStale fault (¬ IsFresh self.old actor slice.entry)) }
         ensures legal { IsLegal self.new.setting.program self.new.setting.room self.new.history }
     {
-        let work = self.work(actor);
-        if !matches_work(&self.program, &work, &slice) {
-            return Err(TurnFault::Stale(work));
+        match self.try_turn(actor, &slice) {
+            Ok(made) => Ok(Answer {
+                event: made.0,
+                reply: made.1,
+                next: self.work(actor),
+            }),
+            Err(Unmade::Stale) => Err(TurnFault::Stale(self.work(actor))),
+            Err(Unmade::Ended) => Err(TurnFault::Ended),
+            Err(Unmade::HistoryFull) => Err(TurnFault::HistoryFull),
+        }
+    }
+
+    /// The same for callers who ask neither for the actor's next work nor for the one that a stale slice isn't of.
+    #[inline(always)]
+    pub(crate) fn try_turn(
+        &mut self,
+        actor: u32,
+        slice: &Option<Slice>,
+    ) -> Result<(Event, Reply), Unmade>
+        requires { actor ≤ self.old.setting.program.limits.processors }
+        ensures ok { IfOk result (λ made. Goes self.old actor slice.now × (self.new ≡ after_turn self.old actor) × ((system_turn self.old.setting.program (world_of self.old) actor).answer ≡ Answered made.0 made.1)) }
+        ensures err { IfErr result (λ why. Prevents self.old actor slice.now why × (self.new ≡ self.old)) }
+        ensures legal { IsLegal self.new.setting.program self.new.setting.room self.new.history }
+    {
+        let work = self.kept_work(actor);
+        if !matches_work(&self.program, &work, slice) {
+            return Err(Unmade::Stale);
         }
         if self.is_ended(actor) {
-            return Err(TurnFault::Ended);
+            return Err(Unmade::Ended);
         }
         if self.is_full() {
-            return Err(TurnFault::HistoryFull);
+            return Err(Unmade::HistoryFull);
         }
-        let (event, reply) = self.make_turn(actor, &slice);
-        Ok(Answer {
-            event,
-            reply,
-            next: self.work(actor),
-        })
+        Ok(self.make_turn(actor, slice))
     }
 
     /// Whether the actor is the console, and no command is left.
+    #[inline(always)]
     fn is_ended(&self, actor: u32) -> bool
         ensures { IsTrue result ↔ IsEnded self.now actor }
     {
@@ -184,6 +214,7 @@ impl System {
     }
 
     /// Whether there is no room for one more turn.
+    #[inline(always)]
     fn is_full(&self) -> bool
         ensures { IsTrue result ↔ (self.now.setting.room ≤ length self.now.history) }
     {
@@ -191,6 +222,7 @@ impl System {
     }
 
     /// A turn that is made: what it was, and what the kernel replied.
+    #[inline(always)]
     fn make_turn(&mut self, actor: u32, slice: &Option<Slice>) -> (Event, Reply)
         requires actor { actor ≤ self.old.setting.program.limits.processors }
         requires goes { Goes self.old actor slice.now }
@@ -222,6 +254,7 @@ impl System {
     }
 
     /// A processor's draw, or the slice of the thread that runs there.
+    #[inline(always)]
     fn processor_turn(&mut self, actor: u32, slice: &Option<Slice>) -> (Event, Reply)
         requires actor { IsBetween 1 self.old.setting.program.limits.processors actor }
         requires fresh { IsFresh self.old actor slice.now }
@@ -229,8 +262,9 @@ impl System {
         ensures seen { self.new ≡ after_turn self.old actor }
         ensures answer { (system_turn self.old.setting.program (world_of self.old) actor).answer ≡ Answered result.0 result.1 }
     {
-        let event = event_of(actor, slice, next_number(&self.generators, actor));
-        pass_number(&mut self.generators, actor, &event);
+        let next = next_number(&self.generators, actor);
+        let event = event_of(actor, slice, next.number);
+        pass_number(&mut self.generators, actor, &event, next);
         let reply = self.kernel.event(&event);
         follow_turn(&mut self.places, slice, reply);
         count_turn(&mut self.counts, actor, reply);
@@ -319,6 +353,7 @@ impl System {
 }
 
 /// Puts the actor at the end of the history, which has room for it.
+#[inline(always)]
 fn remember(history: &mut Vec<u8>, actor: u32)
     requires small { actor < 256 }
     requires room { vec_len history.old < vec_capacity history.old }

@@ -12,6 +12,7 @@ use lot_machine::{Action, Event, Reply};
 use lot_script::{Place, Slice};
 use lot_simulation::ScriptTrap;
 use lot_text::Program;
+use std::marker::Model;
 
 /// What the thread on a processor is to do next.
 #[derive(Debug, PartialEq, Eq, Drop)]
@@ -25,6 +26,38 @@ pub struct Work {
     pub budget: u32,
 }
 
+/// The same, with its place where the system keeps it.
+#[derive(Drop)]
+pub(crate) struct KeptWork<'a> {
+    pub(crate) thread: u32,
+    pub(crate) script: u32,
+    pub(crate) place: &'a Place,
+    pub(crate) budget: u32,
+}
+
+impl<'a> Model for KeptWork<'a> {
+    ghost use Rattle.lot_system.specs.declared.turn.Work.{Work};
+
+    ghost Value = { Work };
+
+    ghost view = { λ w. record { thread = w.thread; script = w.script; place = w.place.now; budget = w.budget } };
+}
+
+impl KeptWork<'_> {
+    /// The work itself. It takes no memory.
+    #[inline(always)]
+    pub(crate) fn copied(&self) -> Work
+        ensures { result ≡ self.now }
+    {
+        Work {
+            thread: self.thread,
+            script: self.script,
+            place: self.place.copied(),
+            budget: self.budget,
+        }
+    }
+}
+
 /// What a turn answers: the event that it was, the kernel's reply, and what the actor has to do next.
 #[derive(Debug, PartialEq, Eq, Drop)]
 pub struct Answer {
@@ -33,9 +66,22 @@ pub struct Answer {
     pub next: Option<Work>,
 }
 
+/// Why a turn isn't made, as `TurnFault` says it, without the work.
+#[derive(Clone, Copy, Debug)]
+pub(crate) enum Unmade {
+    Stale,
+    Ended,
+    HistoryFull,
+}
+
 /// Whether the slice is that of the work: there is neither, or its script has the same lines, and its start and budget
 /// are the work's.
-pub(crate) fn matches_work(program: &Program, work: &Option<Work>, slice: &Option<Slice>) -> bool
+#[inline(always)]
+pub(crate) fn matches_work(
+    program: &Program,
+    work: &Option<KeptWork<'_>>,
+    slice: &Option<Slice>,
+) -> bool
     requires { IfSome work.now (λ w. IsBetween 1 (length program.now.scripts) w.script) }
     ensures { IsTrue result ↔ Matches program.now work.now slice.now }
 {
@@ -47,16 +93,18 @@ pub(crate) fn matches_work(program: &Program, work: &Option<Work>, slice: &Optio
 }
 
 /// Whether it is one of the work's script, from the work's place, with the work's budget.
-fn is_slice_of(program: &Program, work: &Work, slice: &Slice) -> bool
+#[inline(always)]
+fn is_slice_of(program: &Program, work: &KeptWork<'_>, slice: &Slice) -> bool
     requires { IsBetween 1 (length program.now.scripts) work.now.script }
     ensures { IsTrue result ↔ IsSliceOf program.now work.now slice.now }
 {
     script_numbered(program, work.script).is_same(slice.script())
-        && slice.start().is_same(&work.place)
+        && slice.start().is_same(work.place)
         && slice.budget() == work.budget
 }
 
 /// The event of a processor's turn with this slice, or a draw without one, if this is the processor's next number.
+#[inline(always)]
 pub(crate) fn event_of(actor: u32, slice: &Option<Slice>, drawn: u64) -> Event
     ensures event { result ≡ event_given actor drawn slice.now }
     ensures exact { IfSome slice.now IsSlice }
@@ -68,6 +116,7 @@ pub(crate) fn event_of(actor: u32, slice: &Option<Slice>, drawn: u64) -> Event
 }
 
 /// The slice as an event: an expiry, or its ticks and then its trap.
+#[inline(always)]
 fn slice_event(actor: u32, slice: &Slice, drawn: u64) -> Event
     ensures event { result ≡ world.event_of_slice actor drawn (done_of slice.now) }
     ensures exact { IsSlice slice.now }
@@ -83,6 +132,7 @@ fn slice_event(actor: u32, slice: &Slice, drawn: u64) -> Event
 }
 
 /// A trap of a script as the kernel is asked for it. Calls and replies carry the accumulator, and an unlock the drawn number.
+#[inline(always)]
 fn action_of(trap: ScriptTrap, accumulator: u32, drawn: u64) -> Action
     ensures { result ≡ world.action_of trap accumulator drawn }
 {
@@ -98,6 +148,7 @@ fn action_of(trap: ScriptTrap, accumulator: u32, drawn: u64) -> Action
 }
 
 /// Whether the event takes a drawn number: a draw and an unlock do.
+#[inline(always)]
 pub(crate) fn takes_number(event: &Event) -> bool
     ensures { result ≡ world.takes_number event.now }
 {
@@ -108,6 +159,7 @@ pub(crate) fn takes_number(event: &Event) -> bool
     }
 }
 
+#[inline(always)]
 fn is_unlock(action: Action) -> bool
     ensures { (p ran : ℕ) → result ≡ world.takes_number (event.Trap p ran action) }
 {

@@ -134,18 +134,18 @@ fn failing_outputs(rt: HostRuntime) {
 #[test]
 fn failing_long_output(rt: HostRuntime) -> Result<(), Fail> {
     let mut text = String::new(rt.alloc());
-    for _ in 0..2000 {
+    for _ in 0..10000 {
         text.push_str("1 idle\n")?;
     }
     text.push_str(
         "report
-processor 1 quanta 0 idle 2000 ticks 0
-total turns 2000 quanta 0 ticks 0
+processor 1 quanta 0 idle 10000 ticks 0
+total turns 10000 quanta 0 ticks 0
 ",
     )?;
     let asked = Asked {
         word: "play",
-        input: "lottery 2\nlimits 1 1 1\nruns 1 2000\n",
+        input: "lottery 2\nlimits 1 1 1\nruns 1 10000\n",
         code: 0,
         text: text.as_str(),
         writes: 2,

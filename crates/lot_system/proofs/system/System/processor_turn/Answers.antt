@@ -16,8 +16,8 @@ follow_turn-requires c =
     let s = c.self.inside in
     let requires = rw (← c.self.view_is) at c.requires in
     let fresh = requires.fresh in
-    let number = c.next_number.ensures ∙ ap (λ ns. drawn_number (unwrap_or (at_number ns c.args.actor) 0)) c.deref.ensures.value in
-    turn-names s.program (system_run s.program s.history.items) s.kernel.state s.places.items s.generators.items s.spent c.self.invariant.held c.args.actor (omega (arith, requires.actor.0)) c.next_number.result fresh.0 c.args.slice.now fresh.1 fresh.2 c.event_of-event.ensures.exact number
+    let number = c.next_number-next.ensures.number ∙ ap (λ ns. drawn_number (unwrap_or (at_number ns c.args.actor) 0)) c.deref.ensures.value in
+    turn-names s.program (system_run s.program s.history.items) s.kernel.state s.places.items s.generators.items s.spent c.self.invariant.held c.args.actor (omega (arith, requires.actor.0)) c.next_number-next.result.number fresh.0 c.args.slice.now fresh.1 fresh.2 c.event_of-event.ensures.exact number
     c.event_of-event.result c.event_of-event.ensures.event c.event-reply.new.self.state c.event-reply.result c.event-reply.ensures.state c.event-reply.ensures.reply
 
 pub count_turn-requires-clause-bounded : goal.count_turn-requires-clause-bounded
@@ -33,13 +33,13 @@ invariant_of-self c =
     let requires = rw (← c.self.view_is) at c.requires in
     let fresh = requires.fresh in
     let some : 0 < c.args.actor = omega (arith, requires.actor.0) in
-    let number = c.next_number.ensures ∙ ap (λ ns. drawn_number (unwrap_or (at_number ns c.args.actor) 0)) c.deref.ensures.value in
+    let number = c.next_number-next.ensures.number ∙ ap (λ ns. drawn_number (unwrap_or (at_number ns c.args.actor) 0)) c.deref.ensures.value in
     let held =
-    turn-held s.program (system_run s.program s.history.items) s.kernel.state s.places.items s.generators.items s.spent i.held c.args.actor some c.next_number.result fresh.0 c.args.slice.now fresh.1 fresh.2 c.event_of-event.ensures.exact number
+    turn-held s.program (system_run s.program s.history.items) s.kernel.state s.places.items s.generators.items s.spent i.held c.args.actor some c.next_number-next.result.number fresh.0 c.args.slice.now fresh.1 fresh.2 c.event_of-event.ensures.exact number
     c.event_of-event.result c.event_of-event.ensures.event c.event-reply.new.self.state c.event-reply.result c.event-reply.ensures.state c.event-reply.ensures.reply
     c.follow_turn.new.places.items c.pass_number.new.generators.items c.follow_turn.ensures.follows c.pass_number.ensures.values in
     let answer =
-    turn-answer s.program (system_run s.program s.history.items) s.kernel.state s.places.items s.generators.items s.spent i.held c.args.actor some c.next_number.result fresh.0 c.args.slice.now fresh.1 fresh.2 c.event_of-event.ensures.exact number
+    turn-answer s.program (system_run s.program s.history.items) s.kernel.state s.places.items s.generators.items s.spent i.held c.args.actor some c.next_number-next.result.number fresh.0 c.args.slice.now fresh.1 fresh.2 c.event_of-event.ensures.exact number
     c.event_of-event.result c.event_of-event.ensures.event c.event-reply.new.self.state c.event-reply.result c.event-reply.ensures.state c.event-reply.ensures.reply in
     let count = count-processor s.history.items c.args.actor some in
     let legal : IsLegal s.program s.room (s.history.items ++ c.args.actor ∷ []) = legal-more s.program s.room s.history.items c.args.actor i.legal requires.actor.1 requires.room (omega (arith, count, i.legal.console)) in
@@ -62,7 +62,7 @@ returns-clause-answer c =
     let s = c.self.inside in
     let requires = rw (← c.self.view_is) at c.requires in
     let fresh = requires.fresh in
-    let number = c.next_number.ensures ∙ ap (λ ns. drawn_number (unwrap_or (at_number ns c.args.actor) 0)) c.deref.ensures.value in
+    let number = c.next_number-next.ensures.number ∙ ap (λ ns. drawn_number (unwrap_or (at_number ns c.args.actor) 0)) c.deref.ensures.value in
     subst (λ (x : Seen). (system_turn x.setting.program (world_of x) c.args.actor).answer ≡ Answered c.event_of-event.result c.event-reply.result) c.self.view_is
-    (turn-answer s.program (system_run s.program s.history.items) s.kernel.state s.places.items s.generators.items s.spent c.self.invariant.held c.args.actor (omega (arith, requires.actor.0)) c.next_number.result fresh.0 c.args.slice.now fresh.1 fresh.2
+    (turn-answer s.program (system_run s.program s.history.items) s.kernel.state s.places.items s.generators.items s.spent c.self.invariant.held c.args.actor (omega (arith, requires.actor.0)) c.next_number-next.result.number fresh.0 c.args.slice.now fresh.1 fresh.2
     c.event_of-event.ensures.exact number c.event_of-event.result c.event_of-event.ensures.event c.event-reply.new.self.state c.event-reply.result c.event-reply.ensures.state c.event-reply.ensures.reply)

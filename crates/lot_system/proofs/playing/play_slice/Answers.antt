@@ -9,24 +9,24 @@ use Rattle.lot_system.specs.Playing.{IsPlayed, turn_in}
 use Rattle.lot_system.specs.Seen.{Seen, world_of, after_turn}
 use Rattle.lot_system.specs.Writing.{Written}
 use Rattle.lot_system.proofs.PlayingFacts.{played-after, text-after}
-use Rattle.lot_system.proofs.playing.play_turn.Goals as goal
+use Rattle.lot_system.proofs.playing.play_slice.Goals as goal
 
 pub returns-in-Ok-clause-played : goal.returns-in-Ok-clause-played
 returns-in-Ok-clause-played g c =
     let old = c.args.system.now in
     let actor = c.args.actor in
-    let answer = c.in-Ok.answer in
+    let made = c.in-Ok.made in
     let told = c.in-Ok.ensures.ok in
     let now : c.write_answer.new.system ≡ after_turn old actor = c.write_answer.ensures.same ∙ told.1 in
-    subst (IsPlayed old actor) (sym now) (played-after old actor answer.event answer.reply told.2.turn)
+    subst (IsPlayed old actor) (sym now) (played-after old actor made.0 made.1 told.2)
 
 pub returns-in-Ok-clause-text : goal.returns-in-Ok-clause-text
 returns-in-Ok-clause-text g c =
     let old = c.args.system.now in
     let actor = c.args.actor in
-    let answer = c.in-Ok.answer in
+    let made = c.in-Ok.made in
     let told = c.in-Ok.ensures.ok in
-    let text = ap (λ (x : Seen). decimal actor ++ (codes " " ++ reply_text (world_of x).state answer.event answer.reply)) told.1 ∙ text-after old actor answer.event answer.reply told.2.turn in
+    let text = ap (λ (x : Seen). decimal actor ++ (codes " " ++ reply_text (world_of x).state made.0 made.1)) told.1 ∙ text-after old actor made.0 made.1 told.2 in
     subst (Written (g.W.Write.contents c.args.writer.now.inner) (g.W.Write.contents c.write_answer.new.writer.inner) c.write_answer.new.writer.failed c.write_answer.result) text c.write_answer.ensures.text
 
 pub returns-in_err-write_ended-in-Err-Ended-clause-text : goal.returns-in_err-write_ended-in-Err-Ended-clause-text

@@ -5,7 +5,7 @@ use Rattle.lot_script.specs.Drafts.{IsScript}
 use Rattle.lot_system.specs.Held.{script_lines}
 use Rattle.lot_system.proofs.PlaceFacts.{at-lengths}
 use Rattle.lot_system.proofs.TurnFacts.{script-there, work-is}
-use Rattle.lot_system.proofs.system.System.work.Goals as goal
+use Rattle.lot_system.proofs.system.System.kept_work.Goals as goal
 
 pub index-requires : goal.index-requires
 index-requires c =
@@ -22,8 +22,8 @@ script_numbered-lines-requires c =
     let e = c.in_ok-runner.ensures in
     script-there s.program (system_run s.program s.history.items) s.kernel.state s.places.items s.generators.items s.spent i.held c.args.actor c.in_ok-runner.runner.thread c.unwrap-script.result (omega (arith, e.there.0), e.there.1) (sym c.script_of.ensures ∙ c.unwrap-script.ensures)
 
-pub returns-clause-work : goal.returns-clause-work
-returns-clause-work c =
+pub returns : goal.returns
+returns c =
     let s = c.self.inside in
     let i = c.self.invariant in
     let e = c.in_ok-runner.ensures in
@@ -34,5 +34,5 @@ returns-clause-work c =
     rw (← c.self.view_is) (
       omega (arith, c.if-actor-eq0.false),
       work-is s.program (system_run s.program s.history.items) s.kernel.state s.places.items s.generators.items s.spent i.held c.args.actor _ c.in_ok-runner.runner.used e.thread e.used (omega (arith, e.there.0), e.there.1) e.below most
-          (sym c.script_of.ensures ∙ c.unwrap-script.ensures) c.index.result.now (c.copied.ensures ∙ c.index.ensures) (ap (λ n. n - c.in_ok-runner.runner.used) quantum) legal,
+          (sym c.script_of.ensures ∙ c.unwrap-script.ensures) c.index.result.now c.index.ensures (ap (λ n. n - c.in_ok-runner.runner.used) quantum) legal,
     )
