@@ -1,0 +1,569 @@
+// Tests of the archive through its header: rows of worked kernels, and whatever bytes a caller can hand in.
+//
+// It prints a line for each test, and ends with status 1 at the first thing that is not as it should be.
+
+#include "lot.h"
+
+#include <stdio.h>
+#include <stdlib.h>
+#include <string.h>
+
+// Whether two structs are the same up to their last field. The bytes behind that say nothing.
+#define SAME(a, b, last) (memcmp(&(a), &(b), (size_t)((char *)&(a).last - (char *)&(a)) + sizeof (a).last) == 0)
+
+#define CHECK(holds) check((holds), #holds, __LINE__)
+
+static void check(bool holds, const char *text, int line) {
+    if (!holds) {
+        printf("line %d: not so: %s\n", line, text);
+        exit(1);
+    }
+}
+
+static const lot_sizes SMALL = {.tickets = 64, .currencies = 16, .threads = 16, .ports = 2, .mutexes = 2, .processors = 2,
+                                .scripts = 1, .quantum = 100, .unit = 1};
+
+static lot_kernel made(const lot_sizes *sizes) {
+    lot_kernel kernel = LOT_KERNEL_NONE;
+    CHECK(lot_kernel_new(sizes, &kernel) == LOT_DONE);
+    CHECK(kernel.at != NULL);
+    return kernel;
+}
+
+static lot_reply answer(lot_kernel *kernel, lot_event event) {
+    lot_reply reply;
+    CHECK(lot_kernel_event(kernel, &event, &reply) == LOT_DONE);
+    return reply;
+}
+
+static lot_reply funded(lot_kernel *kernel, uint64_t amount, const char *currency, const char *name) {
+    lot_event event = {.kind = LOT_MAKE_FUNDED, .amount = amount, .currency = lot_name_of(currency), .name = lot_name_of(name),
+                       .script = 1};
+    return answer(kernel, event);
+}
+
+static lot_reply named(lot_kernel *kernel, uint32_t kind, uint64_t ticket, uint64_t amount, const char *currency,
+                       const char *name) {
+    lot_event event = {.kind = kind, .ticket = ticket, .amount = amount, .currency = lot_name_of(currency),
+                       .name = lot_name_of(name), .script = 1};
+    return answer(kernel, event);
+}
+
+static lot_reply drawn(lot_kernel *kernel, uint32_t processor, uint64_t number) {
+    lot_event event = {.kind = LOT_DRAW, .processor = processor, .number = number};
+    return answer(kernel, event);
+}
+
+static lot_reply trapped(lot_kernel *kernel, uint32_t kind, uint32_t ticks, uint32_t object, uint32_t sent) {
+    lot_event event = {.kind = kind, .processor = 1, .ticks = ticks, .object = object, .sent = sent};
+    return answer(kernel, event);
+}
+
+static bool is_refused(lot_reply reply, uint32_t reason) {
+    return reply.kind == LOT_REPLY_REFUSED && reply.reason == reason;
+}
+
+static bool has_won(lot_reply reply, uint32_t thread, uint64_t number, uint64_t total) {
+    return reply.kind == LOT_REPLY_WINNER && reply.thread == thread && reply.number.low == number && reply.number.high == 0 &&
+           reply.total.low == total && reply.total.high == 0 && reply.has_draw;
+}
+
+static bool came_to(lot_reply reply, uint32_t thread, uint32_t outcome, uint32_t other) {
+    return reply.kind == LOT_REPLY_TRAPPED && reply.thread == thread && reply.outcome == outcome && reply.other == other;
+}
+
+static bool is_name(lot_name name, const char *text) {
+    lot_name meant = lot_name_of(text);
+    return memcmp(&name, &meant, sizeof name) == 0;
+}
+
+// ---- rows of worked kernels
+
+// Five threads with 10, 2, 5, 1 and 2 tickets: who holds which number.
+static void list_lottery(void) {
+    static const uint64_t amounts[5] = {10, 2, 5, 1, 2};
+    static const char *const names[5] = {"a", "b", "c", "d", "e"};
+    static const uint64_t draws[11][3] = {{15, 3, 15}, {9, 1, 9},   {10, 2, 10}, {11, 2, 11}, {12, 3, 12}, {16, 3, 16},
+                                          {17, 4, 17}, {18, 5, 18}, {19, 5, 19}, {35, 3, 15}, {36090892629924, 1, 4}};
+    lot_kernel kernel = made(&SMALL);
+    for (uint32_t i = 0; i < 5; i++) {
+        lot_reply reply = funded(&kernel, amounts[i], "base", names[i]);
+        CHECK(reply.kind == LOT_REPLY_FUNDED && reply.ticket == i + 1 && reply.thread == i + 1);
+    }
+    for (size_t i = 0; i < 11; i++) {
+        CHECK(has_won(drawn(&kernel, 1, draws[i][0]), (uint32_t)draws[i][1], draws[i][2], 20));
+        CHECK(is_refused(drawn(&kernel, 1, 0), LOT_REFUSAL_BUSY));
+        lot_reply reply = answer(&kernel, (lot_event){.kind = LOT_EXPIRE, .processor = 1});
+        CHECK(reply.kind == LOT_REPLY_EXPIRED && reply.thread == draws[i][1] && reply.ticks == 100);
+    }
+    CHECK(lot_kernel_free(&kernel) == LOT_DONE);
+    puts("ok: list lottery");
+}
+
+// alice and bob share base, and hand on what they have to their tasks; task1 has no thread (4.4).
+static void make_graph(lot_kernel *kernel) {
+    static const char *const currencies[5] = {"alice", "bob", "task1", "task2", "task3"};
+    static const struct {
+        uint64_t amount;
+        const char *currency, *target;
+    } tickets[5] = {{1000, "base", "alice"}, {2000, "base", "bob"}, {100, "alice", "task1"}, {200, "alice", "task2"}, {100, "bob", "task3"}};
+    for (uint32_t i = 0; i < 5; i++) {
+        lot_reply reply = named(kernel, LOT_MAKE_CURRENCY, 0, 0, "", currencies[i]);
+        CHECK(reply.kind == LOT_REPLY_CURRENCY && reply.currency == i + 1);
+    }
+    for (uint32_t i = 0; i < 5; i++) {
+        lot_reply reply = named(kernel, LOT_MAKE_TICKET, 0, tickets[i].amount, tickets[i].currency, "");
+        CHECK(reply.kind == LOT_REPLY_TICKET && reply.ticket == i + 1);
+        CHECK(named(kernel, LOT_FUND, i + 1, 0, "", tickets[i].target).kind == LOT_REPLY_DONE);
+    }
+    CHECK(funded(kernel, 200, "task2", "thread2").thread == 1);
+    CHECK(funded(kernel, 300, "task2", "thread3").thread == 2);
+    CHECK(funded(kernel, 100, "task3", "thread4").thread == 3);
+}
+
+static void currency_graph(void) {
+    static const uint64_t values[3] = {400, 600, 2000};
+    lot_kernel kernel = made(&SMALL);
+    make_graph(&kernel);
+    for (uint32_t i = 0; i < 3; i++) {
+        lot_thread_row row;
+        CHECK(lot_kernel_thread_row(&kernel, i + 1, &row) == LOT_DONE);
+        CHECK(row.value == values[i] && row.weight.low == values[i] && row.status.kind == LOT_STATUS_READY);
+    }
+    lot_currency_row currency;
+    CHECK(lot_kernel_currency_row(&kernel, 4, &currency) == LOT_DONE);
+    CHECK(is_name(currency.name, "task2") && currency.backing == 1 && currency.issued == 2 && currency.active_amount == 500 &&
+          currency.value == 1000);
+    lot_ticket_row ticket;
+    CHECK(lot_kernel_ticket_row(&kernel, 3, &ticket) == LOT_DONE);
+    CHECK(is_name(ticket.issuer, "alice") && ticket.has_target && is_name(ticket.target, "task1") && !ticket.is_active &&
+          ticket.value == 0 && ticket.amount == 100);
+    CHECK(named(&kernel, LOT_UNFUND, 3, 0, "", "").kind == LOT_REPLY_DONE);
+    CHECK(lot_kernel_ticket_row(&kernel, 3, &ticket) == LOT_DONE && !ticket.has_target && ticket.target.length == 0);
+    CHECK(named(&kernel, LOT_REMOVE_TICKET, 3, 0, "", "").kind == LOT_REPLY_DONE);
+    CHECK(lot_kernel_ticket_row(&kernel, 3, &ticket) == LOT_NOT_THERE);
+    uint32_t count = 0;
+    CHECK(lot_kernel_ticket_count(&kernel, &count) == LOT_DONE && count == 8);
+    CHECK(lot_kernel_currency_count(&kernel, &count) == LOT_DONE && count == 6);
+    CHECK(lot_kernel_free(&kernel) == LOT_DONE);
+    puts("ok: currency graph");
+}
+
+// A client calls a server that waits for it, lends it what it is worth, and is answered (4.6); then a mutex.
+static void call_and_reply(void) {
+    lot_kernel kernel = made(&SMALL);
+    funded(&kernel, 5, "base", "s");
+    funded(&kernel, 5, "base", "c");
+    CHECK(has_won(drawn(&kernel, 1, 4), 1, 4, 10));
+    CHECK(came_to(trapped(&kernel, LOT_RECEIVE, 0, 1, 0), 1, LOT_OUTCOME_WAITS, 0));
+    CHECK(has_won(drawn(&kernel, 1, 4), 2, 4, 5));
+    CHECK(came_to(trapped(&kernel, LOT_CALL, 1, 1, 41), 2, LOT_OUTCOME_SERVED_BY, 1));
+    lot_reply reply = drawn(&kernel, 1, 5);
+    CHECK(reply.kind == LOT_REPLY_WINNER && reply.thread == 1 && reply.has_sent && reply.sent == 41 && reply.total.low == 1000);
+    lot_runner runner;
+    CHECK(lot_kernel_runner(&kernel, 1, &runner) == LOT_DONE && runner.thread == 1 && runner.used == 0);
+    CHECK(lot_kernel_runner(&kernel, 2, &runner) == LOT_NOT_THERE);
+    reply = trapped(&kernel, LOT_REPLY, 1, 0, 42);
+    CHECK(came_to(reply, 1, LOT_OUTCOME_REPLIED, 2) && reply.ticks == 2 && !reply.ends);
+    CHECK(came_to(trapped(&kernel, LOT_LOCK, 0, 1, 0), 1, LOT_OUTCOME_LOCKED, 0));
+    reply = trapped(&kernel, LOT_LOCK, 0, 1, 0);
+    CHECK(came_to(reply, 1, LOT_OUTCOME_REFUSED, 0) && reply.reason == LOT_TRAP_REFUSAL_ALREADY_OWNER);
+    CHECK(came_to(trapped(&kernel, LOT_UNLOCK, 0, 1, 0), 1, LOT_OUTCOME_FREED, 0));
+    CHECK(came_to(trapped(&kernel, LOT_YIELD, 0, 0, 0), 1, LOT_OUTCOME_YIELDED, 0));
+    uint32_t script = 0;
+    CHECK(lot_kernel_script_of(&kernel, 2, &script) == LOT_DONE && script == 1);
+    CHECK(lot_kernel_script_of(&kernel, 3, &script) == LOT_NOT_THERE);
+    lot_meter meter;
+    CHECK(lot_kernel_meter(&kernel, &meter) == LOT_DONE && meter.tree_visits > 0);
+    lot_sizes sizes;
+    CHECK(lot_kernel_limits(&kernel, &sizes) == LOT_DONE && memcmp(&sizes, &SMALL, sizeof sizes) == 0);
+    CHECK(lot_kernel_free(&kernel) == LOT_DONE);
+    puts("ok: call and reply");
+}
+
+// Each reason for which a command is refused.
+static void refused_commands(lot_kernel *kernel) {
+    CHECK(named(kernel, LOT_MAKE_CURRENCY, 0, 0, "", "x").currency == 1);
+    CHECK(named(kernel, LOT_MAKE_CURRENCY, 0, 0, "", "y").currency == 2);
+    CHECK(named(kernel, LOT_MAKE_TICKET, 0, 1, "x", "").ticket == 1 && named(kernel, LOT_MAKE_TICKET, 0, 1, "y", "").ticket == 2);
+    CHECK(named(kernel, LOT_FUND, 1, 0, "", "y").kind == LOT_REPLY_DONE);
+    CHECK(funded(kernel, 7, "base", "t").thread == 1);
+    static const struct {
+        uint32_t kind;
+        uint64_t ticket, amount;
+        const char *currency, *name;
+        uint32_t reason;
+    } rows[] = {
+        {LOT_MAKE_CURRENCY, 0, 0, "", "x", LOT_REFUSAL_NAME_TAKEN},
+        {LOT_MAKE_TICKET, 0, 1, "nothing", "", LOT_REFUSAL_NO_CURRENCY},
+        {LOT_REMOVE_TICKET, 99, 0, "", "", LOT_REFUSAL_NO_TICKET},
+        {LOT_FUND, 2, 0, "", "nothing", LOT_REFUSAL_NO_TARGET},
+        {LOT_MAKE_TICKET, 0, 0, "base", "", LOT_REFUSAL_BAD_AMOUNT},
+        {LOT_MAKE_TICKET, 0, UINT64_C(1) << 32, "base", "", LOT_REFUSAL_BAD_AMOUNT},
+        {LOT_REMOVE_CURRENCY, 0, 0, "x", "", LOT_REFUSAL_IN_USE},
+        {LOT_REMOVE_TICKET, 1, 0, "", "", LOT_REFUSAL_FUNDING},
+        {LOT_UNFUND, 2, 0, "", "", LOT_REFUSAL_NOT_FUNDING},
+        {LOT_FUND, 2, 0, "", "x", LOT_REFUSAL_CYCLE},
+        {LOT_REMOVE_CURRENCY, 0, 0, "base", "", LOT_REFUSAL_BASE_FIXED},
+        {LOT_MAKE_CURRENCY, 0, 0, "", "z", LOT_REFUSAL_FULL},
+    };
+    for (size_t i = 0; i < sizeof rows / sizeof rows[0]; i++) {
+        CHECK(is_refused(named(kernel, rows[i].kind, rows[i].ticket, rows[i].amount, rows[i].currency, rows[i].name), rows[i].reason));
+    }
+    lot_event thread = {.kind = LOT_MAKE_THREAD, .name = lot_name_of("u"), .script = 2};
+    CHECK(is_refused(answer(kernel, thread), LOT_REFUSAL_NO_SCRIPT));
+}
+
+// Each reason for which a draw, an expiry or a trap is refused, and what listings are answered.
+static void refusals(void) {
+    lot_sizes sizes = SMALL;
+    sizes.currencies = 2;
+    lot_kernel kernel = made(&sizes);
+    refused_commands(&kernel);
+    CHECK(is_refused(drawn(&kernel, 3, 0), LOT_REFUSAL_BAD_PROCESSOR));
+    CHECK(is_refused(answer(&kernel, (lot_event){.kind = LOT_EXPIRE, .processor = 1}), LOT_REFUSAL_NOT_RUNNING));
+    CHECK(has_won(drawn(&kernel, 1, 0), 1, 0, 7) && is_refused(drawn(&kernel, 1, 0), LOT_REFUSAL_BUSY));
+    CHECK(drawn(&kernel, 2, 0).kind == LOT_REPLY_IDLE);
+    CHECK(is_refused(trapped(&kernel, LOT_EXIT, 100, 0, 0), LOT_REFUSAL_BAD_TICKS));
+    CHECK(came_to(trapped(&kernel, LOT_EXIT, 99, 0, 0), 1, LOT_OUTCOME_EXITED, 0));
+    CHECK(is_refused(named(&kernel, LOT_FUND, 2, 0, "", "t"), LOT_REFUSAL_DEAD_THREAD));
+    static const uint32_t lists[3][2] = {{LOT_LIST_TICKETS, LOT_REPLY_LIST_TICKETS}, {LOT_LIST_CURRENCIES, LOT_REPLY_LIST_CURRENCIES}, {LOT_LIST_THREADS, LOT_REPLY_LIST_THREADS}};
+    for (size_t i = 0; i < 3; i++) {
+        CHECK(answer(&kernel, (lot_event){.kind = lists[i][0]}).kind == lists[i][1]);
+    }
+    CHECK(lot_kernel_free(&kernel) == LOT_DONE);
+    puts("ok: refusals");
+}
+
+static bool is_trap_refused(lot_reply reply, uint32_t reason) {
+    return reply.kind == LOT_REPLY_TRAPPED && reply.outcome == LOT_OUTCOME_REFUSED && reply.reason == reason;
+}
+
+// Each reason for which a trap is refused, and a mutex that is passed on by a lottery.
+static void trap_refusals(void) {
+    lot_kernel kernel = made(&SMALL);
+    funded(&kernel, 1, "base", "a");
+    funded(&kernel, 1, "base", "b");
+    CHECK(drawn(&kernel, 1, 0).thread == 1);
+    CHECK(is_trap_refused(trapped(&kernel, LOT_CALL, 0, 9, 0), LOT_TRAP_REFUSAL_NO_PORT));
+    CHECK(is_trap_refused(trapped(&kernel, LOT_REPLY, 0, 0, 0), LOT_TRAP_REFUSAL_NOTHING_TO_REPLY));
+    CHECK(is_trap_refused(trapped(&kernel, LOT_LOCK, 0, 9, 0), LOT_TRAP_REFUSAL_NO_MUTEX));
+    CHECK(is_trap_refused(trapped(&kernel, LOT_UNLOCK, 0, 1, 0), LOT_TRAP_REFUSAL_NOT_OWNER));
+    CHECK(came_to(trapped(&kernel, LOT_LOCK, 0, 1, 0), 1, LOT_OUTCOME_LOCKED, 0));
+    CHECK(is_trap_refused(trapped(&kernel, LOT_LOCK, 0, 1, 0), LOT_TRAP_REFUSAL_ALREADY_OWNER));
+    CHECK(answer(&kernel, (lot_event){.kind = LOT_EXPIRE, .processor = 1}).thread == 1);
+    CHECK(drawn(&kernel, 1, 1).thread == 2);
+    CHECK(came_to(trapped(&kernel, LOT_LOCK, 0, 2, 0), 2, LOT_OUTCOME_LOCKED, 0));
+    CHECK(came_to(trapped(&kernel, LOT_LOCK, 0, 1, 0), 2, LOT_OUTCOME_WAITS, 0));
+    lot_thread_row row;
+    CHECK(lot_kernel_thread_row(&kernel, 2, &row) == LOT_DONE && row.status.kind == LOT_STATUS_WAITING && row.status.other == 1);
+    CHECK(drawn(&kernel, 1, 0).thread == 1);
+    CHECK(is_trap_refused(trapped(&kernel, LOT_LOCK, 0, 2, 0), LOT_TRAP_REFUSAL_LOCK_CYCLE));
+    lot_reply reply = trapped(&kernel, LOT_UNLOCK, 0, 1, 0);
+    CHECK(came_to(reply, 1, LOT_OUTCOME_PASSED, 2) && reply.has_draw && reply.number.low == 0 && reply.total.low == 1);
+    CHECK(lot_kernel_free(&kernel) == LOT_DONE);
+    puts("ok: trap refusals");
+}
+
+static lot_wide narrow(uint64_t low) {
+    return (lot_wide){.low = low, .high = 0};
+}
+
+// The lottery alone: the list lottery, weights, and the check that Park and Miller give for their generator.
+static void lottery_alone(void) {
+    const lot_wide weights[5] = {narrow(10), narrow(2), narrow(5), narrow(1), narrow(2)};
+    static const uint64_t draws[5][3] = {{9, 0, 9}, {10, 1, 10}, {15, 2, 15}, {17, 3, 17}, {35, 2, 15}};
+    lot_drawn won;
+    for (size_t i = 0; i < 5; i++) {
+        CHECK(lot_winner(weights, 5, draws[i][0], &won) == LOT_DONE);
+        CHECK(won.place == draws[i][1] && won.number.low == draws[i][2] && won.total.low == 20);
+    }
+    const lot_wide zeros[2] = {narrow(0), narrow(0)};
+    const lot_wide large[2] = {{.low = 0, .high = UINT64_C(1) << 63}, {.low = 0, .high = UINT64_C(1) << 63}};
+    const lot_wide largest[1] = {{.low = UINT64_MAX, .high = UINT64_MAX}};
+    lot_drawn before = won;
+    CHECK(lot_winner(zeros, 2, 7, &won) == LOT_NO_WINNER && lot_winner(weights, 0, 7, &won) == LOT_NO_WINNER);
+    CHECK(lot_winner(large, 2, 7, &won) == LOT_TOO_LARGE && memcmp(&won, &before, sizeof won) == 0);
+    CHECK(lot_winner(largest, 1, 7, &won) == LOT_DONE && won.place == 0 && won.number.low == 7 && won.total.high == UINT64_MAX);
+    static const uint64_t weighed[5][3] = {{400, 0, 400}, {400, 20, 2000}, {7, 3, 233}, {400, 99, 404}, {400, 1, 40000}};
+    for (size_t i = 0; i < 5; i++) {
+        lot_wide weight;
+        lot_weight(weighed[i][0], (uint32_t)weighed[i][1], 100, &weight);
+        CHECK(weight.low == weighed[i][2] && weight.high == 0);
+    }
+    lot_generator generator = {0};
+    uint32_t value = 0;
+    uint64_t number = 0;
+    CHECK(lot_generator_next(&generator, &value) == LOT_BAD_SEED && lot_generator_number(&generator, &number) == LOT_BAD_SEED);
+    CHECK(lot_generator_new(0, &generator) == LOT_BAD_SEED && lot_generator_new(2147483647, &generator) == LOT_BAD_SEED);
+    CHECK(generator.value == 0 && value == 0 && number == 0);
+    CHECK(lot_generator_new(1, &generator) == LOT_DONE);
+    CHECK(lot_generator_number(&generator, &number) == LOT_DONE && number == 36090892629924);
+    CHECK(lot_generator_new(1, &generator) == LOT_DONE);
+    for (int i = 0; i < 10000; i++) {
+        CHECK(lot_generator_next(&generator, &value) == LOT_DONE);
+    }
+    CHECK(value == 1043618065);
+    puts("ok: lottery alone");
+}
+
+// ---- what no call takes
+
+// A lot_kernel that holds none: each call says so, and writes nothing.
+static void no_kernel(void) {
+    lot_kernel none = LOT_KERNEL_NONE;
+    unsigned char room[128], before[128];
+    memset(room, 0xa5, sizeof room);
+    memcpy(before, room, sizeof room);
+    lot_event event = {.kind = LOT_DRAW, .processor = 1};
+    lot_reply reply;
+    memset(&reply, 0xa5, sizeof reply);
+    lot_reply as_before = reply;
+    CHECK(lot_kernel_event(&none, &event, &reply) == LOT_NO_KERNEL);
+    size_t done = 77;
+    CHECK(lot_kernel_run(&none, &event, 1, &reply, 1, &done) == LOT_NO_KERNEL && done == 77);
+    CHECK(memcmp(&reply, &as_before, sizeof reply) == 0);
+    CHECK(lot_kernel_ticket_row(&none, 1, (lot_ticket_row *)(void *)room) == LOT_NO_KERNEL);
+    CHECK(lot_kernel_currency_row(&none, 0, (lot_currency_row *)(void *)room) == LOT_NO_KERNEL);
+    CHECK(lot_kernel_thread_row(&none, 1, (lot_thread_row *)(void *)room) == LOT_NO_KERNEL);
+    CHECK(lot_kernel_runner(&none, 1, (lot_runner *)(void *)room) == LOT_NO_KERNEL);
+    CHECK(lot_kernel_script_of(&none, 1, (uint32_t *)(void *)room) == LOT_NO_KERNEL);
+    CHECK(lot_kernel_ticket_count(&none, (uint32_t *)(void *)room) == LOT_NO_KERNEL);
+    CHECK(lot_kernel_currency_count(&none, (uint32_t *)(void *)room) == LOT_NO_KERNEL);
+    CHECK(lot_kernel_limits(&none, (lot_sizes *)(void *)room) == LOT_NO_KERNEL);
+    CHECK(lot_kernel_meter(&none, (lot_meter *)(void *)room) == LOT_NO_KERNEL);
+    CHECK(memcmp(room, before, sizeof room) == 0);
+    CHECK(lot_kernel_free(&none) == LOT_NO_KERNEL && none.at == NULL);
+    lot_kernel kernel = made(&SMALL);
+    void *at = kernel.at;
+    CHECK(lot_kernel_new(&SMALL, &kernel) == LOT_KERNEL_THERE && kernel.at == at);
+    CHECK(lot_kernel_free(&kernel) == LOT_DONE && kernel.at == NULL);
+    CHECK(lot_kernel_free(&kernel) == LOT_NO_KERNEL);
+    puts("ok: no kernel");
+}
+
+static uint32_t *size_at(lot_sizes *sizes, size_t i) {
+    uint32_t *fields[9] = {&sizes->tickets, &sizes->currencies, &sizes->threads, &sizes->ports, &sizes->mutexes,
+                           &sizes->processors, &sizes->scripts, &sizes->quantum, &sizes->unit};
+    return fields[i];
+}
+
+// Each size below and above its bounds, and the smallest and largest that there may be.
+static void limits(void) {
+    static const uint32_t least[9] = {1, 1, 1, 0, 0, 1, 0, 1, 1};
+    static const uint32_t most[9] = {65535, 4096, 4096, 256, 256, 64, 256, 1000, 256};
+    for (size_t i = 0; i < 9; i++) {
+        const uint32_t outside[4] = {least[i] - 1, most[i] + 1, UINT32_MAX, 2};
+        for (size_t k = 0; k < (i == 8 ? 4 : 3); k++) {
+            lot_kernel kernel = LOT_KERNEL_NONE;
+            lot_sizes sizes = SMALL;
+            *size_at(&sizes, i) = outside[k];
+            CHECK(lot_kernel_new(&sizes, &kernel) == LOT_BAD_LIMITS && kernel.at == NULL);
+        }
+    }
+    lot_sizes smallest, largest;
+    for (size_t i = 0; i < 9; i++) {
+        *size_at(&smallest, i) = least[i];
+        *size_at(&largest, i) = most[i];
+    }
+    lot_kernel small = made(&smallest), large = made(&largest);
+    CHECK(lot_kernel_free(&small) == LOT_DONE && lot_kernel_free(&large) == LOT_DONE);
+    puts("ok: limits");
+}
+
+// Each kind that there isn't, and each name that isn't one: a status of its own, no reply, and nothing changed.
+static void kinds_and_names(void) {
+    static const uint32_t kinds[6] = {0, 21, 22, 255, 1u << 31, UINT32_MAX};
+    static const struct {
+        const char *text;
+        uint32_t length, status;
+    } names[9] = {{"", 0, LOT_BAD_NAME},          {"a b", 3, LOT_BAD_NAME},  {"Base", 4, LOT_BAD_NAME},
+                  {"9a", 2, LOT_BAD_NAME},        {"a\xff", 2, LOT_BAD_NAME}, {"-a", 2, LOT_BAD_NAME},
+                  {"base", 17, LOT_LONG_NAME},    {"base", UINT32_MAX, LOT_LONG_NAME}, {"base", 5, LOT_BAD_NAME}};
+    static const uint32_t naming[8] = {LOT_MAKE_TICKET, LOT_REMOVE_CURRENCY, LOT_MAKE_FUNDED, LOT_MAKE_CURRENCY,
+                                       LOT_FUND, LOT_MAKE_THREAD, LOT_MAKE_FUNDED, 0};
+    lot_kernel kernel = made(&SMALL);
+    lot_reply reply;
+    memset(&reply, 0x5a, sizeof reply);
+    lot_reply before = reply;
+    for (size_t i = 0; i < 6; i++) {
+        lot_event event = {.kind = kinds[i], .processor = 1};
+        CHECK(lot_kernel_event(&kernel, &event, &reply) == LOT_BAD_KIND);
+        CHECK(memcmp(&reply, &before, sizeof reply) == 0);
+    }
+    for (size_t k = 0; k < 7; k++) {
+        for (size_t i = 0; i < 9; i++) {
+            lot_event event = {.kind = naming[k], .amount = 1, .ticket = 1, .script = 1, .currency = lot_name_of("base"),
+                               .name = lot_name_of("fresh")};
+            lot_name *name = k < 3 ? &event.currency : &event.name;
+            *name = lot_name_of(names[i].text);
+            name->length = names[i].length;
+            CHECK(lot_kernel_event(&kernel, &event, &reply) == names[i].status);
+            CHECK(memcmp(&reply, &before, sizeof reply) == 0);
+        }
+    }
+    uint32_t count = 0;
+    CHECK(lot_kernel_ticket_count(&kernel, &count) == LOT_DONE && count == 0);
+    CHECK(lot_kernel_currency_count(&kernel, &count) == LOT_DONE && count == 1);
+    CHECK(lot_kernel_free(&kernel) == LOT_DONE);
+    puts("ok: kinds and names");
+}
+
+// Names by their bytes.
+static void names(void) {
+    lot_name name = lot_name_of("kept");
+    CHECK(lot_name_new((const uint8_t *)"a-very-long-name-", 17, &name) == LOT_LONG_NAME);
+    CHECK(lot_name_new((const uint8_t *)"A", 1, &name) == LOT_BAD_NAME && is_name(name, "kept"));
+    CHECK(lot_name_new((const uint8_t *)"sixteen-bytes-ok", 16, &name) == LOT_DONE && is_name(name, "sixteen-bytes-ok"));
+    CHECK(lot_name_of("a-very-long-name-indeed").length == 17);
+    puts("ok: names");
+}
+
+// Many events: up to the first with a status of its own, and none if there are not as many replies.
+static void runs(void) {
+    lot_kernel kernel = made(&SMALL);
+    lot_event events[4] = {{.kind = LOT_MAKE_CURRENCY, .name = lot_name_of("x")},
+                           {.kind = LOT_MAKE_CURRENCY, .name = lot_name_of("y")},
+                           {.kind = 99},
+                           {.kind = LOT_MAKE_CURRENCY, .name = lot_name_of("z")}};
+    lot_reply replies[4], before;
+    memset(replies, 0x5a, sizeof replies);
+    before = replies[2];
+    size_t done = 9;
+    CHECK(lot_kernel_run(&kernel, events, 4, replies, 3, &done) == LOT_COUNTS_DIFFER && done == 9);
+    CHECK(lot_kernel_run(&kernel, events, 4, replies, 4, &done) == LOT_BAD_KIND && done == 2);
+    CHECK(replies[0].currency == 1 && replies[1].currency == 2);
+    CHECK(memcmp(&replies[2], &before, sizeof before) == 0 && memcmp(&replies[3], &before, sizeof before) == 0);
+    CHECK(lot_kernel_run(&kernel, events + 3, 1, replies, 1, &done) == LOT_DONE && done == 1 && replies[0].currency == 3);
+    CHECK(lot_kernel_run(&kernel, events, 0, replies, 0, &done) == LOT_DONE && done == 0);
+    CHECK(lot_kernel_free(&kernel) == LOT_DONE);
+    puts("ok: runs");
+}
+
+// ---- any bytes
+
+static uint64_t seed = 1;
+
+static uint64_t random_bits(void) {
+    uint64_t z = (seed += UINT64_C(0x9e3779b97f4a7c15));
+    z = (z ^ (z >> 30)) * UINT64_C(0xbf58476d1ce4e5b9);
+    z = (z ^ (z >> 27)) * UINT64_C(0x94d049bb133111eb);
+    return z ^ (z >> 31);
+}
+
+// Half of the events are bytes alone; in the others some fields are such as to mean something.
+static lot_event random_event(void) {
+    static const char *const names[8] = {"base", "a", "b", "c", "d", "e", "f", "g"};
+    lot_event event;
+    for (size_t i = 0; i < sizeof event; i += 8) {
+        uint64_t bits = random_bits();
+        memcpy((char *)&event + i, &bits, 8);
+    }
+    if (random_bits() % 2 == 0) {
+        return event;
+    }
+    event.kind = (uint32_t)(random_bits() % 23);
+    event.processor = (uint32_t)(random_bits() % 4);
+    event.ticks = (uint32_t)(random_bits() % 120);
+    event.object = (uint32_t)(random_bits() % 4);
+    event.script = (uint32_t)(random_bits() % 3);
+    event.ticket = random_bits() % 70;
+    event.amount = random_bits() % 1000;
+    if (random_bits() % 8 != 0) {
+        event.currency = lot_name_of(names[random_bits() % 8]);
+        event.name = lot_name_of(names[random_bits() % 8]);
+    }
+    // Ends are rare, so that there is somebody to run.
+    if (event.kind == LOT_EXIT && random_bits() % 4096 != 0) {
+        event.kind = LOT_DRAW;
+    }
+    return event;
+}
+
+static bool same_threads(lot_kernel *first, lot_kernel *second) {
+    uint32_t thread = 1;
+    for (;; thread++) {
+        lot_thread_row a, b;
+        memset(&a, 0, sizeof a);
+        memset(&b, 0, sizeof b);
+        uint32_t status = lot_kernel_thread_row(first, thread, &a);
+        if (status != lot_kernel_thread_row(second, thread, &b) || !SAME(a, b, name)) {
+            return false;
+        }
+        if (status == LOT_NOT_THERE) {
+            return true;
+        }
+    }
+}
+
+static bool same_tickets(lot_kernel *first, lot_kernel *second) {
+    uint32_t count = 0, other = 0;
+    CHECK(lot_kernel_ticket_count(first, &count) == LOT_DONE && lot_kernel_ticket_count(second, &other) == LOT_DONE);
+    for (uint32_t ticket = 1; ticket <= count; ticket++) {
+        lot_ticket_row a, b;
+        memset(&a, 0, sizeof a);
+        memset(&b, 0, sizeof b);
+        if (lot_kernel_ticket_row(first, ticket, &a) != lot_kernel_ticket_row(second, ticket, &b) || !SAME(a, b, is_active)) {
+            return false;
+        }
+    }
+    return count == other;
+}
+
+static bool same_currencies(lot_kernel *first, lot_kernel *second) {
+    uint32_t count = 0, other = 0;
+    CHECK(lot_kernel_currency_count(first, &count) == LOT_DONE && lot_kernel_currency_count(second, &other) == LOT_DONE);
+    for (uint32_t currency = 0; currency < count; currency++) {
+        lot_currency_row a, b;
+        memset(&a, 0, sizeof a);
+        memset(&b, 0, sizeof b);
+        if (lot_kernel_currency_row(first, currency, &a) != lot_kernel_currency_row(second, currency, &b) || !SAME(a, b, name)) {
+            return false;
+        }
+    }
+    return count == other;
+}
+
+// A kernel that got events of any bytes lists what one lists that got only those that were not refused.
+static void any_bytes(unsigned long count) {
+    lot_kernel all = made(&SMALL), some = made(&SMALL);
+    unsigned long answered = 0, refused = 0, kept = 0;
+    for (unsigned long i = 0; i < count; i++) {
+        lot_event event = random_event();
+        lot_reply reply, other;
+        memset(&reply, 0, sizeof reply);
+        memset(&other, 0, sizeof other);
+        uint32_t status = lot_kernel_event(&all, &event, &reply);
+        if (status != LOT_DONE) {
+            CHECK(status == LOT_BAD_KIND || status == LOT_LONG_NAME || status == LOT_BAD_NAME);
+            continue;
+        }
+        answered++;
+        if (reply.kind == LOT_REPLY_REFUSED) {
+            refused++;
+            continue;
+        }
+        kept++;
+        CHECK(lot_kernel_event(&some, &event, &other) == LOT_DONE);
+        CHECK(SAME(reply, other, ends));
+    }
+    CHECK(same_tickets(&all, &some) && same_currencies(&all, &some) && same_threads(&all, &some));
+    CHECK(lot_kernel_free(&all) == LOT_DONE && lot_kernel_free(&some) == LOT_DONE);
+    printf("ok: any bytes: %lu events, %lu with a meaning, %lu refused, %lu kept\n", count, answered, refused, kept);
+}
+
+int main(int argc, char **argv) {
+    list_lottery();
+    currency_graph();
+    call_and_reply();
+    refusals();
+    trap_refusals();
+    lottery_alone();
+    no_kernel();
+    limits();
+    kinds_and_names();
+    names();
+    runs();
+    any_bytes(argc > 1 ? strtoul(argv[1], NULL, 10) : 1000000);
+    return 0;
+}

@@ -1,0 +1,278 @@
+"""A lottery-scheduled kernel, proved, from Python.
+
+It calls the shared object that `bindings/check` makes of the archive: the one that LOT_SHARED names, or else bindings/out/liblot.so.
+The calls are those of bindings/c/lot.h, which says what each does; docs/MACHINE.md of the repository says what each event does.
+
+    import lot
+    with lot.Kernel() as kernel:
+        kernel.event(lot.MAKE_FUNDED, amount=10, currency="base", name="first", script=1)
+        kernel.event(lot.MAKE_FUNDED, amount=5, currency="base", name="second", script=1)
+        print(kernel.event(lot.DRAW, processor=1, number=9).thread)
+
+One thread at a time may call a kernel.
+"""
+
+import ctypes
+import os
+from ctypes import POINTER, Structure, byref, c_bool, c_size_t, c_uint8, c_uint32, c_uint64, c_void_p
+
+# What a call answers.
+STATUSES = (
+    "done", "no kernel", "kernel there", "bad limits", "no memory", "bad kind", "long name", "bad name", "not there",
+    "counts differ", "bad seed", "no winner", "too large",
+)
+DONE, NOT_THERE, NO_WINNER = 0, 8, 11
+
+# The kinds of events.
+(MAKE_TICKET, REMOVE_TICKET, MAKE_CURRENCY, REMOVE_CURRENCY, FUND, UNFUND, MAKE_THREAD, MAKE_FUNDED, LIST_TICKETS, LIST_CURRENCIES,
+ LIST_THREADS, DRAW, EXPIRE, YIELD, CALL, RECEIVE, REPLY, LOCK, UNLOCK, EXIT) = range(1, 21)
+
+# The kinds of replies.
+(REPLY_TICKET, REPLY_CURRENCY, REPLY_THREAD, REPLY_FUNDED, REPLY_DONE, REPLY_LIST_TICKETS, REPLY_LIST_CURRENCIES, REPLY_LIST_THREADS,
+ REPLY_WINNER, REPLY_IDLE, REPLY_EXPIRED, REPLY_TRAPPED, REPLY_REFUSED) = range(1, 14)
+
+# What a trap comes to.
+(OUTCOME_YIELDED, OUTCOME_SERVED_BY, OUTCOME_QUEUED, OUTCOME_WAITS, OUTCOME_RECEIVED, OUTCOME_REPLIED, OUTCOME_LOCKED, OUTCOME_FREED,
+ OUTCOME_PASSED, OUTCOME_EXITED, OUTCOME_REFUSED) = range(1, 12)
+
+# Why an event is refused, and why a trap is.
+(REFUSAL_BAD_NAME, REFUSAL_NAME_TAKEN, REFUSAL_NO_CURRENCY, REFUSAL_NO_TICKET, REFUSAL_NO_TARGET, REFUSAL_BAD_AMOUNT, REFUSAL_IN_USE,
+ REFUSAL_FUNDING, REFUSAL_NOT_FUNDING, REFUSAL_CYCLE, REFUSAL_BASE_FIXED, REFUSAL_DEAD_THREAD, REFUSAL_FULL, REFUSAL_NO_SCRIPT,
+ REFUSAL_BAD_PROCESSOR, REFUSAL_BUSY, REFUSAL_NOT_RUNNING, REFUSAL_BAD_TICKS) = range(1, 19)
+(TRAP_REFUSAL_NO_PORT, TRAP_REFUSAL_NOTHING_TO_REPLY, TRAP_REFUSAL_NO_MUTEX, TRAP_REFUSAL_NOT_OWNER, TRAP_REFUSAL_ALREADY_OWNER,
+ TRAP_REFUSAL_LOCK_CYCLE) = range(1, 7)
+
+# What a thread is doing.
+(STATUS_READY, STATUS_RUNNING, STATUS_RECEIVING, STATUS_QUEUED, STATUS_SERVED, STATUS_WAITING, STATUS_DEAD) = range(1, 8)
+
+
+class Error(Exception):
+    """A call that has changed nothing. `status` is the number that lot.h has."""
+
+    def __init__(self, status):
+        super().__init__(STATUSES[status] if status < len(STATUSES) else f"status {status}")
+        self.status = status
+
+
+class Name(Structure):
+    _fields_ = [("length", c_uint32), ("bytes", c_uint8 * 16)]
+
+    def __str__(self):
+        return bytes(self.bytes[: self.length]).decode("ascii")
+
+
+class Wide(Structure):
+    _fields_ = [("low", c_uint64), ("high", c_uint64)]
+
+    def __int__(self):
+        return (self.high << 64) | self.low
+
+
+class Handle(Structure):
+    _fields_ = [("at", c_void_p)]
+
+
+class Sizes(Structure):
+    """How large a kernel is; lot.h has the bounds."""
+
+    _fields_ = [(field, c_uint32) for field in
+                ("tickets", "currencies", "threads", "ports", "mutexes", "processors", "scripts", "quantum", "unit")]
+
+
+class Event(Structure):
+    _fields_ = [("kind", c_uint32), ("processor", c_uint32), ("ticks", c_uint32), ("object", c_uint32), ("sent", c_uint32),
+                ("script", c_uint32), ("number", c_uint64), ("amount", c_uint64), ("ticket", c_uint64), ("currency", Name), ("name", Name)]
+
+
+class Reply(Structure):
+    """What an event is answered. `kind` says which fields are written; the others are 0."""
+
+    _fields_ = [("number", Wide), ("total", Wide), ("kind", c_uint32), ("reason", c_uint32), ("ticket", c_uint32), ("currency", c_uint32),
+                ("thread", c_uint32), ("ticks", c_uint32), ("outcome", c_uint32), ("other", c_uint32), ("sent", c_uint32),
+                ("has_sent", c_bool), ("has_draw", c_bool), ("ends", c_bool)]
+
+
+class TicketRow(Structure):
+    _fields_ = [("value", c_uint64), ("amount", c_uint32), ("issuer", Name), ("target", Name), ("has_target", c_bool), ("is_active", c_bool)]
+
+
+class CurrencyRow(Structure):
+    _fields_ = [("active_amount", c_uint64), ("value", c_uint64), ("backing", c_uint32), ("issued", c_uint32), ("name", Name)]
+
+
+class ThreadStatus(Structure):
+    _fields_ = [("kind", c_uint32), ("processor", c_uint32), ("used", c_uint32), ("other", c_uint32)]
+
+
+class ThreadRow(Structure):
+    _fields_ = [("weight", Wide), ("value", c_uint64), ("quanta", c_uint64), ("ticks", c_uint64), ("status", ThreadStatus), ("name", Name)]
+
+
+class Runner(Structure):
+    _fields_ = [("thread", c_uint32), ("used", c_uint32)]
+
+
+class Meter(Structure):
+    _fields_ = [("ticket_reads", c_uint64), ("tree_visits", c_uint64)]
+
+
+class Generator(Structure):
+    _fields_ = [("value", c_uint32)]
+
+
+class Drawn(Structure):
+    _fields_ = [("number", Wide), ("total", Wide), ("place", c_uint64)]
+
+
+def _load():
+    here = os.path.dirname(os.path.abspath(__file__))
+    shared = ctypes.CDLL(os.environ.get("LOT_SHARED", os.path.join(here, "..", "out", "liblot.so")))
+    calls = {
+        "lot_name_new": [ctypes.c_char_p, c_size_t, POINTER(Name)],
+        "lot_kernel_new": [POINTER(Sizes), POINTER(Handle)],
+        "lot_kernel_free": [POINTER(Handle)],
+        "lot_kernel_event": [POINTER(Handle), POINTER(Event), POINTER(Reply)],
+        "lot_kernel_ticket_row": [POINTER(Handle), c_uint32, POINTER(TicketRow)],
+        "lot_kernel_currency_row": [POINTER(Handle), c_uint32, POINTER(CurrencyRow)],
+        "lot_kernel_thread_row": [POINTER(Handle), c_uint32, POINTER(ThreadRow)],
+        "lot_kernel_runner": [POINTER(Handle), c_uint32, POINTER(Runner)],
+        "lot_kernel_script_of": [POINTER(Handle), c_uint32, POINTER(c_uint32)],
+        "lot_kernel_ticket_count": [POINTER(Handle), POINTER(c_uint32)],
+        "lot_kernel_currency_count": [POINTER(Handle), POINTER(c_uint32)],
+        "lot_kernel_limits": [POINTER(Handle), POINTER(Sizes)],
+        "lot_kernel_meter": [POINTER(Handle), POINTER(Meter)],
+        "lot_generator_new": [c_uint32, POINTER(Generator)],
+        "lot_generator_next": [POINTER(Generator), POINTER(c_uint32)],
+        "lot_generator_number": [POINTER(Generator), POINTER(c_uint64)],
+        "lot_winner": [POINTER(Wide), c_size_t, c_uint64, POINTER(Drawn)],
+    }
+    for name, arguments in calls.items():
+        getattr(shared, name).argtypes = arguments
+        getattr(shared, name).restype = c_uint32
+    shared.lot_weight.argtypes = [c_uint64, c_uint32, c_uint32, POINTER(Wide)]
+    shared.lot_weight.restype = None
+    return shared
+
+
+_lot = _load()
+
+
+def _done(status):
+    if status != DONE:
+        raise Error(status)
+
+
+def _name(text):
+    name, raw = Name(), text.encode()
+    _done(_lot.lot_name_new(raw, len(raw), byref(name)))
+    return name
+
+
+class Kernel:
+    """A kernel. It takes all its memory when it is made, and gives it back by `close` or at the end of a `with`."""
+
+    def __init__(self, *, tickets=64, currencies=16, threads=16, ports=2, mutexes=2, processors=2, scripts=1, quantum=100, unit=1):
+        self._handle = Handle()
+        sizes = Sizes(tickets, currencies, threads, ports, mutexes, processors, scripts, quantum, unit)
+        _done(_lot.lot_kernel_new(byref(sizes), byref(self._handle)))
+
+    def close(self):
+        _lot.lot_kernel_free(byref(self._handle))
+
+    def __enter__(self):
+        return self
+
+    def __exit__(self, *_):
+        self.close()
+
+    def __del__(self):
+        if getattr(self, "_handle", None) is not None and _lot is not None:
+            self.close()
+
+    def event(self, kind, *, currency=None, name=None, **fields):
+        """One event: its kind, and the fields that this kind reads, with names as texts."""
+        event, reply = Event(kind=kind, **fields), Reply()
+        if currency is not None:
+            event.currency = _name(currency)
+        if name is not None:
+            event.name = _name(name)
+        _done(_lot.lot_kernel_event(byref(self._handle), byref(event), byref(reply)))
+        return reply
+
+    def _found(self, call, row, *arguments):
+        status = call(byref(self._handle), *arguments, byref(row))
+        if status == NOT_THERE:
+            return None
+        _done(status)
+        return row
+
+    def ticket_row(self, ticket):
+        """The row of the ticket with this number, or None."""
+        return self._found(_lot.lot_kernel_ticket_row, TicketRow(), ticket)
+
+    def currency_row(self, currency):
+        """The row of the currency with this number, or None. Base has number 0."""
+        return self._found(_lot.lot_kernel_currency_row, CurrencyRow(), currency)
+
+    def thread_row(self, thread):
+        """The row of the thread with this number, or None."""
+        return self._found(_lot.lot_kernel_thread_row, ThreadRow(), thread)
+
+    def runner(self, processor):
+        """Who runs on the processor, or None."""
+        return self._found(_lot.lot_kernel_runner, Runner(), processor)
+
+    def script_of(self, thread):
+        """The number of the thread's script, or None."""
+        found = self._found(_lot.lot_kernel_script_of, c_uint32(), thread)
+        return None if found is None else found.value
+
+    def ticket_count(self):
+        return self._found(_lot.lot_kernel_ticket_count, c_uint32()).value
+
+    def currency_count(self):
+        return self._found(_lot.lot_kernel_currency_count, c_uint32()).value
+
+    def sizes(self):
+        return self._found(_lot.lot_kernel_limits, Sizes())
+
+    def meter(self):
+        return self._found(_lot.lot_kernel_meter, Meter())
+
+
+class ParkMiller:
+    """The generator of drawn numbers. Its seed is 1 to 2147483646."""
+
+    def __init__(self, seed):
+        self._generator = Generator()
+        _done(_lot.lot_generator_new(seed, byref(self._generator)))
+
+    def next_value(self):
+        value = c_uint32()
+        _done(_lot.lot_generator_next(byref(self._generator), byref(value)))
+        return value.value
+
+    def number(self):
+        number = c_uint64()
+        _done(_lot.lot_generator_number(byref(self._generator), byref(number)))
+        return number.value
+
+
+def weight(value, compensation, quantum):
+    """What a value weighs in a draw; the compensation is in ticks, 0 for none."""
+    answer = Wide()
+    _lot.lot_weight(value, compensation, quantum, byref(answer))
+    return int(answer)
+
+
+def winner(weights, number):
+    """Place, number and total of a lottery over the weights, or None if they sum to 0."""
+    if any(not 0 <= weight < 1 << 128 for weight in weights):
+        raise ValueError("a weight is 0 to 2 ** 128 - 1")
+    wide = (Wide * len(weights))(*(Wide(weight & (1 << 64) - 1, weight >> 64) for weight in weights))
+    drawn = Drawn()
+    status = _lot.lot_winner(wide, len(weights), number, byref(drawn))
+    if status == NO_WINNER:
+        return None
+    _done(status)
+    return drawn.place, int(drawn.number), int(drawn.total)

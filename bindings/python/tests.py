@@ -1,0 +1,68 @@
+"""Rows of worked kernels through the module `lot`, and what no call takes."""
+
+import unittest
+
+import lot
+
+
+def status_of(call):
+    try:
+        call()
+    except lot.Error as error:
+        return lot.STATUSES[error.status]
+    return "done"
+
+
+class Worked(unittest.TestCase):
+    def test_list_lottery(self):
+        with lot.Kernel() as kernel:
+            for thread, (amount, name) in enumerate([(10, "a"), (2, "b"), (5, "c"), (1, "d"), (2, "e")], 1):
+                self.assertEqual(kernel.event(lot.MAKE_FUNDED, amount=amount, currency="base", name=name, script=1).thread, thread)
+            for number, thread, reduced in [(15, 3, 15), (9, 1, 9), (10, 2, 10), (17, 4, 17), (35, 3, 15), (36090892629924, 1, 4)]:
+                reply = kernel.event(lot.DRAW, processor=1, number=number)
+                self.assertEqual((reply.kind, reply.thread, int(reply.number), int(reply.total)), (lot.REPLY_WINNER, thread, reduced, 20))
+                self.assertEqual(kernel.runner(1).thread, thread)
+                self.assertEqual(kernel.event(lot.DRAW, processor=1).reason, lot.REFUSAL_BUSY)
+                self.assertEqual(kernel.event(lot.EXPIRE, processor=1).ticks, 100)
+
+    def test_currency_graph(self):
+        with lot.Kernel() as kernel:
+            for name in ["alice", "bob", "task1", "task2", "task3"]:
+                kernel.event(lot.MAKE_CURRENCY, name=name)
+            tickets = [(1000, "base", "alice"), (2000, "base", "bob"), (100, "alice", "task1"), (200, "alice", "task2"), (100, "bob", "task3")]
+            for ticket, (amount, currency, target) in enumerate(tickets, 1):
+                kernel.event(lot.MAKE_TICKET, amount=amount, currency=currency)
+                self.assertEqual(kernel.event(lot.FUND, ticket=ticket, name=target).kind, lot.REPLY_DONE)
+            for amount, currency, name in [(200, "task2", "thread2"), (300, "task2", "thread3"), (100, "task3", "thread4")]:
+                kernel.event(lot.MAKE_FUNDED, amount=amount, currency=currency, name=name, script=1)
+            self.assertEqual([kernel.thread_row(thread).value for thread in (1, 2, 3)], [400, 600, 2000])
+            self.assertIsNone(kernel.thread_row(4))
+            row = kernel.currency_row(4)
+            self.assertEqual((str(row.name), row.backing, row.issued, row.active_amount, row.value), ("task2", 1, 2, 500, 1000))
+            row = kernel.ticket_row(3)
+            self.assertEqual((str(row.issuer), row.has_target, str(row.target), row.is_active), ("alice", True, "task1", False))
+            self.assertEqual((kernel.ticket_count(), kernel.currency_count(), kernel.sizes().threads, kernel.script_of(1)), (8, 6, 16, 1))
+            self.assertGreater(kernel.meter().ticket_reads, 0)
+
+    def test_lottery_alone(self):
+        self.assertEqual(lot.winner([10, 2, 5, 1, 2], 15), (2, 15, 20))
+        self.assertIsNone(lot.winner([0, 0], 7))
+        self.assertEqual(status_of(lambda: lot.winner([1 << 127, 1 << 127], 7)), "too large")
+        self.assertEqual([lot.weight(400, 20, 100), lot.weight(7, 3, 100), lot.weight(400, 0, 100)], [2000, 233, 400])
+        self.assertEqual(lot.ParkMiller(1).number(), 36090892629924)
+        generator = lot.ParkMiller(1)
+        self.assertEqual([generator.next_value() for _ in range(10000)][-1], 1043618065)
+
+    def test_what_no_call_takes(self):
+        self.assertEqual(status_of(lambda: lot.Kernel(threads=4097)), "bad limits")
+        self.assertEqual(status_of(lambda: lot.ParkMiller(0)), "bad seed")
+        with lot.Kernel() as kernel:
+            self.assertEqual(status_of(lambda: kernel.event(21)), "bad kind")
+            self.assertEqual(status_of(lambda: kernel.event(lot.MAKE_CURRENCY, name="a-very-long-name-")), "long name")
+            self.assertEqual(status_of(lambda: kernel.event(lot.MAKE_CURRENCY, name="Base")), "bad name")
+            kernel.close()
+            self.assertEqual(status_of(lambda: kernel.event(lot.DRAW, processor=1)), "no kernel")
+
+
+if __name__ == "__main__":
+    unittest.main()

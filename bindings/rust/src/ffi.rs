@@ -1,0 +1,196 @@
+//! The archive's calls, as `bindings/c/lot.h` has them.
+
+use std::ffi::c_void;
+
+pub const DONE: u32 = 0;
+pub const BAD_LIMITS: u32 = 3;
+pub const NO_MEMORY: u32 = 4;
+pub const LONG_NAME: u32 = 6;
+pub const BAD_NAME: u32 = 7;
+pub const NOT_THERE: u32 = 8;
+pub const BAD_SEED: u32 = 10;
+pub const NO_WINNER: u32 = 11;
+pub const TOO_LARGE: u32 = 12;
+
+#[repr(C)]
+#[derive(Clone, Copy, Default)]
+pub struct Name {
+    pub length: u32,
+    pub bytes: [u8; 16],
+}
+
+#[repr(C)]
+#[derive(Clone, Copy, Default)]
+pub struct Wide {
+    pub low: u64,
+    pub high: u64,
+}
+
+impl Wide {
+    pub fn of(number: u128) -> Wide {
+        Wide { low: number as u64, high: (number >> 64) as u64 }
+    }
+
+    pub fn number(self) -> u128 {
+        u128::from(self.high) << 64 | u128::from(self.low)
+    }
+}
+
+/// What holds a kernel.
+#[repr(C)]
+pub struct Handle {
+    pub at: *mut c_void,
+}
+
+#[repr(C)]
+#[derive(Clone, Copy, Default)]
+pub struct Sizes {
+    pub tickets: u32,
+    pub currencies: u32,
+    pub threads: u32,
+    pub ports: u32,
+    pub mutexes: u32,
+    pub processors: u32,
+    pub scripts: u32,
+    pub quantum: u32,
+    pub unit: u32,
+}
+
+#[repr(C)]
+#[derive(Clone, Copy, Default)]
+pub struct Event {
+    pub kind: u32,
+    pub processor: u32,
+    pub ticks: u32,
+    pub object: u32,
+    pub sent: u32,
+    pub script: u32,
+    pub number: u64,
+    pub amount: u64,
+    pub ticket: u64,
+    pub currency: Name,
+    pub name: Name,
+}
+
+#[repr(C)]
+#[derive(Clone, Copy, Default)]
+pub struct Reply {
+    pub number: Wide,
+    pub total: Wide,
+    pub kind: u32,
+    pub reason: u32,
+    pub ticket: u32,
+    pub currency: u32,
+    pub thread: u32,
+    pub ticks: u32,
+    pub outcome: u32,
+    pub other: u32,
+    pub sent: u32,
+    pub has_sent: bool,
+    pub has_draw: bool,
+    pub ends: bool,
+}
+
+#[repr(C)]
+#[derive(Clone, Copy, Default)]
+pub struct TicketRow {
+    pub value: u64,
+    pub amount: u32,
+    pub issuer: Name,
+    pub target: Name,
+    pub has_target: bool,
+    pub is_active: bool,
+}
+
+#[repr(C)]
+#[derive(Clone, Copy, Default)]
+pub struct CurrencyRow {
+    pub active_amount: u64,
+    pub value: u64,
+    pub backing: u32,
+    pub issued: u32,
+    pub name: Name,
+}
+
+#[repr(C)]
+#[derive(Clone, Copy, Default)]
+pub struct Status {
+    pub kind: u32,
+    pub processor: u32,
+    pub used: u32,
+    pub other: u32,
+}
+
+#[repr(C)]
+#[derive(Clone, Copy, Default)]
+pub struct ThreadRow {
+    pub weight: Wide,
+    pub value: u64,
+    pub quanta: u64,
+    pub ticks: u64,
+    pub status: Status,
+    pub name: Name,
+}
+
+#[repr(C)]
+#[derive(Clone, Copy, Default)]
+pub struct Runner {
+    pub thread: u32,
+    pub used: u32,
+}
+
+#[repr(C)]
+#[derive(Clone, Copy, Default)]
+pub struct Meter {
+    pub ticket_reads: u64,
+    pub tree_visits: u64,
+}
+
+#[repr(C)]
+#[derive(Clone, Copy, Default)]
+pub struct Generator {
+    pub value: u32,
+}
+
+#[repr(C)]
+#[derive(Clone, Copy, Default)]
+pub struct Drawn {
+    pub number: Wide,
+    pub total: Wide,
+    pub place: u64,
+}
+
+extern "C" {
+    pub fn lot_name_new(bytes: *const u8, count: usize, name: *mut Name) -> u32;
+    pub fn lot_kernel_new(sizes: *const Sizes, kernel: *mut Handle) -> u32;
+    pub fn lot_kernel_free(kernel: *mut Handle) -> u32;
+    pub fn lot_kernel_event(kernel: *mut Handle, event: *const Event, reply: *mut Reply) -> u32;
+    pub fn lot_kernel_ticket_row(kernel: *mut Handle, ticket: u32, row: *mut TicketRow) -> u32;
+    pub fn lot_kernel_currency_row(kernel: *mut Handle, currency: u32, row: *mut CurrencyRow) -> u32;
+    pub fn lot_kernel_thread_row(kernel: *mut Handle, thread: u32, row: *mut ThreadRow) -> u32;
+    pub fn lot_kernel_runner(kernel: *mut Handle, processor: u32, runner: *mut Runner) -> u32;
+    pub fn lot_kernel_script_of(kernel: *mut Handle, thread: u32, script: *mut u32) -> u32;
+    pub fn lot_kernel_ticket_count(kernel: *mut Handle, count: *mut u32) -> u32;
+    pub fn lot_kernel_currency_count(kernel: *mut Handle, count: *mut u32) -> u32;
+    pub fn lot_kernel_limits(kernel: *mut Handle, sizes: *mut Sizes) -> u32;
+    pub fn lot_kernel_meter(kernel: *mut Handle, meter: *mut Meter) -> u32;
+    pub fn lot_generator_new(seed: u32, generator: *mut Generator) -> u32;
+    pub fn lot_generator_next(generator: *mut Generator, value: *mut u32) -> u32;
+    pub fn lot_generator_number(generator: *mut Generator, number: *mut u64) -> u32;
+    pub fn lot_weight(value: u64, compensation: u32, quantum: u32, weight: *mut Wide);
+    pub fn lot_winner(weights: *const Wide, count: usize, number: u64, drawn: *mut Drawn) -> u32;
+}
+
+/// Where a call can fail in no other way.
+pub fn must_be_done(status: u32) {
+    assert_eq!(status, DONE, "a call of the kernel that cannot fail");
+}
+
+/// What is there, if the call says that it is.
+pub fn if_there<T>(status: u32, found: T) -> Option<T> {
+    if status == NOT_THERE {
+        return None;
+    }
+    must_be_done(status);
+    Some(found)
+}

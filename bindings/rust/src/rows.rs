@@ -1,0 +1,126 @@
+//! What is there.
+
+use crate::{ffi, Name};
+
+/// A ticket as a listing shows it.
+#[derive(Clone, Copy, Debug, PartialEq, Eq)]
+pub struct TicketRow {
+    /// Its amount.
+    pub amount: u32,
+    /// The currency that issues it.
+    pub issuer: Name,
+    /// The currency or thread that it funds.
+    pub target: Option<Name>,
+    /// Whether it leads to a thread that competes or runs.
+    pub is_active: bool,
+    /// In units of base.
+    pub value: u64,
+}
+
+/// A currency as a listing shows it.
+#[derive(Clone, Copy, Debug, PartialEq, Eq)]
+pub struct CurrencyRow {
+    /// Its name.
+    pub name: Name,
+    /// How many tickets fund it, active or not.
+    pub backing: u32,
+    /// How many tickets it issues, active or not.
+    pub issued: u32,
+    /// The sum of the amounts of its active issued tickets.
+    pub active_amount: u64,
+    /// In units of base.
+    pub value: u64,
+}
+
+/// What a thread is doing.
+#[derive(Clone, Copy, Debug, PartialEq, Eq)]
+pub enum Status {
+    /// It competes in draws.
+    Ready,
+    /// It runs.
+    Running {
+        /// Where.
+        processor: u32,
+        /// The ticks of its quantum that it has used, below the quantum.
+        used: u32,
+    },
+    /// It waits for a call at this port.
+    Receiving(u32),
+    /// Its call waits at this port.
+    Queued(u32),
+    /// This thread serves it.
+    Served(u32),
+    /// It waits for this mutex.
+    Waiting(u32),
+    /// It has ended.
+    Dead,
+}
+
+/// A thread as a listing shows it.
+#[derive(Clone, Copy, Debug, PartialEq, Eq)]
+pub struct ThreadRow {
+    /// Its name.
+    pub name: Name,
+    /// What it is doing.
+    pub status: Status,
+    /// In units of base.
+    pub value: u64,
+    /// What it weighs in a draw, in units of base.
+    pub weight: u128,
+    /// The draws that it has won.
+    pub quanta: u64,
+    /// The ticks that it has run in all.
+    pub ticks: u64,
+}
+
+impl TicketRow {
+    pub(crate) fn of(row: ffi::TicketRow) -> TicketRow {
+        TicketRow {
+            amount: row.amount,
+            issuer: Name::of(row.issuer),
+            target: row.has_target.then(|| Name::of(row.target)),
+            is_active: row.is_active,
+            value: row.value,
+        }
+    }
+}
+
+impl CurrencyRow {
+    pub(crate) fn of(row: ffi::CurrencyRow) -> CurrencyRow {
+        CurrencyRow {
+            name: Name::of(row.name),
+            backing: row.backing,
+            issued: row.issued,
+            active_amount: row.active_amount,
+            value: row.value,
+        }
+    }
+}
+
+impl Status {
+    fn of(status: ffi::Status) -> Status {
+        match status.kind {
+            1 => Status::Ready,
+            2 => Status::Running { processor: status.processor, used: status.used },
+            3 => Status::Receiving(status.other),
+            4 => Status::Queued(status.other),
+            5 => Status::Served(status.other),
+            6 => Status::Waiting(status.other),
+            7 => Status::Dead,
+            other => unreachable!("a status {other}"),
+        }
+    }
+}
+
+impl ThreadRow {
+    pub(crate) fn of(row: ffi::ThreadRow) -> ThreadRow {
+        ThreadRow {
+            name: Name::of(row.name),
+            status: Status::of(row.status),
+            value: row.value,
+            weight: row.weight.number(),
+            quanta: row.quanta,
+            ticks: row.ticks,
+        }
+    }
+}

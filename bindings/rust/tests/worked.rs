@@ -1,0 +1,127 @@
+//! Rows of worked kernels, and what no call takes.
+
+use lot::{
+    weight, winner, Action, Command, Error, Event, Kernel, Listing, Name, Outcome, ParkMiller, Refusal, Reply, Runner, Sizes, Status,
+};
+use std::num::NonZeroU32;
+
+fn name(text: &str) -> Name {
+    Name::new(text).expect("a name")
+}
+
+fn command(kernel: &mut Kernel, command: Command) -> Reply {
+    kernel.event(&Event::Command(command))
+}
+
+fn fund_thread(kernel: &mut Kernel, amount: u64, currency: &str, thread: &str) -> Reply {
+    command(kernel, Command::MakeFunded { amount, currency: name(currency), name: name(thread), script: 1 })
+}
+
+fn draw(kernel: &mut Kernel, number: u64) -> Reply {
+    kernel.event(&Event::Draw { processor: 1, number })
+}
+
+fn trap(kernel: &mut Kernel, ticks: u32, action: Action) -> Reply {
+    kernel.event(&Event::Trap { processor: 1, ticks, action })
+}
+
+#[test]
+fn list_lottery() {
+    let mut kernel = Kernel::new(Sizes::SMALL).expect("small");
+    for (number, (amount, thread)) in [(10, "a"), (2, "b"), (5, "c"), (1, "d"), (2, "e")].into_iter().enumerate() {
+        let number = number as u32 + 1;
+        assert_eq!(fund_thread(&mut kernel, amount, "base", thread), Reply::Funded { ticket: number, thread: number });
+    }
+    for (d, thread, number) in [(15, 3, 15), (9, 1, 9), (10, 2, 10), (17, 4, 17), (18, 5, 18), (35, 3, 15), (36090892629924, 1, 4)] {
+        assert_eq!(draw(&mut kernel, d), Reply::Winner { thread, number, total: 20, delivered: None });
+        assert_eq!(draw(&mut kernel, d), Reply::Refused(Refusal::Busy));
+        assert_eq!(kernel.runner(1), Some(Runner { thread, used: 0 }));
+        assert_eq!(kernel.event(&Event::Expire { processor: 1 }), Reply::Expired { thread, ticks: 100 });
+        assert_eq!(kernel.runner(1), None);
+    }
+}
+
+#[test]
+fn currency_graph() {
+    let mut kernel = Kernel::new(Sizes::SMALL).expect("small");
+    for (number, text) in ["alice", "bob", "task1", "task2", "task3"].into_iter().enumerate() {
+        assert_eq!(command(&mut kernel, Command::MakeCurrency { name: name(text) }), Reply::Currency(number as u32 + 1));
+    }
+    let tickets = [(1000, "base", "alice"), (2000, "base", "bob"), (100, "alice", "task1"), (200, "alice", "task2"), (100, "bob", "task3")];
+    for (number, (amount, currency, target)) in (1..).zip(tickets) {
+        assert_eq!(command(&mut kernel, Command::MakeTicket { amount, currency: name(currency) }), Reply::Ticket(number));
+        assert_eq!(command(&mut kernel, Command::Fund { ticket: u64::from(number), target: name(target) }), Reply::Done);
+    }
+    for (amount, currency, thread) in [(200, "task2", "thread2"), (300, "task2", "thread3"), (100, "task3", "thread4")] {
+        fund_thread(&mut kernel, amount, currency, thread);
+    }
+    let values: Vec<u64> = (1..=3).map(|thread| kernel.thread_row(thread).expect("there").value).collect();
+    assert_eq!(values, [400, 600, 2000]);
+    assert_eq!(kernel.thread_row(4), None);
+    let row = kernel.currency_row(4).expect("there");
+    assert_eq!((row.name, row.backing, row.issued, row.active_amount, row.value), (name("task2"), 1, 2, 500, 1000));
+    let row = kernel.ticket_row(3).expect("there");
+    assert_eq!((row.issuer, row.target, row.is_active, row.value), (name("alice"), Some(name("task1")), false, 0));
+    let cycle = Command::MakeTicket { amount: 1, currency: name("task2") };
+    assert_eq!(command(&mut kernel, cycle), Reply::Ticket(9));
+    let cycle = Command::Fund { ticket: 9, target: name("alice") };
+    assert_eq!(command(&mut kernel, cycle), Reply::Refused(Refusal::Cycle));
+    assert_eq!(command(&mut kernel, Command::List(Listing::Threads)), Reply::List(Listing::Threads));
+    assert_eq!((kernel.ticket_count(), kernel.currency_count()), (9, 6));
+    assert_eq!(kernel.sizes(), Sizes::SMALL);
+}
+
+#[test]
+fn call_and_reply() {
+    let mut kernel = Kernel::new(Sizes::SMALL).expect("small");
+    fund_thread(&mut kernel, 5, "base", "s");
+    fund_thread(&mut kernel, 5, "base", "c");
+    draw(&mut kernel, 4);
+    let waits = Reply::Trapped { thread: 1, ticks: 1, outcome: Outcome::Waits, ends: false };
+    assert_eq!(trap(&mut kernel, 0, Action::Receive { port: 1 }), waits);
+    draw(&mut kernel, 4);
+    let served = Reply::Trapped { thread: 2, ticks: 2, outcome: Outcome::ServedBy(1), ends: false };
+    assert_eq!(trap(&mut kernel, 1, Action::Call { port: 1, number: 41 }), served);
+    assert_eq!(kernel.thread_row(2).expect("there").status, Status::Served(1));
+    // The server used 1 tick of its 100, and has what its client lends it: 10 are worth 1000.
+    assert_eq!(draw(&mut kernel, 5), Reply::Winner { thread: 1, number: 5, total: 1000, delivered: Some(41) });
+    let replied = Reply::Trapped { thread: 1, ticks: 2, outcome: Outcome::Replied(2), ends: false };
+    assert_eq!(trap(&mut kernel, 1, Action::Reply { number: 42 }), replied);
+    let locked = Reply::Trapped { thread: 1, ticks: 1, outcome: Outcome::Locked, ends: false };
+    assert_eq!(trap(&mut kernel, 0, Action::Lock { mutex: 1 }), locked);
+    assert_eq!(kernel.script_of(2), Some(1));
+    assert!(kernel.meter().tree_visits > 0);
+}
+
+#[test]
+fn a_kernel_goes_to_another_thread() {
+    let mut kernel = Kernel::new(Sizes::SMALL).expect("small");
+    fund_thread(&mut kernel, 5, "base", "a");
+    let reply = std::thread::spawn(move || draw(&mut kernel, 3)).join().expect("no panic");
+    assert_eq!(reply, Reply::Winner { thread: 1, number: 3, total: 5, delivered: None });
+}
+
+#[test]
+fn the_lottery_alone() {
+    let drawn = winner(&[10, 2, 5, 1, 2], 15).expect("small").expect("a winner");
+    assert_eq!((drawn.place, drawn.number, drawn.total), (2, 15, 20));
+    assert_eq!(winner(&[0, 0], 7), Ok(None));
+    assert_eq!(winner(&[], 7), Ok(None));
+    assert_eq!(winner(&[u128::MAX, 1], 7), Err(Error::TooLarge));
+    assert_eq!(weight(400, NonZeroU32::new(20), 100), 2000);
+    assert_eq!(weight(400, None, 100), 400);
+    let mut generator = ParkMiller::new(1).expect("a seed");
+    let last = (0..10000).map(|_| generator.next_value()).last();
+    assert_eq!(last, Some(1043618065));
+    assert_eq!(ParkMiller::new(1).expect("a seed").number(), 36090892629924);
+    assert_eq!(ParkMiller::new(0), Err(Error::BadSeed));
+}
+
+#[test]
+fn what_no_call_takes() {
+    assert_eq!(Kernel::new(Sizes { threads: 4097, ..Sizes::SMALL }).map(|_| ()), Err(Error::BadLimits));
+    assert_eq!(Name::new("a-very-long-name-"), Err(Error::LongName));
+    assert_eq!(Name::new("Base"), Err(Error::BadName));
+    assert_eq!(Name::new(""), Err(Error::BadName));
+    assert_eq!(name("sixteen-bytes-ok").as_str(), "sixteen-bytes-ok");
+}

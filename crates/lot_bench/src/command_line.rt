@@ -1,0 +1,98 @@
+//! The words that the program is called with.
+
+use clap::{Arg, ArgAction, ArgMatches, Command, Error, value_parser};
+use std::alloc::Global;
+use std::convert::AsStr;
+
+/// How many events a digest is of, if the words don't say.
+const FEW_EVENTS: u32 = 10_000;
+/// How many events are timed, if the words don't say.
+const MANY_EVENTS: u32 = 10_000_000;
+
+const ABOUT: &str =
+    "Gives events to the kernel by itself, and prints what it answered, which is the same each time";
+
+/// The options that ask for something else, and what they ask for.
+const FLAGS: [(&str, &str); 3] = [
+    ("time", "Nanoseconds for each event"),
+    (
+        "growth",
+        "The same with 16 to 4096 threads, in tables that just suffice and in the largest",
+    ),
+    (
+        "workers",
+        "Turns for each second of worker threads, by a lock and by a baton",
+    ),
+];
+
+/// What the program is asked for.
+#[derive(Clone, Copy)]
+pub(crate) enum Request {
+    Digests,
+    Times,
+    Growth,
+    Workers,
+}
+
+/// What the program is asked for, with about how many events of each workload, and of which one alone, if one is named.
+#[derive(Clone, Copy)]
+pub(crate) struct Wish<'a> {
+    pub(crate) request: Request,
+    pub(crate) events: u32,
+    pub(crate) only: Option<&'a str>,
+}
+
+/// An option that has no value.
+fn flag<'a>(alloc: Global, name: &'a str, help: &'a str) -> Arg<'a> {
+    Arg::new(alloc, name)
+        .long(name)
+        .action(ArgAction::SetTrue)
+        .help(help)
+}
+
+/// The command line, with its options.
+fn command<'a>(alloc: Global) -> Result<Command<'a>, Error> {
+    let events = Arg::new(alloc, "events")
+        .long("events")
+        .value_parser(value_parser!(u32))
+        .help("About how many events each workload has");
+    let only = Arg::new(alloc, "only")
+        .long("only")
+        .help("The one workload that is wanted");
+    let mut command = Command::new(alloc, "lot_bench")
+        .about(ABOUT)
+        .arg(events)?
+        .arg(only)?;
+    for (name, help) in FLAGS {
+        command = command.arg(flag(alloc, name, help))?;
+    }
+    Ok(command)
+}
+
+/// What the options ask for.
+fn requested(matches: &ArgMatches<'_>) -> Request {
+    if matches.get_flag("time") {
+        Request::Times
+    } else if matches.get_flag("growth") {
+        Request::Growth
+    } else if matches.get_flag("workers") {
+        Request::Workers
+    } else {
+        Request::Digests
+    }
+}
+
+/// Reads the words, the program's own name first.
+pub(crate) fn wish_of<'a, S: AsStr>(alloc: Global, words: &'a [S]) -> Result<Wish<'a>, Error> {
+    let matches = command(alloc)?.try_get_matches_from(words)?;
+    let request = requested(&matches);
+    let usual = match request {
+        Request::Digests => FEW_EVENTS,
+        _ => MANY_EVENTS,
+    };
+    Ok(Wish {
+        request,
+        events: matches.get_one::<u32>("events").unwrap_or(usual),
+        only: matches.get_str("only"),
+    })
+}

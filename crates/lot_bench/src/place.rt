@@ -1,0 +1,42 @@
+//! Where a thread is in what it does.
+ghost use Rattle.std.specs.Prelude.{◌<◌, IfSome};
+
+use crate::role::{Role, trap_of};
+use lot_machine::Action;
+
+/// Where a thread is: before which trap of its round, and how many ticks it has worked towards that.
+#[derive(Clone, Copy)]
+pub(crate) struct Place {
+    is_second: bool,
+    worked: u32,
+}
+
+impl Place {
+    /// Where a thread begins: one that locks has little work to do first.
+    pub(crate) fn first(role: Role) -> Place {
+        Place {
+            is_second: false,
+            worked: match role {
+                Role::Locks => 4,
+                _ => 0,
+            },
+        }
+    }
+
+    /// Goes on for at most so many ticks of its quantum. Answers the trap that is made, after how many ticks of work, or `None` if
+    /// the quantum ends first.
+    pub(crate) fn go_on(&mut self, role: Role, budget: u32) -> Option<(u32, Action)>
+        ensures { IfSome result (λ trap. trap.0 < budget) }
+    {
+        if let Some((ticks, action)) = trap_of(role, self.is_second) {
+            let left = ticks.saturating_sub(self.worked);
+            if left < budget {
+                self.is_second = !self.is_second;
+                self.worked = 0;
+                return Some((left, action));
+            }
+        }
+        self.worked = self.worked.saturating_add(budget);
+        None
+    }
+}

@@ -1,0 +1,72 @@
+//! Each workload in turn: what it answers, or how long it takes.
+
+use crate::command_line::Wish;
+use crate::driver::Driver;
+use crate::tally::Tally;
+use crate::timing::time_workload;
+use crate::track::opened_kernel;
+use crate::workload::{WORKLOADS, Workload, largest_limits};
+use anyhow::{Context, Result, ensure};
+use lot_kernel::Meter;
+use std::alloc::Global;
+use std::rt::Clock;
+
+/// Prints for each workload that is wanted what its events came to: the replies of each kind, their digest, and what was read for
+/// values and draws.
+pub(crate) fn print_digests(rt: &impl Print, alloc: Global, wish: Wish<'_>) -> Result<()> {
+    for (name, workload) in WORKLOADS {
+        if !is_wanted(name, wish.only) {
+            continue;
+        }
+        let (tally, meter) = tally_of(alloc, workload, wish.events)?;
+        let Meter {
+            ticket_reads,
+            tree_visits,
+        } = meter;
+        println!(rt; "{name} {tally} reads {ticket_reads} visits {tree_visits}")?;
+    }
+    Ok(())
+}
+
+/// What so many events of a workload come to.
+fn tally_of(alloc: Global, workload: Workload, events: u32) -> Result<(Tally, Meter)> {
+    let limits = largest_limits(workload).context("limits")?;
+    let mut kernel = opened_kernel(alloc, workload, limits)?;
+    let mut driver = Driver::new(alloc, workload)?;
+    let mut tally = Tally::default();
+    for _event in 0..events {
+        let event = driver.next_event(&kernel);
+        tally.count(&kernel.event(&event));
+    }
+    Ok((tally, kernel.meter()))
+}
+
+/// Whether the workload with this name is wanted: each is, if none is named.
+fn is_wanted(name: &str, only: Option<&str>) -> bool {
+    match only {
+        None => true,
+        Some(wanted) => name == wanted,
+    }
+}
+
+/// Fails if a workload is named that there is none of.
+pub(crate) fn check_name(only: Option<&str>) -> Result<()> {
+    ensure!(
+        WORKLOADS.iter().any(|(name, _)| is_wanted(name, only)),
+        "no workload has this name"
+    );
+    Ok(())
+}
+
+/// Prints for each workload that is wanted the nanoseconds of an event, in the fastest of several rounds and in all.
+pub(crate) fn print_times(rt: &(impl Print + Clock), alloc: Global, wish: Wish<'_>) -> Result<()> {
+    for (name, workload) in WORKLOADS {
+        if !is_wanted(name, wish.only) {
+            continue;
+        }
+        let limits = largest_limits(workload).context("limits")?;
+        let timing = time_workload(rt, alloc, workload, limits, wish.events)?;
+        println!(rt; "{name} {} mean {}", timing.fastest, timing.mean)?;
+    }
+    Ok(())
+}

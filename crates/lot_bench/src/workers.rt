@@ -1,0 +1,150 @@
+//! Free runs by worker threads that share a system under a lock, or as a baton.
+ghost use Rattle.std.specs.Prelude.{All};
+ghost use Rattle.lot_station.specs.BatonSeats.{IsSeatOf};
+
+use anyhow::{Result, bail, ensure};
+use lot_processors::{OpenGate, RunFault, free_run, run_all_baton};
+use lot_station::{BatonSeat, BatonStation};
+use lot_system::System;
+use lot_text::{ParseFault, Program, parse};
+use std::alloc::Global;
+use std::rt::Clock;
+use std::sync::Wait;
+use std::thread::Threads;
+use std::time::Instant;
+
+/// How often each run is timed.
+const ROUNDS: u32 = 20;
+
+/// How many turns all processors of a run make together.
+const TURNS: u32 = 10_000;
+
+/// How many processors there are in each line of the table.
+const PROCESSORS: [u32; 3] = [1, 2, 4];
+
+/// What the threads do, and the lines of their script.
+const SCRIPTS: [(&str, &str); 3] = [
+    ("compute", "compute 4294967295\n"),
+    ("yield", "loop 65535\ncompute 24\nyield\nend\n"),
+    (
+        "lock",
+        "loop 65535\nlock m\ncompute 150\nunlock m\ncompute 5\nend\n",
+    ),
+];
+
+/// How workers share a system.
+#[derive(Clone, Copy)]
+enum Sharing {
+    Lock,
+    Baton,
+}
+
+/// Prints a line for each script and each number of processors: the turns of a second by the lock and by the baton, each the most
+/// of several runs. Each processor has a worker, and the console has one.
+pub(crate) fn print_workers<R: Print + Clock + Threads + Wait + Sync>(
+    rt: &R,
+    alloc: Global,
+) -> Result<()> {
+    for (name, script) in SCRIPTS {
+        for processors in PROCESSORS {
+            print_line(rt, alloc, name, input(alloc, script, processors)?.as_str())?;
+        }
+    }
+    Ok(())
+}
+
+/// Prints the line of an input.
+fn print_line<R: Print + Clock + Threads + Wait + Sync>(
+    rt: &R,
+    alloc: Global,
+    name: &str,
+    text: &str,
+) -> Result<()> {
+    let program = match parse(alloc, text.as_bytes()) {
+        Ok(program) => program,
+        Err(ParseFault::Memory) => bail!("out of memory"),
+        Err(ParseFault::Input(_)) => bail!("the input is refused"),
+    };
+    let processors = program.limits().processors;
+    let locked = most_turns(rt, alloc, &program, Sharing::Lock)?;
+    let passed = most_turns(rt, alloc, &program, Sharing::Baton)?;
+    println!(rt; "{name} workers {processors} lock {locked} baton {passed}")?;
+    Ok(())
+}
+
+/// The input of a system in which 16 threads have this script.
+fn input(alloc: Global, script: &str, processors: u32) -> Result<String> {
+    let turns = TURNS / processors.max(1);
+    let mut text = format!(in alloc;
+        "lottery 1\nprocessors {processors}\nturns {turns}\nlimits 16 1 16\nmutex m\nscript s\n{script}endscript\n"
+    )?;
+    for thread in 1..=16u32 {
+        let amount = thread * 10;
+        let line = format!(in alloc; "fundx {amount} base t{thread} s\n")?;
+        text.push_str(line.as_str())?;
+    }
+    Ok(text)
+}
+
+/// The most turns of a second in several runs of the program.
+fn most_turns<R: Clock + Threads + Wait + Sync>(
+    rt: &R,
+    alloc: Global,
+    program: &Program,
+    sharing: Sharing,
+) -> Result<u64> {
+    let mut most = 0;
+    for _round in 0..ROUNDS {
+        most = turns_for_each_second(rt, alloc, program, sharing)?.max(most);
+    }
+    Ok(most)
+}
+
+/// The turns of a second in one run of the program, with all that opens and closes its system.
+fn turns_for_each_second<R: Clock + Threads + Wait + Sync>(
+    rt: &R,
+    alloc: Global,
+    program: &Program,
+    sharing: Sharing,
+) -> Result<u64> {
+    let start = Instant::now(rt)?;
+    let system = match sharing {
+        Sharing::Lock => free_run(rt, alloc, program, &OpenGate)?,
+        Sharing::Baton => baton_run(rt, alloc, program)?,
+    };
+    let spent = u64::try_from(start.elapsed(rt)?.as_nanos()).unwrap_or(u64::MAX);
+    let made = system.history().len();
+    ensure!(made == turns_in_all(program) as usize, "turns are missing");
+    Ok((made as u64).saturating_mul(1_000_000_000) / spent.max(1))
+}
+
+/// How many turns a free run of the program has.
+fn turns_in_all(program: &Program) -> u32 {
+    let commands = u32::try_from(program.commands().len()).unwrap_or(u32::MAX);
+    let each = program.limits().processors.saturating_mul(program.turns());
+    commands.saturating_add(each)
+}
+
+/// Has the turns of the program made by workers that pass its system on, and gives the system back.
+fn baton_run<R: Threads + Wait + Sync>(rt: &R, alloc: Global, program: &Program) -> Result<System> {
+    let system = System::open(alloc, program, turns_in_all(program))?;
+    let (station, mut seats) = BatonStation::open(alloc, system)?;
+    run_seats(rt, &station, program, &mut seats)?;
+    match station.close(rt, seats) {
+        Ok(system) => Ok(system),
+        Err(_) => bail!("a seat is missing"),
+    }
+}
+
+/// `run_all_baton` over the seats of a vector.
+fn run_seats<R: Threads + Wait + Sync>(
+    rt: &R,
+    station: &BatonStation,
+    program: &Program,
+    seats: &mut Vec<BatonSeat>,
+) -> Result<(), RunFault>
+    requires { All (IsSeatOf station.now) seats.old.items }
+    ensures { All (IsSeatOf station.now) seats.new.items }
+{
+    run_all_baton(rt, station, program, &OpenGate, seats.as_mut_slice())
+}

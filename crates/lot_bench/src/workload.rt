@@ -1,0 +1,99 @@
+//! The workloads that are timed.
+ghost use Rattle.std.specs.Prelude.{◌≡◌, ◌<◌, ◌≤◌};
+ghost use Rattle.lot_bench.specs.Openings as openings;
+
+use lot_machine::{Limits, Sizes};
+
+/// What happens to the kernel.
+#[derive(Clone, Copy)]
+pub(crate) enum Workload {
+    /// So many threads that compute without end.
+    Draws(u32),
+    /// A thread at the end of 64 currencies that fund each other, and a ticket that goes to and from the first of them.
+    Chain,
+    /// So many threads over 64 currencies, each of which yields before a quarter of its quantum is used.
+    Yields(u32),
+    /// A server, a client that calls it, and 256 threads that compute.
+    PingPong,
+    /// 16 threads that want the same mutex.
+    Contention,
+    /// 512 threads that compute, on 64 processors.
+    Processors,
+}
+
+/// The workloads that are compared, by name.
+pub(crate) const WORKLOADS: [(&str, Workload); 9] = [
+    ("draw2", Workload::Draws(2)),
+    ("draw16", Workload::Draws(16)),
+    ("draw256", Workload::Draws(256)),
+    ("draw4096", Workload::Draws(4096)),
+    ("chain64", Workload::Chain),
+    ("yield4096", Workload::Yields(4096)),
+    ("pingpong", Workload::PingPong),
+    ("contention", Workload::Contention),
+    ("million", Workload::Processors),
+];
+
+/// How many threads the workload has.
+pub(crate) fn threads_of(workload: Workload) -> u32
+    ensures { result ≡ openings.threads_of workload }
+{
+    match workload {
+        Workload::Draws(threads) | Workload::Yields(threads) => threads,
+        Workload::Chain => 2,
+        Workload::PingPong => 258,
+        Workload::Contention => 16,
+        Workload::Processors => 512,
+    }
+}
+
+/// How many currencies it has besides base. Each is funded by one ticket.
+pub(crate) fn currencies_of(workload: Workload) -> u32
+    ensures { result ≤ 64 }
+{
+    match workload {
+        Workload::Chain | Workload::Yields(_) => 64,
+        _ => 0,
+    }
+}
+
+/// How many processors it has.
+pub(crate) fn processors_of(workload: Workload) -> u32
+    ensures some { 0 < result }
+    ensures few { result ≤ 64 }
+{
+    match workload {
+        Workload::Processors => 64,
+        _ => 1,
+    }
+}
+
+/// The largest tables, as inputs have them that ask for no others.
+pub(crate) fn largest_limits(workload: Workload) -> Option<Limits> {
+    Limits::new(Sizes {
+        ports: 1,
+        mutexes: 1,
+        processors: processors_of(workload),
+        scripts: 1,
+        quantum: 100,
+        unit: 1,
+        ..Sizes::LARGEST
+    })
+}
+
+/// Tables that just suffice.
+pub(crate) fn smallest_limits(workload: Workload) -> Option<Limits> {
+    let threads = threads_of(workload);
+    let currencies = currencies_of(workload);
+    Limits::new(Sizes {
+        tickets: threads.saturating_add(currencies).saturating_add(1),
+        currencies: currencies.max(1),
+        threads,
+        ports: 1,
+        mutexes: 1,
+        processors: processors_of(workload),
+        scripts: 1,
+        quantum: 100,
+        unit: 1,
+    })
+}

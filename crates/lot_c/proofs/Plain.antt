@@ -1,0 +1,171 @@
+-- What is handed out and in again is the same.
+use Rattle.std.proofs.Common.{◌≡◌, ℕ, ◌≤◌, ◌^◌, Bool, true, false, List, [], ◌∷◌, Ok, Some, None, length, refl, sym, ap, ◌∙◌, arith}
+use Rattle.std.specs.Prelude.{Option, nat_lt, slice_get, unwrap_or}
+use Rattle.std.proofs.Math.Seq.{take-append_seam}
+use Rattle.std.proofs.lemmas.Nat.{div-add-mod'}
+use Rattle.lot_machine.specs.Commands.{is_good_name}
+use Rattle.lot_machine.specs.declared.action.Action.TheVariants as action
+use Rattle.lot_machine.specs.declared.command.Command.TheVariants.{MakeTicket, RemoveTicket, MakeCurrency, RemoveCurrency, Fund, Unfund, MakeThread, MakeFunded, List as Listing}
+use Rattle.lot_machine.specs.declared.command.Kind.TheVariants.{Tickets, Currencies, Threads}
+use Rattle.lot_machine.specs.declared.event.Event.{Event}
+use Rattle.lot_machine.specs.declared.event.Event.TheVariants as event
+use Rattle.lot_machine.specs.declared.record.Status.{Status}
+use Rattle.lot_machine.specs.declared.record.Status.TheVariants as status
+use Rattle.lot_machine.specs.declared.refusal.Refusal.{Refusal}
+use Rattle.lot_machine.specs.declared.refusal.Refusal.TheVariants as refusal
+use Rattle.lot_machine.specs.declared.refusal.TrapRefusal.{TrapRefusal}
+use Rattle.lot_machine.specs.declared.refusal.TrapRefusal.TheVariants as trap
+use Rattle.lot_machine.specs.declared.reply.Outcome.{Outcome}
+use Rattle.lot_machine.specs.declared.reply.Outcome.TheVariants as outcome
+use Rattle.lot_machine.specs.declared.reply.Reply.{Reply}
+use Rattle.lot_machine.specs.declared.reply.Reply.TheVariants as reply
+use Rattle.lot_c.specs.declared.reply.PlainReply.{PlainReply}
+use Rattle.lot_c.specs.declared.rows.PlainStatus.{PlainStatus}
+use Rattle.lot_c.specs.Events.{event_meant, result_map, result_and_then}
+use Rattle.lot_c.specs.Names.{name_meant, plain_name, spelled}
+use Rattle.lot_c.specs.Plain.{HasNames, plain_event}
+use Rattle.lot_c.specs.Replies.{plain_reply, plain_outcome}
+use Rattle.lot_c.specs.Rows.{plain_status}
+use Rattle.lot_c.specs.Wides.{plain_wide, wide_meant}
+
+-- ---- names, numbers and events
+
+spelled-plain : (name : List ℕ) → spelled (plain_name name) ≡ name
+spelled-plain name = take-append_seam name _
+
+fits : (n : ℕ) → n ≤ 16 → nat_lt 16 n ≡ false
+fits n low = search (arith)
+
+pub named : (name : List ℕ) → length name ≤ 16 → is_good_name name ≡ true → name_meant (plain_name name) ≡ Ok name
+named name short good = rw (fits (length name) short) (rw (spelled-plain name) (rw good refl))
+
+pub wide : (n : ℕ) → wide_meant (plain_wide n) ≡ n
+wide n = div-add-mod' n (2 ^ 64)
+
+pub meant : (e : Event) → HasNames e → event_meant (plain_event e) ≡ Ok e
+meant (event.Command (MakeTicket amount currency)) (short, good) = ap (result_map (λ n. event.Command (MakeTicket amount n))) (named currency short good)
+meant (event.Command (RemoveTicket ticket)) has = refl
+meant (event.Command (MakeCurrency name)) (short, good) = ap (result_map (λ n. event.Command (MakeCurrency n))) (named name short good)
+meant (event.Command (RemoveCurrency currency)) (short, good) = ap (result_map (λ n. event.Command (RemoveCurrency n))) (named currency short good)
+meant (event.Command (Fund ticket target)) (short, good) = ap (result_map (λ n. event.Command (Fund ticket n))) (named target short good)
+meant (event.Command (Unfund ticket)) has = refl
+meant (event.Command (MakeThread name script)) (short, good) = ap (result_map (λ n. event.Command (MakeThread n script))) (named name short good)
+meant (event.Command (MakeFunded amount currency name script)) ((short, good), (short', good')) =
+    ap (λ m. result_and_then m (λ c. result_map (λ n. event.Command (MakeFunded amount c n script)) (name_meant (plain_name name)))) (named currency short good)
+    ∙ ap (result_map (λ n. event.Command (MakeFunded amount currency n script))) (named name short' good')
+meant (event.Command (Listing Tickets)) has = refl
+meant (event.Command (Listing Currencies)) has = refl
+meant (event.Command (Listing Threads)) has = refl
+meant (event.Draw p d) has = refl
+meant (event.Expire p) has = refl
+meant (event.Trap p ran action.Yield) has = refl
+meant (event.Trap p ran (action.Call port number)) has = refl
+meant (event.Trap p ran (action.Receive port)) has = refl
+meant (event.Trap p ran (action.Reply number)) has = refl
+meant (event.Trap p ran (action.Lock mutex)) has = refl
+meant (event.Trap p ran (action.Unlock mutex d)) has = refl
+meant (event.Trap p ran action.Exit) has = refl
+
+-- ---- replies
+
+-- what is at the place in the list, or else the first of it
+abbrev pick : {X : Type 0} → X → List X → ℕ → X
+pick first others n = unwrap_or (slice_get (first ∷ others) n) first
+
+abbrev if_so : {X : Type 0} → Bool → X → Option X
+if_so true x = Some x
+if_so false x = None
+
+abbrev refusal_of : ℕ → Refusal
+refusal_of = pick refusal.BadName (refusal.BadName ∷ refusal.NameTaken ∷ refusal.NoCurrency ∷ refusal.NoTicket ∷ refusal.NoTarget ∷ refusal.BadAmount ∷ refusal.InUse ∷ refusal.Funding ∷ refusal.NotFunding
+    ∷ refusal.Cycle ∷ refusal.BaseFixed ∷ refusal.DeadThread ∷ refusal.Full ∷ refusal.NoScript ∷ refusal.BadProcessor ∷ refusal.Busy ∷ refusal.NotRunning ∷ refusal.BadTicks ∷ [])
+
+abbrev trap_refusal_of : ℕ → TrapRefusal
+trap_refusal_of = pick trap.NoPort (trap.NoPort ∷ trap.NothingToReply ∷ trap.NoMutex ∷ trap.NotOwner ∷ trap.AlreadyOwner ∷ trap.LockCycle ∷ [])
+
+abbrev outcome_of : PlainReply → Outcome
+outcome_of r = pick outcome.Exited (outcome.Yielded ∷ outcome.ServedBy r.other ∷ outcome.Queued ∷ outcome.Waits ∷ outcome.Received r.other r.sent ∷ outcome.Replied r.other ∷ outcome.Locked ∷ outcome.Freed
+    ∷ outcome.Passed r.other (if_so r.has_draw (r.number.low, r.total.low)) ∷ outcome.Exited ∷ outcome.Refused (trap_refusal_of r.reason) ∷ []) r.outcome
+
+abbrev reply_of : PlainReply → Reply
+reply_of r = pick reply.Idle (reply.Ticket r.ticket ∷ reply.Currency r.currency ∷ reply.Thread r.thread ∷ reply.Funded r.ticket r.thread ∷ reply.Done ∷ reply.List Tickets ∷ reply.List Currencies ∷ reply.List Threads
+    ∷ reply.Winner r.thread (wide_meant r.number) (wide_meant r.total) (if_so r.has_sent r.sent) ∷ reply.Idle ∷ reply.Expired r.thread r.ticks ∷ reply.Trapped r.thread r.ticks (outcome_of r) r.ends
+    ∷ reply.Refused (refusal_of r.reason) ∷ []) r.kind
+
+refusals : (why : Refusal) → refusal_of (Rattle.lot_c.specs.Replies.refusal_code why) ≡ why
+refusals refusal.BadName = refl
+refusals refusal.NameTaken = refl
+refusals refusal.NoCurrency = refl
+refusals refusal.NoTicket = refl
+refusals refusal.NoTarget = refl
+refusals refusal.BadAmount = refl
+refusals refusal.InUse = refl
+refusals refusal.Funding = refl
+refusals refusal.NotFunding = refl
+refusals refusal.Cycle = refl
+refusals refusal.BaseFixed = refl
+refusals refusal.DeadThread = refl
+refusals refusal.Full = refl
+refusals refusal.NoScript = refl
+refusals refusal.BadProcessor = refl
+refusals refusal.Busy = refl
+refusals refusal.NotRunning = refl
+refusals refusal.BadTicks = refl
+
+trap_refusals : (why : TrapRefusal) → trap_refusal_of (Rattle.lot_c.specs.Replies.trap_refusal_code why) ≡ why
+trap_refusals trap.NoPort = refl
+trap_refusals trap.NothingToReply = refl
+trap_refusals trap.NoMutex = refl
+trap_refusals trap.NotOwner = refl
+trap_refusals trap.AlreadyOwner = refl
+trap_refusals trap.LockCycle = refl
+
+outcomes : (o : Outcome) → outcome_of (plain_outcome o) ≡ o
+outcomes outcome.Yielded = refl
+outcomes (outcome.ServedBy server) = refl
+outcomes outcome.Queued = refl
+outcomes outcome.Waits = refl
+outcomes (outcome.Received client number) = refl
+outcomes (outcome.Replied client) = refl
+outcomes outcome.Locked = refl
+outcomes outcome.Freed = refl
+outcomes (outcome.Passed to None) = refl
+outcomes (outcome.Passed to (Some d)) = refl
+outcomes outcome.Exited = refl
+outcomes (outcome.Refused why) = ap outcome.Refused (trap_refusals why)
+
+shown : (r : Reply) → reply_of (plain_reply r) ≡ r
+shown (reply.Ticket ticket) = refl
+shown (reply.Currency currency) = refl
+shown (reply.Thread thread) = refl
+shown (reply.Funded ticket thread) = refl
+shown reply.Done = refl
+shown (reply.List Tickets) = refl
+shown (reply.List Currencies) = refl
+shown (reply.List Threads) = refl
+shown (reply.Winner thread number total None) = ap (λ n. reply.Winner thread n (wide_meant (plain_wide total)) None) (wide number) ∙ ap (λ n. reply.Winner thread number n None) (wide total)
+shown (reply.Winner thread number total (Some d)) = ap (λ n. reply.Winner thread n (wide_meant (plain_wide total)) (Some d)) (wide number) ∙ ap (λ n. reply.Winner thread number n (Some d)) (wide total)
+shown reply.Idle = refl
+shown (reply.Expired thread ticks) = refl
+shown (reply.Trapped thread ticks o ends) = ap (λ x. reply.Trapped thread ticks x ends) (outcomes o)
+shown (reply.Refused why) = ap reply.Refused (refusals why)
+
+pub replies : (one other : Reply) → plain_reply one ≡ plain_reply other → one ≡ other
+replies one other same = sym (shown one) ∙ ap reply_of same ∙ shown other
+
+-- ---- statuses
+
+abbrev status_of : PlainStatus → Status
+status_of s = pick status.Dead (status.Ready ∷ status.Running s.processor s.used ∷ status.Receiving s.other ∷ status.Queued s.other ∷ status.Served s.other ∷ status.Waiting s.other ∷ status.Dead ∷ []) s.kind
+
+doing : (s : Status) → status_of (plain_status s) ≡ s
+doing status.Ready = refl
+doing (status.Running p used) = refl
+doing (status.Receiving port) = refl
+doing (status.Queued port) = refl
+doing (status.Served server) = refl
+doing (status.Waiting mutex) = refl
+doing status.Dead = refl
+
+pub statuses : (one other : Status) → plain_status one ≡ plain_status other → one ≡ other
+statuses one other same = sym (doing one) ∙ ap status_of same ∙ doing other

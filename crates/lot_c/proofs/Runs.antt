@@ -1,0 +1,34 @@
+-- Events in order, a step at a time.
+use Rattle.std.proofs.Common.{◌≡◌, ℕ, ◌+◌, ◌<◌, List, [], ◌∷◌, ◌++◌, length, get_or, take, drop, set, Ok, ap, arith}
+use Rattle.std.proofs.lemmas.List.{drop_more, take_more_set, drop-set-lt, append_assoc}
+use Rattle.lot_machine.specs.declared.event.Event.{Event}
+use Rattle.lot_machine.specs.State.{State}
+use Rattle.lot_machine.specs.Step.{step}
+use Rattle.lot_c.specs.declared.event.PlainEvent.{PlainEvent}
+use Rattle.lot_c.specs.declared.reply.PlainReply.{PlainReply}
+use Rattle.lot_c.specs.Calls.{events_meant, first_fault, in_front, fault_or, replies_written, written_by}
+use Rattle.lot_c.specs.Events.{event_meant}
+use Rattle.lot_c.specs.Replies.{plain_reply}
+
+module _ (es : List PlainEvent) (i : ℕ) (d : PlainEvent) (e : Event) (below : i < length es) (ok : event_meant (get_or es i d) ≡ Ok e) where
+  -- an event that is meant comes first of those that are left
+  pub meant-more : events_meant (drop i es) ≡ e ∷ events_meant (drop (i + 1) es)
+  meant-more = rw (drop_more es i d below) (ap (λ m. in_front m (events_meant (drop (i + 1) es))) ok)
+
+  -- and it isn't at fault
+  pub fault-more : first_fault (drop i es) ≡ first_fault (drop (i + 1) es)
+  fault-more = rw (drop_more es i d below) (ap (λ m. fault_or m (first_fault (drop (i + 1) es))) ok)
+
+  module _ (s : State) (rs : List PlainReply) (room : i < length rs) where
+    abbrev r : PlainReply
+    r = plain_reply (step s e).reply
+
+    -- its reply is written, and then the others
+    pub written-more : replies_written s (drop i es) (drop i rs) ≡ r ∷ replies_written (step s e).state (drop (i + 1) es) (drop (i + 1) rs)
+    written-more = rw (drop_more es i d below) (rw (drop_more rs i r room)
+        (ap (λ m. written_by s m (get_or rs i r) (λ after. replies_written after (drop (i + 1) es) (drop (i + 1) rs)) (drop (i + 1) rs)) ok))
+
+    -- what is written so far and what is left come to the same after it
+    pub written-step : take (i + 1) (set rs i r) ++ replies_written (step s e).state (drop (i + 1) es) (drop (i + 1) (set rs i r)) ≡ take i rs ++ replies_written s (drop i es) (drop i rs)
+    written-step = rw (take_more_set rs i r room) (rw (drop-set-lt (i + 1) rs i r (omega arith)) (rw written-more
+        (append_assoc (take i rs) (r ∷ []) (replies_written (step s e).state (drop (i + 1) es) (drop (i + 1) rs)))))

@@ -1,0 +1,23 @@
+use Rattle.std.proofs.Common.{◌≡◌, ◌<◌, length, refl, sym, ap, ◌∙◌, arith}
+use Rattle.std.proofs.lemmas.List.{length-set}
+use Rattle.lot_machine.specs.Step.{step, state_after}
+use Rattle.lot_c.specs.Replies.{plain_reply}
+use Rattle.lot_c.proofs.Runs.{meant-more, fault-more, written-step}
+use Rattle.lot_c.proofs.events.answer_all.Goals as goal
+
+pub loop-i-preserved : goal.loop-i-preserved
+loop-i-preserved c =
+    let es = c.args.events.now in let i = c.loop-i.i in let rs = c.loop-i.replies in let s = c.loop-i.kernel.state in let e = c.in-Ok.event in
+    let kept = c.loop-i.invariant in
+    let below : i < length es = omega (arith, c.loop-i-test.true) in
+    let room : i < length rs = omega (arith, c.loop-i-test.true, kept.lengths) in
+    let ok = sym c.read.ensures ∙ c.in-Ok.is in
+    let reply : c.of.result ≡ plain_reply (step s e).reply = c.of.ensures ∙ ap plain_reply c.event.ensures.reply in
+    record {
+      told = rw reply (rw c.event.ensures.state (written-step es i _ e below ok s rs room ∙ kept.told));
+      state = rw c.event.ensures.state (sym (ap (state_after s) (meant-more es i _ e below ok)) ∙ kept.state);
+      fault = sym (fault-more es i _ e below ok) ∙ kept.fault;
+      counted = omega (arith, kept.counted, ap length (meant-more es i _ e below ok));
+      done = refl;
+      lengths = kept.lengths ∙ sym (length-set rs i c.of.result);
+    }

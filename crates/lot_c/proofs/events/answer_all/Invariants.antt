@@ -1,0 +1,15 @@
+use Rattle.std.proofs.Common.{◌≡◌, ◌+◌, ◌++◌, length, take, drop}
+use Rattle.lot_machine.specs.Step.{state_after}
+use Rattle.lot_c.specs.Calls.{events_meant, first_fault, replies_written}
+use Rattle.lot_c.proofs.events.answer_all.Given as goal
+
+-- what was done so far and what is left to do come to the whole
+abbrev pub invariant-loop-i : goal.invariant-loop-i
+invariant-loop-i l = record {
+  told : take l.i l.replies ++ replies_written l.kernel.state (drop l.i l.events) (drop l.i l.replies) ≡ replies_written l.fn.kernel.state l.events l.fn.replies;
+  state : state_after l.kernel.state (events_meant (drop l.i l.events)) ≡ state_after l.fn.kernel.state (events_meant l.events);
+  fault : first_fault (drop l.i l.events) ≡ first_fault l.events;
+  counted : l.i + length (events_meant (drop l.i l.events)) ≡ length (events_meant l.events);
+  done : l.done ≡ l.i;
+  lengths : length l.events ≡ length l.replies;
+}

@@ -1,0 +1,127 @@
+-- What calls do to a kernel that C holds.
+use Rattle.std.specs.Prelude.{◌≡◌, ◌⊎◌, ℕ, Option, None, Some, IfSome, IsSomeAnd, Ok, Err, List, [], ◌∷◌, Result, length, ◌<◌, ◌≤◌}
+use Rattle.lot_machine.specs.declared.event.Event.{Event}
+use Rattle.lot_machine.specs.declared.row.TicketRow.{TicketRow}
+use Rattle.lot_machine.specs.declared.row.CurrencyRow.{CurrencyRow}
+use Rattle.lot_machine.specs.declared.row.ThreadRow.{ThreadRow}
+use Rattle.lot_machine.specs.declared.ticket.Ticket.{Ticket}
+use Rattle.lot_machine.specs.Bounds.{IsWithinBounds}
+use Rattle.lot_machine.specs.Facts.{IsSound}
+use Rattle.lot_machine.specs.Funding.{ticket_in}
+use Rattle.lot_machine.specs.Numbered.{at_number}
+use Rattle.lot_machine.specs.Rows as rows
+use Rattle.lot_machine.specs.State.{State, thread_on, used_by}
+use Rattle.lot_machine.specs.Step.{step, state_after}
+use Rattle.lot_kernel.specs.Counted.{Counts, settled, with_ticket_read}
+use Rattle.lot_kernel.specs.Snapshots.{Snapshot, MakesStale, starting}
+use Rattle.lot_c.specs.declared.event.PlainEvent.{PlainEvent}
+use Rattle.lot_c.specs.declared.reply.PlainReply.{PlainReply}
+use Rattle.lot_c.specs.declared.rows.PlainTicketRow.{PlainTicketRow}
+use Rattle.lot_c.specs.declared.rows.PlainCurrencyRow.{PlainCurrencyRow}
+use Rattle.lot_c.specs.declared.rows.PlainThreadRow.{PlainThreadRow}
+use Rattle.lot_c.specs.declared.sizes.PlainRunner.{PlainRunner}
+use Rattle.lot_c.specs.declared.sizes.PlainSizes.{PlainSizes}
+use Rattle.lot_c.specs.declared.status.Status.{Status}
+use Rattle.lot_c.specs.declared.status.Status.TheVariants.{Done, KernelThere, BadLimits, NoMemory, NotThere}
+use Rattle.lot_c.specs.Counts.{sizes_meant}
+use Rattle.lot_c.specs.Events.{event_meant}
+use Rattle.lot_c.specs.Replies.{plain_reply}
+use Rattle.lot_c.specs.Rows.{plain_ticket_row, plain_currency_row, plain_thread_row}
+use Rattle.lot_c.specs.Statuses.{code}
+
+-- A call of a handle that holds what is before it, and then what is after it: of one that holds no kernel the first is true, and it
+-- still holds none; of one that holds a kernel the second is true of it before and after.
+abbrev pub Through : Option Snapshot → Option Snapshot → Type 0 → (Snapshot → Snapshot → Type 0) → Type 0
+Through None after none found = (after ≡ None) × none
+Through (Some before) after none found = IsSomeAnd after (found before)
+
+-- How a kernel is made: not if one is there, not with limits out of their bounds, and else as a machine at its start, or for want of
+-- memory not at all.
+pub record Opens (sizes : PlainSizes) (status : ℕ) (old new : Option Snapshot) : Type 0 where
+  pub there : (k : Snapshot) → old ≡ Some k → (status ≡ code KernelThere) × (new ≡ Some k)
+  pub limits : old ≡ None → ¬ IsWithinBounds (sizes_meant sizes) → (status ≡ code BadLimits) × (new ≡ None)
+  pub made : old ≡ None → IsWithinBounds (sizes_meant sizes) → ((status ≡ code Done) × (new ≡ Some (starting (sizes_meant sizes)))) ⊎ ((status ≡ code NoMemory) × (new ≡ None))
+
+-- the kernel after an event: the machine's state, which is sound, and what is stale and was counted as a kernel's own call says
+pub record Answers (e : Event) (old new : Snapshot) : Type 0 where
+  pub state : new.state ≡ (step old.state e).state
+  pub sound : IsSound new.state
+  pub stale : MakesStale old new
+  pub counts : Counts e (step old.state e).reply old new
+
+-- Fields are handed in for an event. If they mean one, its reply is written; else nothing is changed, and the status says why.
+pub record IsAnswered (fields : PlainEvent) (status : ℕ) (old new : Snapshot) (before after : PlainReply) : Type 0 where
+  pub reply : (e : Event) → event_meant fields ≡ Ok e → (status ≡ code Done) × (after ≡ plain_reply (step old.state e).reply)
+  pub kernel : (e : Event) → event_meant fields ≡ Ok e → Answers e old new
+  pub fault : (why : Status) → event_meant fields ≡ Err why → (status ≡ code why) × (new ≡ old) × (after ≡ before)
+
+-- ---- many events
+
+-- with one event more in front, if it is meant
+abbrev pub in_front : Result Event Status → List Event → List Event
+in_front (Ok e) events = e ∷ events
+in_front (Err why) events = []
+
+-- the events up to the first fields that mean none
+abbrev pub events_meant : List PlainEvent → List Event
+events_meant [] = []
+events_meant (fields ∷ others) = in_front (event_meant fields) (events_meant others)
+
+-- why it is none, or else this
+abbrev pub fault_or : Result Event Status → Status → Status
+fault_or (Ok e) other = other
+fault_or (Err why) other = why
+
+-- why the first fields that mean no event mean none, or Done
+abbrev pub first_fault : List PlainEvent → Status
+first_fault [] = Done
+first_fault (fields ∷ others) = fault_or (event_meant fields) (first_fault others)
+
+-- the replies with the first one written by the machine, and the others so too, if an event is meant
+abbrev pub written_by : State → Result Event Status → PlainReply → (State → List PlainReply) → List PlainReply → List PlainReply
+written_by s (Ok e) reply next others = plain_reply (step s e).reply ∷ next (step s e).state
+written_by s (Err why) reply next others = reply ∷ others
+
+-- the replies to events in order up to the first fields that mean none, and what stood there before after them
+abbrev pub replies_written : State → List PlainEvent → List PlainReply → List PlainReply
+replies_written s (fields ∷ events) (reply ∷ others) = written_by s (event_meant fields) reply (λ after. replies_written after events others) others
+replies_written s events others = others
+
+-- Fields are handed in for events in order.
+pub record AreAnswered (fields : List PlainEvent) (status done : ℕ) (old new : Snapshot) (before after : List PlainReply) : Type 0 where
+  pub status_is : status ≡ code (first_fault fields)
+  pub done_are : done ≡ length (events_meant fields)
+  pub replies : after ≡ replies_written old.state fields before
+  pub state : new.state ≡ state_after old.state (events_meant fields)
+
+-- ---- what is shown
+
+-- the row of a ticket, if it is there; as at a kernel, what is stale is computed, and counted
+pub record ShowsTicket (ticket status : ℕ) (old new : Snapshot) (before after : PlainTicketRow) : Type 0 where
+  pub row : (t : TicketRow) → rows.ticket_row old.state ticket ≡ Some t → (status ≡ code Done) × (after ≡ plain_ticket_row t)
+  pub not_there : rows.ticket_row old.state ticket ≡ None → (status ≡ code NotThere) × (new ≡ old) × (after ≡ before)
+  pub state : new.state ≡ old.state
+  pub reads : (t : Ticket) → ticket_in old.state.tickets ticket ≡ Some t → new ≡ record (settled old) { meter = with_ticket_read (settled old).meter t }
+
+-- the row of a currency, if it is there
+pub record ShowsCurrency (currency status : ℕ) (old new : Snapshot) (before after : PlainCurrencyRow) : Type 0 where
+  pub row : (r : CurrencyRow) → rows.currency_row old.state currency ≡ Some r → (status ≡ code Done) × (after ≡ plain_currency_row r) × (new ≡ settled old)
+  pub not_there : rows.currency_row old.state currency ≡ None → (status ≡ code NotThere) × (new ≡ old) × (after ≡ before)
+  pub state : new.state ≡ old.state
+
+-- the row of a thread, if there is one
+pub record ShowsThread (thread status : ℕ) (old new : Snapshot) (before after : PlainThreadRow) : Type 0 where
+  pub row : (r : ThreadRow) → rows.thread_row old.state thread ≡ Some r → (status ≡ code Done) × (after ≡ plain_thread_row r) × (new ≡ settled old)
+  pub not_there : rows.thread_row old.state thread ≡ None → (status ≡ code NotThere) × (new ≡ old) × (after ≡ before)
+  pub state : new.state ≡ old.state
+
+-- who runs on a processor, if somebody does
+pub record ShowsRunner (processor status : ℕ) (k : Snapshot) (before after : PlainRunner) : Type 0 where
+  pub nobody : thread_on k.state.records processor ≡ None → (status ≡ code NotThere) × (after ≡ before)
+  pub runs : (t : ℕ) → thread_on k.state.records processor ≡ Some t → (status ≡ code Done) × (after.thread ≡ t) × (used_by k.state.records processor t ≡ Some after.used)
+  pub there : (t : ℕ) → thread_on k.state.records processor ≡ Some t → (0 < after.thread) × (after.thread ≤ length k.state.records) × (after.used < k.state.limits.quantum)
+
+-- the script with which a thread was made, if there is such a thread
+pub record ShowsScript (thread status : ℕ) (k : Snapshot) (before after : ℕ) : Type 0 where
+  pub none : at_number k.state.threads thread ≡ None → (status ≡ code NotThere) × (after ≡ before)
+  pub script : IfSome (at_number k.state.threads thread) (λ t. (status ≡ code Done) × (after ≡ t.script))

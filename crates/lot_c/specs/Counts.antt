@@ -1,0 +1,39 @@
+-- Sizes, counts and who runs, in plain fields.
+use Rattle.lot_machine.specs.declared.sizes.Sizes.{Sizes}
+use Rattle.lot_threads.specs.declared.runners.Runner.{Runner}
+use Rattle.lot_value.specs.declared.meter.Meter.{Meter}
+use Rattle.lot_c.specs.declared.sizes.PlainSizes.{PlainSizes}
+use Rattle.lot_c.specs.declared.sizes.PlainMeter.{PlainMeter}
+use Rattle.lot_c.specs.declared.sizes.PlainRunner.{PlainRunner}
+
+abbrev pub plain_sizes : Sizes → PlainSizes
+plain_sizes s = record {
+  tickets = s.tickets;
+  currencies = s.currencies;
+  threads = s.threads;
+  ports = s.ports;
+  mutexes = s.mutexes;
+  processors = s.processors;
+  scripts = s.scripts;
+  quantum = s.quantum;
+  unit = s.unit;
+}
+
+abbrev pub sizes_meant : PlainSizes → Sizes
+sizes_meant s = record {
+  tickets = s.tickets;
+  currencies = s.currencies;
+  threads = s.threads;
+  ports = s.ports;
+  mutexes = s.mutexes;
+  processors = s.processors;
+  scripts = s.scripts;
+  quantum = s.quantum;
+  unit = s.unit;
+}
+
+abbrev pub plain_meter : Meter → PlainMeter
+plain_meter m = record { ticket_reads = m.ticket_reads; tree_visits = m.tree_visits }
+
+abbrev pub plain_runner : Runner → PlainRunner
+plain_runner r = record { thread = r.thread; used = r.used }

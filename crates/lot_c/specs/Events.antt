@@ -1,0 +1,70 @@
+-- What plain fields mean as an event.
+use Rattle.std.specs.Prelude.{ℕ, Result, Ok, Err, List, [], ◌∷◌, slice_get, unwrap_or}
+use Rattle.lot_machine.specs.declared.action.Action.{Action}
+use Rattle.lot_machine.specs.declared.action.Action.TheVariants as action
+use Rattle.lot_machine.specs.declared.command.Command.{Command}
+use Rattle.lot_machine.specs.declared.command.Command.TheVariants.{MakeTicket, RemoveTicket, MakeCurrency, RemoveCurrency, Fund, Unfund, MakeThread, MakeFunded, List as Listing}
+use Rattle.lot_machine.specs.declared.command.Kind.TheVariants.{Tickets, Currencies, Threads}
+use Rattle.lot_machine.specs.declared.event.Event.{Event}
+use Rattle.lot_machine.specs.declared.event.Event.TheVariants as event
+use Rattle.lot_c.specs.declared.event.PlainEvent.{PlainEvent}
+use Rattle.lot_c.specs.declared.name.PlainName.{PlainName}
+use Rattle.lot_c.specs.declared.status.Status.{Status}
+use Rattle.lot_c.specs.declared.status.Status.TheVariants.{BadKind}
+use Rattle.lot_c.specs.Names.{name_meant}
+
+-- what is right, changed
+abbrev pub result_map : {X Y : Type 0} → (X → Y) → Result X Status → Result Y Status
+result_map change (Ok x) = Ok (change x)
+result_map change (Err status) = Err status
+
+-- what is right, used
+abbrev pub result_and_then : {X Y : Type 0} → Result X Status → (X → Result Y Status) → Result Y Status
+result_and_then (Ok x) use_it = use_it x
+result_and_then (Err status) use_it = Err status
+
+-- a command
+abbrev asks : Command → Result Event Status
+asks c = Ok (event.Command c)
+
+-- a command that has a name
+abbrev asks_of : PlainName → (List ℕ → Command) → Result Event Status
+asks_of name command = result_map (λ n. event.Command (command n)) (name_meant name)
+
+-- a trap of a thread that runs
+abbrev traps : PlainEvent → Action → Result Event Status
+traps e action = Ok (event.Trap e.processor e.ticks action)
+
+-- fields of no kind
+abbrev means_nothing : PlainEvent → Result Event Status
+means_nothing e = Err BadKind
+
+-- What each kind means, from kind 0.
+abbrev meanings : List (PlainEvent → Result Event Status)
+meanings =
+    means_nothing
+    ∷ (λ e. asks_of e.currency (λ currency. MakeTicket e.amount currency))
+    ∷ (λ e. asks (RemoveTicket e.ticket))
+    ∷ (λ e. asks_of e.name MakeCurrency)
+    ∷ (λ e. asks_of e.currency RemoveCurrency)
+    ∷ (λ e. asks_of e.name (λ target. Fund e.ticket target))
+    ∷ (λ e. asks (Unfund e.ticket))
+    ∷ (λ e. asks_of e.name (λ name. MakeThread name e.script))
+    ∷ (λ e. result_and_then (name_meant e.currency) (λ currency. asks_of e.name (λ name. MakeFunded e.amount currency name e.script)))
+    ∷ (λ e. asks (Listing Tickets))
+    ∷ (λ e. asks (Listing Currencies))
+    ∷ (λ e. asks (Listing Threads))
+    ∷ (λ e. Ok (event.Draw e.processor e.number))
+    ∷ (λ e. Ok (event.Expire e.processor))
+    ∷ (λ e. traps e action.Yield)
+    ∷ (λ e. traps e (action.Call e.object e.sent))
+    ∷ (λ e. traps e (action.Receive e.object))
+    ∷ (λ e. traps e (action.Reply e.sent))
+    ∷ (λ e. traps e (action.Lock e.object))
+    ∷ (λ e. traps e (action.Unlock e.object e.number))
+    ∷ (λ e. traps e action.Exit)
+    ∷ []
+
+-- The event that the fields mean, or why they mean none. Fields that the kind doesn't read may have any value.
+abbrev pub event_meant : PlainEvent → Result Event Status
+event_meant e = (unwrap_or (slice_get meanings e.kind) means_nothing) e

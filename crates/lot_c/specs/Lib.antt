@@ -1,0 +1,11 @@
+pub mod Calls
+pub mod Counts
+pub mod Events
+pub mod Handles
+pub mod Lotteries
+pub mod Names
+pub mod Plain
+pub mod Replies
+pub mod Rows
+pub mod Statuses
+pub mod Wides

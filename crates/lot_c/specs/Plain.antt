@@ -1,0 +1,78 @@
+-- How an event is handed in.
+use Rattle.std.specs.Prelude.{◌≡◌, ◌≤◌, ℕ, List, [], true, length}
+use Rattle.lot_machine.specs.Commands.{is_good_name}
+use Rattle.lot_machine.specs.declared.action.Action.{Action}
+use Rattle.lot_machine.specs.declared.action.Action.TheVariants as action
+use Rattle.lot_machine.specs.declared.command.Command.{Command}
+use Rattle.lot_machine.specs.declared.command.Command.TheVariants.{MakeTicket, RemoveTicket, MakeCurrency, RemoveCurrency, Fund, Unfund, MakeThread, MakeFunded, List as Listing}
+use Rattle.lot_machine.specs.declared.command.Kind.TheVariants.{Tickets, Currencies, Threads}
+use Rattle.lot_machine.specs.declared.event.Event.{Event}
+use Rattle.lot_machine.specs.declared.event.Event.TheVariants as event
+use Rattle.lot_c.specs.declared.event.PlainEvent.{PlainEvent}
+use Rattle.lot_c.specs.Names.{plain_name}
+
+-- all fields 0
+abbrev blank_event : PlainEvent
+blank_event = record {
+  kind = 0;
+  processor = 0;
+  ticks = 0;
+  object = 0;
+  sent = 0;
+  script = 0;
+  number = 0;
+  amount = 0;
+  ticket = 0;
+  currency = plain_name [];
+  name = plain_name [];
+}
+
+-- a name of at most 16 bytes, of those that names have
+abbrev IsName : List ℕ → Type 0
+IsName name = (length name ≤ 16) × (is_good_name name ≡ true)
+
+-- each name of the command is one
+abbrev HasCommandNames : Command → Type 0
+HasCommandNames (MakeTicket amount currency) = IsName currency
+HasCommandNames (MakeCurrency name) = IsName name
+HasCommandNames (RemoveCurrency currency) = IsName currency
+HasCommandNames (Fund ticket target) = IsName target
+HasCommandNames (MakeThread name script) = IsName name
+HasCommandNames (MakeFunded amount currency name script) = IsName currency × IsName name
+HasCommandNames other = Unit {0}
+
+-- each name of the event is one
+abbrev pub HasNames : Event → Type 0
+HasNames (event.Command command) = HasCommandNames command
+HasNames other = Unit {0}
+
+-- a command in plain fields
+abbrev pub plain_command : Command → PlainEvent
+plain_command (MakeTicket amount currency) = record blank_event { kind = 1; amount = amount; currency = plain_name currency }
+plain_command (RemoveTicket ticket) = record blank_event { kind = 2; ticket = ticket }
+plain_command (MakeCurrency name) = record blank_event { kind = 3; name = plain_name name }
+plain_command (RemoveCurrency currency) = record blank_event { kind = 4; currency = plain_name currency }
+plain_command (Fund ticket target) = record blank_event { kind = 5; ticket = ticket; name = plain_name target }
+plain_command (Unfund ticket) = record blank_event { kind = 6; ticket = ticket }
+plain_command (MakeThread name script) = record blank_event { kind = 7; name = plain_name name; script = script }
+plain_command (MakeFunded amount currency name script) = record blank_event { kind = 8; amount = amount; currency = plain_name currency; name = plain_name name; script = script }
+plain_command (Listing Tickets) = record blank_event { kind = 9 }
+plain_command (Listing Currencies) = record blank_event { kind = 10 }
+plain_command (Listing Threads) = record blank_event { kind = 11 }
+
+-- a trap in plain fields
+abbrev pub plain_trap : ℕ → ℕ → Action → PlainEvent
+plain_trap p ran action.Yield = record blank_event { kind = 14; processor = p; ticks = ran }
+plain_trap p ran (action.Call port number) = record blank_event { kind = 15; processor = p; ticks = ran; object = port; sent = number }
+plain_trap p ran (action.Receive port) = record blank_event { kind = 16; processor = p; ticks = ran; object = port }
+plain_trap p ran (action.Reply number) = record blank_event { kind = 17; processor = p; ticks = ran; sent = number }
+plain_trap p ran (action.Lock mutex) = record blank_event { kind = 18; processor = p; ticks = ran; object = mutex }
+plain_trap p ran (action.Unlock mutex d) = record blank_event { kind = 19; processor = p; ticks = ran; object = mutex; number = d }
+plain_trap p ran action.Exit = record blank_event { kind = 20; processor = p; ticks = ran }
+
+-- an event in plain fields
+abbrev pub plain_event : Event → PlainEvent
+plain_event (event.Command command) = plain_command command
+plain_event (event.Draw p d) = record blank_event { kind = 12; processor = p; number = d }
+plain_event (event.Expire p) = record blank_event { kind = 13; processor = p }
+plain_event (event.Trap p ran action) = plain_trap p ran action

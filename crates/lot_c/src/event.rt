@@ -1,0 +1,169 @@
+//! Events in plain fields.
+ghost use Rattle.std.specs.Prelude.{◌≡◌, Ok};
+ghost use Rattle.lot_machine.specs.Bounds.{IsBetween};
+ghost use Rattle.lot_machine.specs.declared.event.Event.TheVariants as event;
+ghost use Rattle.lot_c.specs.Events.{event_meant, result_map};
+
+use crate::name::PlainName;
+use crate::status::Status;
+use lot_machine::{Action, Command, Event, Kind};
+
+/// No kind: fields that are all 0 mean nothing.
+const NONE: u32 = 0;
+
+const MAKE_TICKET: u32 = 1;
+
+const REMOVE_TICKET: u32 = 2;
+
+const MAKE_CURRENCY: u32 = 3;
+
+const REMOVE_CURRENCY: u32 = 4;
+
+const FUND: u32 = 5;
+
+const UNFUND: u32 = 6;
+
+const MAKE_THREAD: u32 = 7;
+
+const MAKE_FUNDED: u32 = 8;
+
+const LIST_TICKETS: u32 = 9;
+
+const LIST_CURRENCIES: u32 = 10;
+
+const LIST_THREADS: u32 = 11;
+
+const DRAW: u32 = 12;
+
+const EXPIRE: u32 = 13;
+
+const YIELD: u32 = 14;
+
+const CALL: u32 = 15;
+
+const RECEIVE: u32 = 16;
+
+const REPLY: u32 = 17;
+
+const LOCK: u32 = 18;
+
+const UNLOCK: u32 = 19;
+
+const EXIT: u32 = 20;
+
+/// An event in plain fields. Its kind says which of the others are read.
+#[repr(C)]
+#[derive(Clone, Copy)]
+pub struct PlainEvent {
+    pub kind: u32,
+    /// The processor of a draw, an expiry or a trap, from 1.
+    pub processor: u32,
+    /// The ticks of work before a trap.
+    pub ticks: u32,
+    /// The port or the mutex of a trap, from 1.
+    pub object: u32,
+    /// The number that a call or a reply sends.
+    pub sent: u32,
+    /// The script of a new thread, from 1; 0 is none.
+    pub script: u32,
+    /// The drawn number of a draw or an unlock.
+    pub number: u64,
+    pub amount: u64,
+    pub ticket: u64,
+    /// The currency that issues a ticket, or that is removed.
+    pub currency: PlainName,
+    /// The name of a new currency or thread, or of what is to be funded.
+    pub name: PlainName,
+}
+
+impl PlainEvent {
+    /// The event that is meant, or why none is.
+    pub(crate) fn read(&self) -> Result<Event, Status>
+        ensures { result ≡ event_meant self.now }
+    {
+        if self.kind == NONE || self.kind > EXIT {
+            return Err(Status::BadKind);
+        }
+        if self.kind < DRAW {
+            return Ok(Event::Command(self.read_command()?));
+        }
+        Ok(self.read_turn())
+    }
+
+    /// The command that is meant, or why none is.
+    fn read_command(&self) -> Result<Command, Status>
+        requires kind { IsBetween 1 11 self.now.kind }
+        ensures { event_meant self.now ≡ result_map event.Command result }
+    {
+        match self.kind {
+            MAKE_TICKET => Ok(Command::MakeTicket {
+                amount: self.amount,
+                currency: self.currency.read()?,
+            }),
+            REMOVE_TICKET => Ok(Command::RemoveTicket {
+                ticket: self.ticket,
+            }),
+            MAKE_CURRENCY => Ok(Command::MakeCurrency {
+                name: self.name.read()?,
+            }),
+            REMOVE_CURRENCY => Ok(Command::RemoveCurrency {
+                currency: self.currency.read()?,
+            }),
+            FUND => Ok(Command::Fund {
+                ticket: self.ticket,
+                target: self.name.read()?,
+            }),
+            UNFUND => Ok(Command::Unfund {
+                ticket: self.ticket,
+            }),
+            MAKE_THREAD => Ok(Command::MakeThread {
+                name: self.name.read()?,
+                script: self.script,
+            }),
+            MAKE_FUNDED => self.read_funded(),
+            LIST_TICKETS => Ok(Command::List(Kind::Tickets)),
+            LIST_CURRENCIES => Ok(Command::List(Kind::Currencies)),
+            LIST_THREADS => Ok(Command::List(Kind::Threads)),
+            _ => unreachable!(),
+        }
+    }
+
+    /// The thread with its ticket that is asked for, or why none is.
+    fn read_funded(&self) -> Result<Command, Status>
+        requires kind { self.now.kind ≡ 8 }
+        ensures { event_meant self.now ≡ result_map event.Command result }
+    {
+        Ok(Command::MakeFunded {
+            amount: self.amount,
+            currency: self.currency.read()?,
+            name: self.name.read()?,
+            script: self.script,
+        })
+    }
+
+    /// The draw, expiry or trap that is meant.
+    fn read_turn(&self) -> Event
+        requires kind { IsBetween 12 20 self.now.kind }
+        ensures { event_meant self.now ≡ Ok result }
+    {
+        match self.kind {
+            DRAW => Event::Draw(self.processor, self.number),
+            EXPIRE => Event::Expire(self.processor),
+            YIELD => self.trap(Action::Yield),
+            CALL => self.trap(Action::Call(self.object, self.sent)),
+            RECEIVE => self.trap(Action::Receive(self.object)),
+            REPLY => self.trap(Action::Reply(self.sent)),
+            LOCK => self.trap(Action::Lock(self.object)),
+            UNLOCK => self.trap(Action::Unlock(self.object, self.number)),
+            EXIT => self.trap(Action::Exit),
+            _ => unreachable!(),
+        }
+    }
+
+    /// The trap that does this.
+    fn trap(&self, action: Action) -> Event
+        ensures { result ≡ event.Trap self.now.processor self.now.ticks action }
+    {
+        Event::Trap(self.processor, self.ticks, action)
+    }
+}

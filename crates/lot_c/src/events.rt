@@ -1,0 +1,89 @@
+//! Events through a handle.
+ghost use Rattle.std.specs.Prelude.{◌≡◌, ◌≢◌, length};
+ghost use Rattle.lot_c.specs.declared.status.Status.TheVariants.{CountsDiffer, NoKernel};
+ghost use Rattle.lot_c.specs.Calls.{AreAnswered, IsAnswered, Through};
+ghost use Rattle.lot_c.specs.Statuses.{code};
+
+use crate::event::PlainEvent;
+use crate::handle::Handle;
+use crate::reply::PlainReply;
+use crate::status::Status;
+use lot_kernel::Kernel;
+use std::alloc::Global;
+
+/// One event. If the fields mean none, nothing is changed.
+#[unsafe(no_mangle)]
+pub extern "C" fn lot_kernel_event(
+    alloc: Global,
+    kernel: &mut Handle,
+    event: &PlainEvent,
+    reply: &mut PlainReply,
+) -> u32
+    ensures { Through kernel.old.kernel kernel.new.kernel ((result ≡ code NoKernel) × (reply.new ≡ reply.old)) (λ old new. IsAnswered event.now result old new reply.old reply.new) }
+{
+    let Some(mut held) = kernel.take(alloc) else {
+        return Status::NoKernel.code();
+    };
+    let code = answer(&mut held, event, reply);
+    kernel.put(held);
+    code
+}
+
+/// One event, if the fields mean one.
+fn answer(kernel: &mut Kernel, event: &PlainEvent, reply: &mut PlainReply) -> u32
+    ensures { IsAnswered event.now result kernel.old kernel.new reply.old reply.new }
+{
+    match event.read() {
+        Err(why) => why.code(),
+        Ok(event) => {
+            *reply = PlainReply::of(kernel.event(&event));
+            Status::Done.code()
+        }
+    }
+}
+
+/// Events in order, up to the first fields that mean none, and how many were done. There have to be as many replies.
+#[unsafe(no_mangle)]
+pub extern "C" fn lot_kernel_run(
+    alloc: Global,
+    kernel: &mut Handle,
+    events: &[PlainEvent],
+    replies: &mut [PlainReply],
+    done: &mut usize,
+) -> u32
+    ensures differ { length events.now ≢ length replies.old → (result ≡ code CountsDiffer) × (kernel.new.kernel ≡ kernel.old.kernel) × (replies.new ≡ replies.old) × (done.new ≡ done.old) }
+    ensures answers { length events.now ≡ length replies.old → Through kernel.old.kernel kernel.new.kernel ((result ≡ code NoKernel) × (replies.new ≡ replies.old) × (done.new ≡ done.old)) (λ old new. AreAnswered events.now result done.new old new replies.old replies.new) }
+{
+    if events.len() != replies.len() {
+        return Status::CountsDiffer.code();
+    }
+    let Some(mut held) = kernel.take(alloc) else {
+        return Status::NoKernel.code();
+    };
+    let code = answer_all(&mut held, events, replies, done);
+    kernel.put(held);
+    code
+}
+
+/// Events in order, up to the first fields that mean none, and how many were done.
+fn answer_all(
+    kernel: &mut Kernel,
+    events: &[PlainEvent],
+    replies: &mut [PlainReply],
+    done: &mut usize,
+) -> u32
+    requires { length events.now ≡ length replies.old }
+    ensures { AreAnswered events.now result done.new kernel.old kernel.new replies.old replies.new }
+{
+    *done = 0;
+    for i in 0..events.len() {
+        match events[i].read() {
+            Err(why) => return why.code(),
+            Ok(event) => {
+                replies[i] = PlainReply::of(kernel.event(&event));
+                *done = i + 1;
+            }
+        }
+    }
+    Status::Done.code()
+}

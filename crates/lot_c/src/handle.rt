@@ -1,0 +1,83 @@
+//! What C holds of a kernel.
+ghost use Rattle.std.specs.Prelude.{◌≡◌, None, Some, MatchOption};
+ghost use Rattle.lot_c.specs.Handles.{KernelValue, handle_owns, kernel_coded};
+
+use crate::parts::Parts;
+use lot_kernel::Kernel;
+use std::alloc::Global;
+use std::marker::{Model, Send};
+use std::mem;
+use std::ptr::null_mut;
+
+/// What C holds of a kernel: a pointer that C never looks behind, null if there is no kernel.
+#[repr(C)]
+pub struct Handle {
+    at: *mut u8,
+    alloc: Global,
+    pub ghost kernel: { KernelValue } by { kernel_coded },
+}
+
+impl Model for Handle {
+    ghost also_owns = { λ h. handle_owns h.alloc h.at h.kernel };
+}
+
+/// A kernel shares nothing, so it may go from thread to thread.
+unsafe impl Send for Handle {}
+
+impl Drop for Handle {
+    fn drop(self) {
+        if let Some(parts) = self.into_parts() {
+            drop(parts.into_box());
+        }
+    }
+}
+
+impl Handle {
+    /// A handle of no kernel.
+    fn empty(alloc: Global) -> Handle
+        ensures { result.kernel ≡ None }
+    {
+        Handle {
+            at: null_mut(),
+            alloc,
+        }
+    }
+
+    /// A handle of the kernel of which these are the parts.
+    fn filled(parts: Parts<Kernel, Global>) -> Handle
+        ensures { result.kernel ≡ Some parts.value }
+    {
+        let Parts { at, alloc } = parts;
+        let at = at as *mut u8;
+        Handle { at, alloc }
+    }
+
+    /// The parts of its kernel, `None` if it has none.
+    fn into_parts(self) -> Option<Parts<Kernel, Global>>
+        ensures { MatchOption result (self.kernel ≡ None) (λ p. self.kernel ≡ Some p.value) }
+    {
+        let Handle { at, alloc } = self;
+        if at.is_null() {
+            None
+        } else {
+            let at = at as *mut Kernel;
+            Some(Parts { at, alloc })
+        }
+    }
+
+    /// Takes its kernel out, `None` if it has none.
+    pub(crate) fn take(&mut self, alloc: Global) -> Option<Box<Kernel>>
+        ensures kernel { MatchOption result (self.old.kernel ≡ None) (λ k. self.old.kernel ≡ Some k.value) }
+        ensures empty { self.new.kernel ≡ None }
+    {
+        let held = mem::replace(self, Handle::empty(alloc));
+        Some(held.into_parts()?.into_box())
+    }
+
+    /// Puts a kernel in.
+    pub(crate) fn put(&mut self, kernel: Box<Kernel>)
+        ensures { self.new.kernel ≡ Some kernel.value }
+    {
+        *self = Handle::filled(Parts::of(kernel));
+    }
+}

@@ -1,0 +1,193 @@
+//! A kernel through a handle: made, freed, and asked what changes nothing.
+ghost use Rattle.std.specs.Prelude.{◌≡◌, ◌⊎◌, IfOk, IfSome, IfErr, MatchOption, None, Some, length};
+ghost use Rattle.lot_machine.specs.Bounds.{IsWithinBounds};
+ghost use Rattle.lot_machine.specs.Facts.{IsSound};
+ghost use Rattle.lot_kernel.specs.Snapshots.{starting};
+ghost use Rattle.lot_c.specs.declared.status.Status.TheVariants.{BadLimits, Done, NoKernel, NoMemory};
+ghost use Rattle.lot_c.specs.Calls.{Opens, ShowsRunner, ShowsScript, Through};
+ghost use Rattle.lot_c.specs.Counts.{plain_meter, plain_sizes, sizes_meant};
+ghost use Rattle.lot_c.specs.Statuses.{code};
+
+use crate::handle::Handle;
+use crate::sizes::{PlainMeter, PlainRunner, PlainSizes};
+use crate::status::Status;
+use lot_kernel::Kernel;
+use std::alloc::Global;
+
+/// Makes a kernel with these sizes, for a handle that holds none. It takes all the memory that the kernel will ever use.
+#[unsafe(no_mangle)]
+pub extern "C" fn lot_kernel_new(alloc: Global, sizes: &PlainSizes, kernel: &mut Handle) -> u32
+    ensures opens { Opens sizes.now result kernel.old.kernel kernel.new.kernel }
+    ensures sound { kernel.old.kernel ≡ None → IfSome kernel.new.kernel (λ k. IsSound k.state) }
+{
+    if let Some(held) = kernel.take(alloc) {
+        kernel.put(held);
+        return Status::KernelThere.code();
+    }
+    match make(alloc, sizes) {
+        Err(why) => why.code(),
+        Ok(made) => {
+            kernel.put(made);
+            Status::Done.code()
+        }
+    }
+}
+
+/// A kernel with these sizes, or why there is none.
+fn make(alloc: Global, sizes: &PlainSizes) -> Result<Box<Kernel>, Status>
+    ensures opening { IfOk result (λ k. k.value ≡ starting (sizes_meant sizes.now)) }
+    ensures sound { IfOk result (λ k. IsSound k.value.state) }
+    ensures limits { IfOk result (λ k. IsWithinBounds (sizes_meant sizes.now)) }
+    ensures fault { IfErr result (λ why. ((why ≡ BadLimits) × ¬ IsWithinBounds (sizes_meant sizes.now)) ⊎ ((why ≡ NoMemory) × IsWithinBounds (sizes_meant sizes.now))) }
+{
+    let Some(limits) = sizes.limits() else {
+        return Err(Status::BadLimits);
+    };
+    let Ok(kernel) = Kernel::new(alloc, limits) else {
+        return Err(Status::NoMemory);
+    };
+    Box::new(alloc, kernel).map_err(|_| Status::NoMemory)
+}
+
+/// Frees the kernel, and leaves the handle with none.
+#[unsafe(no_mangle)]
+pub extern "C" fn lot_kernel_free(alloc: Global, kernel: &mut Handle) -> u32
+    ensures freed { kernel.new.kernel ≡ None }
+    ensures status { MatchOption kernel.old.kernel (result ≡ code NoKernel) (λ k. result ≡ code Done) }
+{
+    let Some(held) = kernel.take(alloc) else {
+        return Status::NoKernel.code();
+    };
+    drop(held);
+    Status::Done.code()
+}
+
+/// The sizes that the kernel was made with.
+#[unsafe(no_mangle)]
+pub extern "C" fn lot_kernel_limits(
+    alloc: Global,
+    kernel: &mut Handle,
+    sizes: &mut PlainSizes,
+) -> u32
+    ensures { Through kernel.old.kernel kernel.new.kernel ((result ≡ code NoKernel) × (sizes.new ≡ sizes.old)) (λ old new. (new ≡ old) × (result ≡ code Done) × (sizes.new ≡ plain_sizes old.state.limits)) }
+{
+    let Some(held) = kernel.take(alloc) else {
+        return Status::NoKernel.code();
+    };
+    *sizes = PlainSizes::of(held.limits());
+    kernel.put(held);
+    Status::Done.code()
+}
+
+/// How many tickets, lends and owners were read, and how many places of the tree of weights were visited.
+#[unsafe(no_mangle)]
+pub extern "C" fn lot_kernel_meter(
+    alloc: Global,
+    kernel: &mut Handle,
+    meter: &mut PlainMeter,
+) -> u32
+    ensures { Through kernel.old.kernel kernel.new.kernel ((result ≡ code NoKernel) × (meter.new ≡ meter.old)) (λ old new. (new ≡ old) × (result ≡ code Done) × (meter.new ≡ plain_meter old.meter)) }
+{
+    let Some(held) = kernel.take(alloc) else {
+        return Status::NoKernel.code();
+    };
+    *meter = PlainMeter::of(held.meter());
+    kernel.put(held);
+    Status::Done.code()
+}
+
+/// How many tickets were made, including those removed since.
+#[unsafe(no_mangle)]
+pub extern "C" fn lot_kernel_ticket_count(
+    alloc: Global,
+    kernel: &mut Handle,
+    count: &mut u32,
+) -> u32
+    ensures { Through kernel.old.kernel kernel.new.kernel ((result ≡ code NoKernel) × (count.new ≡ count.old)) (λ old new. (new ≡ old) × (result ≡ code Done) × (count.new ≡ length old.state.tickets)) }
+{
+    let Some(held) = kernel.take(alloc) else {
+        return Status::NoKernel.code();
+    };
+    *count = held.ticket_count();
+    kernel.put(held);
+    Status::Done.code()
+}
+
+/// How many currencies were made, including base and those removed since.
+#[unsafe(no_mangle)]
+pub extern "C" fn lot_kernel_currency_count(
+    alloc: Global,
+    kernel: &mut Handle,
+    count: &mut u32,
+) -> u32
+    ensures { Through kernel.old.kernel kernel.new.kernel ((result ≡ code NoKernel) × (count.new ≡ count.old)) (λ old new. (new ≡ old) × (result ≡ code Done) × (count.new ≡ length old.state.currencies)) }
+{
+    let Some(held) = kernel.take(alloc) else {
+        return Status::NoKernel.code();
+    };
+    *count = held.currency_count();
+    kernel.put(held);
+    Status::Done.code()
+}
+
+/// Who runs on the processor.
+#[unsafe(no_mangle)]
+pub extern "C" fn lot_kernel_runner(
+    alloc: Global,
+    kernel: &mut Handle,
+    processor: u32,
+    runner: &mut PlainRunner,
+) -> u32
+    ensures { Through kernel.old.kernel kernel.new.kernel ((result ≡ code NoKernel) × (runner.new ≡ runner.old)) (λ old new. (new ≡ old) × ShowsRunner processor result old runner.old runner.new) }
+{
+    let Some(held) = kernel.take(alloc) else {
+        return Status::NoKernel.code();
+    };
+    let code = show_runner(&held, processor, runner);
+    kernel.put(held);
+    code
+}
+
+/// Who runs on the processor, if somebody does.
+fn show_runner(kernel: &Kernel, processor: u32, runner: &mut PlainRunner) -> u32
+    ensures { ShowsRunner processor result kernel.now runner.old runner.new }
+{
+    match kernel.runner(processor) {
+        None => Status::NotThere.code(),
+        Some(found) => {
+            *runner = PlainRunner::of(found);
+            Status::Done.code()
+        }
+    }
+}
+
+/// The number of the script that the thread was made with.
+#[unsafe(no_mangle)]
+pub extern "C" fn lot_kernel_script_of(
+    alloc: Global,
+    kernel: &mut Handle,
+    thread: u32,
+    script: &mut u32,
+) -> u32
+    ensures { Through kernel.old.kernel kernel.new.kernel ((result ≡ code NoKernel) × (script.new ≡ script.old)) (λ old new. (new ≡ old) × ShowsScript thread result old script.old script.new) }
+{
+    let Some(held) = kernel.take(alloc) else {
+        return Status::NoKernel.code();
+    };
+    let code = show_script(&held, thread, script);
+    kernel.put(held);
+    code
+}
+
+/// The number of the thread's script, if there is such a thread.
+fn show_script(kernel: &Kernel, thread: u32, script: &mut u32) -> u32
+    ensures { ShowsScript thread result kernel.now script.old script.new }
+{
+    match kernel.script_of(thread) {
+        None => Status::NotThere.code(),
+        Some(found) => {
+            *script = found;
+            Status::Done.code()
+        }
+    }
+}

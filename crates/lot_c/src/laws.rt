@@ -1,0 +1,37 @@
+//! What the plain fields come to: laws of the boundary, with nothing to run.
+ghost use Rattle.std.specs.Prelude.{◌≡◌, ◌≤◌, ℕ, List, Ok, true, length};
+ghost use Rattle.lot_machine.specs.Commands as names;
+ghost use Rattle.lot_machine.specs.declared.event.Event.{Event};
+ghost use Rattle.lot_machine.specs.declared.record.Status.{Status};
+ghost use Rattle.lot_machine.specs.declared.reply.Reply.{Reply};
+ghost use Rattle.lot_c.specs.Events.{event_meant};
+ghost use Rattle.lot_c.specs.Names.{name_meant, plain_name};
+ghost use Rattle.lot_c.specs.Plain.{HasNames, plain_event};
+ghost use Rattle.lot_c.specs.Replies.{plain_reply};
+ghost use Rattle.lot_c.specs.Rows.{plain_status};
+ghost use Rattle.lot_c.specs.Wides.{plain_wide, wide_meant};
+
+/// A name that is handed out means the same when it is handed in.
+pub fn names_come_back()
+    ensures { (name : List ℕ) → length name ≤ 16 → names.is_good_name name ≡ true → name_meant (plain_name name) ≡ Ok name }
+{}
+
+/// A number of 128 bits that is handed out means the same when it is handed in.
+pub fn wides_come_back()
+    ensures { (n : ℕ) → wide_meant (plain_wide n) ≡ n }
+{}
+
+/// Each event with good names can be handed in.
+pub fn each_event_can_be_meant()
+    ensures { (e : Event) → HasNames e → event_meant (plain_event e) ≡ Ok e }
+{}
+
+/// No two replies look the same.
+pub fn replies_differ()
+    ensures { (one other : Reply) → plain_reply one ≡ plain_reply other → one ≡ other }
+{}
+
+/// No two statuses of threads look the same.
+pub fn statuses_differ()
+    ensures { (one other : Status) → plain_status one ≡ plain_status other → one ≡ other }
+{}

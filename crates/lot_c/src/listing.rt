@@ -1,0 +1,104 @@
+//! Rows of listings through a handle.
+ghost use Rattle.std.specs.Prelude.{◌≡◌};
+ghost use Rattle.lot_c.specs.declared.status.Status.TheVariants.{NoKernel};
+ghost use Rattle.lot_c.specs.Calls.{ShowsCurrency, ShowsThread, ShowsTicket, Through};
+ghost use Rattle.lot_c.specs.Statuses.{code};
+
+use crate::handle::Handle;
+use crate::rows::{PlainCurrencyRow, PlainThreadRow, PlainTicketRow};
+use crate::status::Status;
+use lot_kernel::Kernel;
+use std::alloc::Global;
+
+/// The row of the ticket with this number.
+#[unsafe(no_mangle)]
+pub extern "C" fn lot_kernel_ticket_row(
+    alloc: Global,
+    kernel: &mut Handle,
+    ticket: u32,
+    row: &mut PlainTicketRow,
+) -> u32
+    ensures { Through kernel.old.kernel kernel.new.kernel ((result ≡ code NoKernel) × (row.new ≡ row.old)) (λ old new. ShowsTicket ticket result old new row.old row.new) }
+{
+    let Some(mut held) = kernel.take(alloc) else {
+        return Status::NoKernel.code();
+    };
+    let code = show_ticket(&mut held, ticket, row);
+    kernel.put(held);
+    code
+}
+
+/// The row of the ticket with this number, if it is there.
+fn show_ticket(kernel: &mut Kernel, ticket: u32, row: &mut PlainTicketRow) -> u32
+    ensures { ShowsTicket ticket result kernel.old kernel.new row.old row.new }
+{
+    match kernel.ticket_row(ticket) {
+        None => Status::NotThere.code(),
+        Some(found) => {
+            *row = PlainTicketRow::of(&found);
+            Status::Done.code()
+        }
+    }
+}
+
+/// The row of the currency with this number.
+#[unsafe(no_mangle)]
+pub extern "C" fn lot_kernel_currency_row(
+    alloc: Global,
+    kernel: &mut Handle,
+    currency: u32,
+    row: &mut PlainCurrencyRow,
+) -> u32
+    ensures { Through kernel.old.kernel kernel.new.kernel ((result ≡ code NoKernel) × (row.new ≡ row.old)) (λ old new. ShowsCurrency currency result old new row.old row.new) }
+{
+    let Some(mut held) = kernel.take(alloc) else {
+        return Status::NoKernel.code();
+    };
+    let code = show_currency(&mut held, currency, row);
+    kernel.put(held);
+    code
+}
+
+/// The row of the currency with this number, if it is there.
+fn show_currency(kernel: &mut Kernel, currency: u32, row: &mut PlainCurrencyRow) -> u32
+    ensures { ShowsCurrency currency result kernel.old kernel.new row.old row.new }
+{
+    match kernel.currency_row(currency) {
+        None => Status::NotThere.code(),
+        Some(found) => {
+            *row = PlainCurrencyRow::of(&found);
+            Status::Done.code()
+        }
+    }
+}
+
+/// The row of the thread with this number.
+#[unsafe(no_mangle)]
+pub extern "C" fn lot_kernel_thread_row(
+    alloc: Global,
+    kernel: &mut Handle,
+    thread: u32,
+    row: &mut PlainThreadRow,
+) -> u32
+    ensures { Through kernel.old.kernel kernel.new.kernel ((result ≡ code NoKernel) × (row.new ≡ row.old)) (λ old new. ShowsThread thread result old new row.old row.new) }
+{
+    let Some(mut held) = kernel.take(alloc) else {
+        return Status::NoKernel.code();
+    };
+    let code = show_thread(&mut held, thread, row);
+    kernel.put(held);
+    code
+}
+
+/// The row of the thread with this number, if there is one.
+fn show_thread(kernel: &mut Kernel, thread: u32, row: &mut PlainThreadRow) -> u32
+    ensures { ShowsThread thread result kernel.old kernel.new row.old row.new }
+{
+    match kernel.thread_row(thread) {
+        None => Status::NotThere.code(),
+        Some(found) => {
+            *row = PlainThreadRow::of(&found);
+            Status::Done.code()
+        }
+    }
+}

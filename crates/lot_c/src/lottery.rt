@@ -1,0 +1,157 @@
+//! The lottery alone: weights, who wins, and the generator of drawn numbers.
+ghost use Rattle.std.specs.Prelude.{◌≡◌, ◌⊎◌, ◌<◌, ◌≤◌, ◌^◌, IfErr, IfOk, IfSome, Some, length, map, sum};
+ghost use Rattle.lot_machine.specs.Bounds.{IsBetween};
+ghost use Rattle.lot_machine.specs.Lottery as lottery;
+ghost use Rattle.lot_machine.specs.Lottery.{next_seed, drawn_number, seed_after_number};
+ghost use Rattle.lot_machine.specs.declared.drawn.Drawn.{Drawn as ADrawn};
+ghost use Rattle.lot_c.specs.declared.status.Status.TheVariants.{BadSeed, Done, NoMemory, NoWinner, TooLarge};
+ghost use Rattle.lot_c.specs.Lotteries.{compensation_meant, plain_drawn};
+ghost use Rattle.lot_c.specs.Statuses.{code};
+ghost use Rattle.lot_c.specs.Wides.{plain_wide, wide_meant};
+
+use crate::status::Status;
+use crate::wide::Wide;
+use lot_draw::ParkMiller;
+use lot_machine::Drawn;
+use std::alloc::Global;
+
+/// What a value weighs in a draw. The compensation is in ticks, and 0 is none.
+#[unsafe(no_mangle)]
+pub extern "C" fn lot_weight(value: u64, compensation: u32, quantum: u32, weight: &mut Wide)
+    ensures weight { weight.new ≡ plain_wide (lottery.weight value (compensation_meant compensation) quantum) }
+    ensures small { wide_meant weight.new < 2 ^ 96 }
+{
+    *weight = Wide::of(lot_draw::weight(value, compensation_of(compensation), quantum));
+}
+
+/// The compensation that these ticks mean.
+fn compensation_of(ticks: u32) -> Option<u32>
+    ensures meant { result ≡ compensation_meant ticks }
+    ensures used { IfSome result (λ used. 0 < used) }
+{
+    if ticks == 0 { None } else { Some(ticks) }
+}
+
+/// Who won a lottery, in plain fields.
+#[repr(C)]
+#[derive(Clone, Copy)]
+pub struct PlainDrawn {
+    /// The number that was drawn, below the total.
+    pub number: Wide,
+    /// The sum of the weights.
+    pub total: Wide,
+    /// The winner's place in the list of weights, from 0.
+    pub place: u64,
+}
+
+impl PlainDrawn {
+    /// Who won, in plain fields.
+    fn of(drawn: Drawn) -> PlainDrawn
+        ensures { result ≡ plain_drawn drawn }
+    {
+        PlainDrawn {
+            number: Wide::of(drawn.number),
+            total: Wide::of(drawn.total),
+            place: drawn.place as u64,
+        }
+    }
+}
+
+/// A generator of drawn numbers, in plain fields.
+#[repr(C)]
+#[derive(Clone, Copy)]
+pub struct PlainGenerator {
+    /// 1 to 2147483646.
+    pub value: u32,
+}
+
+/// A generator with this seed.
+#[unsafe(no_mangle)]
+pub extern "C" fn lot_generator_new(seed: u32, generator: &mut PlainGenerator) -> u32
+    ensures good { IsBetween 1 2147483646 seed → (result ≡ code Done) × (generator.new.value ≡ seed) }
+    ensures bad { ¬ IsBetween 1 2147483646 seed → (result ≡ code BadSeed) × (generator.new ≡ generator.old) }
+{
+    if ParkMiller::new(seed).is_none() {
+        return Status::BadSeed.code();
+    }
+    generator.value = seed;
+    Status::Done.code()
+}
+
+/// Goes on to the generator's next value, and writes it.
+#[unsafe(no_mangle)]
+pub extern "C" fn lot_generator_next(generator: &mut PlainGenerator, value: &mut u32) -> u32
+    ensures good { IsBetween 1 2147483646 generator.old.value → (result ≡ code Done) × (value.new ≡ next_seed generator.old.value) × (generator.new.value ≡ next_seed generator.old.value) }
+    ensures range { IsBetween 1 2147483646 generator.old.value → IsBetween 1 2147483646 value.new }
+    ensures bad { ¬ IsBetween 1 2147483646 generator.old.value → (result ≡ code BadSeed) × (value.new ≡ value.old) × (generator.new ≡ generator.old) }
+{
+    let Some(mut there) = ParkMiller::new(generator.value) else {
+        return Status::BadSeed.code();
+    };
+    *value = there.next();
+    generator.value = *value;
+    Status::Done.code()
+}
+
+/// Writes the number that is drawn from the generator's next two values, and goes on to the second.
+#[unsafe(no_mangle)]
+pub extern "C" fn lot_generator_number(generator: &mut PlainGenerator, number: &mut u64) -> u32
+    ensures good { IsBetween 1 2147483646 generator.old.value → (result ≡ code Done) × (number.new ≡ drawn_number generator.old.value) × (generator.new.value ≡ seed_after_number generator.old.value) }
+    ensures bad { ¬ IsBetween 1 2147483646 generator.old.value → (result ≡ code BadSeed) × (number.new ≡ number.old) × (generator.new ≡ generator.old) }
+{
+    let Some(mut there) = ParkMiller::new(generator.value) else {
+        return Status::BadSeed.code();
+    };
+    let mut ahead = there;
+    *number = there.number();
+    ahead.next();
+    generator.value = ahead.next();
+    Status::Done.code()
+}
+
+/// Holds a lottery with this number over the weights. It takes memory for a copy of them, and gives it back.
+#[unsafe(no_mangle)]
+pub extern "C" fn lot_winner(
+    alloc: Global,
+    weights: &[Wide],
+    number: u64,
+    drawn: &mut PlainDrawn,
+) -> u32
+    ensures won { (d : ADrawn) → sum (map wide_meant weights.now) < 2 ^ 128 → lottery.winner (map wide_meant weights.now) number ≡ Some d → ((result ≡ code Done) × (drawn.new ≡ plain_drawn d)) ⊎ ((result ≡ code NoMemory) × (drawn.new ≡ drawn.old)) }
+    ensures within { result ≡ code Done → drawn.new.place < length weights.now }
+    ensures nobody { sum (map wide_meant weights.now) ≡ 0 → ((result ≡ code NoWinner) ⊎ (result ≡ code NoMemory)) × (drawn.new ≡ drawn.old) }
+    ensures large { 2 ^ 128 ≤ sum (map wide_meant weights.now) → ((result ≡ code TooLarge) ⊎ (result ≡ code NoMemory)) × (drawn.new ≡ drawn.old) }
+{
+    let weights = match gather(alloc, weights) {
+        Err(why) => return why.code(),
+        Ok(weights) => weights,
+    };
+    match lot_draw::winner(&weights, number) {
+        None => Status::NoWinner.code(),
+        Some(found) => {
+            *drawn = PlainDrawn::of(found);
+            Status::Done.code()
+        }
+    }
+}
+
+/// The weights that are meant, or why they serve for no lottery.
+fn gather(alloc: Global, weights: &[Wide]) -> Result<Vec<u128>, Status>
+    ensures weights { IfOk result (λ v. v.items ≡ map wide_meant weights.now) }
+    ensures small { IfOk result (λ v. sum v.items < 2 ^ 128) }
+    ensures fault { IfErr result (λ why. (why ≡ NoMemory) ⊎ ((why ≡ TooLarge) × (2 ^ 128 ≤ sum (map wide_meant weights.now)))) }
+{
+    let mut numbers = Vec::new(alloc);
+    let mut total: u128 = 0;
+    for weight in weights {
+        let number = weight.number();
+        let Some(larger) = total.checked_add(number) else {
+            return Err(Status::TooLarge);
+        };
+        total = larger;
+        if numbers.push(number).is_err() {
+            return Err(Status::NoMemory);
+        }
+    }
+    Ok(numbers)
+}

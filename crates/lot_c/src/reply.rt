@@ -1,0 +1,256 @@
+//! Replies in plain fields.
+ghost use Rattle.std.specs.Prelude.{◌≡◌};
+ghost use Rattle.lot_machine.specs.declared.reply.Reply.TheVariants as reply;
+ghost use Rattle.lot_c.specs.Replies.{plain_reply, plain_outcome, plain_passed, blank_reply, list_code, refusal_code, trap_refusal_code};
+
+use crate::wide::Wide;
+use lot_machine::{Kind, Outcome, Refusal, Reply, TrapRefusal};
+
+/// The kinds of replies.
+const TICKET: u32 = 1;
+
+const CURRENCY: u32 = 2;
+
+const THREAD: u32 = 3;
+
+const FUNDED: u32 = 4;
+
+const DONE: u32 = 5;
+
+const LIST_TICKETS: u32 = 6;
+
+const LIST_CURRENCIES: u32 = 7;
+
+const LIST_THREADS: u32 = 8;
+
+const WINNER: u32 = 9;
+
+const IDLE: u32 = 10;
+
+const EXPIRED: u32 = 11;
+
+const TRAPPED: u32 = 12;
+
+const REFUSED: u32 = 13;
+
+/// What a trap comes to.
+const YIELDED: u32 = 1;
+
+const SERVED_BY: u32 = 2;
+
+const QUEUED: u32 = 3;
+
+const WAITS: u32 = 4;
+
+const RECEIVED: u32 = 5;
+
+const REPLIED: u32 = 6;
+
+const LOCKED: u32 = 7;
+
+const FREED: u32 = 8;
+
+const PASSED: u32 = 9;
+
+const EXITED: u32 = 10;
+
+const TRAP_REFUSED: u32 = 11;
+
+/// A reply in plain fields. Its kind, and a trap's outcome, say which of the others are written; the rest are 0.
+#[repr(C)]
+#[derive(Clone, Copy)]
+pub struct PlainReply {
+    /// The number of a lottery, reduced.
+    pub number: Wide,
+    /// The sum of a lottery's weights.
+    pub total: Wide,
+    pub kind: u32,
+    /// Why an event or a trap is refused.
+    pub reason: u32,
+    pub ticket: u32,
+    pub currency: u32,
+    pub thread: u32,
+    /// What the thread ran, in ticks.
+    pub ticks: u32,
+    /// What a trap came to.
+    pub outcome: u32,
+    /// The server, the client or the new owner of an outcome.
+    pub other: u32,
+    /// The number that was delivered or received.
+    pub sent: u32,
+    pub has_sent: bool,
+    /// Whether a lottery was held.
+    pub has_draw: bool,
+    /// Whether a trap has used the quantum up.
+    pub ends: bool,
+}
+
+impl PlainReply {
+    const BLANK: PlainReply = PlainReply {
+        number: Wide { low: 0, high: 0 },
+        total: Wide { low: 0, high: 0 },
+        kind: 0,
+        reason: 0,
+        ticket: 0,
+        currency: 0,
+        thread: 0,
+        ticks: 0,
+        outcome: 0,
+        other: 0,
+        sent: 0,
+        has_sent: false,
+        has_draw: false,
+        ends: false,
+    };
+
+    /// The reply in plain fields.
+    pub(crate) fn of(reply: Reply) -> PlainReply
+        ensures { result ≡ plain_reply reply }
+    {
+        match reply {
+            Reply::Ticket(ticket) => PlainReply::made(TICKET, ticket, 0, 0),
+            Reply::Currency(currency) => PlainReply::made(CURRENCY, 0, currency, 0),
+            Reply::Thread(thread) => PlainReply::made(THREAD, 0, 0, thread),
+            Reply::Funded { ticket, thread } => PlainReply::made(FUNDED, ticket, 0, thread),
+            Reply::Done => PlainReply::made(DONE, 0, 0, 0),
+            Reply::List(kind) => PlainReply::made(code_of_list(kind), 0, 0, 0),
+            Reply::Winner {
+                thread,
+                number,
+                total,
+                delivered,
+            } => PlainReply::of_winner(thread, number, total, delivered),
+            Reply::Idle => PlainReply::made(IDLE, 0, 0, 0),
+            Reply::Expired { thread, ticks } => PlainReply {
+                ticks,
+                ..PlainReply::made(EXPIRED, 0, 0, thread)
+            },
+            Reply::Trapped {
+                thread,
+                ticks,
+                outcome,
+                ends,
+            } => PlainReply {
+                kind: TRAPPED,
+                thread,
+                ticks,
+                ends,
+                ..PlainReply::of_outcome(outcome)
+            },
+            Reply::Refused(refusal) => PlainReply {
+                reason: code_of_refusal(refusal),
+                ..PlainReply::made(REFUSED, 0, 0, 0)
+            },
+        }
+    }
+
+    /// The winner of a draw, with the number and the total of the lottery, and what was delivered to it.
+    fn of_winner(thread: u32, number: u128, total: u128, delivered: Option<u32>) -> PlainReply
+        ensures { result ≡ plain_reply (reply.Winner thread number total delivered) }
+    {
+        PlainReply {
+            number: Wide::of(number),
+            total: Wide::of(total),
+            sent: delivered.unwrap_or(0),
+            has_sent: delivered.is_some(),
+            has_draw: true,
+            ..PlainReply::made(WINNER, 0, 0, thread)
+        }
+    }
+
+    /// What a trap came to, in plain fields.
+    fn of_outcome(outcome: Outcome) -> PlainReply
+        ensures { result ≡ plain_outcome outcome }
+    {
+        match outcome {
+            Outcome::Yielded => PlainReply::came_to(YIELDED, 0),
+            Outcome::ServedBy(server) => PlainReply::came_to(SERVED_BY, server),
+            Outcome::Queued => PlainReply::came_to(QUEUED, 0),
+            Outcome::Waits => PlainReply::came_to(WAITS, 0),
+            Outcome::Received { client, number } => PlainReply {
+                sent: number,
+                has_sent: true,
+                ..PlainReply::came_to(RECEIVED, client)
+            },
+            Outcome::Replied(client) => PlainReply::came_to(REPLIED, client),
+            Outcome::Locked => PlainReply::came_to(LOCKED, 0),
+            Outcome::Freed => PlainReply::came_to(FREED, 0),
+            Outcome::Passed { to, draw } => PlainReply::of_passed(to, draw),
+            Outcome::Exited => PlainReply::came_to(EXITED, 0),
+            Outcome::Refused(refusal) => PlainReply {
+                reason: code_of_trap_refusal(refusal),
+                ..PlainReply::came_to(TRAP_REFUSED, 0)
+            },
+        }
+    }
+
+    /// A mutex that was passed to this thread, by this lottery if one was held.
+    fn of_passed(to: u32, draw: Option<(u64, u64)>) -> PlainReply
+        ensures { result ≡ plain_passed to draw }
+    {
+        match draw {
+            None => PlainReply::came_to(PASSED, to),
+            Some((number, total)) => PlainReply {
+                number: Wide {
+                    low: number,
+                    high: 0,
+                },
+                total: Wide {
+                    low: total,
+                    high: 0,
+                },
+                has_draw: true,
+                ..PlainReply::came_to(PASSED, to)
+            },
+        }
+    }
+
+    /// A reply of this kind, about these.
+    fn made(kind: u32, ticket: u32, currency: u32, thread: u32) -> PlainReply
+        ensures { result ≡ record blank_reply { kind = kind; ticket = ticket; currency = currency; thread = thread } }
+    {
+        PlainReply {
+            kind,
+            ticket,
+            currency,
+            thread,
+            ..PlainReply::BLANK
+        }
+    }
+
+    /// An outcome with this thread.
+    fn came_to(outcome: u32, other: u32) -> PlainReply
+        ensures { result ≡ record blank_reply { outcome = outcome; other = other } }
+    {
+        PlainReply {
+            outcome,
+            other,
+            ..PlainReply::BLANK
+        }
+    }
+}
+
+/// The kind of a reply to a listing.
+fn code_of_list(kind: Kind) -> u32
+    ensures { result ≡ list_code kind }
+{
+    match kind {
+        Kind::Tickets => LIST_TICKETS,
+        Kind::Currencies => LIST_CURRENCIES,
+        Kind::Threads => LIST_THREADS,
+    }
+}
+
+/// The number of a refusal, from 1.
+fn code_of_refusal(refusal: Refusal) -> u32
+    ensures { result ≡ refusal_code refusal }
+{
+    refusal as u32 + 1
+}
+
+/// The number of a trap's refusal, from 1.
+fn code_of_trap_refusal(refusal: TrapRefusal) -> u32
+    ensures { result ≡ trap_refusal_code refusal }
+{
+    refusal as u32 + 1
+}

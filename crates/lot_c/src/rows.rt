@@ -1,0 +1,170 @@
+//! Rows of listings in plain fields.
+ghost use Rattle.std.specs.Prelude.{◌≡◌};
+ghost use Rattle.lot_c.specs.Rows.{plain_ticket_row, plain_currency_row, plain_thread_row, plain_status, plain_target};
+
+use crate::name::PlainName;
+use crate::wide::Wide;
+use lot_machine::{CurrencyRow, Name, Status, ThreadRow, TicketRow};
+
+/// What a thread is doing.
+const READY: u32 = 1;
+
+const RUNNING: u32 = 2;
+
+const RECEIVING: u32 = 3;
+
+const QUEUED: u32 = 4;
+
+const SERVED: u32 = 5;
+
+const WAITING: u32 = 6;
+
+const DEAD: u32 = 7;
+
+/// A ticket's row in plain fields.
+#[repr(C)]
+#[derive(Clone, Copy)]
+pub struct PlainTicketRow {
+    pub value: u64,
+    pub amount: u32,
+    /// The currency that issues it.
+    pub issuer: PlainName,
+    /// The currency or thread that it funds, if it has a target.
+    pub target: PlainName,
+    pub has_target: bool,
+    pub is_active: bool,
+}
+
+impl PlainTicketRow {
+    /// The row in plain fields.
+    pub(crate) fn of(row: &TicketRow) -> PlainTicketRow
+        ensures { result ≡ plain_ticket_row row.now }
+    {
+        PlainTicketRow {
+            value: row.value,
+            amount: row.amount,
+            issuer: PlainName::of(&row.issuer),
+            target: name_of_target(&row.target),
+            has_target: row.target.is_some(),
+            is_active: row.is_active,
+        }
+    }
+}
+
+/// The name of a target, and no bytes if there is none.
+fn name_of_target(target: &Option<Name>) -> PlainName
+    ensures { result ≡ plain_target target.now }
+{
+    match target {
+        Some(name) => PlainName::of(name),
+        None => PlainName {
+            length: 0,
+            bytes: [0; 16],
+        },
+    }
+}
+
+/// A currency's row in plain fields.
+#[repr(C)]
+#[derive(Clone, Copy)]
+pub struct PlainCurrencyRow {
+    pub active_amount: u64,
+    pub value: u64,
+    /// How many tickets fund it, active or not.
+    pub backing: u32,
+    /// How many tickets it issues, active or not.
+    pub issued: u32,
+    pub name: PlainName,
+}
+
+impl PlainCurrencyRow {
+    /// The row in plain fields.
+    pub(crate) fn of(row: &CurrencyRow) -> PlainCurrencyRow
+        ensures { result ≡ plain_currency_row row.now }
+    {
+        PlainCurrencyRow {
+            active_amount: row.active_amount,
+            value: row.value,
+            backing: row.backing,
+            issued: row.issued,
+            name: PlainName::of(&row.name),
+        }
+    }
+}
+
+/// What a thread is doing, in plain fields.
+#[repr(C)]
+#[derive(Clone, Copy)]
+pub struct PlainStatus {
+    pub kind: u32,
+    /// Where it runs, if it runs.
+    pub processor: u32,
+    /// The ticks of its quantum that it has used, if it runs.
+    pub used: u32,
+    /// The port, the server or the mutex that it waits for.
+    pub other: u32,
+}
+
+impl PlainStatus {
+    /// The status in plain fields.
+    fn of(status: Status) -> PlainStatus
+        ensures { result ≡ plain_status status }
+    {
+        match status {
+            Status::Ready => PlainStatus::waits(READY, 0),
+            Status::Running { processor, used } => PlainStatus {
+                kind: RUNNING,
+                processor,
+                used,
+                other: 0,
+            },
+            Status::Receiving(port) => PlainStatus::waits(RECEIVING, port),
+            Status::Queued(port) => PlainStatus::waits(QUEUED, port),
+            Status::Served(server) => PlainStatus::waits(SERVED, server),
+            Status::Waiting(mutex) => PlainStatus::waits(WAITING, mutex),
+            Status::Dead => PlainStatus::waits(DEAD, 0),
+        }
+    }
+
+    /// One that doesn't run.
+    fn waits(kind: u32, other: u32) -> PlainStatus
+        ensures { result ≡ record { kind = kind; processor = 0; used = 0; other = other } }
+    {
+        PlainStatus {
+            kind,
+            processor: 0,
+            used: 0,
+            other,
+        }
+    }
+}
+
+/// A thread's row in plain fields.
+#[repr(C)]
+#[derive(Clone, Copy)]
+pub struct PlainThreadRow {
+    pub weight: Wide,
+    pub value: u64,
+    /// The draws that it has won.
+    pub quanta: u64,
+    /// The ticks that it has used in all.
+    pub ticks: u64,
+    pub status: PlainStatus,
+    pub name: PlainName,
+}
+
+impl PlainThreadRow {
+    /// The row in plain fields.
+    pub(crate) fn of(row: &ThreadRow) -> PlainThreadRow
+        ensures { result ≡ plain_thread_row row.now }
+    {
+        PlainThreadRow {
+            weight: Wide::of(row.weight),
+            value: row.value,
+            quanta: row.quanta,
+            ticks: row.ticks,
+            status: PlainStatus::of(row.status),
+            name: PlainName::of(&row.name),
+        }
+    }
+}
