@@ -1,5 +1,6 @@
 //! The archive's calls, as `bindings/c/lot.h` has them.
 
+use crate::{Meter, Runner, Sizes};
 use std::ffi::c_void;
 
 pub const DONE: u32 = 0;
@@ -40,20 +41,6 @@ impl Wide {
 #[repr(C)]
 pub struct Handle {
     pub at: *mut c_void,
-}
-
-#[repr(C)]
-#[derive(Clone, Copy, Default)]
-pub struct Sizes {
-    pub tickets: u32,
-    pub currencies: u32,
-    pub threads: u32,
-    pub ports: u32,
-    pub mutexes: u32,
-    pub processors: u32,
-    pub scripts: u32,
-    pub quantum: u32,
-    pub unit: u32,
 }
 
 #[repr(C)]
@@ -130,20 +117,6 @@ pub struct ThreadRow {
     pub ticks: u64,
     pub status: Status,
     pub name: Name,
-}
-
-#[repr(C)]
-#[derive(Clone, Copy, Default)]
-pub struct Runner {
-    pub thread: u32,
-    pub used: u32,
-}
-
-#[repr(C)]
-#[derive(Clone, Copy, Default)]
-pub struct Meter {
-    pub ticket_reads: u64,
-    pub tree_visits: u64,
 }
 
 #[repr(C)]

@@ -5,6 +5,7 @@ use std::fmt;
 use std::ptr::null_mut;
 
 /// How large a kernel is. It never grows.
+#[repr(C)]
 #[derive(Clone, Copy, Debug, PartialEq, Eq)]
 pub struct Sizes {
     /// How many tickets may be made in all, 1 to 65535.
@@ -43,6 +44,7 @@ impl Sizes {
 }
 
 /// A thread that runs on a processor.
+#[repr(C)]
 #[derive(Clone, Copy, Debug, PartialEq, Eq)]
 pub struct Runner {
     /// Its number.
@@ -52,6 +54,7 @@ pub struct Runner {
 }
 
 /// What a kernel has counted of its own work.
+#[repr(C)]
 #[derive(Clone, Copy, Debug, PartialEq, Eq)]
 pub struct Meter {
     /// How many tickets, lends and owners were read for values.
@@ -73,17 +76,6 @@ impl Kernel {
     /// A kernel with base alone. `BadLimits` or `NoMemory`.
     pub fn new(sizes: Sizes) -> Result<Kernel, Error> {
         let mut handle = ffi::Handle { at: null_mut() };
-        let sizes = ffi::Sizes {
-            tickets: sizes.tickets,
-            currencies: sizes.currencies,
-            threads: sizes.threads,
-            ports: sizes.ports,
-            mutexes: sizes.mutexes,
-            processors: sizes.processors,
-            scripts: sizes.scripts,
-            quantum: sizes.quantum,
-            unit: sizes.unit,
-        };
         // Both are whole, and nothing else points to the handle. It is so in each call below.
         match unsafe { ffi::lot_kernel_new(&sizes, &mut handle) } {
             ffi::BAD_LIMITS => Err(Error::BadLimits),
@@ -130,9 +122,9 @@ impl Kernel {
 
     /// Who runs on the processor, if somebody does.
     pub fn runner(&mut self, processor: u32) -> Option<Runner> {
-        let mut runner = ffi::Runner::default();
+        let mut runner = Runner { thread: 0, used: 0 };
         let status = unsafe { ffi::lot_kernel_runner(&mut self.handle, processor, &mut runner) };
-        ffi::if_there(status, Runner { thread: runner.thread, used: runner.used })
+        ffi::if_there(status, runner)
     }
 
     /// The number of the script that the thread was made with, if there is such a thread.
@@ -158,26 +150,16 @@ impl Kernel {
 
     /// The sizes that the kernel was made with.
     pub fn sizes(&mut self) -> Sizes {
-        let mut sizes = ffi::Sizes::default();
+        let mut sizes = Sizes::SMALL;
         ffi::must_be_done(unsafe { ffi::lot_kernel_limits(&mut self.handle, &mut sizes) });
-        Sizes {
-            tickets: sizes.tickets,
-            currencies: sizes.currencies,
-            threads: sizes.threads,
-            ports: sizes.ports,
-            mutexes: sizes.mutexes,
-            processors: sizes.processors,
-            scripts: sizes.scripts,
-            quantum: sizes.quantum,
-            unit: sizes.unit,
-        }
+        sizes
     }
 
     /// What the kernel has counted of its own work.
     pub fn meter(&mut self) -> Meter {
-        let mut meter = ffi::Meter::default();
+        let mut meter = Meter { ticket_reads: 0, tree_visits: 0 };
         ffi::must_be_done(unsafe { ffi::lot_kernel_meter(&mut self.handle, &mut meter) });
-        Meter { ticket_reads: meter.ticket_reads, tree_visits: meter.tree_visits }
+        meter
     }
 }
 
