@@ -1,5 +1,6 @@
 pub mod GroupLemmas
 pub mod HistoryBack
+pub mod PageFacts
 pub mod PlainLemmas
 pub mod ReadBack
 pub mod RunLemmas

@@ -1,11 +1,13 @@
 //! Outputs: what is printed for replies, listings, totals, histories and refused inputs. Each function writes one text
-//! to a writer that is watched, or a beginning of it if the writer fails, and takes no memory.
+//! to a writer that is watched, or a beginning of it if the writer fails, and takes no memory. The lines of turns wait on a
+//! page, and are written together.
 #![tactic(auto)]
 
 mod fault;
 mod histories;
 mod laws;
 mod line;
+mod page;
 mod refused;
 mod replies;
 mod rows;
@@ -15,6 +17,7 @@ mod totals;
 pub use fault::WriteFault;
 pub use histories::write_history;
 pub use laws::histories_are_read_back;
+pub use page::Page;
 pub use refused::write_fault;
 pub use replies::{write_ended, write_reply};
 pub use rows::{write_currency, write_listing_line, write_thread, write_ticket};

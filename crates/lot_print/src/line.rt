@@ -37,6 +37,23 @@ impl<const N: usize> Line<N> {
         }
     }
 
+    /// How many bytes it has.
+    #[inline(always)]
+    pub(crate) fn len(&self) -> usize
+        ensures len { result ≡ length self.now }
+        ensures within { result ≤ N }
+    {
+        self.bytes.len()
+    }
+
+    /// Takes all bytes away.
+    #[inline(always)]
+    pub(crate) fn clear(&mut self)
+        ensures { self.new ≡ [] }
+    {
+        self.bytes.clear();
+    }
+
     /// Puts the text at the end.
     #[inline(always)]
     pub(crate) fn push_text(&mut self, text: &str)
@@ -157,9 +174,6 @@ impl<const N: usize> Line<N> {
         write_bytes(writer, self.bytes.as_slice())
     }
 }
-
-/// The line of a turn: none is longer, whatever its numbers are.
-pub(crate) type TurnLine = Line<144>;
 
 /// The line of a row of a listing, of the report, or of an input's refusal.
 pub(crate) type RowLine = Line<256>;

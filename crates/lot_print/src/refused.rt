@@ -38,18 +38,18 @@ fn push_reason(line: &mut RowLine, refusal: InputRefusal)
 
 /// Puts a refusal: its code and its name.
 pub(crate) fn push_refused<const N: usize>(line: &mut Line<N>, code: u32, name: &str)
-    requires { (length line.old ≤ 46) × (length name.now ≤ 14) × (79 ≤ N) }
+    requires { (length line.old + 33 ≤ N) × (length name.now ≤ 14) }
     ensures text { line.new ≡ line.old ++ refused code name.now }
-    ensures len { length line.new ≤ 79 }
+    ensures len { length line.new ≤ length line.old + 33 }
 {
     push_code(line, "refused ", code, name);
 }
 
 /// Puts a text, and then the code and the name of a refusal.
 fn push_code<const N: usize>(line: &mut Line<N>, text: &str, code: u32, name: &str)
-    requires { (length line.old ≤ 46) × (length text.now ≤ 8) × (length name.now ≤ 14) × (79 ≤ N) }
+    requires { (length line.old + 33 ≤ N) × (length text.now ≤ 8) × (length name.now ≤ 14) }
     ensures text { line.new ≡ line.old ++ (text.now ++ (decimal code ++ (codes " " ++ name.now))) }
-    ensures len { length line.new ≤ 79 }
+    ensures len { length line.new ≤ length line.old + 33 }
 {
     line.push_field(text, code);
     line.push_text(" ");

@@ -3,10 +3,11 @@ ghost use Rattle.std.specs.Prelude.{◌≡◌, ◌≤◌, ◌+◌, ◌++◌, cod
 ghost use Rattle.std.specs.Fmt.{decimal};
 ghost use Rattle.lot_simulation.specs.Texts as texts;
 ghost use Rattle.lot_simulation.specs.Texts.{delivered_text, drawn_text, ends_text, newline, plain_text, refused, trap_text, trap_text_of};
-ghost use Rattle.lot_print.specs.Writing.{Writes};
+ghost use Rattle.lot_print.specs.Writing.{Puts};
 
 use crate::WriteFault;
-use crate::line::TurnLine;
+use crate::line::Line;
+use crate::page::Page;
 use crate::refused::{
     push_refused, refusal_code, refusal_name, trap_refusal_code, trap_refusal_name,
 };
@@ -14,39 +15,63 @@ use lot_machine::{Action, Event, Outcome, Refusal, Reply};
 use lot_text::Watched;
 use std::io::Write;
 
-/// Writes the line of an actor's turn: the reply to this event, which asks for no listing.
+/// Puts the line of an actor's turn on the page: the reply to this event, which asks for no listing. If the page has no room for
+/// it, what is there is written first.
+#[inline(always)]
 pub fn write_reply<W: Write>(
     writer: &mut Watched<W>,
+    page: &mut Page,
     actor: u32,
     event: &Event,
     reply: Reply,
 ) -> Result<(), WriteFault>
     requires { writer.old.failed ≡ false }
-    ensures { Writes W.contents writer.old writer.new result (decimal actor ++ (codes " " ++ plain_text event.now reply)) }
+    ensures { Puts W.contents writer.old writer.new page.old page.new result (decimal actor ++ (codes " " ++ plain_text event.now reply)) }
 {
-    let mut line = TurnLine::new();
-    line.push_count("", actor);
-    line.push_text(" ");
-    push_reply(&mut line, event, reply);
-    line.write_to(writer)
+    page.make_room(writer)?;
+    push_turn(&mut page.lines, actor, event, reply);
+    Ok(())
 }
 
-/// Writes the line of a turn of the console without a command.
-pub fn write_ended<W: Write>(writer: &mut Watched<W>, actor: u32) -> Result<(), WriteFault>
+/// The same for a turn of the console without a command.
+pub fn write_ended<W: Write>(
+    writer: &mut Watched<W>,
+    page: &mut Page,
+    actor: u32,
+) -> Result<(), WriteFault>
     requires { writer.old.failed ≡ false }
-    ensures { Writes W.contents writer.old writer.new result (decimal actor ++ (codes " " ++ (refused 41 (codes "Ended") ++ newline))) }
+    ensures { Puts W.contents writer.old writer.new page.old page.new result (decimal actor ++ (codes " " ++ (refused 41 (codes "Ended") ++ newline))) }
 {
-    let mut line = TurnLine::new();
+    page.make_room(writer)?;
+    push_ended(&mut page.lines, actor);
+    Ok(())
+}
+
+/// Puts the line of an actor's turn.
+#[inline(always)]
+fn push_turn<const N: usize>(line: &mut Line<N>, actor: u32, event: &Event, reply: Reply)
+    requires { length line.old + 144 ≤ N }
+    ensures { line.new ≡ line.old ++ (decimal actor ++ (codes " " ++ plain_text event.now reply)) }
+{
     line.push_count("", actor);
     line.push_text(" ");
-    push_refused(&mut line, 41, "Ended");
+    push_reply(line, event, reply);
+}
+
+/// Puts the line of a turn of the console without a command.
+fn push_ended<const N: usize>(line: &mut Line<N>, actor: u32)
+    requires { length line.old + 144 ≤ N }
+    ensures { line.new ≡ line.old ++ (decimal actor ++ (codes " " ++ (refused 41 (codes "Ended") ++ newline))) }
+{
+    line.push_count("", actor);
+    line.push_text(" ");
+    push_refused(line, 41, "Ended");
     line.push_text("\n");
-    line.write_to(writer)
 }
 
 /// Puts the reply to the event, and the line's end.
-fn push_reply(line: &mut TurnLine, event: &Event, reply: Reply)
-    requires { length line.old ≤ 11 }
+fn push_reply<const N: usize>(line: &mut Line<N>, event: &Event, reply: Reply)
+    requires { length line.old + 133 ≤ N }
     ensures { line.new ≡ line.old ++ plain_text event.now reply }
 {
     match reply {
@@ -84,8 +109,8 @@ fn push_reply(line: &mut TurnLine, event: &Event, reply: Reply)
 }
 
 /// Puts why the event was refused, and the line's end.
-fn push_refusal(line: &mut TurnLine, why: Refusal)
-    requires { length line.old ≤ 11 }
+fn push_refusal<const N: usize>(line: &mut Line<N>, why: Refusal)
+    requires { length line.old + 133 ≤ N }
     ensures { line.new ≡ line.old ++ (refused (texts.refusal_code why) (texts.refusal_name why) ++ newline) }
 {
     push_refused(line, refusal_code(why), refusal_name(why));
@@ -93,8 +118,8 @@ fn push_refusal(line: &mut TurnLine, why: Refusal)
 }
 
 /// Puts the word and the number of what was made, and the line's end.
-fn push_made(line: &mut TurnLine, word: &str, number: u32)
-    requires { (length line.old ≤ 50) × (length word.now ≤ 9) }
+fn push_made<const N: usize>(line: &mut Line<N>, word: &str, number: u32)
+    requires { (length line.old + 20 ≤ N) × (length word.now ≤ 9) }
     ensures { line.new ≡ line.old ++ (word.now ++ (decimal number ++ newline)) }
 {
     line.push_field(word, number);
@@ -103,8 +128,13 @@ fn push_made(line: &mut TurnLine, word: &str, number: u32)
 
 /// Puts the draw that this thread won with this number of this total, and the line's end.
 #[inline(always)]
-fn push_winner(line: &mut TurnLine, thread: u32, drawn: (u128, u128), delivered: Option<u32>)
-    requires { length line.old ≤ 11 }
+fn push_winner<const N: usize>(
+    line: &mut Line<N>,
+    thread: u32,
+    drawn: (u128, u128),
+    delivered: Option<u32>,
+)
+    requires { length line.old + 133 ≤ N }
     ensures { line.new ≡ line.old ++ (codes "draw " ++ (decimal drawn.0 ++ (codes " of " ++ (decimal drawn.1 ++ (codes " thread " ++ (decimal thread ++ (delivered_text delivered ++ newline))))))) }
 {
     let (number, total) = drawn;
@@ -119,18 +149,18 @@ fn push_winner(line: &mut TurnLine, thread: u32, drawn: (u128, u128), delivered:
 
 /// Puts the thread that ran, and for how many ticks.
 #[inline(always)]
-fn push_ran(line: &mut TurnLine, thread: u32, ticks: u32)
-    requires { length line.old ≤ 11 }
+fn push_ran<const N: usize>(line: &mut Line<N>, thread: u32, ticks: u32)
+    requires { length line.old + 133 ≤ N }
     ensures text { line.new ≡ line.old ++ (codes "thread " ++ (decimal thread ++ (codes " ticks " ++ decimal ticks))) }
-    ensures len { length line.new ≤ 45 }
+    ensures len { length line.new ≤ length line.old + 34 }
 {
     line.push_count("thread ", thread);
     line.push_count(" ticks ", ticks);
 }
 
 /// Puts what the event, a trap, came to, whether the quantum was used up, and the line's end.
-fn push_trap_of(line: &mut TurnLine, event: &Event, outcome: Outcome, ends: bool)
-    requires { length line.old ≤ 45 }
+fn push_trap_of<const N: usize>(line: &mut Line<N>, event: &Event, outcome: Outcome, ends: bool)
+    requires { length line.old + 99 ≤ N }
     ensures { line.new ≡ line.old ++ (codes " " ++ (trap_text_of event.now outcome ++ (ends_text ends ++ newline))) }
 {
     line.push_text(" ");
@@ -141,10 +171,10 @@ fn push_trap_of(line: &mut TurnLine, event: &Event, outcome: Outcome, ends: bool
 }
 
 /// Puts what a trap came to. An outcome that the action never has is no text.
-fn push_trap(line: &mut TurnLine, action: Action, outcome: Outcome)
-    requires { length line.old ≤ 46 }
+fn push_trap<const N: usize>(line: &mut Line<N>, action: Action, outcome: Outcome)
+    requires { length line.old + 84 ≤ N }
     ensures text { line.new ≡ line.old ++ trap_text action outcome }
-    ensures len { length line.new ≤ 130 }
+    ensures len { length line.new ≤ length line.old + 84 }
 {
     match (action, outcome) {
         (_, Outcome::Refused(why)) => {
@@ -177,20 +207,20 @@ fn push_trap(line: &mut TurnLine, action: Action, outcome: Outcome)
 }
 
 /// Puts the port or mutex of a trap, and what the trap came to there.
-fn push_state(line: &mut TurnLine, word: &str, number: u32, state: &str)
-    requires { (length line.old ≤ 46) × (length word.now ≤ 8) × (length state.now ≤ 7) }
+fn push_state<const N: usize>(line: &mut Line<N>, word: &str, number: u32, state: &str)
+    requires { (length line.old + 25 ≤ N) × (length word.now ≤ 8) × (length state.now ≤ 7) }
     ensures text { line.new ≡ line.old ++ (word.now ++ (decimal number ++ state.now)) }
-    ensures len { length line.new ≤ 71 }
+    ensures len { length line.new ≤ length line.old + 25 }
 {
     line.push_count(word, number);
     line.push_text(state);
 }
 
 /// Puts how the mutex was passed on: by a lottery, or to the one that had waited longest.
-fn push_drawn(line: &mut TurnLine, drawn: Option<(u64, u64)>)
-    requires { length line.old ≤ 80 }
+fn push_drawn<const N: usize>(line: &mut Line<N>, drawn: Option<(u64, u64)>)
+    requires { length line.old + 50 ≤ N }
     ensures text { line.new ≡ line.old ++ drawn_text drawn }
-    ensures len { length line.new ≤ 130 }
+    ensures len { length line.new ≤ length line.old + 50 }
 {
     match drawn {
         None => line.push_text(" oldest"),

@@ -32,7 +32,11 @@ fn check_event(
     wanted: &str,
 ) {
     let mut writer = Watched::new(Vec::new(alloc));
-    let ended = write_reply(&mut writer, actor, event, reply);
+    let mut page = Page::new();
+    let mut ended = write_reply(&mut writer, &mut page, actor, event, reply);
+    if ended.is_ok() {
+        ended = page.write_out(&mut writer);
+    }
     check(rt, writer, ended, wanted);
 }
 
@@ -369,7 +373,11 @@ fn prints_faults(rt: HostRuntime) {
 #[test]
 fn prints_ended(rt: HostRuntime) {
     let mut writer = Watched::new(Vec::new(rt.alloc()));
-    let ended = write_ended(&mut writer, 0);
+    let mut page = Page::new();
+    let mut ended = write_ended(&mut writer, &mut page, 0);
+    if ended.is_ok() {
+        ended = page.write_out(&mut writer);
+    }
     check(&rt, writer, ended, "0 refused 41 Ended\n");
 }
 

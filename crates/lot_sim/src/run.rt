@@ -25,10 +25,11 @@ pub(crate) enum RunStop {
 }
 
 /// Reads an input, has its commands run and its processors' turns made by workers, and writes the report and the
-/// history; or one line, if the input is refused. Its schedule is ignored. It may wait.
+/// history; or one line, if the input is refused: then its bytes stay in `input`. Its schedule is ignored. It may wait.
 pub(crate) fn run<R: Read, W: Write, H: Threads + Wait + Sync>(
     rt: &H,
     alloc: Global,
+    input: &mut Vec<u8>,
     reader: &mut Watched<R>,
     writer: &mut Watched<W>,
 ) -> Result<Played, RunStop>
@@ -38,7 +39,10 @@ pub(crate) fn run<R: Read, W: Write, H: Threads + Wait + Sync>(
     ensures fault { IfErr result (λ stop. RunLeaves R.remaining reader.old reader.new W.contents writer.old writer.new stop) }
 {
     match read_input(alloc, reader) {
-        Ok(bytes) => run_bytes(rt, alloc, &bytes, writer),
+        Ok(bytes) => {
+            *input = bytes;
+            run_bytes(rt, alloc, input.as_slice(), writer)
+        }
         Err(fault) => Err(RunStop::Play(fault)),
     }
 }

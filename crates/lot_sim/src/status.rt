@@ -4,8 +4,9 @@ use crate::command_line::{Request, request_of};
 use crate::run::run;
 use clap::Error;
 use clap::error::ErrorKind;
-use lot_system::{Played, play};
-use lot_text::Watched;
+use lot_system::{Played, play_keeping};
+use lot_text::{ParseFault, Watched, parse};
+use lot_words::write_words;
 use std::alloc::Global;
 use std::convert::AsStr;
 use std::io;
@@ -36,33 +37,50 @@ pub(crate) fn status<
 >(rt: &H, alloc: Global, words: &[S], reader: R, output: W, errors: E) -> u8 {
     // A buffer tries a failed write again, also when dropped. What lies between it and the output lets none through.
     let output = Watched::new(output);
+    let errors = Watched::new(errors);
     match request_of(alloc, words) {
-        Ok(request) => request_status(rt, alloc, request, reader, output),
-        Err(error) => say_error(&error, output, Watched::new(errors)),
+        Ok(request) => request_status(rt, alloc, request, reader, output, errors),
+        Err(error) => say_error(&error, output, errors),
     }
 }
 
 /// The exit status of what was asked for.
-fn request_status<H: Threads + Wait + Sync, R: Read + Drop, W: Write + Drop>(
+fn request_status<H: Threads + Wait + Sync, R: Read + Drop, W: Write + Drop, E: Write + Drop>(
     rt: &H,
     alloc: Global,
     request: Request,
     reader: R,
     output: Watched<W>,
+    mut errors: Watched<E>,
 ) -> u8 {
     let Ok(buffered) = BufWriter::with_capacity(alloc, BUFFER, output) else {
         return FAILED;
     };
     let mut reader = Watched::new(reader);
     let mut writer = Watched::new(buffered);
+    let mut input = Vec::new(alloc);
     let played = match request {
-        Request::Play => play(alloc, &mut reader, &mut writer).ok(),
-        Request::Run => run(rt, alloc, &mut reader, &mut writer).ok(),
+        Request::Play => play_keeping(alloc, &mut input, &mut reader, &mut writer).ok(),
+        Request::Run => run(rt, alloc, &mut input, &mut reader, &mut writer).ok(),
     };
     match played {
         Some(Played::Done) => DONE,
-        Some(Played::Refused) => REFUSED,
+        Some(Played::Refused) => {
+            say_why(alloc, &mut errors, input.as_slice());
+            REFUSED
+        }
         None => FAILED,
+    }
+}
+
+/// Writes to the errors, in words, why this input is refused. The output and the status say so too: if there is no memory, or the
+/// errors fail, nothing comes of it.
+fn say_why<E: Write>(alloc: Global, errors: &mut Watched<E>, input: &[u8]) {
+    let mut words = Vec::new(alloc);
+    if let Err(ParseFault::Input(fault)) = parse(alloc, input) {
+        if write_words(alloc, &mut words, input, fault).is_ok() {
+            let _ = errors.write_all(words.as_slice());
+        }
     }
 }
 

@@ -1,7 +1,6 @@
 -- What is written of the turns of a schedule.
 use Rattle.std.proofs.Common.{◌≡◌, ℕ, zero, suc, ◌+◌, ◌<◌, Option, List, [], ◌∷◌, ◌++◌, length, get_or, take, drop, codes, refl, sym, ◌∙◌, ap, subst, arith, append-nil, append_assoc, length-append}
 use Rattle.std.specs.Fmt.{decimal}
-use Rattle.std.specs.Io.KnownBytes.{Appends}
 use Rattle.std.proofs.lemmas.List.{take_more}
 use Rattle.lot_machine.specs.declared.event.Event.{Event}
 use Rattle.lot_machine.specs.declared.reply.Reply.{Reply}
@@ -12,9 +11,10 @@ use Rattle.lot_simulation.specs.World.{Program, World, Answer, Turn, opening_wor
 use Rattle.lot_simulation.specs.World.Answer.{Answered}
 use Rattle.lot_system.specs.Playing.{HasPlayed, IsPlayed, turn_in}
 use Rattle.lot_system.specs.Seen.{Seen, Setting, world_of, after_turn}
-use Rattle.lot_print.specs.Writing.{Begins}
+use Rattle.lot_print.specs.Writing.{Begins, IsPut}
 use Rattle.lot_system.proofs.Runs.{system_run-one_more, past-more}
-use Rattle.lot_print.proofs.WritingFacts.{appends-both, begins-front, begins-after}
+use Rattle.lot_print.proofs.PageFacts.{puts-both, puts-stop}
+use Rattle.lot_print.proofs.WritingFacts.{begins-front}
 
 -- ---- a turn that goes
 
@@ -69,7 +69,7 @@ split-at [] n d below = absurd (omega arith)
 split-at (x ∷ xs) zero d below = refl
 split-at (x ∷ xs) (suc n) d below = ap (λ ys. x ∷ ys) (split-at xs n d (omega (arith, below)))
 
-module _ (program : Program) (xs : List ℕ) (n d actor : ℕ) (below : n < length xs) (is : actor ≡ get_or xs n d) (seen : Seen) (has : HasPlayed program (take n xs) seen) (old mid new : Option (List ℕ)) (one : Appends old mid (turn_texts program (opening_world program) (take n xs))) where
+module _ (program : Program) (xs : List ℕ) (n d actor : ℕ) (below : n < length xs) (is : actor ≡ get_or xs n d) (seen : Seen) (has : HasPlayed program (take n xs) seen) (old mid new : Option (List ℕ)) (waits : List ℕ) (one : IsPut old mid [] waits (turn_texts program (opening_world program) (take n xs))) where
   next : take n xs ++ actor ∷ [] ≡ take n xs ++ get_or xs n d ∷ []
   next = ap (λ a. take n xs ++ a ∷ []) is
 
@@ -81,14 +81,14 @@ module _ (program : Program) (xs : List ℕ) (n d actor : ℕ) (below : n < leng
       ap (λ (t : Turn). turn_texts program (opening_world program) (take n xs) ++ turn_text actor t) (turn-is program (take n xs) seen has actor)
       ∙ sym (texts-one_more program (opening_world program) (take n xs) actor)
 
-  -- one turn's text more is written
-  pub texts-more : Appends mid new (turn_text actor (turn_in seen actor)) → Appends old new (turn_texts program (opening_world program) (take (n + 1) xs))
-  texts-more two =
-      subst (Appends old new) (texts-here ∙ ap (turn_texts program (opening_world program)) (next ∙ sym (take_more xs n d below)))
-      (appends-both old mid new (turn_texts program (opening_world program) (take n xs)) (turn_text actor (turn_in seen actor)) one two)
+  -- one turn's text more is put
+  pub texts-more : (after : List ℕ) → IsPut mid new waits after (turn_text actor (turn_in seen actor)) → IsPut old new [] after (turn_texts program (opening_world program) (take (n + 1) xs))
+  texts-more after two =
+      subst (IsPut old new [] after) (texts-here ∙ ap (turn_texts program (opening_world program)) (next ∙ sym (take_more xs n d below)))
+      (puts-both old mid new [] waits after (turn_texts program (opening_world program) (take n xs)) (turn_text actor (turn_in seen actor)) one two)
 
-  -- a beginning of the next turn's text is one of all
-  pub texts-stop : Begins mid new (turn_text actor (turn_in seen actor)) → Begins old new (turn_texts program (opening_world program) xs)
+  -- a beginning of what waits and then the next turn's text is one of all
+  pub texts-stop : Begins mid new (waits ++ turn_text actor (turn_in seen actor)) → Begins old new (turn_texts program (opening_world program) xs)
   texts-stop two =
       let front = turn_texts program (opening_world program) (take n xs) in
       let following = turn_texts program (system_after program (opening_world program) (take n xs ++ actor ∷ [])) (drop (suc n) xs) in
@@ -96,7 +96,7 @@ module _ (program : Program) (xs : List ℕ) (n d actor : ℕ) (below : n < leng
       let texts : (front ++ turn_text actor (turn_in seen actor)) ++ following ≡ turn_texts program (opening_world program) xs =
       ap (λ ts. ts ++ following) texts-here ∙ sym (texts-both program (opening_world program) (take n xs ++ actor ∷ []) (drop (suc n) xs)) ∙ ap (turn_texts program (opening_world program)) (sym whole) in
       subst (Begins old new) texts
-      (begins-front old new (front ++ turn_text actor (turn_in seen actor)) following (begins-after old mid new front (turn_text actor (turn_in seen actor)) one two))
+      (begins-front old new (front ++ turn_text actor (turn_in seen actor)) following (puts-stop old mid new [] waits [] front (turn_text actor (turn_in seen actor)) one two))
 
 -- the report of a system is that of the history that the turns left
 pub report-is : (program : Program) (seen : Seen) → HasPlayed program program.schedule seen → report seen.setting.program seen.history ≡ report program (system_run program program.schedule).history

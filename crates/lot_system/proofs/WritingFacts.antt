@@ -5,12 +5,17 @@ use Rattle.std.specs.Io.KnownBytes.{Appends}
 use Rattle.lot_print.specs.Writing.{Begins}
 use Rattle.lot_print.proofs.WritingFacts.{appends-both, begins-front, begins-after}
 use Rattle.lot_system.specs.declared.fault.PlayFault.{PlayFault}
-use Rattle.lot_system.specs.Writing.{Written}
+use Rattle.lot_system.specs.Writing.{Put, Written}
 
 -- what is written after what was written already
 pub writes-after : {U : Type 0} (old mid new : Option (List ℕ)) (failed : Bool) (r : Result U PlayFault) (a b : List ℕ) → Appends old mid a → Written mid new failed r b → Written old new failed r (a ++ b)
 writes-after old mid new failed (Ok done) a b one two = (two.0, appends-both old mid new a b one two.1)
 writes-after old mid new failed (Err fault) a b one two = (two.0, two.1, begins-after old mid new a b one two.2)
+
+-- a text that is written after what waited, so that nothing waits
+pub put-written : {U : Type 0} (old mid new : Option (List ℕ)) (before after text : List ℕ) (failed : Bool) (r : Result U PlayFault) → after ≡ [] → Appends old mid before → Written mid new failed r text → Put old new before after failed r text
+put-written old mid new before after text failed (Ok done) none one two = (two.0, (before ++ text, sym (append-nil (before ++ text)) ∙ ap (λ xs. (before ++ text) ++ xs) (sym none), appends-both old mid new before text one two.1))
+put-written old mid new before after text failed (Err fault) none one two = (two.0, two.1, begins-after old mid new before text one two.2)
 
 -- ---- texts of the numbers of a range
 

@@ -1,8 +1,8 @@
 -- What is written.
-use Rattle.std.specs.Prelude.{◌≡◌, ℕ, Bool, true, false, Option, Result, Ok, Err, List}
+use Rattle.std.specs.Prelude.{◌≡◌, ℕ, Bool, true, false, Option, Result, Ok, Err, List, ◌++◌}
 use Rattle.std.specs.Io.KnownBytes.{Appends}
 use Rattle.lot_text.specs.Watching.{Watch}
-use Rattle.lot_print.specs.Writing.{Begins}
+use Rattle.lot_print.specs.Writing.{Begins, IsPut}
 use Rattle.lot_system.specs.declared.fault.PlayFault.{PlayFault}
 use Rattle.lot_system.specs.declared.fault.PlayFault.TheVariants.{Memory, Read, Write}
 
@@ -14,6 +14,16 @@ Written old new failed (Err fault) text = (fault ≡ Write) × (failed ≡ true)
 -- the same of a watched writer, of which `contents` says what it holds
 abbrev pub Writes : {T : Type 0} {U : Type 0} → (T → Option (List ℕ)) → Watch T → Watch T → Result U PlayFault → List ℕ → Type 0
 Writes contents old new result text = Written (contents old.inner) (contents new.inner) new.failed result text
+
+-- On Ok the text was put after what waits to be written, and the writer hasn't failed. Else it has failed, and a beginning
+-- of what waited before and then the text was written.
+abbrev pub Put : {U : Type 0} → Option (List ℕ) → Option (List ℕ) → List ℕ → List ℕ → Bool → Result U PlayFault → List ℕ → Type 0
+Put old new before after failed (Ok done) text = (failed ≡ false) × IsPut old new before after text
+Put old new before after failed (Err fault) text = (fault ≡ Write) × (failed ≡ true) × Begins old new (before ++ text)
+
+-- the same of a watched writer, of which `contents` says what it holds
+abbrev pub Puts : {T : Type 0} {U : Type 0} → (T → Option (List ℕ)) → Watch T → Watch T → List ℕ → List ℕ → Result U PlayFault → List ℕ → Type 0
+Puts contents old new before after result text = Put (contents old.inner) (contents new.inner) before after new.failed result text
 
 -- a fault of reading: Read if the reader has failed, and want of memory if it hasn't
 abbrev pub IsReadFault : PlayFault → Bool → Type 0

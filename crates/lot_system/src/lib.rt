@@ -21,7 +21,7 @@ pub use counts::Counts;
 pub use ending::write_end;
 pub use fault::{PlayFault, TurnFault};
 pub use input::read_input;
-pub use playing::{Played, play, refuse};
+pub use playing::{Played, play, play_keeping, refuse};
 pub use slices::slice_for;
 pub use system::System;
 pub use turn::{Answer, Work};

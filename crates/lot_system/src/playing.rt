@@ -15,7 +15,7 @@ ghost use Rattle.lot_system.specs.declared.playing.Played.TheVariants.{Done, Ref
 ghost use Rattle.lot_system.specs.Reading.{Reads};
 ghost use Rattle.lot_system.specs.Seen.{world_of};
 ghost use Rattle.lot_system.specs.Turns.{IsFresh};
-ghost use Rattle.lot_system.specs.Writing.{IsFaultOf, Writes};
+ghost use Rattle.lot_system.specs.Writing.{IsFaultOf, Puts, Writes};
 ghost use Rattle.lot_text.specs.Faults.{IsFaultOf as IsParseFaultOf};
 
 use crate::listing::write_listing;
@@ -25,7 +25,7 @@ use crate::turn::Unmade;
 use crate::writing::flush;
 use crate::{PlayFault, System, read_input};
 use lot_machine::{Event, Reply};
-use lot_print::{write_ended, write_fault, write_reply};
+use lot_print::{Page, write_ended, write_fault, write_reply};
 use lot_script::Slice;
 use lot_simulation::InputFault;
 use lot_text::{ParseFault, Program, Watched, parse};
@@ -55,19 +55,37 @@ pub fn play<R: Read, W: Write>(
     ensures output { IfOk result (λ played. (bytes : List ℕ) × Reads R.remaining reader.old reader.new bytes × (played ≡ came_of (program_in bytes)) × Appends (W.contents writer.old.inner) (W.contents writer.new.inner) (output bytes)) }
     ensures fault { IfErr result (λ fault. PlayLeaves R.remaining reader.old reader.new W.contents writer.old writer.new fault) }
 {
-    let bytes = read_input(alloc, reader)?;
-    play_bytes(alloc, bytes, writer)
+    let mut refused = Vec::new(alloc);
+    play_keeping(alloc, &mut refused, reader, writer)
 }
 
-/// Plays what these bytes say, or writes why they are refused.
+/// The same for callers who want to say more of a refused input: `refused` has its bytes then, and else none.
+pub fn play_keeping<R: Read, W: Write>(
+    alloc: Global,
+    refused: &mut Vec<u8>,
+    reader: &mut Watched<R>,
+    writer: &mut Watched<W>,
+) -> Result<Played, PlayFault>
+    requires { (reader.old.failed ≡ false) × (writer.old.failed ≡ false) }
+    ensures ok { OnOk result ((reader.new.failed ≡ false) × (writer.new.failed ≡ false)) }
+    ensures flushed { OnOk result (writer.new.flushed ≡ true) }
+    ensures err { IfErr result (λ fault. IsFaultOf fault reader.new.failed writer.new.failed) }
+    ensures output { IfOk result (λ played. (bytes : List ℕ) × Reads R.remaining reader.old reader.new bytes × (played ≡ came_of (program_in bytes)) × Appends (W.contents writer.old.inner) (W.contents writer.new.inner) (output bytes)) }
+    ensures fault { IfErr result (λ fault. PlayLeaves R.remaining reader.old reader.new W.contents writer.old writer.new fault) }
+{
+    *refused = read_input(alloc, reader)?;
+    play_bytes(alloc, refused, writer)
+}
+
+/// Plays what these bytes say, or writes why they are refused. They stay if they are refused, and else go before the first turn.
 fn play_bytes<W: Write>(
     alloc: Global,
-    bytes: Vec<u8>,
+    bytes: &mut Vec<u8>,
     writer: &mut Watched<W>,
 ) -> Result<Played, PlayFault>
     requires { writer.old.failed ≡ false }
     ensures flushed { OnOk result (writer.new.flushed ≡ true) }
-    ensures played { Plays W.contents writer.old writer.new result (came_of (program_in bytes.items)) (output bytes.items) }
+    ensures played { Plays W.contents writer.old writer.new result (came_of (program_in bytes.old.items)) (output bytes.old.items) }
 {
     match program_of(alloc, bytes) {
         Ok(program) => play_program(alloc, &program, writer),
@@ -76,12 +94,14 @@ fn play_bytes<W: Write>(
     }
 }
 
-/// What the bytes say. Their memory is free again when it is played.
-fn program_of(alloc: Global, bytes: Vec<u8>) -> Result<Program, ParseFault>
-    ensures program { IfOk result (λ program. program_in bytes.items ≡ Ok program) }
-    ensures fault { IfErr result (IsParseFaultOf (program_in bytes.items)) }
+/// What the bytes say. If they aren't refused, their memory is free again.
+fn program_of(alloc: Global, bytes: &mut Vec<u8>) -> Result<Program, ParseFault>
+    ensures program { IfOk result (λ program. program_in bytes.old.items ≡ Ok program) }
+    ensures fault { IfErr result (IsParseFaultOf (program_in bytes.old.items)) }
 {
-    parse(alloc, &bytes)
+    let program = parse(alloc, bytes.as_slice())?;
+    *bytes = Vec::new(alloc);
+    Ok(program)
 }
 
 /// Writes the one line of a refused input, as `play` does.
@@ -129,7 +149,7 @@ fn play_schedule<W: Write>(
     flush(writer)
 }
 
-/// Makes the turns of the program's schedule, and writes what they answer.
+/// Makes the turns of the program's schedule, and writes what they answer, a page of lines at a time.
 fn play_turns<W: Write>(
     program: &Program,
     system: &mut System,
@@ -140,52 +160,56 @@ fn play_turns<W: Write>(
     ensures played { OnOk result (HasPlayed program.now program.now.schedule system.new) }
     ensures text { Writes W.contents writer.old writer.new result (turn_texts program.now (opening_world program.now) program.now.schedule) }
 {
+    let mut page = Page::new();
     for actor in program.schedule() {
-        play_turn(program, system, u32::from(*actor), writer)?;
+        play_turn(program, system, u32::from(*actor), writer, &mut page)?;
     }
-    Ok(())
+    Ok(page.write_out(writer)?)
 }
 
-/// Makes one turn, with the slice of the actor's work, and writes what it answers.
+/// Makes one turn, with the slice of the actor's work, and puts on the page what it answers.
 #[inline(always)]
 fn play_turn<W: Write>(
     program: &Program,
     system: &mut System,
     actor: u32,
     writer: &mut Watched<W>,
+    page: &mut Page,
 ) -> Result<(), PlayFault>
     requires there { actor ≤ system.old.setting.program.limits.processors }
     requires program { system.old.setting.program ≡ program.now }
     requires room { length system.old.history < system.old.setting.room }
     requires working { writer.old.failed ≡ false }
     ensures played { IsPlayed system.old actor system.new }
-    ensures text { Writes W.contents writer.old writer.new result (turn_text actor (turn_in system.old actor)) }
+    ensures text { Puts W.contents writer.old writer.new page.old page.new result (turn_text actor (turn_in system.old actor)) }
 {
     // Two calls, since with a slice and without one a turn does different things, each of which is compiled for itself.
     match slice_in(system, program, actor) {
-        Some(slice) => play_slice(system, actor, Some(slice), writer),
-        None => play_slice(system, actor, None, writer),
+        Some(slice) => play_slice(system, actor, Some(slice), writer, page),
+        None => play_slice(system, actor, None, writer, page),
     }
 }
 
-/// Makes one turn with this slice, which is that of the actor's work, and writes what it answers.
+/// Makes one turn with this slice, which is that of the actor's work, and puts on the page what it answers.
 #[inline(always)]
 fn play_slice<W: Write>(
     system: &mut System,
     actor: u32,
     slice: Option<Slice>,
     writer: &mut Watched<W>,
+    page: &mut Page,
 ) -> Result<(), PlayFault>
     requires there { actor ≤ system.old.setting.program.limits.processors }
     requires fresh { IsFresh system.old actor slice }
     requires room { length system.old.history < system.old.setting.room }
     requires working { writer.old.failed ≡ false }
     ensures played { IsPlayed system.old actor system.new }
-    ensures text { Writes W.contents writer.old writer.new result (turn_text actor (turn_in system.old actor)) }
+    ensures text { Puts W.contents writer.old writer.new page.old page.new result (turn_text actor (turn_in system.old actor)) }
 {
-    match system.try_turn(actor, &slice) {
-        Ok(made) => write_answer(system, actor, &made.0, made.1, writer),
-        Err(Unmade::Ended) => Ok(write_ended(writer, actor)?),
+    let mut event = Event::Expire(actor);
+    match system.try_turn(actor, &slice, &mut event) {
+        Ok(reply) => put_answer(system, actor, &event, reply, writer, page),
+        Err(Unmade::Ended) => Ok(write_ended(writer, page, actor)?),
         Err(Unmade::Stale) => unreachable!(),
         Err(Unmade::HistoryFull) => unreachable!(),
     }
@@ -203,21 +227,25 @@ fn slice_in<'a>(system: &System, program: &'a Program, actor: u32) -> Option<Sli
     }
 }
 
-/// Writes what a turn answered: a line, or the listing that was asked for.
+/// Puts on the page what a turn answered. A listing that was asked for is written at once.
 #[inline(always)]
-fn write_answer<W: Write>(
+fn put_answer<W: Write>(
     system: &mut System,
     actor: u32,
     event: &Event,
     reply: Reply,
     writer: &mut Watched<W>,
+    page: &mut Page,
 ) -> Result<(), PlayFault>
     requires { writer.old.failed ≡ false }
     ensures same { system.new ≡ system.old }
-    ensures text { Writes W.contents writer.old writer.new result (decimal actor ++ (codes " " ++ reply_text (world_of system.old).state event.now reply)) }
+    ensures text { Puts W.contents writer.old writer.new page.old page.new result (decimal actor ++ (codes " " ++ reply_text (world_of system.old).state event.now reply)) }
 {
     match reply {
-        Reply::List(kind) => write_listing(system, actor, kind, writer),
-        reply => Ok(write_reply(writer, actor, event, reply)?),
+        Reply::List(kind) => {
+            page.write_out(writer)?;
+            write_listing(system, actor, kind, writer)
+        }
+        reply => Ok(write_reply(writer, page, actor, event, reply)?),
     }
 }

@@ -168,10 +168,11 @@ impl System {
         ensures stale { IfErr result (λ fault. IfStale fault (¬ IsFresh self.old actor slice.entry)) }
         ensures legal { IsLegal self.new.setting.program self.new.setting.room self.new.history }
     {
-        match self.try_turn(actor, &slice) {
-            Ok(made) => Ok(Answer {
-                event: made.0,
-                reply: made.1,
+        let mut event = Event::Expire(actor);
+        match self.try_turn(actor, &slice, &mut event) {
+            Ok(reply) => Ok(Answer {
+                event,
+                reply,
                 next: self.work(actor),
             }),
             Err(Unmade::Stale) => Err(TurnFault::Stale(self.work(actor))),
@@ -180,15 +181,17 @@ impl System {
         }
     }
 
-    /// The same for callers who ask neither for the actor's next work nor for the one that a stale slice isn't of.
+    /// The same for callers who ask neither for the actor's next work nor for the one that a stale slice isn't of. The event is put
+    /// where it is kept: as a part of the result it would be copied at each step out.
     #[inline(always)]
     pub(crate) fn try_turn(
         &mut self,
         actor: u32,
         slice: &Option<Slice>,
-    ) -> Result<(Event, Reply), Unmade>
+        event: &mut Event,
+    ) -> Result<Reply, Unmade>
         requires { actor ≤ self.old.setting.program.limits.processors }
-        ensures ok { IfOk result (λ made. Goes self.old actor slice.now × (self.new ≡ after_turn self.old actor) × ((system_turn self.old.setting.program (world_of self.old) actor).answer ≡ Answered made.0 made.1)) }
+        ensures ok { IfOk result (λ reply. Goes self.old actor slice.now × (self.new ≡ after_turn self.old actor) × ((system_turn self.old.setting.program (world_of self.old) actor).answer ≡ Answered event.new reply)) }
         ensures err { IfErr result (λ why. Prevents self.old actor slice.now why × (self.new ≡ self.old)) }
         ensures legal { IsLegal self.new.setting.program self.new.setting.room self.new.history }
     {
@@ -202,7 +205,7 @@ impl System {
         if self.is_full() {
             return Err(Unmade::HistoryFull);
         }
-        Ok(self.make_turn(actor, slice))
+        Ok(self.make_turn(actor, slice, event))
     }
 
     /// Whether the actor is the console, and no command is left.
@@ -223,54 +226,54 @@ impl System {
 
     /// A turn that is made: what it was, and what the kernel replied.
     #[inline(always)]
-    fn make_turn(&mut self, actor: u32, slice: &Option<Slice>) -> (Event, Reply)
+    fn make_turn(&mut self, actor: u32, slice: &Option<Slice>, event: &mut Event) -> Reply
         requires actor { actor ≤ self.old.setting.program.limits.processors }
         requires goes { Goes self.old actor slice.now }
         ensures seen { self.new ≡ after_turn self.old actor }
-        ensures answer { (system_turn self.old.setting.program (world_of self.old) actor).answer ≡ Answered result.0 result.1 }
+        ensures answer { (system_turn self.old.setting.program (world_of self.old) actor).answer ≡ Answered event.new result }
     {
         if actor == 0 {
-            self.console_turn()
+            self.console_turn(event)
         } else {
-            self.processor_turn(actor, slice)
+            self.processor_turn(actor, slice, event)
         }
     }
 
     /// The console's next command.
-    fn console_turn(&mut self) -> (Event, Reply)
+    fn console_turn(&mut self, event: &mut Event) -> Reply
         requires left { ¬ IsEnded self.old 0 }
         requires room { length self.old.history < self.old.setting.room }
         ensures seen { self.new ≡ after_turn self.old 0 }
-        ensures answer { (system_turn self.old.setting.program (world_of self.old) 0).answer ≡ Answered result.0 result.1 }
+        ensures answer { (system_turn self.old.setting.program (world_of self.old) 0).answer ≡ Answered event.new result }
     {
-        let event = Event::Command(self.program.commands()[self.spent].copied());
-        let reply = self.kernel.event(&event);
+        *event = Event::Command(self.program.commands()[self.spent].copied());
+        let reply = self.kernel.event(event);
         self.spent += 1;
         follow_command(&mut self.places, &self.program, &self.kernel, reply);
         count_turn(&mut self.counts, 0, reply);
         self.total = self.total.with_turn(reply);
         remember(&mut self.history, 0);
-        (event, reply)
+        reply
     }
 
     /// A processor's draw, or the slice of the thread that runs there.
     #[inline(always)]
-    fn processor_turn(&mut self, actor: u32, slice: &Option<Slice>) -> (Event, Reply)
+    fn processor_turn(&mut self, actor: u32, slice: &Option<Slice>, event: &mut Event) -> Reply
         requires actor { IsBetween 1 self.old.setting.program.limits.processors actor }
         requires fresh { IsFresh self.old actor slice.now }
         requires room { length self.old.history < self.old.setting.room }
         ensures seen { self.new ≡ after_turn self.old actor }
-        ensures answer { (system_turn self.old.setting.program (world_of self.old) actor).answer ≡ Answered result.0 result.1 }
+        ensures answer { (system_turn self.old.setting.program (world_of self.old) actor).answer ≡ Answered event.new result }
     {
         let next = next_number(&self.generators, actor);
-        let event = event_of(actor, slice, next.number);
-        pass_number(&mut self.generators, actor, &event, next);
-        let reply = self.kernel.event(&event);
+        *event = event_of(actor, slice, next.number);
+        pass_number(&mut self.generators, actor, event, next);
+        let reply = self.kernel.event(event);
         follow_turn(&mut self.places, slice, reply);
         count_turn(&mut self.counts, actor, reply);
         self.total = self.total.with_turn(reply);
         remember(&mut self.history, actor);
-        (event, reply)
+        reply
     }
 
     /// The limits of the program.

@@ -99,7 +99,7 @@ impl Program {
 fn copied_scripts(alloc: Global, scripts: &[Script]) -> Result<Vec<Script>, AllocError>
     ensures { IfOk result (λ copies. copies.items ≡ scripts.now) }
 {
-    let mut copies = Vec::new(alloc);
+    let mut copies = Vec::with_capacity(alloc, scripts.len())?;
     for script in scripts {
         copies.push(script.copied(alloc)?)?;
     }
@@ -110,7 +110,7 @@ fn copied_scripts(alloc: Global, scripts: &[Script]) -> Result<Vec<Script>, Allo
 fn copied_commands(alloc: Global, commands: &[Command]) -> Result<Vec<Command>, AllocError>
     ensures { IfOk result (λ copies. copies.items ≡ commands.now) }
 {
-    let mut copies = Vec::new(alloc);
+    let mut copies = Vec::with_capacity(alloc, commands.len())?;
     for command in commands {
         copies.push(command.copied())?;
     }

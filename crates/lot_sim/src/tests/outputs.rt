@@ -94,7 +94,7 @@ fn output_fails<H: Abort + Threads + Wait + Sync>(
         &mut errors,
     );
     let whole = text.as_bytes();
-    assert!(rt; errors.is_empty(), "{input}");
+    assert_eq!(rt; errors.is_empty(), ended != 1, "{input}");
     if ended == 3 {
         assert_eq!(rt; output.calls, fails_at, "{input}");
         assert!(rt; whole.starts_with(output.written.as_slice()), "{input}");

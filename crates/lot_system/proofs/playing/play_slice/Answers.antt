@@ -7,7 +7,7 @@ use Rattle.lot_print.specs.Writing.{Begins}
 use Rattle.lot_system.specs.declared.fault.PlayFault.TheVariants.{Write}
 use Rattle.lot_system.specs.Playing.{IsPlayed, turn_in}
 use Rattle.lot_system.specs.Seen.{Seen, world_of, after_turn}
-use Rattle.lot_system.specs.Writing.{Written}
+use Rattle.lot_system.specs.Writing.{Put}
 use Rattle.lot_system.proofs.PlayingFacts.{played-after, text-after}
 use Rattle.lot_system.proofs.playing.play_slice.Goals as goal
 
@@ -15,23 +15,21 @@ pub returns-in-Ok-clause-played : goal.returns-in-Ok-clause-played
 returns-in-Ok-clause-played g c =
     let old = c.args.system.now in
     let actor = c.args.actor in
-    let made = c.in-Ok.made in
     let told = c.in-Ok.ensures.ok in
-    let now : c.write_answer.new.system ≡ after_turn old actor = c.write_answer.ensures.same ∙ told.1 in
-    subst (IsPlayed old actor) (sym now) (played-after old actor made.0 made.1 told.2)
+    let now : c.put_answer.new.system ≡ after_turn old actor = c.put_answer.ensures.same ∙ told.1 in
+    subst (IsPlayed old actor) (sym now) (played-after old actor c.try_turn.new.event c.in-Ok.reply told.2)
 
 pub returns-in-Ok-clause-text : goal.returns-in-Ok-clause-text
 returns-in-Ok-clause-text g c =
     let old = c.args.system.now in
     let actor = c.args.actor in
-    let made = c.in-Ok.made in
     let told = c.in-Ok.ensures.ok in
-    let text = ap (λ (x : Seen). decimal actor ++ (codes " " ++ reply_text (world_of x).state made.0 made.1)) told.1 ∙ text-after old actor made.0 made.1 told.2 in
-    subst (Written (g.W.Write.contents c.args.writer.now.inner) (g.W.Write.contents c.write_answer.new.writer.inner) c.write_answer.new.writer.failed c.write_answer.result) text c.write_answer.ensures.text
+    let text = ap (λ (x : Seen). decimal actor ++ (codes " " ++ reply_text (world_of x).state c.try_turn.new.event c.in-Ok.reply)) told.1 ∙ text-after old actor c.try_turn.new.event c.in-Ok.reply told.2 in
+    subst (Put (g.W.Write.contents c.args.writer.now.inner) (g.W.Write.contents c.put_answer.new.writer.inner) c.args.page.now c.put_answer.new.page c.put_answer.new.writer.failed c.put_answer.result) text c.put_answer.ensures.text
 
 pub returns-in_err-write_ended-in-Err-Ended-clause-text : goal.returns-in_err-write_ended-in-Err-Ended-clause-text
 returns-in_err-write_ended-in-Err-Ended-clause-text g c =
     let is : c.from_residual.result ≡ Err Write = search rules in
     let told = c.in_err-write_ended-in-Err-Ended.ensures in
     let text : decimal c.args.actor ++ (codes " " ++ (refused 41 (codes "Ended") ++ newline)) ≡ turn_text c.args.actor (turn_in c.args.system.now c.args.actor) = search rules in
-    rw is (refl, told.0, subst (Begins (g.W.Write.contents c.args.writer.now.inner) (g.W.Write.contents c.write_ended.new.writer.inner)) text told.1)
+    rw is (refl, told.0, subst (λ t. Begins (g.W.Write.contents c.args.writer.now.inner) (g.W.Write.contents c.write_ended.new.writer.inner) (c.args.page.now ++ t)) text told.1)

@@ -1,0 +1,64 @@
+//! Lines that are written together.
+ghost use Rattle.std.specs.Prelude.{◌≡◌, ◌≤◌, ◌+◌, [], false, length, OnOk};
+ghost use Rattle.lot_print.specs.Writing.{Puts, Writes};
+
+use crate::WriteFault;
+use crate::line::Line;
+use lot_text::Watched;
+use std::io::Write;
+use std::marker::Model;
+
+/// How many bytes of lines wait at most.
+const PAGE: usize = 4096;
+
+/// The room that the line of a turn needs at most, whatever its numbers are.
+const TURN: usize = 144;
+
+/// Lines of turns that wait to be written together. It takes no memory.
+#[derive(Debug, Drop)]
+pub struct Page {
+    pub(crate) lines: Line<PAGE>,
+}
+
+impl Model for Page {
+    ghost use Rattle.std.specs.Prelude.{List, ℕ};
+
+    ghost Value = { List ℕ };
+
+    ghost view = { λ p. p.lines };
+
+    ghost inverse = { λ lines. record { lines = lines } };
+}
+
+impl Page {
+    /// No line.
+    pub fn new() -> Page
+        ensures { result ≡ [] }
+    {
+        Page { lines: Line::new() }
+    }
+
+    /// Writes the lines, after which none waits. No failed write is tried again.
+    pub fn write_out<W: Write>(&mut self, writer: &mut Watched<W>) -> Result<(), WriteFault>
+        requires { writer.old.failed ≡ false }
+        ensures text { Writes W.contents writer.old writer.new result self.old }
+        ensures none { self.new ≡ [] }
+    {
+        let written = self.lines.write_to(writer);
+        self.lines.clear();
+        written
+    }
+
+    /// Has room for the line of one more turn: if there is none, it writes the lines.
+    #[inline(always)]
+    pub(crate) fn make_room<W: Write>(&mut self, writer: &mut Watched<W>) -> Result<(), WriteFault>
+        requires { writer.old.failed ≡ false }
+        ensures text { Puts W.contents writer.old writer.new self.old self.new result [] }
+        ensures room { OnOk result (length self.new + 144 ≤ 4096) }
+    {
+        if self.lines.len() + TURN <= PAGE {
+            return Ok(());
+        }
+        self.write_out(writer)
+    }
+}

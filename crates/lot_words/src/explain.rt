@@ -1,0 +1,162 @@
+//! What is wrong with the refused line, as the reader finds it: first its bytes, then its first word, then how many words
+//! it has, then each of them, and then what there is too much of.
+
+use crate::forms::{BODY_WORDS, Form, SCRIPT_WORDS, form_inside, form_outside};
+use crate::input::{OpenScript, Refused, words_of};
+use crate::nearest::nearest_word;
+use crate::problem::Problem;
+use crate::word::word_problem;
+use lot_simulation::InputRefusal;
+use std::alloc::Global;
+
+/// What is wrong with a line that was refused in this way.
+pub(crate) fn problem_of<'a>(
+    alloc: Global,
+    refused: &Refused<'a>,
+    refusal: InputRefusal,
+) -> Problem<'a> {
+    let word = words_of(refused.line).next().unwrap_or("");
+    match refusal {
+        InputRefusal::OpenScript => Problem::Unclosed,
+        InputRefusal::TooDeep => Problem::DeepLoop,
+        InputRefusal::BadHeader if refused.has_start => Problem::LateHeader(word),
+        InputRefusal::BadHeader => Problem::NoStart,
+        _ => line_problem(alloc, refused, word).unwrap_or(too_many(refused, word, refusal)),
+    }
+}
+
+/// The first byte that is no printable character of ASCII.
+fn byte_problem(line: &[u8]) -> Option<Problem<'static>> {
+    let place = line.iter().position(|byte| *byte < 32 || 126 < *byte)?;
+    match line[place] {
+        b'\t' => Some(Problem::Tab),
+        b'\r' => Some(Problem::CarriageReturn),
+        byte => Some(Problem::BadByte {
+            byte,
+            column: place.saturating_add(1),
+        }),
+    }
+}
+
+/// What is wrong with the line's bytes or words, if anything is. It begins with this word.
+fn line_problem<'a>(alloc: Global, refused: &Refused<'a>, word: &'a str) -> Option<Problem<'a>> {
+    if 4096 < refused.line.len() {
+        return Some(Problem::LongLine(refused.line.len()));
+    }
+    let problem = byte_problem(refused.line);
+    if problem.is_some() {
+        return problem;
+    }
+    match refused.script {
+        Some(script) => script_problem(alloc, refused, script, word),
+        None => body_problem(alloc, refused, word),
+    }
+}
+
+/// The same of a line inside a script.
+fn script_problem<'a>(
+    alloc: Global,
+    refused: &Refused<'a>,
+    script: OpenScript,
+    word: &'a str,
+) -> Option<Problem<'a>> {
+    let Some(form) = form_inside(word) else {
+        return Some(no_script_line(alloc, script, word));
+    };
+    let problem = form_problem(alloc, refused, form);
+    if problem.is_some() {
+        return problem;
+    }
+    match word {
+        "end" if script.loops == 0 => Some(Problem::NoLoop),
+        "endscript" if script.loops > 0 => Some(Problem::OpenLoop),
+        _ => None,
+    }
+}
+
+/// What to say of a word inside a script that begins none of its lines.
+fn no_script_line(alloc: Global, script: OpenScript, word: &str) -> Problem<'_> {
+    if word == "lottery" || form_outside(word).is_some() {
+        return Problem::InsideScript {
+            word,
+            opened: script.line,
+        };
+    }
+    Problem::NoScriptLine {
+        word,
+        nearest: nearest_word(alloc, &SCRIPT_WORDS, word),
+    }
+}
+
+/// What is wrong with a line outside scripts.
+fn body_problem<'a>(alloc: Global, refused: &Refused<'a>, word: &'a str) -> Option<Problem<'a>> {
+    if word == "runs" && refused.is_first_version {
+        return Some(Problem::RunsOfFirst);
+    }
+    if let Some(form) = form_outside(word) {
+        return form_problem(alloc, refused, form);
+    }
+    if form_inside(word).is_some() {
+        return Some(Problem::OutsideScript(word));
+    }
+    Some(Problem::NoBodyLine {
+        word,
+        nearest: nearest_word(alloc, &BODY_WORDS, word),
+    })
+}
+
+/// What is wrong with a line that is to be of this form.
+fn form_problem<'a>(alloc: Global, refused: &Refused<'a>, form: Form) -> Option<Problem<'a>> {
+    let mut words = words_of(refused.line);
+    let count = words.count().saturating_sub(1);
+    if !form.has_room_for(count, refused.processors) {
+        return Some(count_problem(refused, form, count));
+    }
+    let mut words = words_of(refused.line);
+    let _ = words.next();
+    let mut place = 0usize;
+    for word in words {
+        let expected = form.expected_at(place)?;
+        let problem = word_problem(alloc, refused, word, expected);
+        if problem.is_some() {
+            return problem;
+        }
+        place = place.saturating_add(1);
+    }
+    None
+}
+
+/// What to say of a line of this form with this many words after the first.
+fn count_problem<'a>(refused: &Refused<'a>, form: Form, count: usize) -> Problem<'a> {
+    if words_of(refused.line).any(|word| word.starts_with('#')) {
+        return Problem::TrailingComment(form.shape);
+    }
+    Problem::WrongCount {
+        shape: form.shape,
+        count: count.saturating_add(1),
+    }
+}
+
+/// What there is too much of, if nothing else is wrong with a line that begins with this word.
+fn too_many<'a>(refused: &Refused<'a>, word: &str, refusal: InputRefusal) -> Problem<'a> {
+    if refusal != InputRefusal::TooLong {
+        return Problem::Other(refusal);
+    }
+    if 16777216 < refused.before.len().saturating_add(refused.line.len()) {
+        return Problem::LongInput;
+    }
+    if refused.script.is_some() {
+        return Problem::TooMany {
+            what: "line of a script",
+            most: 1024,
+        };
+    }
+    let (what, most) = match word {
+        "port" => ("port", 256),
+        "mutex" => ("mutex", 256),
+        "script" => ("script", 256),
+        "schedule" | "runs" => ("turn of the schedule", 1000000),
+        _ => ("command", 100000),
+    };
+    Problem::TooMany { what, most }
+}

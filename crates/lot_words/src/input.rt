@@ -1,0 +1,110 @@
+//! The refused line, and what the lines before it say.
+
+use std::str;
+use std::str::SplitAsciiWhitespace;
+
+/// A script that is open.
+#[derive(Clone, Copy, Debug)]
+pub(crate) struct OpenScript {
+    /// The line that opens it.
+    pub(crate) line: u32,
+    /// How many of its loops are open.
+    pub(crate) loops: u32,
+}
+
+/// The refused line, and what the lines before it say.
+#[derive(Clone, Copy, Debug)]
+pub(crate) struct Refused<'a> {
+    /// The lines before it.
+    pub(crate) before: &'a [u8],
+    /// The line itself, without the byte that ends it.
+    pub(crate) line: &'a [u8],
+    /// Whether one of the lines before it isn't ignored.
+    pub(crate) has_start: bool,
+    /// Whether the first of these is `lottery 1`.
+    pub(crate) is_first_version: bool,
+    pub(crate) processors: u32,
+    pub(crate) script: Option<OpenScript>,
+}
+
+impl<'a> Refused<'a> {
+    /// The line with this number, of which the first is 1. All before it have been accepted.
+    pub(crate) fn of(input: &'a [u8], number: u32) -> Refused<'a> {
+        let mut refused = Refused {
+            before: input,
+            line: &[],
+            has_start: false,
+            is_first_version: false,
+            processors: 1,
+            script: None,
+        };
+        let mut begin = 0usize;
+        let mut at = 1u32;
+        for line in input.split(|byte| *byte == b'\n') {
+            if at >= number {
+                refused.before = &input[..begin.min(input.len())];
+                refused.line = line;
+                return refused;
+            }
+            refused.pass(at, line);
+            begin = begin.saturating_add(line.len()).saturating_add(1);
+            at = at.saturating_add(1);
+        }
+        refused
+    }
+
+    /// Takes up what the line with this number says.
+    fn pass(&mut self, number: u32, line: &[u8]) {
+        let mut words = words_of(line);
+        let Some(word) = words.next() else {
+            return;
+        };
+        if word.starts_with('#') {
+            return;
+        }
+        match self.script {
+            Some(script) => self.script = script.after(word),
+            None => self.pass_outside(number, word, words.next().unwrap_or("")),
+        }
+        self.has_start = true;
+    }
+
+    /// The same of a line outside scripts that begins with these two words.
+    fn pass_outside(&mut self, number: u32, word: &str, next: &str) {
+        match word {
+            "lottery" => self.is_first_version = next == "1",
+            "processors" => self.processors = next.parse::<u32>().unwrap_or(1),
+            "script" => {
+                self.script = Some(OpenScript {
+                    line: number,
+                    loops: 0,
+                });
+            }
+            _ => {}
+        }
+    }
+}
+
+impl OpenScript {
+    /// What is open after a line that begins with this word.
+    fn after(self, word: &str) -> Option<OpenScript> {
+        let OpenScript { line, loops } = self;
+        match word {
+            "endscript" => None,
+            "loop" => Some(OpenScript {
+                line,
+                loops: loops.saturating_add(1),
+            }),
+            "end" => Some(OpenScript {
+                line,
+                loops: loops.saturating_sub(1),
+            }),
+            _ => Some(self),
+        }
+    }
+}
+
+/// The words of a line. A line that isn't text has none.
+pub(crate) fn words_of(line: &[u8]) -> SplitAsciiWhitespace<'_> {
+    str::from_utf8(line).unwrap_or("").split_ascii_whitespace()
+}

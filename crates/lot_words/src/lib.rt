@@ -1,0 +1,35 @@
+//! Why an input was refused, in words for whoever wrote it: the line, the word in question, and what was expected there.
+//!
+//! An input is refused by one line for programs, which has the line's number and a refusal. These words stand beside it,
+//! on standard error. Nothing is proved of them but that they are safe and end; they are tested.
+#![tactic(auto)]
+
+mod explain;
+mod forms;
+mod input;
+mod names;
+mod nearest;
+mod problem;
+#[cfg(test)]
+mod tests;
+mod word;
+
+use crate::explain::problem_of;
+use crate::input::Refused;
+use lot_simulation::InputFault;
+use std::alloc::Global;
+use std::io;
+use std::io::Write;
+
+/// Writes why this input is refused with this fault, as one line. It fails if the writer does. If there is no memory, it
+/// leaves out what may have been meant.
+pub fn write_words<W: Write>(
+    alloc: Global,
+    writer: &mut W,
+    input: &[u8],
+    fault: InputFault,
+) -> io::Result<()> {
+    let refused = Refused::of(input, fault.line);
+    let problem = problem_of(alloc, &refused, fault.refusal);
+    writeln!(writer, "line {}: {problem}", fault.line)
+}

@@ -1,0 +1,74 @@
+//! What may have been meant.
+
+use crate::names::{Kind, name_declared};
+use std::alloc::Global;
+use std::fmt;
+use strsim::levenshtein;
+
+/// How many letters may be wrong, missing or too many.
+const MOST_EDITS: usize = 2;
+
+/// The text that a misspelt one is nearest to, if one is near.
+#[derive(Clone, Copy, Debug)]
+pub(crate) struct Nearest<'a> {
+    text: Option<&'a str>,
+    /// How many edits away it is.
+    edits: usize,
+}
+
+impl<'a> Nearest<'a> {
+    /// None yet.
+    const NONE: Nearest<'static> = Nearest {
+        text: None,
+        edits: MOST_EDITS + 1,
+    };
+
+    /// This text, if it is nearer to the misspelt one. Without memory it isn't looked at.
+    fn or(self, alloc: Global, misspelt: &str, text: &'a str) -> Nearest<'a> {
+        match levenshtein(alloc, misspelt, text) {
+            Ok(edits) if edits < self.edits && edits < text.len() => Nearest {
+                text: Some(text),
+                edits,
+            },
+            _ => self,
+        }
+    }
+}
+
+impl fmt::Display for Nearest<'_> {
+    fn fmt<W: fmt::Write>(&self, f: &mut fmt::Formatter<W>) -> fmt::Result {
+        match self.text {
+            Some(text) => write!(f, "; did you mean '{text}'?"),
+            None => Ok(()),
+        }
+    }
+}
+
+/// The word of these that is nearest to this one.
+pub(crate) fn nearest_word(
+    alloc: Global,
+    words: &'static [&'static str],
+    misspelt: &str,
+) -> Nearest<'static> {
+    let mut nearest = Nearest::NONE;
+    for word in words {
+        nearest = nearest.or(alloc, misspelt, word);
+    }
+    nearest
+}
+
+/// The name of this kind in these lines that is nearest to this one.
+pub(crate) fn nearest_name<'a>(
+    alloc: Global,
+    lines: &'a [u8],
+    kind: Kind,
+    misspelt: &str,
+) -> Nearest<'a> {
+    let mut nearest = Nearest::NONE;
+    for line in lines.split(|byte| *byte == b'\n') {
+        if let Some(name) = name_declared(kind, line) {
+            nearest = nearest.or(alloc, misspelt, name);
+        }
+    }
+    nearest
+}

@@ -1,0 +1,114 @@
+//! What is wrong with a line.
+
+use crate::names::Kind;
+use crate::nearest::Nearest;
+use lot_simulation::InputRefusal;
+use thiserror::Error;
+
+/// What is wrong with a line, and what was expected.
+#[derive(Clone, Copy, Debug, Error)]
+pub(crate) enum Problem<'a> {
+    #[error("{0} bytes, at most 4096")]
+    LongLine(usize),
+    #[error("the input has more than 16777216 bytes")]
+    LongInput,
+    #[error("a tab: put spaces between words")]
+    Tab,
+    #[error("a carriage return: save the file with line feeds alone as line ends")]
+    CarriageReturn,
+    #[error("byte {byte} in column {column}: outside comments only ASCII is read")]
+    BadByte {
+        byte: u8,
+        column: usize,
+    },
+    #[error("an input begins with 'lottery 1' or 'lottery 2'")]
+    NoStart,
+    #[error("'{0}' comes too late: the header has 'lottery', 'processors', 'quantum', 'turns', 'seed' and 'limits', each at most once, in this order and before all else")]
+    LateHeader(&'a str),
+    #[error("'{word}' is no body line{nearest}")]
+    NoBodyLine {
+        word: &'a str,
+        nearest: Nearest<'a>,
+    },
+    #[error("'{word}' is no line of a script{nearest}")]
+    NoScriptLine {
+        word: &'a str,
+        nearest: Nearest<'a>,
+    },
+    #[error("'{0}' is a line of a script, and no script is open: 'script NAME' opens one")]
+    OutsideScript(&'a str),
+    #[error("'{word}' is no line of a script, and the one that line {opened} opens isn't closed: 'endscript' closes it")]
+    InsideScript {
+        word: &'a str,
+        opened: u32,
+    },
+    #[error("'runs' is for 'lottery 2': in 'lottery 1' write 'schedule ACTOR ..'")]
+    RunsOfFirst,
+    #[error("a comment has a line of its own; '{0}' has no room for one")]
+    TrailingComment(&'a str),
+    #[error("this line is written '{shape}', and here are {count} words")]
+    WrongCount {
+        shape: &'a str,
+        count: usize,
+    },
+    #[error("'end' closes a loop, and none is open")]
+    NoLoop,
+    #[error("'endscript' stands inside a loop: 'end' closes it")]
+    OpenLoop,
+    #[error("'{0}' is no number: digits, without a 0 before others, at most 18446744073709551615")]
+    NoNumber(&'a str),
+    #[error("'{word}' is no number from {first} to {last}")]
+    NotBetween {
+        word: &'a str,
+        first: u32,
+        last: u32,
+    },
+    #[error("'{word}': there are {processors} processors, and 0 is the console")]
+    NoActor {
+        word: &'a str,
+        processors: u32,
+    },
+    #[error("'{word}' has {count} bytes, and a name at most 16")]
+    LongName {
+        word: &'a str,
+        count: usize,
+    },
+    #[error("'{0}' is no name: a letter a to z, and then letters a to z, digits, '_' or '-'")]
+    BadName(&'a str),
+    #[error("'{word}' is the name of an earlier {kind}")]
+    Taken {
+        word: &'a str,
+        kind: Kind,
+    },
+    #[error("'{word}' is no {kind} of an earlier line{nearest}")]
+    Unknown {
+        word: &'a str,
+        kind: Kind,
+        nearest: Nearest<'a>,
+    },
+    #[error("a ninth loop is open here, at most 8")]
+    DeepLoop,
+    #[error("one {what} too many, at most {most}")]
+    TooMany {
+        what: &'static str,
+        most: u32,
+    },
+    #[error("this script isn't closed: 'endscript' closes it")]
+    Unclosed,
+    #[error("{}", name_of(*.0))]
+    Other(InputRefusal),
+}
+
+/// The name of a refusal, for one that nothing above explains.
+fn name_of(refusal: InputRefusal) -> &'static str {
+    match refusal {
+        InputRefusal::BadHeader => "BadHeader",
+        InputRefusal::BadLine => "BadLine",
+        InputRefusal::BadNumber => "BadNumber",
+        InputRefusal::UnknownName => "UnknownName",
+        InputRefusal::OpenScript => "OpenScript",
+        InputRefusal::TooDeep => "TooDeep",
+        InputRefusal::TooLong => "TooLong",
+        InputRefusal::BadActor => "BadActor",
+    }
+}

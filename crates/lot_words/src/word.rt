@@ -1,0 +1,99 @@
+//! What is wrong with one word of a line.
+
+use crate::forms::Expected;
+use crate::input::Refused;
+use crate::names::{Kind, is_declared};
+use crate::nearest::nearest_name;
+use crate::problem::Problem;
+use lot_machine::is_good_name;
+use std::alloc::Global;
+
+/// What is wrong with a word of the refused line that is to be this.
+pub(crate) fn word_problem<'a>(
+    alloc: Global,
+    refused: &Refused<'a>,
+    word: &'a str,
+    expected: Expected,
+) -> Option<Problem<'a>> {
+    match expected {
+        Expected::AnyNumber => number_problem(word),
+        Expected::Between(first, last) => between_problem(word, first, last),
+        Expected::AnyName => long_name(word),
+        Expected::New(kind) => new_problem(refused, word, kind),
+        Expected::Known(kind) => known_problem(alloc, refused, word, kind),
+        Expected::Actor => actor_problem(refused, word),
+    }
+}
+
+/// The number that the word is: digits, without a 0 before others, of at most 64 bits.
+fn number_of(word: &str) -> Option<u64> {
+    let is_plain = word.bytes().all(|byte| byte.is_ascii_digit());
+    if !is_plain || (word.len() > 1 && word.starts_with('0')) {
+        return None;
+    }
+    word.parse::<u64>().ok()
+}
+
+fn number_problem(word: &str) -> Option<Problem<'_>> {
+    match number_of(word) {
+        Some(_) => None,
+        None => Some(Problem::NoNumber(word)),
+    }
+}
+
+fn between_problem(word: &str, first: u32, last: u32) -> Option<Problem<'_>> {
+    match number_of(word) {
+        Some(number) if u64::from(first) <= number && number <= u64::from(last) => None,
+        _ => Some(Problem::NotBetween { word, first, last }),
+    }
+}
+
+fn actor_problem<'a>(refused: &Refused<'a>, word: &'a str) -> Option<Problem<'a>> {
+    let processors = refused.processors;
+    match number_of(word) {
+        Some(number) if number <= u64::from(processors) => None,
+        Some(_) => Some(Problem::NoActor { word, processors }),
+        None => Some(Problem::NoNumber(word)),
+    }
+}
+
+fn long_name(word: &str) -> Option<Problem<'_>> {
+    let count = word.len();
+    if 16 < count {
+        Some(Problem::LongName { word, count })
+    } else {
+        None
+    }
+}
+
+fn new_problem<'a>(refused: &Refused<'a>, word: &'a str, kind: Kind) -> Option<Problem<'a>> {
+    let problem = long_name(word);
+    if problem.is_some() {
+        return problem;
+    }
+    if !is_good_name(word.as_bytes()) {
+        return Some(Problem::BadName(word));
+    }
+    if is_declared(refused.before, kind, word) {
+        return Some(Problem::Taken { word, kind });
+    }
+    None
+}
+
+fn known_problem<'a>(
+    alloc: Global,
+    refused: &Refused<'a>,
+    word: &'a str,
+    kind: Kind,
+) -> Option<Problem<'a>> {
+    let problem = long_name(word);
+    if problem.is_some() || is_declared(refused.before, kind, word) {
+        return problem;
+    }
+    let nearest = nearest_name(alloc, refused.before, kind, word);
+    Some(Problem::Unknown {
+        word,
+        kind,
+        nearest,
+    })
+}
