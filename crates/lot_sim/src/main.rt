@@ -3,10 +3,12 @@
 #![tactic(auto)]
 
 mod command_line;
+mod play;
 mod run;
 mod status;
 #[cfg(test)]
 mod tests;
+mod told;
 
 use std::process::ExitCode;
 use std::{env, io};

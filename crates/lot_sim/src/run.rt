@@ -4,8 +4,9 @@ ghost use Rattle.lot_simulation.specs.Grammar.{program_in};
 ghost use Rattle.lot_system.specs.Reading.{Reads};
 ghost use Rattle.lot_sim.specs.Running.{HasRun, RunLeaves, Runs};
 
+use crate::told::Told;
 use lot_processors::{FreeRunFault, OpenGate, free_run};
-use lot_system::{PlayFault, Played, read_input, refuse, write_end};
+use lot_system::{Leftovers, PlayFault, Played, read_input, refuse, write_end};
 use lot_text::{ParseFault, Program, Watched, parse};
 use std::alloc::Global;
 use std::io::{Read, Write};
@@ -25,11 +26,12 @@ pub(crate) enum RunStop {
 }
 
 /// Reads an input, has its commands run and its processors' turns made by workers, and writes the report and the
-/// history; or one line, if the input is refused: then its bytes stay in `input`. Its schedule is ignored. It may wait.
+/// history; or one line, if the input is refused. Its schedule is ignored. What is to be said of it in words is put in `told`. It may
+/// wait.
 pub(crate) fn run<R: Read, W: Write, H: Threads + Wait + Sync>(
     rt: &H,
     alloc: Global,
-    input: &mut Vec<u8>,
+    told: &mut Told,
     reader: &mut Watched<R>,
     writer: &mut Watched<W>,
 ) -> Result<Played, RunStop>
@@ -40,8 +42,14 @@ pub(crate) fn run<R: Read, W: Write, H: Threads + Wait + Sync>(
 {
     match read_input(alloc, reader) {
         Ok(bytes) => {
-            *input = bytes;
-            run_bytes(rt, alloc, input.as_slice(), writer)
+            told.take_up(alloc, bytes);
+            run_bytes(
+                rt,
+                alloc,
+                told.input.as_slice(),
+                &mut told.leftovers,
+                writer,
+            )
         }
         Err(fault) => Err(RunStop::Play(fault)),
     }
@@ -52,6 +60,7 @@ fn run_bytes<W: Write, H: Threads + Wait + Sync>(
     rt: &H,
     alloc: Global,
     bytes: &[u8],
+    leftovers: &mut Leftovers,
     writer: &mut Watched<W>,
 ) -> Result<Played, RunStop>
     requires { writer.old.failed ≡ false }
@@ -59,7 +68,7 @@ fn run_bytes<W: Write, H: Threads + Wait + Sync>(
     ensures run { Runs (program_in bytes.now) W.contents writer.old writer.new result }
 {
     match parse(alloc, bytes) {
-        Ok(program) => run_program(rt, alloc, &program, writer),
+        Ok(program) => run_program(rt, alloc, &program, leftovers, writer),
         Err(ParseFault::Memory) => Err(RunStop::Play(PlayFault::Memory)),
         Err(ParseFault::Input(fault)) => match refuse(fault, writer) {
             Ok(played) => Ok(played),
@@ -73,6 +82,7 @@ fn run_program<W: Write, H: Threads + Wait + Sync>(
     rt: &H,
     alloc: Global,
     program: &Program,
+    leftovers: &mut Leftovers,
     writer: &mut Watched<W>,
 ) -> Result<Played, RunStop>
     requires { writer.old.failed ≡ false }
@@ -83,7 +93,9 @@ fn run_program<W: Write, H: Threads + Wait + Sync>(
         Ok(system) => system,
         Err(fault) => return Err(RunStop::Workers(fault)),
     };
-    match write_end(&mut system, writer) {
+    let ended = write_end(&mut system, writer);
+    leftovers.note_end(&mut system);
+    match ended {
         Ok(()) => Ok(Played::Done),
         Err(fault) => Err(RunStop::Play(fault)),
     }

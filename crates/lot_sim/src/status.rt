@@ -1,12 +1,13 @@
 //! What the program does, as a function of its words, its input and its outputs.
 
 use crate::command_line::{Request, request_of};
+use crate::play::play;
 use crate::run::run;
+use crate::told::Told;
 use clap::Error;
 use clap::error::ErrorKind;
-use lot_system::{Played, play_keeping};
-use lot_text::{ParseFault, Watched, parse};
-use lot_words::write_words;
+use lot_system::Played;
+use lot_text::Watched;
 use std::alloc::Global;
 use std::convert::AsStr;
 use std::io;
@@ -58,29 +59,21 @@ fn request_status<H: Threads + Wait + Sync, R: Read + Drop, W: Write + Drop, E: 
     };
     let mut reader = Watched::new(reader);
     let mut writer = Watched::new(buffered);
-    let mut input = Vec::new(alloc);
+    let mut told = Told::nothing(alloc);
     let played = match request {
-        Request::Play => play_keeping(alloc, &mut input, &mut reader, &mut writer).ok(),
-        Request::Run => run(rt, alloc, &mut input, &mut reader, &mut writer).ok(),
+        Request::Play => play(alloc, &mut told, &mut reader, &mut writer).ok(),
+        Request::Run => run(rt, alloc, &mut told, &mut reader, &mut writer).ok(),
     };
     match played {
-        Some(Played::Done) => DONE,
+        Some(Played::Done) => {
+            told.say_leftovers(alloc, &mut errors);
+            DONE
+        }
         Some(Played::Refused) => {
-            say_why(alloc, &mut errors, input.as_slice());
+            told.say_why(alloc, &mut errors);
             REFUSED
         }
         None => FAILED,
-    }
-}
-
-/// Writes to the errors, in words, why this input is refused. The output and the status say so too: if there is no memory, or the
-/// errors fail, nothing comes of it.
-fn say_why<E: Write>(alloc: Global, errors: &mut Watched<E>, input: &[u8]) {
-    let mut words = Vec::new(alloc);
-    if let Err(ParseFault::Input(fault)) = parse(alloc, input) {
-        if write_words(alloc, &mut words, input, fault).is_ok() {
-            let _ = errors.write_all(words.as_slice());
-        }
     }
 }
 

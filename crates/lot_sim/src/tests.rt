@@ -1,5 +1,6 @@
 mod outputs;
 mod runs;
+mod told;
 
 use crate::status::status;
 use lot_system::{PlayFault, Played, play};
@@ -66,7 +67,7 @@ fn check_words_on<H: Abort + Threads + Wait + Sync>(
     );
     assert_eq!(rt; ended, code, "{input}");
     assert!(rt; output.as_slice() == expected.as_bytes(), "{input}");
-    assert_eq!(rt; errors.is_empty(), code == 0, "{input}");
+    assert!(rt; code == 0 || !errors.is_empty(), "{input}");
 }
 
 #[test]
@@ -478,39 +479,6 @@ fn command_lines(rt: HostRuntime) {
     check_words(&rt, rt.alloc(), &["lot_sim", "play", "--seed"], 2, false);
     check_words(&rt, rt.alloc(), &["lot_sim", "run", "x"], 2, false);
     check_words(&rt, rt.alloc(), &["lot_sim", "--help"], 0, true);
-}
-
-// Why an input is refused is said in words too, and if they can't be written, nothing comes of it.
-#[test]
-fn refused_in_words(rt: HostRuntime) {
-    let alloc = rt.alloc();
-    let input = "lottery 1\nmktk 5 base\n";
-    for word in ["play", "run"] {
-        let mut output = Vec::new(alloc);
-        let mut errors = Vec::new(alloc);
-        let words = ["lot_sim", word];
-        let ended = status(
-            &rt,
-            alloc,
-            &words,
-            input.as_bytes(),
-            &mut output,
-            &mut errors,
-        );
-        assert_eq!(rt; ended, 1);
-        assert!(rt; output.as_slice() == b"refused line 2 51 BadLine\n".as_slice());
-        let expected = b"line 2: 'mktk' is no body line; did you mean 'mktkt'?\n";
-        assert!(rt; errors.as_slice() == expected.as_slice());
-    }
-    let mut output = Vec::new(alloc);
-    let errors = Failing {
-        given: false,
-        kind: ErrorKind::Other,
-    };
-    let words = ["lot_sim", "play"];
-    let ended = status(&rt, alloc, &words, input.as_bytes(), &mut output, errors);
-    assert_eq!(rt; ended, 1);
-    assert!(rt; output.as_slice() == b"refused line 2 51 BadLine\n".as_slice());
 }
 
 /// A reader that gives some bytes and then fails, or a writer that fails at once.

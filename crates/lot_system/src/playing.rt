@@ -23,7 +23,7 @@ use crate::report::write_report;
 use crate::slices::slice_of_kept;
 use crate::turn::Unmade;
 use crate::writing::flush;
-use crate::{PlayFault, System, read_input};
+use crate::{Leftovers, PlayFault, System, read_input};
 use lot_machine::{Event, Reply};
 use lot_print::{Page, write_ended, write_fault, write_reply};
 use lot_script::Slice;
@@ -55,32 +55,17 @@ pub fn play<R: Read, W: Write>(
     ensures output { IfOk result (λ played. (bytes : List ℕ) × Reads R.remaining reader.old reader.new bytes × (played ≡ came_of (program_in bytes)) × Appends (W.contents writer.old.inner) (W.contents writer.new.inner) (output bytes)) }
     ensures fault { IfErr result (λ fault. PlayLeaves R.remaining reader.old reader.new W.contents writer.old writer.new fault) }
 {
-    let mut refused = Vec::new(alloc);
-    play_keeping(alloc, &mut refused, reader, writer)
+    let mut bytes = read_input(alloc, reader)?;
+    let mut leftovers = Leftovers::none(alloc);
+    play_bytes(alloc, &mut bytes, &mut leftovers, writer)
 }
 
-/// The same for callers who want to say more of a refused input: `refused` has its bytes then, and else none.
-pub fn play_keeping<R: Read, W: Write>(
-    alloc: Global,
-    refused: &mut Vec<u8>,
-    reader: &mut Watched<R>,
-    writer: &mut Watched<W>,
-) -> Result<Played, PlayFault>
-    requires { (reader.old.failed ≡ false) × (writer.old.failed ≡ false) }
-    ensures ok { OnOk result ((reader.new.failed ≡ false) × (writer.new.failed ≡ false)) }
-    ensures flushed { OnOk result (writer.new.flushed ≡ true) }
-    ensures err { IfErr result (λ fault. IsFaultOf fault reader.new.failed writer.new.failed) }
-    ensures output { IfOk result (λ played. (bytes : List ℕ) × Reads R.remaining reader.old reader.new bytes × (played ≡ came_of (program_in bytes)) × Appends (W.contents writer.old.inner) (W.contents writer.new.inner) (output bytes)) }
-    ensures fault { IfErr result (λ fault. PlayLeaves R.remaining reader.old reader.new W.contents writer.old writer.new fault) }
-{
-    *refused = read_input(alloc, reader)?;
-    play_bytes(alloc, refused, writer)
-}
-
-/// Plays what these bytes say, or writes why they are refused. They stay if they are refused, and else go before the first turn.
-fn play_bytes<W: Write>(
+/// Plays what these bytes say, or writes why they are refused, as `play` does, for callers who want to say more of it. The bytes stay if
+/// they are refused, and else go before the first turn; then what the run leaves to tell is put in `leftovers`.
+pub fn play_bytes<W: Write>(
     alloc: Global,
     bytes: &mut Vec<u8>,
+    leftovers: &mut Leftovers,
     writer: &mut Watched<W>,
 ) -> Result<Played, PlayFault>
     requires { writer.old.failed ≡ false }
@@ -88,7 +73,7 @@ fn play_bytes<W: Write>(
     ensures played { Plays W.contents writer.old writer.new result (came_of (program_in bytes.old.items)) (output bytes.old.items) }
 {
     match program_of(alloc, bytes) {
-        Ok(program) => play_program(alloc, &program, writer),
+        Ok(program) => play_program(alloc, &program, leftovers, writer),
         Err(ParseFault::Memory) => Err(PlayFault::Memory),
         Err(ParseFault::Input(fault)) => refuse(fault, writer),
     }
@@ -119,6 +104,7 @@ pub fn refuse<W: Write>(fault: InputFault, writer: &mut Watched<W>) -> Result<Pl
 fn play_program<W: Write>(
     alloc: Global,
     program: &Program,
+    leftovers: &mut Leftovers,
     writer: &mut Watched<W>,
 ) -> Result<Played, PlayFault>
     requires { writer.old.failed ≡ false }
@@ -129,7 +115,8 @@ fn play_program<W: Write>(
     let Ok(mut system) = System::open(alloc, program, room) else {
         return Err(PlayFault::Memory);
     };
-    play_schedule(program, &mut system, writer)?;
+    play_schedule(program, &mut system, leftovers, writer)?;
+    leftovers.note_end(&mut system);
     Ok(Played::Done)
 }
 
@@ -137,6 +124,7 @@ fn play_program<W: Write>(
 fn play_schedule<W: Write>(
     program: &Program,
     system: &mut System,
+    leftovers: &mut Leftovers,
     writer: &mut Watched<W>,
 ) -> Result<(), PlayFault>
     requires opened { IsOpened program.now system.old }
@@ -144,7 +132,7 @@ fn play_schedule<W: Write>(
     ensures flushed { OnOk result (writer.new.flushed ≡ true) }
     ensures text { Writes W.contents writer.old writer.new result (scheduled_output program.now) }
 {
-    play_turns(program, system, writer)?;
+    play_turns(program, system, leftovers, writer)?;
     write_report(system, writer)?;
     flush(writer)
 }
@@ -153,6 +141,7 @@ fn play_schedule<W: Write>(
 fn play_turns<W: Write>(
     program: &Program,
     system: &mut System,
+    leftovers: &mut Leftovers,
     writer: &mut Watched<W>,
 ) -> Result<(), PlayFault>
     requires opened { IsOpened program.now system.old }
@@ -162,7 +151,14 @@ fn play_turns<W: Write>(
 {
     let mut page = Page::new();
     for actor in program.schedule() {
-        play_turn(program, system, u32::from(*actor), writer, &mut page)?;
+        play_turn(
+            program,
+            system,
+            u32::from(*actor),
+            leftovers,
+            writer,
+            &mut page,
+        )?;
     }
     Ok(page.write_out(writer)?)
 }
@@ -173,6 +169,7 @@ fn play_turn<W: Write>(
     program: &Program,
     system: &mut System,
     actor: u32,
+    leftovers: &mut Leftovers,
     writer: &mut Watched<W>,
     page: &mut Page,
 ) -> Result<(), PlayFault>
@@ -185,8 +182,8 @@ fn play_turn<W: Write>(
 {
     // Two calls, since with a slice and without one a turn does different things, each of which is compiled for itself.
     match slice_in(system, program, actor) {
-        Some(slice) => play_slice(system, actor, Some(slice), writer, page),
-        None => play_slice(system, actor, None, writer, page),
+        Some(slice) => play_slice(system, actor, Some(slice), leftovers, writer, page),
+        None => play_slice(system, actor, None, leftovers, writer, page),
     }
 }
 
@@ -196,6 +193,7 @@ fn play_slice<W: Write>(
     system: &mut System,
     actor: u32,
     slice: Option<Slice>,
+    leftovers: &mut Leftovers,
     writer: &mut Watched<W>,
     page: &mut Page,
 ) -> Result<(), PlayFault>
@@ -208,7 +206,10 @@ fn play_slice<W: Write>(
 {
     let mut event = Event::Expire(actor);
     match system.try_turn(actor, &slice, &mut event) {
-        Ok(reply) => put_answer(system, actor, &event, reply, writer, page),
+        Ok(reply) => {
+            leftovers.note(actor, reply);
+            put_answer(system, actor, &event, reply, writer, page)
+        }
         Err(Unmade::Ended) => Ok(write_ended(writer, page, actor)?),
         Err(Unmade::Stale) => unreachable!(),
         Err(Unmade::HistoryFull) => unreachable!(),

@@ -325,6 +325,12 @@ impl System {
         }
     }
 
+    /// How many commands weren't made yet.
+    pub(crate) fn commands_left(&self) -> usize {
+        let all = self.program.commands().len();
+        all.saturating_sub(self.spent)
+    }
+
     /// How many threads there are.
     pub(crate) fn thread_count(&self) -> u32
         ensures { result ≡ length (world_of self.now).state.records }

@@ -132,7 +132,7 @@ fn declaring_form(word: &str) -> Option<Form> {
 }
 
 /// The form of a command.
-fn command_form(word: &str) -> Option<Form> {
+pub(crate) fn command_form(word: &str) -> Option<Form> {
     const NUMBER: Expected = Expected::AnyNumber;
     const NAME: Expected = Expected::AnyName;
     match word {

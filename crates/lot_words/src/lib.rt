@@ -1,12 +1,15 @@
-//! Why an input was refused, in words for whoever wrote it: the line, the word in question, and what was expected there.
+//! What went wrong, in words for whoever wrote the input: why it was refused, with the line, the word in question and what was
+//! expected there; or what a run of it leaves to tell.
 //!
 //! An input is refused by one line for programs, which has the line's number and a refusal. These words stand beside it,
 //! on standard error. Nothing is proved of them but that they are safe and end; they are tested.
 #![tactic(auto)]
 
+mod commands;
 mod explain;
 mod forms;
 mod input;
+mod leftovers;
 mod names;
 mod nearest;
 mod problem;
@@ -16,6 +19,8 @@ mod word;
 
 use crate::explain::problem_of;
 use crate::input::Refused;
+pub use commands::command_lines;
+pub use leftovers::write_leftovers;
 use lot_simulation::InputFault;
 use std::alloc::Global;
 use std::io;

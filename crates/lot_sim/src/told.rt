@@ -1,0 +1,65 @@
+//! What is told in words, beside the output.
+
+use lot_simulation::InputFault;
+use lot_system::Leftovers;
+use lot_text::{ParseFault, Watched, parse};
+use lot_words::{command_lines, write_leftovers, write_words};
+use std::alloc::Global;
+use std::io;
+use std::io::Write;
+
+/// What is known for words on standard error. The output and the status don't depend on it.
+#[derive(Drop)]
+pub(crate) struct Told {
+    /// The input, if it was refused.
+    pub(crate) input: Vec<u8>,
+    /// The lines of its commands, if there was memory for them.
+    lines: Vec<u32>,
+    /// What a run of it leaves to tell.
+    pub(crate) leftovers: Leftovers,
+}
+
+impl Told {
+    /// Nothing is known.
+    pub(crate) fn nothing(alloc: Global) -> Self {
+        Told {
+            input: Vec::new(alloc),
+            lines: Vec::new(alloc),
+            leftovers: Leftovers::none(alloc),
+        }
+    }
+
+    /// Takes up what was read: its bytes, and on which lines its commands stand.
+    pub(crate) fn take_up(&mut self, alloc: Global, input: Vec<u8>)
+        ensures { self.new.input ≡ input }
+    {
+        self.lines = match command_lines(alloc, input.as_slice()) {
+            Ok(lines) => lines,
+            Err(_) => Vec::new(alloc),
+        };
+        self.input = input;
+    }
+
+    /// Writes why the input is refused. Without memory, or if the errors fail, nothing comes of it.
+    pub(crate) fn say_why<E: Write>(&self, alloc: Global, errors: &mut Watched<E>) {
+        if let Err(ParseFault::Input(fault)) = parse(alloc, self.input.as_slice()) {
+            let mut words = Vec::new(alloc);
+            let made = write_words(alloc, &mut words, self.input.as_slice(), fault);
+            say(errors, made, &words);
+        }
+    }
+
+    /// Writes what the run leaves to tell. Without memory, or if the errors fail, nothing comes of it.
+    pub(crate) fn say_leftovers<E: Write>(&self, alloc: Global, errors: &mut Watched<E>) {
+        let mut words = Vec::new(alloc);
+        let made = write_leftovers(&mut words, &self.leftovers, self.lines.as_slice());
+        say(errors, made, &words);
+    }
+}
+
+/// Writes these words to the errors at once, if they were put together.
+fn say<E: Write>(errors: &mut Watched<E>, made: io::Result<()>, words: &Vec<u8>) {
+    if made.is_ok() && !words.is_empty() {
+        let _ = errors.write_all(words.as_slice());
+    }
+}

@@ -1,0 +1,174 @@
+//! What a run leaves to tell, beside what is written of it.
+
+use crate::System;
+use lot_machine::{Name, Refusal, Reply, Status, ThreadRow};
+use std::alloc::Global;
+
+/// How many of a kind are told one by one.
+const TOLD: usize = 8;
+
+/// The first few of a kind, and how many there are in all.
+#[derive(Debug, Drop)]
+pub struct Few<T: Drop> {
+    first: Vec<T>,
+    count: usize,
+}
+
+impl<T: Drop> Few<T> {
+    /// None yet.
+    fn none(alloc: Global) -> Self {
+        Few {
+            first: Vec::new(alloc),
+            count: 0,
+        }
+    }
+
+    /// One more. Without memory it is only counted.
+    fn add(&mut self, one: T) {
+        if self.first.len() < TOLD {
+            let _ = self.first.push(one);
+        }
+        self.count = self.count.saturating_add(1);
+    }
+
+    /// The first of them, in order.
+    pub fn first(&self) -> &[T] {
+        self.first.as_slice()
+    }
+
+    /// How many there are besides.
+    pub fn others(&self) -> usize {
+        self.count.saturating_sub(self.first.len())
+    }
+}
+
+/// A command that the kernel refused.
+#[derive(Clone, Copy, Debug, PartialEq, Eq)]
+pub struct RefusedCommand {
+    /// How many commands come before it in the input.
+    pub place: usize,
+    pub refusal: Refusal,
+}
+
+/// A thread that no turn to come can move on.
+#[derive(Debug, Drop)]
+pub struct StuckThread {
+    pub name: Name,
+    /// What it waits for, or Ready if it weighs nothing.
+    pub status: Status,
+}
+
+/// What a run leaves to tell, for words that stand beside its output. Nothing is proved of it but that it is safe.
+#[derive(Debug, Drop)]
+pub struct Leftovers {
+    /// How many commands were made.
+    made: usize,
+    /// Those of them that were refused.
+    pub refused: Few<RefusedCommand>,
+    /// How many commands were never made.
+    pub unmade: usize,
+    /// The Ready threads with a weight of 0.
+    pub weightless: Few<StuckThread>,
+    /// The threads that wait for good.
+    pub waiting: Few<StuckThread>,
+}
+
+impl Leftovers {
+    /// Nothing to tell.
+    pub fn none(alloc: Global) -> Self {
+        Leftovers {
+            made: 0,
+            refused: Few::none(alloc),
+            unmade: 0,
+            weightless: Few::none(alloc),
+            waiting: Few::none(alloc),
+        }
+    }
+
+    /// How many commands were made.
+    pub fn made(&self) -> usize {
+        self.made
+    }
+
+    /// Takes up what the actor's turn answered.
+    #[inline(always)]
+    pub(crate) fn note(&mut self, actor: u32, reply: Reply) {
+        if actor == 0 {
+            self.note_command(reply);
+        }
+    }
+
+    /// Takes up what the next command came to.
+    fn note_command(&mut self, reply: Reply) {
+        if let Reply::Refused(refusal) = reply {
+            let place = self.made;
+            self.refused.add(RefusedCommand { place, refusal });
+        }
+        self.made = self.made.saturating_add(1);
+    }
+
+    /// Takes up what stands at the end of a run.
+    pub fn note_end(&mut self, system: &mut System) {
+        self.unmade = system.commands_left();
+        let is_over = is_over(system);
+        for place in 0..system.thread_count() {
+            if let Some(row) = system.thread_row(place + 1) {
+                self.note_thread(system, row, is_over);
+            }
+        }
+    }
+
+    /// Takes up a thread as it is at the end, when perhaps no thread can run any more.
+    fn note_thread(&mut self, system: &mut System, row: ThreadRow, is_over: bool) {
+        let ThreadRow {
+            name,
+            status,
+            weight,
+            ..
+        } = row;
+        if status == Status::Ready && weight == 0 {
+            self.weightless.add(StuckThread { name, status });
+        } else if is_stuck(system, status, is_over) {
+            self.waiting.add(StuckThread { name, status });
+        }
+    }
+}
+
+/// Whether no thread can run any more: none is Running, or Ready with a weight.
+fn is_over(system: &mut System) -> bool {
+    for place in 0..system.thread_count() {
+        if let Some(row) = system.thread_row(place + 1) {
+            if can_run(&row) {
+                return false;
+            }
+        }
+    }
+    true
+}
+
+/// Whether the thread runs, or can win a draw.
+fn can_run(row: &ThreadRow) -> bool {
+    match row.status {
+        Status::Running { .. } => true,
+        Status::Ready => row.weight > 0,
+        _ => false,
+    }
+}
+
+/// Whether a thread with this status waits for good: for the reply of a server that has ended, or for whatever it may be
+/// if no thread can run. A server that waits for calls is none.
+fn is_stuck(system: &mut System, status: Status, is_over: bool) -> bool {
+    match status {
+        Status::Served(server) => is_over || has_ended(system, server),
+        Status::Queued(_) | Status::Waiting(_) => is_over,
+        _ => false,
+    }
+}
+
+/// Whether the thread with this number has ended.
+fn has_ended(system: &mut System, thread: u32) -> bool {
+    match system.thread_row(thread) {
+        Some(row) => row.status == Status::Dead,
+        None => false,
+    }
+}
