@@ -2,11 +2,12 @@
 ghost use Rattle.std.specs.Prelude.{◌≡◌, ℕ, List, false, true, IfErr, IfOk, OnOk};
 ghost use Rattle.lot_simulation.specs.Grammar.{program_in};
 ghost use Rattle.lot_system.specs.Reading.{Reads};
+ghost use Rattle.lot_system.specs.declared.playing.Played.TheVariants.{Done};
 ghost use Rattle.lot_sim.specs.Running.{HasRun, RunLeaves, Runs};
 
 use crate::told::Told;
 use lot_processors::{FreeRunFault, OpenGate, free_run};
-use lot_system::{Leftovers, PlayFault, Played, read_input, refuse, write_end};
+use lot_system::{Leftovers, PlayFault, Played, System, read_input, refuse, write_end};
 use lot_text::{ParseFault, Program, Watched, parse};
 use std::alloc::Global;
 use std::io::{Read, Write};
@@ -93,10 +94,16 @@ fn run_program<W: Write, H: Threads + Wait + Sync>(
         Ok(system) => system,
         Err(fault) => return Err(RunStop::Workers(fault)),
     };
-    let ended = write_end(&mut system, writer);
-    leftovers.note_end(&mut system);
-    match ended {
-        Ok(()) => Ok(Played::Done),
+    match write_end(&mut system, writer) {
+        Ok(()) => Ok(noted(&mut system, leftovers)),
         Err(fault) => Err(RunStop::Play(fault)),
     }
+}
+
+/// The run is done, and what it leaves to tell is noted.
+fn noted(system: &mut System, leftovers: &mut Leftovers) -> Played
+    ensures { result ≡ Done }
+{
+    leftovers.note_end(system);
+    Played::Done
 }

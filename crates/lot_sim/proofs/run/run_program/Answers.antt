@@ -1,5 +1,5 @@
 -- The free run was written; if the writer fails, a beginning of it.
-use Rattle.std.proofs.Common.{Ok, Err, refl, sym, ap, subst}
+use Rattle.std.proofs.Common.{Ok, Err, sym, ap, subst}
 use Rattle.std.specs.Io.KnownBytes.{Appends}
 use Rattle.lot_simulation.specs.Output.{end_text}
 use Rattle.lot_simulation.specs.World.{Program}
@@ -18,7 +18,7 @@ returns-in-Ok-write_end-clause-run g c =
     let new = g.W.Write.contents c.write_end.new.writer.inner in
     let told = c.in-Ok-write_end.ensures.text in
     let its = subst (λ (p : Program). Appends old new (end_text p system.history)) (ap (λ (s : Setting). s.program) c.in-Ok.ensures.setting) told.1 in
-    (told.0, (refl, (system.history, c.in-Ok.ensures.history, its)))
+    (told.0, (c.noted.ensures, (system.history, c.in-Ok.ensures.history, its)))
 
 pub returns-clause-run : goal.returns-clause-run
 returns-clause-run g c =
