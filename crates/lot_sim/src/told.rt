@@ -1,4 +1,5 @@
 //! What is told in words, beside the output.
+ghost use Rattle.std.specs.Prelude.{◌≡◌};
 
 use lot_simulation::InputFault;
 use lot_system::Leftovers;
