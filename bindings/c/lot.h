@@ -137,7 +137,7 @@ enum {
     LOT_LIST_TICKETS = 9,    // no field; a listing is read row by row below
     LOT_LIST_CURRENCIES = 10,
     LOT_LIST_THREADS = 11,
-    LOT_DRAW = 12,    // processor, number: a drawn number, any 64 bits
+    LOT_DRAW = 12,    // processor, number: a drawn number, any 128 bits
     LOT_EXPIRE = 13,  // processor: the running thread's quantum is over
     LOT_YIELD = 14,   // processor, ticks. This and the kinds below are traps of the running thread, after `ticks` ticks of work;
     LOT_CALL = 15,    // processor, ticks, object: a port, sent         the trap itself costs one tick more
@@ -145,7 +145,8 @@ enum {
     LOT_REPLY = 17,   // processor, ticks, sent
     LOT_LOCK = 18,    // processor, ticks, object: a mutex
     LOT_UNLOCK = 19,  // processor, ticks, object: a mutex, number: a drawn number
-    LOT_EXIT = 20     // processor, ticks
+    LOT_EXIT = 20,    // processor, ticks
+    LOT_SERVE = 21    // processor, ticks, object: a port, sent: a reply, and then a receipt at the port
 };
 
 // An event. A struct that is all 0 has no kind.
@@ -156,7 +157,7 @@ typedef struct lot_event {
     uint32_t object;
     uint32_t sent;
     uint32_t script;
-    uint64_t number;
+    lot_wide number;
     uint64_t amount;
     uint64_t ticket;
     lot_name currency;
@@ -192,7 +193,9 @@ enum {
     LOT_OUTCOME_FREED = 8,
     LOT_OUTCOME_PASSED = 9,    // other: the mutex's new owner; number, total and has_draw if a lottery was held; it runs no more
     LOT_OUTCOME_EXITED = 10,   // it runs no more
-    LOT_OUTCOME_REFUSED = 11   // reason: LOT_TRAP_REFUSAL_..
+    LOT_OUTCOME_REFUSED = 11,  // reason: LOT_TRAP_REFUSAL_..
+    LOT_OUTCOME_REPLIED_THEN_RECEIVED = 12, // replied_to; other: the client whose call was taken then; sent, has_sent
+    LOT_OUTCOME_REPLIED_THEN_WAITS = 13     // replied_to; it waits for a call, and runs no more
 };
 
 // Why an event is refused.
@@ -238,6 +241,7 @@ typedef struct lot_reply {
     uint32_t ticks;
     uint32_t outcome;
     uint32_t other;
+    uint32_t replied_to;
     uint32_t sent;
     bool has_sent;
     bool has_draw;
@@ -347,6 +351,9 @@ uint32_t lot_generator_next(lot_generator *generator, uint32_t *value);
 // Writes the number that is drawn from the next two values, 0 to 4611686009837453315, and goes on to the second. LOT_BAD_SEED.
 uint32_t lot_generator_number(lot_generator *generator, uint64_t *number);
 
+// Writes the wide number that is drawn from the next four values, below 2 ^ 124, and goes on to the fourth. LOT_BAD_SEED.
+uint32_t lot_generator_wide_number(lot_generator *generator, lot_wide *number);
+
 // Writes what a thread of this value weighs in a draw. `compensation` is how many ticks of its quantum it had used when it yielded or
 // blocked before the quantum's end, 0 for none: then the weight is value * quantum / compensation, rounded down, else it is the value.
 void lot_weight(uint64_t value, uint32_t compensation, uint32_t quantum, lot_wide *weight);
@@ -357,8 +364,8 @@ typedef struct lot_drawn {
     uint64_t place;  // the winner's place among the weights, from 0: the first whose running sum is greater than the number
 } lot_drawn;
 
-// Holds a lottery over the weights with this number, any 64 bits. LOT_NO_WINNER, LOT_TOO_LARGE, LOT_NO_MEMORY.
-uint32_t lot_winner(const lot_wide *weights, size_t count, uint64_t number, lot_drawn *drawn);
+// Holds a lottery over the weights with this number, any 128 bits. LOT_NO_WINNER, LOT_TOO_LARGE, LOT_NO_MEMORY.
+uint32_t lot_winner(const lot_wide *weights, size_t count, const lot_wide *number, lot_drawn *drawn);
 
 #ifdef __cplusplus
 }

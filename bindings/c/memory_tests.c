@@ -80,7 +80,7 @@ static void no_more(void) {
     CHECK(lot_kernel_new(&SIZES, &kernel) == LOT_DONE);
     unsigned long before = asked;
     CHECK(lot_kernel_event(&kernel, &event, &reply) == LOT_DONE && reply.kind == LOT_REPLY_FUNDED);
-    event = (lot_event){.kind = LOT_DRAW, .processor = 1, .number = 1};
+    event = (lot_event){.kind = LOT_DRAW, .processor = 1, .number = {.low = 1}};
     CHECK(lot_kernel_run(&kernel, &event, 1, &reply, 1, &done) == LOT_DONE && reply.kind == LOT_REPLY_WINNER);
     event = (lot_event){.kind = LOT_LOCK, .processor = 1, .object = 1};
     CHECK(lot_kernel_event(&kernel, &event, &reply) == LOT_DONE && reply.outcome == LOT_OUTCOME_LOCKED);
@@ -93,18 +93,19 @@ static void no_more(void) {
 // A lottery takes memory for the weights and gives it back, or says that there is none.
 static void winners(void) {
     lot_wide weights[40];
+    const lot_wide number = {.low = 39, .high = 0};
     lot_drawn drawn = {.place = 77};
     for (size_t i = 0; i < 40; i++) {
         weights[i] = (lot_wide){.low = 1, .high = 0};
     }
     asked = 0;
     refused_at = 1;
-    CHECK(lot_winner(weights, 40, 39, &drawn) == LOT_NO_MEMORY && drawn.place == 77 && held == 0);
+    CHECK(lot_winner(weights, 40, &number, &drawn) == LOT_NO_MEMORY && drawn.place == 77 && held == 0);
     asked = 0;
     refused_at = 2;
-    CHECK(lot_winner(weights, 40, 39, &drawn) == LOT_NO_MEMORY && drawn.place == 77 && held == 0);
+    CHECK(lot_winner(weights, 40, &number, &drawn) == LOT_NO_MEMORY && drawn.place == 77 && held == 0);
     refused_at = 0;
-    CHECK(lot_winner(weights, 40, 39, &drawn) == LOT_DONE && drawn.place == 39 && held == 0);
+    CHECK(lot_winner(weights, 40, &number, &drawn) == LOT_DONE && drawn.place == 39 && held == 0);
     puts("ok: a lottery gives back what it takes");
 }
 

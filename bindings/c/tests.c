@@ -50,7 +50,7 @@ static lot_reply named(lot_kernel *kernel, uint32_t kind, uint64_t ticket, uint6
 }
 
 static lot_reply drawn(lot_kernel *kernel, uint32_t processor, uint64_t number) {
-    lot_event event = {.kind = LOT_DRAW, .processor = processor, .number = number};
+    lot_event event = {.kind = LOT_DRAW, .processor = processor, .number = {.low = number}};
     return answer(kernel, event);
 }
 
@@ -147,6 +147,32 @@ static void currency_graph(void) {
     CHECK(lot_kernel_currency_count(&kernel, &count) == LOT_DONE && count == 6);
     CHECK(lot_kernel_free(&kernel) == LOT_DONE);
     puts("ok: currency graph");
+}
+
+// A server replies and receives in one trap: it takes a call that is queued, or waits (4.6).
+static void servings(void) {
+    lot_kernel kernel = made(&SMALL);
+    funded(&kernel, 10, "base", "v");
+    funded(&kernel, 20, "base", "c");
+    funded(&kernel, 30, "base", "d");
+    CHECK(has_won(drawn(&kernel, 1, 0), 1, 0, 60));
+    CHECK(trapped(&kernel, LOT_SERVE, 0, 1, 7).reason == LOT_TRAP_REFUSAL_NOTHING_TO_REPLY);
+    CHECK(came_to(trapped(&kernel, LOT_RECEIVE, 0, 1, 0), 1, LOT_OUTCOME_WAITS, 0));
+    CHECK(has_won(drawn(&kernel, 1, 0), 2, 0, 50));
+    CHECK(came_to(trapped(&kernel, LOT_CALL, 0, 1, 5), 2, LOT_OUTCOME_SERVED_BY, 1));
+    CHECK(has_won(drawn(&kernel, 2, 0), 1, 0, 1530));
+    CHECK(has_won(drawn(&kernel, 1, 0), 3, 0, 30));
+    CHECK(came_to(trapped(&kernel, LOT_CALL, 0, 1, 6), 3, LOT_OUTCOME_QUEUED, 0));
+    lot_event event = {.kind = LOT_SERVE, .processor = 2, .object = 1, .sent = 8};
+    lot_reply reply = answer(&kernel, event);
+    CHECK(came_to(reply, 1, LOT_OUTCOME_REPLIED_THEN_RECEIVED, 3) && reply.replied_to == 2 && reply.has_sent && reply.sent == 6);
+    event.sent = 9;
+    reply = answer(&kernel, event);
+    CHECK(came_to(reply, 1, LOT_OUTCOME_REPLIED_THEN_WAITS, 0) && reply.replied_to == 3 && !reply.has_sent);
+    lot_thread_row row;
+    CHECK(lot_kernel_thread_row(&kernel, 1, &row) == LOT_DONE && row.status.kind == LOT_STATUS_RECEIVING);
+    CHECK(lot_kernel_free(&kernel) == LOT_DONE);
+    puts("ok: servings");
 }
 
 // A client calls a server that waits for it, lends it what it is worth, and is answered (4.6); then a mutex.
@@ -269,22 +295,30 @@ static lot_wide narrow(uint64_t low) {
     return (lot_wide){.low = low, .high = 0};
 }
 
+// Holds a lottery with a number of 64 bits.
+static uint32_t held(const lot_wide *weights, size_t count, uint64_t low, lot_drawn *won) {
+    lot_wide number = narrow(low);
+    return lot_winner(weights, count, &number, won);
+}
+
 // The lottery alone: the list lottery, weights, and the check that Park and Miller give for their generator.
 static void lottery_alone(void) {
     const lot_wide weights[5] = {narrow(10), narrow(2), narrow(5), narrow(1), narrow(2)};
     static const uint64_t draws[5][3] = {{9, 0, 9}, {10, 1, 10}, {15, 2, 15}, {17, 3, 17}, {35, 2, 15}};
     lot_drawn won;
     for (size_t i = 0; i < 5; i++) {
-        CHECK(lot_winner(weights, 5, draws[i][0], &won) == LOT_DONE);
+        CHECK(held(weights, 5, draws[i][0], &won) == LOT_DONE);
         CHECK(won.place == draws[i][1] && won.number.low == draws[i][2] && won.total.low == 20);
     }
     const lot_wide zeros[2] = {narrow(0), narrow(0)};
     const lot_wide large[2] = {{.low = 0, .high = UINT64_C(1) << 63}, {.low = 0, .high = UINT64_C(1) << 63}};
     const lot_wide largest[1] = {{.low = UINT64_MAX, .high = UINT64_MAX}};
     lot_drawn before = won;
-    CHECK(lot_winner(zeros, 2, 7, &won) == LOT_NO_WINNER && lot_winner(weights, 0, 7, &won) == LOT_NO_WINNER);
-    CHECK(lot_winner(large, 2, 7, &won) == LOT_TOO_LARGE && memcmp(&won, &before, sizeof won) == 0);
-    CHECK(lot_winner(largest, 1, 7, &won) == LOT_DONE && won.place == 0 && won.number.low == 7 && won.total.high == UINT64_MAX);
+    CHECK(held(zeros, 2, 7, &won) == LOT_NO_WINNER && held(weights, 0, 7, &won) == LOT_NO_WINNER);
+    CHECK(held(large, 2, 7, &won) == LOT_TOO_LARGE && memcmp(&won, &before, sizeof won) == 0);
+    CHECK(held(largest, 1, 7, &won) == LOT_DONE && won.place == 0 && won.number.low == 7 && won.total.high == UINT64_MAX);
+    // 2 ^ 128 - 1 modulo 20 is 15.
+    CHECK(lot_winner(weights, 5, &largest[0], &won) == LOT_DONE && won.place == 2 && won.number.low == 15);
     static const uint64_t weighed[5][3] = {{400, 0, 400}, {400, 20, 2000}, {7, 3, 233}, {400, 99, 404}, {400, 1, 40000}};
     for (size_t i = 0; i < 5; i++) {
         lot_wide weight;
@@ -299,6 +333,11 @@ static void lottery_alone(void) {
     CHECK(generator.value == 0 && value == 0 && number == 0);
     CHECK(lot_generator_new(1, &generator) == LOT_DONE);
     CHECK(lot_generator_number(&generator, &number) == LOT_DONE && number == 36090892629924);
+    // 166439864623969647858139600294153, worked out from the generator's first four values.
+    lot_wide wide = {0};
+    CHECK(lot_generator_new(1, &generator) == LOT_DONE);
+    CHECK(lot_generator_wide_number(&generator, &wide) == LOT_DONE && wide.low == UINT64_C(1058603678058713353) && wide.high == UINT64_C(9022723140675));
+    CHECK(generator.value == 984943658);
     CHECK(lot_generator_new(1, &generator) == LOT_DONE);
     for (int i = 0; i < 10000; i++) {
         CHECK(lot_generator_next(&generator, &value) == LOT_DONE);
@@ -373,7 +412,7 @@ static void limits(void) {
 
 // Each kind that there isn't, and each name that isn't one: a status of its own, no reply, and nothing changed.
 static void kinds_and_names(void) {
-    static const uint32_t kinds[6] = {0, 21, 22, 255, 1u << 31, UINT32_MAX};
+    static const uint32_t kinds[6] = {0, 22, 23, 255, 1u << 31, UINT32_MAX};
     static const struct {
         const char *text;
         uint32_t length, status;
@@ -556,6 +595,7 @@ int main(int argc, char **argv) {
     list_lottery();
     currency_graph();
     call_and_reply();
+    servings();
     refusals();
     trap_refusals();
     lottery_alone();

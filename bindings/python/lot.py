@@ -25,7 +25,7 @@ DONE, NOT_THERE, NO_WINNER = 0, 8, 11
 
 # The kinds of events.
 (MAKE_TICKET, REMOVE_TICKET, MAKE_CURRENCY, REMOVE_CURRENCY, FUND, UNFUND, MAKE_THREAD, MAKE_FUNDED, LIST_TICKETS, LIST_CURRENCIES,
- LIST_THREADS, DRAW, EXPIRE, YIELD, CALL, RECEIVE, REPLY, LOCK, UNLOCK, EXIT) = range(1, 21)
+ LIST_THREADS, DRAW, EXPIRE, YIELD, CALL, RECEIVE, REPLY, LOCK, UNLOCK, EXIT, SERVE) = range(1, 22)
 
 # The kinds of replies.
 (REPLY_TICKET, REPLY_CURRENCY, REPLY_THREAD, REPLY_FUNDED, REPLY_DONE, REPLY_LIST_TICKETS, REPLY_LIST_CURRENCIES, REPLY_LIST_THREADS,
@@ -33,7 +33,7 @@ DONE, NOT_THERE, NO_WINNER = 0, 8, 11
 
 # What a trap comes to.
 (OUTCOME_YIELDED, OUTCOME_SERVED_BY, OUTCOME_QUEUED, OUTCOME_WAITS, OUTCOME_RECEIVED, OUTCOME_REPLIED, OUTCOME_LOCKED, OUTCOME_FREED,
- OUTCOME_PASSED, OUTCOME_EXITED, OUTCOME_REFUSED) = range(1, 12)
+ OUTCOME_PASSED, OUTCOME_EXITED, OUTCOME_REFUSED, OUTCOME_REPLIED_THEN_RECEIVED, OUTCOME_REPLIED_THEN_WAITS) = range(1, 14)
 
 # Why an event is refused, and why a trap is.
 (REFUSAL_BAD_NAME, REFUSAL_NAME_TAKEN, REFUSAL_NO_CURRENCY, REFUSAL_NO_TICKET, REFUSAL_NO_TARGET, REFUSAL_BAD_AMOUNT, REFUSAL_IN_USE,
@@ -67,6 +67,12 @@ class Wide(Structure):
     def __int__(self):
         return (self.high << 64) | self.low
 
+    @classmethod
+    def of(cls, number):
+        if not 0 <= number < 1 << 128:
+            raise ValueError("a wide number is 0 to 2 ** 128 - 1")
+        return cls(number & (1 << 64) - 1, number >> 64)
+
 
 class Handle(Structure):
     _fields_ = [("at", c_void_p)]
@@ -81,14 +87,14 @@ class Sizes(Structure):
 
 class Event(Structure):
     _fields_ = [("kind", c_uint32), ("processor", c_uint32), ("ticks", c_uint32), ("object", c_uint32), ("sent", c_uint32),
-                ("script", c_uint32), ("number", c_uint64), ("amount", c_uint64), ("ticket", c_uint64), ("currency", Name), ("name", Name)]
+                ("script", c_uint32), ("number", Wide), ("amount", c_uint64), ("ticket", c_uint64), ("currency", Name), ("name", Name)]
 
 
 class Reply(Structure):
     """What an event is answered. `kind` says which fields are written; the others are 0."""
 
     _fields_ = [("number", Wide), ("total", Wide), ("kind", c_uint32), ("reason", c_uint32), ("ticket", c_uint32), ("currency", c_uint32),
-                ("thread", c_uint32), ("ticks", c_uint32), ("outcome", c_uint32), ("other", c_uint32), ("sent", c_uint32),
+                ("thread", c_uint32), ("ticks", c_uint32), ("outcome", c_uint32), ("other", c_uint32), ("replied_to", c_uint32), ("sent", c_uint32),
                 ("has_sent", c_bool), ("has_draw", c_bool), ("ends", c_bool)]
 
 
@@ -144,7 +150,8 @@ def _load():
         "lot_generator_new": [c_uint32, POINTER(Generator)],
         "lot_generator_next": [POINTER(Generator), POINTER(c_uint32)],
         "lot_generator_number": [POINTER(Generator), POINTER(c_uint64)],
-        "lot_winner": [POINTER(Wide), c_size_t, c_uint64, POINTER(Drawn)],
+        "lot_generator_wide_number": [POINTER(Generator), POINTER(Wide)],
+        "lot_winner": [POINTER(Wide), c_size_t, POINTER(Wide), POINTER(Drawn)],
     }
     for name, arguments in calls.items():
         getattr(shared, name).argtypes = arguments
@@ -189,9 +196,9 @@ class Kernel:
         if getattr(self, "_handle", None) is not None and _lot is not None:
             self.close()
 
-    def event(self, kind, *, currency=None, name=None, **fields):
-        """One event: its kind, and the fields that this kind reads, with names as texts."""
-        event, reply = Event(kind=kind, **fields), Reply()
+    def event(self, kind, *, number=0, currency=None, name=None, **fields):
+        """One event: its kind, and the fields that this kind reads, with names as texts and the drawn number as an integer."""
+        event, reply = Event(kind=kind, number=Wide.of(number), **fields), Reply()
         if currency is not None:
             event.currency = _name(currency)
         if name is not None:
@@ -257,6 +264,11 @@ class ParkMiller:
         _done(_lot.lot_generator_number(byref(self._generator), byref(number)))
         return number.value
 
+    def wide_number(self):
+        number = Wide()
+        _done(_lot.lot_generator_wide_number(byref(self._generator), byref(number)))
+        return int(number)
+
 
 def weight(value, compensation, quantum):
     """What a value weighs in a draw; the compensation is in ticks, 0 for none."""
@@ -267,11 +279,9 @@ def weight(value, compensation, quantum):
 
 def winner(weights, number):
     """Place, number and total of a lottery over the weights, or None if they sum to 0."""
-    if any(not 0 <= weight < 1 << 128 for weight in weights):
-        raise ValueError("a weight is 0 to 2 ** 128 - 1")
-    wide = (Wide * len(weights))(*(Wide(weight & (1 << 64) - 1, weight >> 64) for weight in weights))
+    wide = (Wide * len(weights))(*(Wide.of(weight) for weight in weights))
     drawn = Drawn()
-    status = _lot.lot_winner(wide, len(weights), number, byref(drawn))
+    status = _lot.lot_winner(wide, len(weights), byref(Wide.of(number)), byref(drawn))
     if status == NO_WINNER:
         return None
     _done(status)

@@ -44,12 +44,29 @@ class Worked(unittest.TestCase):
             self.assertEqual((kernel.ticket_count(), kernel.currency_count(), kernel.sizes().threads, kernel.script_of(1)), (8, 6, 16, 1))
             self.assertGreater(kernel.meter().ticket_reads, 0)
 
+    def test_servings(self):
+        with lot.Kernel() as kernel:
+            for amount, name in [(10, "v"), (20, "c"), (30, "d")]:
+                kernel.event(lot.MAKE_FUNDED, amount=amount, currency="base", name=name, script=1)
+            self.assertEqual(kernel.event(lot.DRAW, processor=1).thread, 1)
+            kernel.event(lot.RECEIVE, processor=1, object=1)
+            self.assertEqual(kernel.event(lot.DRAW, processor=1).thread, 2)
+            kernel.event(lot.CALL, processor=1, object=1, sent=5)
+            self.assertEqual([kernel.event(lot.DRAW, processor=processor).thread for processor in (2, 1)], [1, 3])
+            kernel.event(lot.CALL, processor=1, object=1, sent=6)
+            reply = kernel.event(lot.SERVE, processor=2, object=1, sent=8)
+            self.assertEqual((reply.outcome, reply.replied_to, reply.other, reply.sent), (lot.OUTCOME_REPLIED_THEN_RECEIVED, 2, 3, 6))
+            reply = kernel.event(lot.SERVE, processor=2, object=1, sent=9)
+            self.assertEqual((reply.outcome, reply.replied_to, reply.has_sent), (lot.OUTCOME_REPLIED_THEN_WAITS, 3, False))
+
     def test_lottery_alone(self):
         self.assertEqual(lot.winner([10, 2, 5, 1, 2], 15), (2, 15, 20))
         self.assertIsNone(lot.winner([0, 0], 7))
         self.assertEqual(status_of(lambda: lot.winner([1 << 127, 1 << 127], 7)), "too large")
         self.assertEqual([lot.weight(400, 20, 100), lot.weight(7, 3, 100), lot.weight(400, 0, 100)], [2000, 233, 400])
+        self.assertEqual(lot.winner([10, 2, 5, 1, 2], (1 << 128) - 1), (2, 15, 20))
         self.assertEqual(lot.ParkMiller(1).number(), 36090892629924)
+        self.assertEqual(lot.ParkMiller(1).wide_number(), 166439864623969647858139600294153)
         generator = lot.ParkMiller(1)
         self.assertEqual([generator.next_value() for _ in range(10000)][-1], 1043618065)
 
@@ -57,7 +74,7 @@ class Worked(unittest.TestCase):
         self.assertEqual(status_of(lambda: lot.Kernel(threads=4097)), "bad limits")
         self.assertEqual(status_of(lambda: lot.ParkMiller(0)), "bad seed")
         with lot.Kernel() as kernel:
-            self.assertEqual(status_of(lambda: kernel.event(21)), "bad kind")
+            self.assertEqual(status_of(lambda: kernel.event(22)), "bad kind")
             self.assertEqual(status_of(lambda: kernel.event(lot.MAKE_CURRENCY, name="a-very-long-name-")), "long name")
             self.assertEqual(status_of(lambda: kernel.event(lot.MAKE_CURRENCY, name="Base")), "bad name")
             kernel.close()

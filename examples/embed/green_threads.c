@@ -55,7 +55,7 @@ static lot_reply answer(lot_kernel *kernel, lot_event event) {
 
 // Runs the winner of a draw until it gives the processor back, and tells the kernel how it did.
 static void run_one(lot_kernel *kernel, uint64_t number) {
-    lot_reply winner = answer(kernel, (lot_event){.kind = LOT_DRAW, .processor = 1, .number = number});
+    lot_reply winner = answer(kernel, (lot_event){.kind = LOT_DRAW, .processor = 1, .number = {.low = number}});
     int me = (int)winner.thread - 1;
     swapcontext(&scheduler, &contexts[me]);
     if (runs_for[me] == QUANTUM) {

@@ -30,7 +30,7 @@ static void make_thread(lot_kernel *kernel, uint64_t amount, const char *currenc
 
 // A draw, and then the winner's expiry, or its yield if its number is even. The winner, 0 if there is none.
 static uint32_t play_round(lot_kernel *kernel, uint64_t number) {
-    lot_reply reply = answer(kernel, &(lot_event){.kind = LOT_DRAW, .processor = 1, .number = number});
+    lot_reply reply = answer(kernel, &(lot_event){.kind = LOT_DRAW, .processor = 1, .number = {.low = number}});
     if (reply.kind != LOT_REPLY_WINNER) {
         return 0;
     }

@@ -140,7 +140,7 @@ static double used(int i) {
 
 // Lets the winner of a draw run for a quantum.
 static void run_one(lot_kernel *kernel, uint64_t number, long milliseconds) {
-    lot_reply winner = answer(kernel, (lot_event){.kind = LOT_DRAW, .processor = 1, .number = number});
+    lot_reply winner = answer(kernel, (lot_event){.kind = LOT_DRAW, .processor = 1, .number = {.low = number}});
     pid_t pid = children[winner.thread - 1].pid;
     struct timespec quantum = {milliseconds / 1000, milliseconds % 1000 * 1000000};
     kill(pid, SIGCONT);

@@ -20,7 +20,7 @@ fn make_thread(kernel: &mut Kernel, amount: u64, currency: &str, name: &str) -> 
 }
 
 /// A draw, and then the winner's expiry, or its yield if its number is even. The winner, 0 if there is none.
-fn play_round(kernel: &mut Kernel, number: u64) -> u32 {
+fn play_round(kernel: &mut Kernel, number: u128) -> u32 {
     let Reply::Winner { thread, .. } = kernel.event(&Event::Draw { processor: 1, number }) else {
         return 0;
     };
@@ -44,7 +44,7 @@ fn main() -> Result<(), Error> {
     let mut generator = ParkMiller::new(1)?;
     let mut sum = 0;
     for round in 0..ROUNDS {
-        sum += u64::from(play_round(&mut kernel, generator.number())) * (round % 5 + 1);
+        sum += u64::from(play_round(&mut kernel, generator.number().into())) * (round % 5 + 1);
     }
     println!("1000000 events, sum {sum}");
     Ok(())

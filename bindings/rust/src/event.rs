@@ -94,6 +94,13 @@ pub enum Action {
         /// What is sent.
         number: u32,
     },
+    /// To answer the client that was taken first, and then receive a call at a port.
+    Serve {
+        /// From 1.
+        port: u32,
+        /// What is sent.
+        number: u32,
+    },
     /// To own a mutex.
     Lock {
         /// From 1.
@@ -103,8 +110,8 @@ pub enum Action {
     Unlock {
         /// From 1.
         mutex: u32,
-        /// The drawn number of the lottery.
-        number: u64,
+        /// The drawn number of the lottery, any 128 bits.
+        number: u128,
     },
     /// To end.
     Exit,
@@ -119,8 +126,8 @@ pub enum Event {
     Draw {
         /// From 1.
         processor: u32,
-        /// A drawn number, any 64 bits.
-        number: u64,
+        /// A drawn number, any 128 bits.
+        number: u128,
     },
     /// The end of the quantum of the thread that runs on a processor.
     Expire {
@@ -167,8 +174,9 @@ impl Action {
             Action::Call { port, number } => ffi::Event { kind: 15, object: port, sent: number, ..blank },
             Action::Receive { port } => ffi::Event { kind: 16, object: port, ..blank },
             Action::Reply { number } => ffi::Event { kind: 17, sent: number, ..blank },
+            Action::Serve { port, number } => ffi::Event { kind: 21, object: port, sent: number, ..blank },
             Action::Lock { mutex } => ffi::Event { kind: 18, object: mutex, ..blank },
-            Action::Unlock { mutex, number } => ffi::Event { kind: 19, object: mutex, number, ..blank },
+            Action::Unlock { mutex, number } => ffi::Event { kind: 19, object: mutex, number: ffi::Wide::of(number), ..blank },
             Action::Exit => ffi::Event { kind: 20, ..blank },
         }
     }
@@ -179,7 +187,9 @@ impl Event {
         let blank = ffi::Event::default();
         match self {
             Event::Command(command) => command.plain(),
-            Event::Draw { processor, number } => ffi::Event { kind: 12, processor: *processor, number: *number, ..blank },
+            Event::Draw { processor, number } => {
+                ffi::Event { kind: 12, processor: *processor, number: ffi::Wide::of(*number), ..blank }
+            }
             Event::Expire { processor } => ffi::Event { kind: 13, processor: *processor, ..blank },
             Event::Trap { processor, ticks, action } => {
                 ffi::Event { processor: *processor, ticks: *ticks, ..action.plain() }

@@ -52,7 +52,7 @@ pub struct Event {
     pub object: u32,
     pub sent: u32,
     pub script: u32,
-    pub number: u64,
+    pub number: Wide,
     pub amount: u64,
     pub ticket: u64,
     pub currency: Name,
@@ -72,6 +72,7 @@ pub struct Reply {
     pub ticks: u32,
     pub outcome: u32,
     pub other: u32,
+    pub replied_to: u32,
     pub sent: u32,
     pub has_sent: bool,
     pub has_draw: bool,
@@ -150,8 +151,9 @@ extern "C" {
     pub fn lot_generator_new(seed: u32, generator: *mut Generator) -> u32;
     pub fn lot_generator_next(generator: *mut Generator, value: *mut u32) -> u32;
     pub fn lot_generator_number(generator: *mut Generator, number: *mut u64) -> u32;
+    pub fn lot_generator_wide_number(generator: *mut Generator, number: *mut Wide) -> u32;
     pub fn lot_weight(value: u64, compensation: u32, quantum: u32, weight: *mut Wide);
-    pub fn lot_winner(weights: *const Wide, count: usize, number: u64, drawn: *mut Drawn) -> u32;
+    pub fn lot_winner(weights: *const Wide, count: usize, number: *const Wide, drawn: *mut Drawn) -> u32;
 }
 
 /// Where a call can fail in no other way.

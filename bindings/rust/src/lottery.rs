@@ -24,10 +24,10 @@ pub struct Drawn {
 
 /// Holds a lottery with this number: `None` if the weights sum to 0, else the first place whose running sum is greater than the number
 /// modulo the sum. `TooLarge` or `NoMemory`.
-pub fn winner(weights: &[u128], number: u64) -> Result<Option<Drawn>, Error> {
+pub fn winner(weights: &[u128], number: u128) -> Result<Option<Drawn>, Error> {
     let weights: Vec<Wide> = weights.iter().map(|weight| Wide::of(*weight)).collect();
     let mut drawn = ffi::Drawn::default();
-    match unsafe { ffi::lot_winner(weights.as_ptr(), weights.len(), number, &mut drawn) } {
+    match unsafe { ffi::lot_winner(weights.as_ptr(), weights.len(), &Wide::of(number), &mut drawn) } {
         ffi::NO_WINNER => Ok(None),
         ffi::TOO_LARGE => Err(Error::TooLarge),
         ffi::NO_MEMORY => Err(Error::NoMemory),
@@ -75,5 +75,13 @@ impl ParkMiller {
         ffi::must_be_done(unsafe { ffi::lot_generator_number(&mut generator, &mut number) });
         self.value = generator.value;
         number
+    }
+
+    /// The wide number that is drawn from the next four values: below 2^124.
+    pub fn wide_number(&mut self) -> u128 {
+        let (mut generator, mut number) = (ffi::Generator { value: self.value }, Wide::default());
+        ffi::must_be_done(unsafe { ffi::lot_generator_wide_number(&mut generator, &mut number) });
+        self.value = generator.value;
+        number.number()
     }
 }

@@ -88,6 +88,17 @@ pub enum Outcome {
     },
     /// The client with this number is answered.
     Replied(u32),
+    /// A client is answered, and then a call was taken.
+    RepliedThenReceived {
+        /// Who is answered.
+        to: u32,
+        /// Who called.
+        client: u32,
+        /// What was sent.
+        number: u32,
+    },
+    /// The client with this number is answered, and the thread waits for a call.
+    RepliedThenWaits(u32),
     /// The thread owns the mutex.
     Locked,
     /// Nobody owns the mutex.
@@ -177,6 +188,8 @@ impl Outcome {
             },
             10 => Outcome::Exited,
             11 => Outcome::Refused(TRAP_REFUSALS[reply.reason as usize - 1]),
+            12 => Outcome::RepliedThenReceived { to: reply.replied_to, client: reply.other, number: reply.sent },
+            13 => Outcome::RepliedThenWaits(reply.replied_to),
             other => unreachable!("an outcome {other}"),
         }
     }

@@ -17,7 +17,7 @@ fn fund_thread(kernel: &mut Kernel, amount: u64, currency: &str, thread: &str) -
     command(kernel, Command::MakeFunded { amount, currency: name(currency), name: name(thread), script: 1 })
 }
 
-fn draw(kernel: &mut Kernel, number: u64) -> Reply {
+fn draw(kernel: &mut Kernel, number: u128) -> Reply {
     kernel.event(&Event::Draw { processor: 1, number })
 }
 
@@ -94,6 +94,28 @@ fn call_and_reply() {
 }
 
 #[test]
+fn servings() {
+    let mut kernel = Kernel::new(Sizes::SMALL).expect("small");
+    fund_thread(&mut kernel, 10, "base", "v");
+    fund_thread(&mut kernel, 20, "base", "c");
+    fund_thread(&mut kernel, 30, "base", "d");
+    draw(&mut kernel, 0);
+    trap(&mut kernel, 0, Action::Receive { port: 1 });
+    draw(&mut kernel, 0);
+    trap(&mut kernel, 0, Action::Call { port: 1, number: 5 });
+    let serves = Event::Draw { processor: 2, number: 0 };
+    assert_eq!(kernel.event(&serves), Reply::Winner { thread: 1, number: 0, total: 3030, delivered: Some(5) });
+    draw(&mut kernel, 0);
+    trap(&mut kernel, 0, Action::Call { port: 1, number: 6 });
+    let mut serve = |number| kernel.event(&Event::Trap { processor: 2, ticks: 0, action: Action::Serve { port: 1, number } });
+    let received = Outcome::RepliedThenReceived { to: 2, client: 3, number: 6 };
+    assert_eq!(serve(8), Reply::Trapped { thread: 1, ticks: 1, outcome: received, ends: false });
+    let waits = Outcome::RepliedThenWaits(3);
+    assert_eq!(serve(9), Reply::Trapped { thread: 1, ticks: 1, outcome: waits, ends: false });
+    assert_eq!(kernel.thread_row(1).expect("there").status, Status::Receiving(1));
+}
+
+#[test]
 fn a_kernel_goes_to_another_thread() {
     let mut kernel = Kernel::new(Sizes::SMALL).expect("small");
     fund_thread(&mut kernel, 5, "base", "a");
@@ -113,7 +135,10 @@ fn the_lottery_alone() {
     let mut generator = ParkMiller::new(1).expect("a seed");
     let last = (0..10000).map(|_| generator.next_value()).last();
     assert_eq!(last, Some(1043618065));
+    let drawn = winner(&[10, 2, 5, 1, 2], u128::MAX).expect("small").expect("a winner");
+    assert_eq!((drawn.place, drawn.number), (2, 15));
     assert_eq!(ParkMiller::new(1).expect("a seed").number(), 36090892629924);
+    assert_eq!(ParkMiller::new(1).expect("a seed").wide_number(), 166439864623969647858139600294153);
     assert_eq!(ParkMiller::new(0), Err(Error::BadSeed));
 }
 

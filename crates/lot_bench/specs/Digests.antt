@@ -18,6 +18,8 @@ outcome_word outcome.Freed = 8
 outcome_word (outcome.Passed to draw) = 12 + to
 outcome_word outcome.Exited = 9
 outcome_word (outcome.Refused refusal) = 10
+outcome_word (outcome.RepliedThenReceived to client number) = 11
+outcome_word (outcome.RepliedThenWaits to) = 12
 
 -- the low 64 bits of a number
 abbrev pub low_word : ℕ → ℕ

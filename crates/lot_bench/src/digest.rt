@@ -82,5 +82,7 @@ fn outcome_word(outcome: Outcome) -> u64
         Outcome::Passed { to, draw: _ } => 12 + u64::from(to),
         Outcome::Exited => 9,
         Outcome::Refused(_) => 10,
+        Outcome::RepliedThenReceived { .. } => 11,
+        Outcome::RepliedThenWaits(_) => 12,
     }
 }

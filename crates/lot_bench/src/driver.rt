@@ -96,9 +96,9 @@ impl Driver {
     }
 
     /// The next number that the processor draws.
-    fn number(&mut self, processor: u32) -> u64 {
+    fn number(&mut self, processor: u32) -> u128 {
         match self.generators.get_mut(processor as usize) {
-            Some(generator) => generator.number(),
+            Some(generator) => u128::from(generator.number()),
             None => 0,
         }
     }

@@ -56,14 +56,15 @@ meant (event.Command (MakeFunded amount currency name script)) ((short, good), (
 meant (event.Command (Listing Tickets)) has = refl
 meant (event.Command (Listing Currencies)) has = refl
 meant (event.Command (Listing Threads)) has = refl
-meant (event.Draw p d) has = refl
+meant (event.Draw p d) has = ap (λ n. Ok (event.Draw p n)) (wide d)
 meant (event.Expire p) has = refl
 meant (event.Trap p ran action.Yield) has = refl
 meant (event.Trap p ran (action.Call port number)) has = refl
 meant (event.Trap p ran (action.Receive port)) has = refl
 meant (event.Trap p ran (action.Reply number)) has = refl
 meant (event.Trap p ran (action.Lock mutex)) has = refl
-meant (event.Trap p ran (action.Unlock mutex d)) has = refl
+meant (event.Trap p ran (action.Serve port number)) has = refl
+meant (event.Trap p ran (action.Unlock mutex d)) has = ap (λ n. Ok (event.Trap p ran (action.Unlock mutex n))) (wide d)
 meant (event.Trap p ran action.Exit) has = refl
 
 -- ---- replies
@@ -85,7 +86,8 @@ trap_refusal_of = pick trap.NoPort (trap.NoPort ∷ trap.NothingToReply ∷ trap
 
 abbrev outcome_of : PlainReply → Outcome
 outcome_of r = pick outcome.Exited (outcome.Yielded ∷ outcome.ServedBy r.other ∷ outcome.Queued ∷ outcome.Waits ∷ outcome.Received r.other r.sent ∷ outcome.Replied r.other ∷ outcome.Locked ∷ outcome.Freed
-    ∷ outcome.Passed r.other (if_so r.has_draw (r.number.low, r.total.low)) ∷ outcome.Exited ∷ outcome.Refused (trap_refusal_of r.reason) ∷ []) r.outcome
+    ∷ outcome.Passed r.other (if_so r.has_draw (r.number.low, r.total.low)) ∷ outcome.Exited ∷ outcome.Refused (trap_refusal_of r.reason)
+    ∷ outcome.RepliedThenReceived r.replied_to r.other r.sent ∷ outcome.RepliedThenWaits r.replied_to ∷ []) r.outcome
 
 abbrev reply_of : PlainReply → Reply
 reply_of r = pick reply.Idle (reply.Ticket r.ticket ∷ reply.Currency r.currency ∷ reply.Thread r.thread ∷ reply.Funded r.ticket r.thread ∷ reply.Done ∷ reply.List Tickets ∷ reply.List Currencies ∷ reply.List Threads
@@ -127,6 +129,8 @@ outcomes outcome.Queued = refl
 outcomes outcome.Waits = refl
 outcomes (outcome.Received client number) = refl
 outcomes (outcome.Replied client) = refl
+outcomes (outcome.RepliedThenReceived to client number) = refl
+outcomes (outcome.RepliedThenWaits to) = refl
 outcomes outcome.Locked = refl
 outcomes outcome.Freed = refl
 outcomes (outcome.Passed to None) = refl

@@ -12,6 +12,7 @@ use Rattle.lot_c.specs.declared.name.PlainName.{PlainName}
 use Rattle.lot_c.specs.declared.status.Status.{Status}
 use Rattle.lot_c.specs.declared.status.Status.TheVariants.{BadKind}
 use Rattle.lot_c.specs.Names.{name_meant}
+use Rattle.lot_c.specs.Wides.{wide_meant}
 
 -- what is right, changed
 abbrev pub result_map : {X Y : Type 0} → (X → Y) → Result X Status → Result Y Status
@@ -54,15 +55,16 @@ meanings =
     ∷ (λ e. asks (Listing Tickets))
     ∷ (λ e. asks (Listing Currencies))
     ∷ (λ e. asks (Listing Threads))
-    ∷ (λ e. Ok (event.Draw e.processor e.number))
+    ∷ (λ e. Ok (event.Draw e.processor (wide_meant e.number)))
     ∷ (λ e. Ok (event.Expire e.processor))
     ∷ (λ e. traps e action.Yield)
     ∷ (λ e. traps e (action.Call e.object e.sent))
     ∷ (λ e. traps e (action.Receive e.object))
     ∷ (λ e. traps e (action.Reply e.sent))
     ∷ (λ e. traps e (action.Lock e.object))
-    ∷ (λ e. traps e (action.Unlock e.object e.number))
+    ∷ (λ e. traps e (action.Unlock e.object (wide_meant e.number)))
     ∷ (λ e. traps e action.Exit)
+    ∷ (λ e. traps e (action.Serve e.object e.sent))
     ∷ []
 
 -- The event that the fields mean, or why they mean none. Fields that the kind doesn't read may have any value.

@@ -10,6 +10,7 @@ use Rattle.lot_machine.specs.declared.event.Event.{Event}
 use Rattle.lot_machine.specs.declared.event.Event.TheVariants as event
 use Rattle.lot_c.specs.declared.event.PlainEvent.{PlainEvent}
 use Rattle.lot_c.specs.Names.{plain_name}
+use Rattle.lot_c.specs.Wides.{plain_wide}
 
 -- all fields 0
 abbrev blank_event : PlainEvent
@@ -20,7 +21,7 @@ blank_event = record {
   object = 0;
   sent = 0;
   script = 0;
-  number = 0;
+  number = plain_wide 0;
   amount = 0;
   ticket = 0;
   currency = plain_name [];
@@ -67,12 +68,13 @@ plain_trap p ran (action.Call port number) = record blank_event { kind = 15; pro
 plain_trap p ran (action.Receive port) = record blank_event { kind = 16; processor = p; ticks = ran; object = port }
 plain_trap p ran (action.Reply number) = record blank_event { kind = 17; processor = p; ticks = ran; sent = number }
 plain_trap p ran (action.Lock mutex) = record blank_event { kind = 18; processor = p; ticks = ran; object = mutex }
-plain_trap p ran (action.Unlock mutex d) = record blank_event { kind = 19; processor = p; ticks = ran; object = mutex; number = d }
+plain_trap p ran (action.Unlock mutex d) = record blank_event { kind = 19; processor = p; ticks = ran; object = mutex; number = plain_wide d }
 plain_trap p ran action.Exit = record blank_event { kind = 20; processor = p; ticks = ran }
+plain_trap p ran (action.Serve port number) = record blank_event { kind = 21; processor = p; ticks = ran; object = port; sent = number }
 
 -- an event in plain fields
 abbrev pub plain_event : Event → PlainEvent
 plain_event (event.Command command) = plain_command command
-plain_event (event.Draw p d) = record blank_event { kind = 12; processor = p; number = d }
+plain_event (event.Draw p d) = record blank_event { kind = 12; processor = p; number = plain_wide d }
 plain_event (event.Expire p) = record blank_event { kind = 13; processor = p }
 plain_event (event.Trap p ran action) = plain_trap p ran action

@@ -30,6 +30,7 @@ blank_reply = record {
   ticks = 0;
   outcome = 0;
   other = 0;
+  replied_to = 0;
   sent = 0;
   has_sent = false;
   has_draw = false;
@@ -86,6 +87,8 @@ plain_outcome outcome.Queued = record blank_reply { outcome = 3 }
 plain_outcome outcome.Waits = record blank_reply { outcome = 4 }
 plain_outcome (outcome.Received client number) = record blank_reply { outcome = 5; other = client; sent = number; has_sent = true }
 plain_outcome (outcome.Replied client) = record blank_reply { outcome = 6; other = client }
+plain_outcome (outcome.RepliedThenReceived to client number) = record blank_reply { outcome = 12; other = client; replied_to = to; sent = number; has_sent = true }
+plain_outcome (outcome.RepliedThenWaits to) = record blank_reply { outcome = 13; replied_to = to }
 plain_outcome outcome.Locked = record blank_reply { outcome = 7 }
 plain_outcome outcome.Freed = record blank_reply { outcome = 8 }
 plain_outcome (outcome.Passed to draw) = plain_passed to draw

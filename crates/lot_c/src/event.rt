@@ -6,6 +6,7 @@ ghost use Rattle.lot_c.specs.Events.{event_meant, result_map};
 
 use crate::name::PlainName;
 use crate::status::Status;
+use crate::wide::Wide;
 use lot_machine::{Action, Command, Event, Kind};
 
 /// No kind: fields that are all 0 mean nothing.
@@ -51,6 +52,8 @@ const UNLOCK: u32 = 19;
 
 const EXIT: u32 = 20;
 
+const SERVE: u32 = 21;
+
 /// An event in plain fields. Its kind says which of the others are read.
 #[repr(C)]
 #[derive(Clone, Copy)]
@@ -62,12 +65,12 @@ pub struct PlainEvent {
     pub ticks: u32,
     /// The port or the mutex of a trap, from 1.
     pub object: u32,
-    /// The number that a call or a reply sends.
+    /// The number that a call, a reply or a serving sends.
     pub sent: u32,
     /// The script of a new thread, from 1; 0 is none.
     pub script: u32,
     /// The drawn number of a draw or an unlock.
-    pub number: u64,
+    pub number: Wide,
     pub amount: u64,
     pub ticket: u64,
     /// The currency that issues a ticket, or that is removed.
@@ -81,7 +84,7 @@ impl PlainEvent {
     pub(crate) fn read(&self) -> Result<Event, Status>
         ensures { result ≡ event_meant self.now }
     {
-        if self.kind == NONE || self.kind > EXIT {
+        if self.kind == NONE || self.kind > SERVE {
             return Err(Status::BadKind);
         }
         if self.kind < DRAW {
@@ -143,19 +146,20 @@ impl PlainEvent {
 
     /// The draw, expiry or trap that is meant.
     fn read_turn(&self) -> Event
-        requires kind { IsBetween 12 20 self.now.kind }
+        requires kind { IsBetween 12 21 self.now.kind }
         ensures { event_meant self.now ≡ Ok result }
     {
         match self.kind {
-            DRAW => Event::Draw(self.processor, self.number),
+            DRAW => Event::Draw(self.processor, self.number.number()),
             EXPIRE => Event::Expire(self.processor),
             YIELD => self.trap(Action::Yield),
             CALL => self.trap(Action::Call(self.object, self.sent)),
             RECEIVE => self.trap(Action::Receive(self.object)),
             REPLY => self.trap(Action::Reply(self.sent)),
             LOCK => self.trap(Action::Lock(self.object)),
-            UNLOCK => self.trap(Action::Unlock(self.object, self.number)),
+            UNLOCK => self.trap(Action::Unlock(self.object, self.number.number())),
             EXIT => self.trap(Action::Exit),
+            SERVE => self.trap(Action::Serve(self.object, self.sent)),
             _ => unreachable!(),
         }
     }

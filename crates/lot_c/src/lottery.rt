@@ -2,7 +2,7 @@
 ghost use Rattle.std.specs.Prelude.{◌≡◌, ◌⊎◌, ◌<◌, ◌≤◌, ◌^◌, IfErr, IfOk, IfSome, Some, length, map, sum};
 ghost use Rattle.lot_machine.specs.Bounds.{IsBetween};
 ghost use Rattle.lot_machine.specs.Lottery as lottery;
-ghost use Rattle.lot_machine.specs.Lottery.{next_seed, drawn_number, seed_after_number};
+ghost use Rattle.lot_machine.specs.Lottery.{next_seed, drawn_number, seed_after_number, wide_number, seed_after_wide_number};
 ghost use Rattle.lot_machine.specs.declared.drawn.Drawn.{Drawn as ADrawn};
 ghost use Rattle.lot_c.specs.declared.status.Status.TheVariants.{BadSeed, Done, NoMemory, NoWinner, TooLarge};
 ghost use Rattle.lot_c.specs.Lotteries.{compensation_meant, plain_drawn};
@@ -109,15 +109,35 @@ pub extern "C" fn lot_generator_number(generator: &mut PlainGenerator, number: &
     Status::Done.code()
 }
 
+/// Writes the wide number that is drawn from the generator's next four values, and goes on to the fourth.
+#[unsafe(no_mangle)]
+pub extern "C" fn lot_generator_wide_number(
+    generator: &mut PlainGenerator,
+    number: &mut Wide,
+) -> u32
+    ensures good { IsBetween 1 2147483646 generator.old.value → (result ≡ code Done) × (number.new ≡ plain_wide (wide_number generator.old.value)) × (generator.new.value ≡ seed_after_wide_number generator.old.value) }
+    ensures bad { ¬ IsBetween 1 2147483646 generator.old.value → (result ≡ code BadSeed) × (number.new ≡ number.old) × (generator.new ≡ generator.old) }
+{
+    let Some(mut there) = ParkMiller::new(generator.value) else {
+        return Status::BadSeed.code();
+    };
+    let mut ahead = there;
+    *number = Wide::of(there.wide_number());
+    let _ = ahead.number();
+    ahead.next();
+    generator.value = ahead.next();
+    Status::Done.code()
+}
+
 /// Holds a lottery with this number over the weights. It takes memory for a copy of them, and gives it back.
 #[unsafe(no_mangle)]
 pub extern "C" fn lot_winner(
     alloc: Global,
     weights: &[Wide],
-    number: u64,
+    number: &Wide,
     drawn: &mut PlainDrawn,
 ) -> u32
-    ensures won { (d : ADrawn) → sum (map wide_meant weights.now) < 2 ^ 128 → lottery.winner (map wide_meant weights.now) number ≡ Some d → ((result ≡ code Done) × (drawn.new ≡ plain_drawn d)) ⊎ ((result ≡ code NoMemory) × (drawn.new ≡ drawn.old)) }
+    ensures won { (d : ADrawn) → sum (map wide_meant weights.now) < 2 ^ 128 → lottery.winner (map wide_meant weights.now) (wide_meant number.now) ≡ Some d → ((result ≡ code Done) × (drawn.new ≡ plain_drawn d)) ⊎ ((result ≡ code NoMemory) × (drawn.new ≡ drawn.old)) }
     ensures within { result ≡ code Done → drawn.new.place < length weights.now }
     ensures nobody { sum (map wide_meant weights.now) ≡ 0 → ((result ≡ code NoWinner) ⊎ (result ≡ code NoMemory)) × (drawn.new ≡ drawn.old) }
     ensures large { 2 ^ 128 ≤ sum (map wide_meant weights.now) → ((result ≡ code TooLarge) ⊎ (result ≡ code NoMemory)) × (drawn.new ≡ drawn.old) }
@@ -126,7 +146,7 @@ pub extern "C" fn lot_winner(
         Err(why) => return why.code(),
         Ok(weights) => weights,
     };
-    match lot_draw::winner(&weights, number) {
+    match lot_draw::winner(&weights, number.number()) {
         None => Status::NoWinner.code(),
         Some(found) => {
             *drawn = PlainDrawn::of(found);

@@ -56,6 +56,10 @@ const EXITED: u32 = 10;
 
 const TRAP_REFUSED: u32 = 11;
 
+const REPLIED_THEN_RECEIVED: u32 = 12;
+
+const REPLIED_THEN_WAITS: u32 = 13;
+
 /// A reply in plain fields. Its kind, and a trap's outcome, say which of the others are written; the rest are 0.
 #[repr(C)]
 #[derive(Clone, Copy)]
@@ -76,6 +80,8 @@ pub struct PlainReply {
     pub outcome: u32,
     /// The server, the client or the new owner of an outcome.
     pub other: u32,
+    /// The client that a serving replied to.
+    pub replied_to: u32,
     /// The number that was delivered or received.
     pub sent: u32,
     pub has_sent: bool,
@@ -97,6 +103,7 @@ impl PlainReply {
         ticks: 0,
         outcome: 0,
         other: 0,
+        replied_to: 0,
         sent: 0,
         has_sent: false,
         has_draw: false,
@@ -173,6 +180,16 @@ impl PlainReply {
                 ..PlainReply::came_to(RECEIVED, client)
             },
             Outcome::Replied(client) => PlainReply::came_to(REPLIED, client),
+            Outcome::RepliedThenReceived { to, client, number } => PlainReply {
+                replied_to: to,
+                sent: number,
+                has_sent: true,
+                ..PlainReply::came_to(REPLIED_THEN_RECEIVED, client)
+            },
+            Outcome::RepliedThenWaits(to) => PlainReply {
+                replied_to: to,
+                ..PlainReply::came_to(REPLIED_THEN_WAITS, 0)
+            },
             Outcome::Locked => PlainReply::came_to(LOCKED, 0),
             Outcome::Freed => PlainReply::came_to(FREED, 0),
             Outcome::Passed { to, draw } => PlainReply::of_passed(to, draw),

@@ -1,12 +1,15 @@
 //! The generator of drawn numbers.
-ghost use Rattle.std.specs.Prelude.{◌≡◌, ◌↔◌, ◌<◌, ◌≤◌, IsSome, IfSome};
+ghost use Rattle.std.specs.Prelude.{◌≡◌, ◌↔◌, ◌<◌, ◌≤◌, ◌^◌, IsSome, IfSome};
 ghost use Rattle.lot_machine.specs.Bounds.{IsBetween};
-ghost use Rattle.lot_machine.specs.Lottery.{next_seed, drawn_number, seed_after_number};
+ghost use Rattle.lot_machine.specs.Lottery.{next_seed, drawn_number, seed_after_number, wide_number, seed_after_wide_number};
+ghost use Rattle.lot_machine.specs.Lottery as lottery;
 
 use std::marker::Model;
 
 /// The modulus of the generator, a prime.
 const MODULUS: u32 = 2147483647;
+/// How many numbers two values make.
+const NUMBERS: u128 = 4611686009837453316;
 
 /// The multiplicative generator of Park and Miller (4.1): each value is 16807 times the one before, modulo 2147483647.
 /// Its values are 1 to 2147483646.
@@ -55,11 +58,37 @@ impl ParkMiller {
     pub fn number(&mut self) -> u64
         ensures number { result ≡ drawn_number self.old }
         ensures after { self.new ≡ seed_after_number self.old }
+        ensures range { result < 2 ^ 62 }
     {
         let high = u64::from(self.next() - 1);
         let low = u64::from(self.next() - 1);
         high * 2147483646 + low
     }
+
+    /// The wide number that is drawn from the next four values: below 2^124.
+    #[inline(always)]
+    pub fn wide_number(&mut self) -> u128
+        ensures number { result ≡ wide_number self.old }
+        ensures after { self.new ≡ seed_after_wide_number self.old }
+        ensures range { result < 2 ^ 124 }
+    {
+        let high = u128::from(self.number());
+        let low = u128::from(self.number());
+        high * NUMBERS + low
+    }
+}
+
+/// The seed of a processor, so that processors don't draw in lock step: as many steps of a generator after 1, whose multiplier is
+/// 48271, as the processor's number says.
+pub fn mixed_seed(processor: u32) -> u32
+    ensures seed { result ≡ lottery.mixed_seed processor }
+    ensures range { IsBetween 1 2147483646 result }
+{
+    let mut seed = 1;
+    for _ in 0..processor {
+        seed = (u64::from(seed) * 48271 % u64::from(MODULUS)) as u32;
+    }
+    seed
 }
 
 #[cfg(test)]
@@ -84,6 +113,29 @@ mod tests {
         let mut generator = ParkMiller::new(1).ok_or("seed")?;
         assert_eq!(rt; generator.number(), 36090892629924);
         Ok(())
+    }
+
+    // By the definition: from 1 the values 16807, 282475249, 1622650073 and 984943658.
+    #[test]
+    fn wide_numbers(rt: HostRuntime) -> Result<(), Fail> {
+        let mut generator = ParkMiller::new(1).ok_or("seed")?;
+        assert_eq!(rt; generator.wide_number(), 166439864623969647858139600294153);
+        assert_eq!(rt; generator.next(), 1144108930);
+        Ok(())
+    }
+
+    // The first values of that generator, and its published 10000th.
+    #[test]
+    fn mixed_seeds(rt: HostRuntime) {
+        for (processor, seed) in [
+            (0, 1),
+            (1, 48271),
+            (2, 182605794),
+            (3, 1291394886),
+            (10000, 399268537),
+        ] {
+            assert_eq!(rt; mixed_seed(processor), seed, "{processor}");
+        }
     }
 
     // The check that Park and Miller give for their generator: from 1, the value after 10000 steps.

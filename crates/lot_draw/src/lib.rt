@@ -15,6 +15,6 @@ mod run_queue;
 mod tests;
 
 pub use competing::{Competitor, Winner};
-pub use generator::ParkMiller;
+pub use generator::{ParkMiller, mixed_seed};
 pub use lottery::{weight, winner};
 pub use run_queue::RunQueue;

@@ -34,7 +34,7 @@ fn inflated(value: u64, quantum: u32, used: u32) -> u128
 
 /// Holds a lottery with the number `d` (2, 4.2): `None` if the weights sum to 0, else the first place whose running sum
 /// is strictly greater than `d` modulo the sum.
-pub fn winner(weights: &[u128], d: u64) -> Option<Drawn>
+pub fn winner(weights: &[u128], d: u128) -> Option<Drawn>
     requires { sum weights.now < 2 ^ 128 }
     ensures drawn { result ≡ lottery.winner weights.now d }
     ensures within { IfSome result (λ w. w.place < length weights.now) }
@@ -51,14 +51,17 @@ pub fn winner(weights: &[u128], d: u64) -> Option<Drawn>
     })
 }
 
-/// The number modulo the total. Nearly all totals fit 64 bits, which divide faster.
-pub(crate) fn reduced(d: u64, total: u128) -> u128
+/// The number modulo the total. Most numbers and totals fit 64 bits, which divide faster, and a number below the total stays.
+pub(crate) fn reduced(d: u128, total: u128) -> u128
     requires { 0 < total }
     ensures { result ≡ d % total }
 {
-    match u64::try_from(total) {
-        Ok(small) => u128::from(d % small),
-        Err(_) => u128::from(d),
+    if d < total {
+        return d;
+    }
+    match (u64::try_from(d), u64::try_from(total)) {
+        (Ok(number), Ok(small)) => u128::from(number % small),
+        _ => d % total,
     }
 }
 
@@ -109,6 +112,11 @@ mod tests {
                 "at {d}"
             );
         }
+        // A number of more than 64 bits: 3 * 2^64 + 15.
+        assert_eq!(rt;
+            winner(&[10, 2, 5, 1, 2], 55340232221128654863).map(|drawn| drawn.number),
+            Some(3)
+        );
         assert_eq!(rt; winner(&[0, 0], 7), None);
         assert_eq!(rt; winner(&[], 7), None);
     }

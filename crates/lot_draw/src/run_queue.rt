@@ -104,7 +104,7 @@ impl RunQueue {
     /// Holds a draw with the number `d` (2, 4.2) among the threads that compete: `None` if their weights sum to 0.
     ///
     /// Settles what is stale, sets the weights that may have changed, and visits the tree once.
-    pub fn draw(&mut self, graph: &mut ValuedGraph, d: u64, meter: &mut Meter) -> Option<Winner>
+    pub fn draw(&mut self, graph: &mut ValuedGraph, d: u128, meter: &mut Meter) -> Option<Winner>
         requires competes { CompetesIn self.old.competitors graph.old }
         requires weights { AreWeights self.old graph.old.known }
         ensures winner { result ≡ drawn_among self.old.quantum self.old.competitors (thread_value graph.old.known.unit graph.old.now.funding graph.old.live) d }
@@ -187,7 +187,7 @@ impl RunQueue {
     }
 
     /// Holds the lottery over the weights in the tree.
-    fn hold_lottery(&self, d: u64, meter: &mut Meter) -> Option<Winner>
+    fn hold_lottery(&self, d: u128, meter: &mut Meter) -> Option<Winner>
         ensures winner { result ≡ winner_among (numbers self.now.competitors) (lottery.winner self.now.weights d) }
         ensures reads { meter.new.ticket_reads ≡ meter.old.ticket_reads }
         ensures visits { MatchOption result (meter.new.tree_visits ≡ meter.old.tree_visits) (λ w. CountsReads (length self.now.competitors) meter.old.tree_visits meter.new.tree_visits) }

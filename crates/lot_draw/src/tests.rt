@@ -89,7 +89,7 @@ impl Room {
     }
 
     /// A draw, with the counts of what it read and visited.
-    fn draw(&mut self, d: u64) -> (Option<Winner>, u64, u64) {
+    fn draw(&mut self, d: u128) -> (Option<Winner>, u64, u64) {
         let mut meter = Meter::default();
         let winner = self.queue.draw(&mut self.graph, d, &mut meter);
         (winner, meter.ticket_reads, meter.tree_visits)
@@ -140,11 +140,11 @@ enum Step {
     /// A thread competes, with a compensation or without.
     Compete(u32, Option<u32>),
     /// A drawn number, and who wins.
-    Wins(u64, Won),
+    Wins(u128, Won),
     /// The same, with how many edges the draw reads, and how many places it visits at most.
-    Reads(u64, Won, u64, u64),
+    Reads(u128, Won, u64, u64),
     /// A drawn number that nobody wins, which reads and visits nothing.
-    Idles(u64),
+    Idles(u128),
 }
 
 fn is_won(winner: Option<Winner>, (thread, number, total): Won) -> bool {
@@ -155,13 +155,13 @@ fn is_won(winner: Option<Winner>, (thread, number, total): Won) -> bool {
 }
 
 /// Draws, and checks who wins.
-fn check_winner(rt: &impl Abort, room: &mut Room, d: u64, won: Won) {
+fn check_winner(rt: &impl Abort, room: &mut Room, d: u128, won: Won) {
     let (winner, _, _) = room.draw(d);
     assert!(rt; is_won(winner, won), "at {d}");
 }
 
 /// Draws, and checks who wins and the counts.
-fn check_counts(rt: &impl Abort, room: &mut Room, d: u64, won: Won, reads: u64, most: u64) {
+fn check_counts(rt: &impl Abort, room: &mut Room, d: u128, won: Won, reads: u64, most: u64) {
     let (winner, read, visits) = room.draw(d);
     assert!(rt; is_won(winner, won), "at {d}");
     assert!(rt; read == reads, "{read} at {d}");
@@ -169,7 +169,7 @@ fn check_counts(rt: &impl Abort, room: &mut Room, d: u64, won: Won, reads: u64, 
 }
 
 /// Draws, and checks that nobody wins.
-fn check_idle(rt: &impl Abort, room: &mut Room, d: u64) {
+fn check_idle(rt: &impl Abort, room: &mut Room, d: u128) {
     let (winner, read, visits) = room.draw(d);
     assert!(rt; winner.is_none(), "at {d}");
     assert!(rt; read == 0 && visits == 0, "at {d}");
@@ -344,8 +344,9 @@ fn visits_a_place_a_digit(rt: HostRuntime) -> Result<(), Fail> {
     let mut room = thousand(&rt, rt.alloc())?;
     for d in 0..1000 {
         let reads = if d == 0 { 1000 } else { 0 };
-        let won = (d as u32 + 1, d as u128, 1000);
-        check_counts(&rt, &mut room, d, won, reads, 10);
+        let number = u128::from(d);
+        let won = (d + 1, number, 1000);
+        check_counts(&rt, &mut room, number, won, reads, 10);
     }
     Ok(())
 }

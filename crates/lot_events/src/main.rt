@@ -34,7 +34,7 @@ fn play(alloc: Global) -> Option<u64> {
 
 /// A draw with this number, and then the winner's expiry, or its yield if its number is even. The winner, 0 if there is none.
 fn play_round(kernel: &mut Kernel, number: u64) -> u32 {
-    let Reply::Winner { thread, .. } = kernel.event(&Event::Draw(1, number)) else {
+    let Reply::Winner { thread, .. } = kernel.event(&Event::Draw(1, u128::from(number))) else {
         return 0;
     };
     if thread % 2 == 0 {

@@ -1,39 +1,29 @@
 -- A trap leaves the record of the thread that makes it.
-use Rattle.std.proofs.Common.{◌≡◌, ◌∙◌, ℕ, suc, ◌-◌, ◌⊎◌, inl, inr, Option, Some, None, is_none, List, [], ◌∷◌, map, length, option_map, slice_get, slice_index, get_or, unwrap_or, false, ◌<◌, ◌≤◌, ap, sym, refl, subst}
+use Rattle.std.proofs.Common.{◌≡◌, ◌∙◌, ℕ, ◌⊎◌, inl, inr, Option, Some, None, is_none, List, [], ◌∷◌, map, length, option_map, slice_get, slice_index, get_or, unwrap_or, false, ◌<◌, ◌≤◌, ap, sym, refl, subst}
 use Rattle.std.proofs.lemmas.List.{get_or_past}
 use Rattle.std.proofs.lemmas.Option.{slice_get_cases, get_or_from_slice_get}
 use Rattle.lot_machine.specs.declared.action.Action.{Action}
-use Rattle.lot_machine.specs.declared.action.Action.TheVariants.{Yield, Call, Receive, Reply as ReplyTo, Lock, Unlock, Exit}
+use Rattle.lot_machine.specs.declared.action.Action.TheVariants.{Yield, Call, Receive, Reply as ReplyTo, Serve, Lock, Unlock, Exit}
 use Rattle.lot_machine.specs.declared.drawn.Drawn.{Drawn}
 use Rattle.lot_machine.specs.declared.record.Record.{Record}
 use Rattle.lot_machine.specs.declared.record.Status.{Status}
 use Rattle.lot_machine.specs.declared.record.Status.TheVariants.{Ready, Running, Queued, Receiving, Served, Waiting}
 use Rattle.lot_machine.specs.declared.refusal.TrapRefusal.{TrapRefusal}
-use Rattle.lot_machine.specs.declared.refusal.TrapRefusal.TheVariants.{NothingToReply}
+use Rattle.lot_machine.specs.declared.refusal.TrapRefusal.TheVariants.{NoPort, NothingToReply}
 use Rattle.lot_machine.specs.Lottery.{winner}
 use Rattle.lot_machine.specs.Mutexes.{mutex_at, lock, unlock}
-use Rattle.lot_machine.specs.Numbered.{at_number, set_number}
+use Rattle.lot_machine.specs.Numbered.{at_number}
 use Rattle.lot_machine.specs.Order.{IsQueue, HasQueues}
-use Rattle.lot_machine.specs.Ports.{first_client, port_at, call, receive, reply}
-use Rattle.lot_machine.specs.State.{State, QueuedCall, Port, Mutex, status_of, change_record, value_of}
+use Rattle.lot_machine.specs.Ports.{first_client, port_at, call, receive, reply, serve}
+use Rattle.lot_machine.specs.State.{State, QueuedCall, Port, Mutex, status_of, value_of}
 use Rattle.lot_machine.specs.Step.{checked_effect, trap_effect, trap_refusal}
-use Rattle.lot_machine.proofs.Changes.{number-set, number-there}
 use Rattle.lot_machine.proofs.CommandsKept.{all-pass}
 use Rattle.lot_machine.proofs.Queues.{queue-clients, queue-empty}
 use Rattle.lot_machine.proofs.Tickets.{some-injective}
+use Rattle.lot_machine.proofs.TrapQueues.{replied-queues}
+use Rattle.lot_machine.specs.Traps.{after_trap}
+use Rattle.lot_ports.proofs.Serving.{record-other}
 use Rattle.lot_kernel.specs.Trapped.{effect_of}
-
--- a change of another thread's record
-pub record-other : (change : Record → Record) (records : List Record) (u t : ℕ) → ¬ (t ≡ u) → at_number (change_record change records u) t ≡ at_number records t
-record-other change records u t other = by (at_number records u) refl
-  where
-    by : (o : Option Record) → at_number records u ≡ o → at_number (change_record change records u) t ≡ at_number records t
-    by None none = rw none refl
-    by (Some r) some = rw some (from (number-set records u (change r) t))
-      where
-        from : (at_number (set_number records u (change r)) t ≡ at_number records t) ⊎ ((t ≡ suc (u - 1)) × (at_number (set_number records u (change r)) t ≡ Some (change r))) → at_number (set_number records u (change r)) t ≡ at_number records t
-        from (inl same) = same
-        from (inr (place, new)) = absurd (other (place ∙ number-there records u r some))
 
 module _ (records : List Record) (t p used : ℕ) (runs : status_of records t ≡ Some (Running p used)) where
   -- who has another status is another thread
@@ -130,6 +120,15 @@ module _ (records : List Record) (t p used : ℕ) (runs : status_of records t �
             let place = unwrap_or (option_map (λ (drawn : Drawn). drawn.place) (winner (map value (w ∷ ws)) d)) 0 in
             rw is (record-other (λ r. record r { status = Ready }) records (slice_index (w ∷ ws) place) t (queue-differ (Waiting m) (w ∷ ws) place (not-waiting m) queue))
 
+-- a reply, and then a receipt
+serve-leaves : (records : List Record) (t p used : ℕ) (runs : status_of records t ≡ Some (Running p used)) (clients : List (List ℕ)) (ports : List Port) (mutexes : List Mutex) → HasQueues records clients ports mutexes
+    → (port number : ℕ) → is_none (first_client clients t) ≡ false → at_number (serve records clients ports t port number).records t ≡ at_number records t
+serve-leaves records t p used runs clients ports mutexes queues port number some =
+    let replied = reply records clients ports t number in
+    let left = replied-queues (λ after r. after_trap after 0 0 0 r) (λ st r. refl) records clients ports mutexes queues t p used runs number some in
+    receive-leaves replied.records t p used left.1 replied.clients replied.ports mutexes left.0 port
+    ∙ reply-leaves records t p used runs clients ports mutexes queues number some
+
 -- a trap that is refused, or not
 pub effect-leaves : (s : State) (t p used : ℕ) (action : Action) → status_of s.records t ≡ Some (Running p used) → HasQueues s.records s.clients s.ports s.mutexes → at_number (effect_of s t action).state.records t ≡ at_number s.records t
 effect-leaves s t p used action runs queues = checked (trap_refusal s t action) refl
@@ -139,6 +138,8 @@ effect-leaves s t p used action runs queues = checked (trap_refusal s t action) 
     passed (Call port number) allowed = call-leaves s.records t p used runs s.clients s.ports s.mutexes queues port number
     passed (Receive port) allowed = receive-leaves s.records t p used runs s.clients s.ports s.mutexes queues port
     passed (ReplyTo number) allowed = reply-leaves s.records t p used runs s.clients s.ports s.mutexes queues number (all-pass ((is_none (first_client s.clients t), NothingToReply) ∷ []) allowed).0
+    passed (Serve port number) allowed =
+        serve-leaves s.records t p used runs s.clients s.ports s.mutexes queues port number (all-pass ((is_none (at_number s.ports port), NoPort) ∷ (is_none (first_client s.clients t), NothingToReply) ∷ []) allowed).1.0
     passed (Lock m) allowed = lock-leaves s.records t p used runs s.clients s.ports s.mutexes queues m
     passed (Unlock m d) allowed = unlock-leaves s.records t p used runs s.clients s.ports s.mutexes queues (value_of s) m d
     passed Exit allowed = refl

@@ -1,9 +1,9 @@
 -- How a whole trap goes: what it does, and then how its thread goes on or leaves.
-use Rattle.std.proofs.Common.{◌≡◌, ◌∙◌, ℕ, ◌-◌, Option, Some, None, List, [], ◌∷◌, ◌++◌, length, map, ap, sym, refl, subst, arith}
+use Rattle.std.proofs.Common.{◌≡◌, ◌∙◌, ℕ, ◌-◌, Bool, Option, Some, None, List, [], ◌∷◌, ◌++◌, length, map, ap, sym, refl, subst, arith}
 use Rattle.std.proofs.Math.ListN.{length-set}
 use Rattle.std.proofs.lemmas.List.{length-map}
 use Rattle.lot_machine.specs.declared.action.Action.{Action}
-use Rattle.lot_machine.specs.declared.action.Action.TheVariants.{Yield, Call, Receive, Reply as ReplyTo, Lock, Unlock, Exit}
+use Rattle.lot_machine.specs.declared.action.Action.TheVariants.{Yield, Call, Receive, Reply as ReplyTo, Serve, Lock, Unlock, Exit}
 use Rattle.lot_machine.specs.declared.after.After.{After}
 use Rattle.lot_machine.specs.declared.after.After.TheVariants.{GoesOn, Leaves, Ends}
 use Rattle.lot_machine.specs.declared.funding.Lend.{Lend}
@@ -13,13 +13,15 @@ use Rattle.lot_machine.specs.declared.record.Record.{Record}
 use Rattle.lot_machine.specs.declared.record.Status.{Status}
 use Rattle.lot_machine.specs.declared.record.Status.TheVariants.{Ready, Running, Receiving, Queued, Served, Waiting}
 use Rattle.lot_machine.specs.declared.refusal.TrapRefusal.{TrapRefusal}
+use Rattle.lot_machine.specs.declared.reply.Outcome.{Outcome}
+use Rattle.lot_machine.specs.declared.reply.Reply.TheVariants.{Trapped}
 use Rattle.lot_machine.specs.Funding.{Funding, lend_node}
 use Rattle.lot_machine.specs.Mutexes.{mutex_at}
 use Rattle.lot_machine.specs.Numbered.{at_number, set_number}
 use Rattle.lot_machine.specs.Order.{IsInOrder, IsQueue}
 use Rattle.lot_machine.specs.Ports.{port_at}
 use Rattle.lot_machine.specs.State.{State, Mutex, QueuedCall, change_record, funding_of, lend_of, status_of}
-use Rattle.lot_machine.specs.Step.{Effect, finish_trap, trap_effect, trap_refusal}
+use Rattle.lot_machine.specs.Step.{Effect, ends_quantum, finish_trap, trap_effect, trap_refusal}
 use Rattle.lot_machine.specs.Traps.{after_trap, with_ticks}
 use Rattle.lot_machine.proofs.RecordsKept.{RunsAlone, runs-alone}
 use Rattle.lot_machine.proofs.StepsKept.{IsApart, effect-apart}
@@ -41,6 +43,7 @@ effect-limits s t action = by (trap_refusal s t action) refl
     done (Call p number) = refl
     done (Receive p) = refl
     done (ReplyTo number) = refl
+    done (Serve p number) = refl
     done (Lock m) = refl
     done (Unlock m d) = refl
     done Exit = refl
@@ -109,6 +112,13 @@ module _ (s : State) (t p used : ℕ) (order : IsInOrder s) (runs : status_of s.
       by [] is = rw is (λ status e node to. absurd (lends-nothing (Receiving port) status refl e node to))
       by (first ∷ others) is = rw is (λ status e. absurd (goes-nowhere status e))
 
+  serve-there : (port number : ℕ) → LendsThere (trap_effect s t (Serve port number)).state (trap_effect s t (Serve port number)).after
+  serve-there port number = by (port_at s.ports port).calls refl
+    where
+      by : (o : List QueuedCall) → (port_at s.ports port).calls ≡ o → LendsThere (trap_effect s t (Serve port number)).state (trap_effect s t (Serve port number)).after
+      by [] is = rw is (λ status e node to. absurd (lends-nothing (Receiving port) status refl e node to))
+      by (first ∷ others) is = rw is (λ status e. absurd (goes-nowhere status e))
+
   lock-lends : (m : ℕ) → trap_refusal s t (Lock m) ≡ None → LendsThere (trap_effect s t (Lock m)).state (trap_effect s t (Lock m)).after
   lock-lends m allowed = by (mutex_at s.mutexes m).owner refl
     where
@@ -134,6 +144,7 @@ module _ (s : State) (t p used : ℕ) (order : IsInOrder s) (runs : status_of s.
       done (Call port number) allowed = call-there port number
       done (Receive port) allowed = receive-there port
       done (ReplyTo number) allowed = λ status e. absurd (goes-nowhere status e)
+      done (Serve port number) allowed = serve-there port number
       done (Lock m) allowed = lock-lends m allowed
       done (Unlock m d) allowed = unlock-there m d
       done Exit allowed = λ status e. absurd (ends-nowhere status e)
@@ -147,6 +158,12 @@ module _ (s : State) (t p used : ℕ) (order : IsInOrder s) (runs : status_of s.
 module _ (s now : State) (p t ticks used : ℕ) (e : Effect) (after : After) (state : now ≡ e.state) (limits : now.limits ≡ s.limits) (same : after ≡ e.after) where
   pub finished-state : record now { records = change_record (λ r. with_ticks ticks (after_trap after p used now.limits.quantum r)) now.records t } ≡ (finish_trap s p t ticks used e).state
   finished-state = rw (← limits, ← state, ← same) refl
+
+-- what the whole trap answers
+pub finished-reply : (s : State) (p t ticks used : ℕ) (e : Effect) (came : Outcome) (after : After) (ends : Bool) → came ≡ e.outcome → after ≡ e.after → ends ≡ ends_quantum after used s.limits.quantum
+    → Trapped t ticks came ends ≡ (finish_trap s p t ticks used e).reply
+finished-reply s p t ticks used e came after ends same_outcome same is =
+    ap (λ o. Trapped t ticks o ends) same_outcome ∙ ap (Trapped t ticks e.outcome) (is ∙ ap (λ a. ends_quantum a used s.limits.quantum) same)
 
 -- what a trap makes stale, and its thread's last change
 pub makes-trap : (old mid new : Snapshot) (t : ℕ) (change : Record → Record) (was : Record) → at_number old.state.records t ≡ Some was → at_number mid.state.records t ≡ Some was

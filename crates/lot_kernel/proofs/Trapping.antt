@@ -4,10 +4,12 @@ use Rattle.std.proofs.Math.ListN.{length-set}
 use Rattle.std.specs.Prelude.{IsTrue}
 use Rattle.std.proofs.lemmas.Bool.{eq-eqb}
 use Rattle.lot_machine.specs.declared.action.Action.TheVariants as action
+use Rattle.lot_machine.specs.declared.after.After.TheVariants.{GoesOn}
 use Rattle.lot_machine.specs.declared.record.Record.{Record}
+use Rattle.lot_machine.specs.declared.reply.Outcome.TheVariants.{Refused}
 use Rattle.lot_machine.specs.declared.record.Status.{Status}
 use Rattle.lot_machine.specs.declared.record.Status.TheVariants.{Running}
-use Rattle.lot_machine.specs.declared.refusal.TrapRefusal.TheVariants.{NoMutex, AlreadyOwner, LockCycle}
+use Rattle.lot_machine.specs.declared.refusal.TrapRefusal.TheVariants.{NothingToReply, NoMutex, AlreadyOwner, LockCycle}
 use Rattle.lot_machine.specs.declared.sizes.Sizes.{Sizes}
 use Rattle.lot_machine.specs.Commands.{first_failing}
 use Rattle.lot_machine.specs.declared.funding.Node.TheVariants as node
@@ -17,7 +19,7 @@ use Rattle.lot_machine.specs.Lends.{LendsLead, borrower_of, lends_lead, lends_on
 use Rattle.lot_machine.specs.Mutexes.{MutexTrap, mutex_at, lock, unlock}
 use Rattle.lot_machine.specs.Numbered.{at_number, option_any}
 use Rattle.lot_machine.specs.Order.{IsInOrder}
-use Rattle.lot_machine.specs.Ports.{PortTrap, call, receive, reply, first_client, port_at}
+use Rattle.lot_machine.specs.Ports.{PortTrap, call, receive, reply, serve, first_client, port_at}
 use Rattle.lot_machine.specs.State.{State, Mutex, Port, QueuedCall, change_record, funding_of, status_of, value_of}
 use Rattle.lot_machine.specs.Step.{of_mutexes, of_ports, owns, trap_refusal}
 use Rattle.lot_machine.proofs.LendDepth.{lends_lead-exact}
@@ -79,6 +81,13 @@ module _ (s : State) (t : ℕ) where
   pub reply-done : (client number : ℕ) → first_client s.clients t ≡ Some client → effect_of s t (action.Reply number) ≡ of_ports s (reply s.records s.clients s.ports t number)
   reply-done client number some = rw some refl
 
+  pub serve-done : (p client number : ℕ) → IsThere s.ports p → first_client s.clients t ≡ Some client → effect_of s t (action.Serve p number) ≡ of_ports s (serve s.records s.clients s.ports t p number)
+  serve-done p client number there some = rw (number-there s.ports p there, some) refl
+
+  -- a port that is there, but no client
+  pub serve-refused : (p number : ℕ) → IsThere s.ports p → first_client s.clients t ≡ None → effect_of s t (action.Serve p number) ≡ record { state = s; outcome = Refused NothingToReply; after = GoesOn }
+  serve-refused p number there none = rw (number-there s.ports p there, none) refl
+
   pub lock-done : (m : ℕ) → trap_refusal s t (action.Lock m) ≡ None → effect_of s t (action.Lock m) ≡ of_mutexes s (lock s.records s.mutexes t m)
   lock-done m none = rw none refl
 
@@ -130,6 +139,14 @@ module _ (rs : List Record) (cs : List (List ℕ)) (ports : List Port) (t : ℕ)
 
   pub reply-keeps : (number : ℕ) → Keeps rs cs (reply rs cs ports t number)
   reply-keeps number = record { records = change-count _ rs (unwrap_or (first_client cs t) 0); clients = length-set cs (t - 1) _ }
+
+-- a reply, and then a receipt
+pub serve-keeps : (rs : List Record) (cs : List (List ℕ)) (ports : List Port) (t p number : ℕ) → Keeps rs cs (serve rs cs ports t p number)
+serve-keeps rs cs ports t p number =
+    let first = reply rs cs ports t number in
+    let one = reply-keeps rs cs ports t number in
+    let two = receive-keeps first.records first.clients first.ports t p in
+    record { records = two.records ∙ one.records; clients = two.clients ∙ one.clients }
 
 -- locks and unlocks leave how many records there are
 pub lock-count : (records : List Record) (mutexes : List Mutex) (t m : ℕ) → length (lock records mutexes t m).records ≡ length records

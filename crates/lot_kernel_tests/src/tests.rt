@@ -28,9 +28,9 @@ enum Line<'a> {
 enum Step<'a> {
     Gives(Line<'a>, Reply),
     /// A draw on the processor with this number, who wins it, and what is delivered to the winner.
-    Wins(u32, u64, Winner, Option<u32>),
+    Wins(u32, u128, Winner, Option<u32>),
     /// A draw on the processor with this number that nobody wins.
-    Idles(u32, u64),
+    Idles(u32, u128),
     /// A trap on the processor with this number, without work before it: its thread, and what comes of it. It costs its one
     /// tick, and doesn't end the quantum.
     Traps(u32, Action, u32, Outcome),
@@ -311,7 +311,7 @@ fn fund_five(kernel: &mut Kernel) -> Result<(), Fail> {
 }
 
 /// A draw of 20 that the thread wins, and the end of its quantum.
-fn check_draw(rt: &impl Abort, kernel: &mut Kernel, d: u64, thread: u32, number: u128) {
+fn check_draw(rt: &impl Abort, kernel: &mut Kernel, d: u128, thread: u32, number: u128) {
     let expired = Reply::Expired { thread, ticks: 100 };
     check_run(
         rt,
@@ -334,6 +334,8 @@ fn check_draws(rt: &impl Abort, kernel: &mut Kernel) {
         (19, 5, 19),
         (35, 3, 15),
         (36090892629924, 1, 4),
+        (166439864623969647858139600294153, 3, 13),
+        (u128::MAX, 3, 15),
     ] {
         check_draw(rt, kernel, d, thread, number);
     }
@@ -439,7 +441,7 @@ fn third_reply(kernel: &mut Kernel) -> Reply {
     let events = [
         Event::Draw(1, 0),
         Event::Trap(1, 0, Action::Yield),
-        Event::Draw(1, u64::MAX),
+        Event::Draw(1, 18446744073709551615),
     ];
     kernel.run(&events, &mut out);
     out[2]
@@ -589,7 +591,7 @@ struct Shared<'a> {
     whole: u64,
     amounts: &'a [(u64, &'a str)],
     values: &'a [(u32, u64)],
-    d: u64,
+    d: u128,
     winner: Winner,
 }
 
@@ -654,7 +656,7 @@ const NOTHING: [Step<'_>; 7] = [
     Step::Value(2, 0),
     Step::Idles(1, 0),
     Step::Idles(1, 1),
-    Step::Idles(1, u64::MAX),
+    Step::Idles(1, u128::MAX),
     Step::Gives(
         Line::Fundx(1, "base", "c", 1),
         Reply::Funded {

@@ -15,7 +15,7 @@ use Rattle.lot_machine.specs.declared.record.Status.TheVariants as status
 use Rattle.lot_machine.specs.declared.funding.Lend.{Lend}
 use Rattle.lot_machine.specs.declared.funding.Lend.TheVariants.{Nobody}
 use Rattle.lot_machine.specs.declared.action.Action.{Action}
-use Rattle.lot_machine.specs.declared.action.Action.TheVariants.{Yield, Call, Receive, Reply as ReplyTo, Lock, Unlock, Exit}
+use Rattle.lot_machine.specs.declared.action.Action.TheVariants.{Yield, Call, Receive, Reply as ReplyTo, Serve, Lock, Unlock, Exit}
 use Rattle.lot_machine.specs.declared.command.Command.{Command}
 use Rattle.lot_machine.specs.declared.command.Command.TheVariants.{MakeTicket, RemoveTicket, MakeCurrency, RemoveCurrency, Fund, Unfund, MakeThread, MakeFunded, List as Listing}
 use Rattle.lot_machine.specs.declared.event.Event.{Event}
@@ -35,7 +35,7 @@ use Rattle.lot_machine.specs.Commands.{currency_named, target_named, currency_or
 use Rattle.lot_machine.specs.declared.after.After.{After}
 use Rattle.lot_machine.specs.Traps.{after_trap, with_ticks}
 use Rattle.lot_machine.specs.declared.after.After.TheVariants.{GoesOn, Leaves, Ends}
-use Rattle.lot_machine.specs.Ports.{first_client}
+use Rattle.lot_machine.specs.Ports.{first_client, reply}
 use Rattle.lot_machine.specs.Mutexes.{mutex_at}
 use Rattle.lot_machine.specs.Step.{Effect, is_bad_processor, started, draw, expire, owns, trap_refusal, trap_effect, checked_effect, trap, thread_there, used_there, event_effect, step, state_after}
 use Rattle.lot_machine.specs.Facts.{HasNoCycle, RunsApart, IsSound}
@@ -45,8 +45,8 @@ use Rattle.lot_machine.proofs.CommandsKept.{unrefused, all-pass, some-of, comman
 use Rattle.lot_machine.proofs.RecordsKept.{RunsAlone, found-runs, RunsApart-trapped, apart}
 use Rattle.lot_machine.proofs.StepsKept.{command-apart, draw-apart, expire-apart, IsApart, effect-apart, there-alone, free-of}
 use Rattle.lot_machine.proofs.Queues.{queue-empty, queues-live, queues-more}
-use Rattle.lot_machine.proofs.TrapQueues.{stay-queues, call-queues, receive-queues, reply-queues, lock-queues, unlock-queues}
-use Rattle.lot_machine.proofs.TrapCycles.{cycle-nobody, call-cycle, receive-cycle, reply-cycle, lock-cycle, unlock-cycle}
+use Rattle.lot_machine.proofs.TrapQueues.{stay-queues, call-queues, receive-queues, reply-queues, replied-queues, lock-queues, unlock-queues}
+use Rattle.lot_machine.proofs.TrapCycles.{cycle-nobody, call-cycle, receive-cycle, reply-cycle, replied-cycle, lock-cycle, unlock-cycle}
 use Rattle.lot_machine.proofs.BaseKept.{base-bounded}
 use Rattle.lot_machine.proofs.Bounded.{sound}
 
@@ -281,6 +281,16 @@ module _ (s : State) (order : IsInOrder s) (t p before ticks used : ℕ) (runs :
       built _ _ _ _ (trap_effect s t (ReplyTo number)).after (effect-apart s p t t (ReplyTo number) order.runs_apart alone)
       (reply-cycle finish (λ st r. refl) goes-on s order.no_cycle order.queues t p before runs number)
       (reply-queues finish (λ st r. refl) s.records s.clients s.ports s.mutexes order.queues t p before runs number passed.0)
+  effect-order (Serve port number) allowed =
+      let passed = all-pass ((is_none (at_number s.ports port), NoPort) ∷ (is_none (first_client s.clients t), NothingToReply) ∷ []) allowed in
+      let there = default-of (at_number s.ports port) (record { calls = []; receivers = [] }) passed.0 in
+      let replied = reply s.records s.clients s.ports t number in
+      let middle : State = record s { records = replied.records; clients = replied.clients; ports = replied.ports } in
+      let left = replied-queues finish (λ st r. refl) s.records s.clients s.ports s.mutexes order.queues t p before runs number passed.1.0 in
+      let no_cycle = replied-cycle finish (λ st r. refl) goes-on s order.no_cycle order.queues t p before runs number in
+      built _ _ _ _ (trap_effect s t (Serve port number)).after (effect-apart s p t t (Serve port number) order.runs_apart alone)
+      (receive-cycle finish (λ st r. refl) goes-on middle no_cycle left.0 t p before left.1 port there)
+      (receive-queues finish (λ st r. refl) replied.records replied.clients replied.ports s.mutexes left.0 t p before left.1 port there)
   effect-order (Lock m) allowed =
       let passed = all-pass ((is_none (at_number s.mutexes m), NoMutex) ∷ (owns s t m, AlreadyOwner)
       ∷ (option_any (λ owner. lends_on_to (funding_of s) owner t) (mutex_at s.mutexes m).owner, LockCycle) ∷ []) allowed in

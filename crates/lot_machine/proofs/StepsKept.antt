@@ -3,7 +3,7 @@ use Rattle.std.proofs.Common.{◌≡◌, ℕ, ◌+◌, false, Option, Some, None
 use Rattle.lot_machine.specs.declared.record.Record.{Record}
 use Rattle.lot_machine.specs.declared.record.Status.TheVariants as status
 use Rattle.lot_machine.specs.declared.action.Action.{Action}
-use Rattle.lot_machine.specs.declared.action.Action.TheVariants.{Yield, Call, Receive, Reply as ReplyTo, Lock, Unlock, Exit}
+use Rattle.lot_machine.specs.declared.action.Action.TheVariants.{Yield, Call, Receive, Reply as ReplyTo, Serve, Lock, Unlock, Exit}
 use Rattle.lot_machine.specs.declared.command.Command.{Command}
 use Rattle.lot_machine.specs.declared.command.Command.TheVariants.{MakeTicket, RemoveTicket, MakeCurrency, RemoveCurrency, Fund, Unfund, MakeThread, MakeFunded, List as Listing}
 use Rattle.lot_machine.specs.declared.event.Event.{Event}
@@ -16,7 +16,7 @@ use Rattle.lot_machine.specs.Lottery.{winner}
 use Rattle.lot_machine.specs.Commands.{with_thread, command_effect, command_step}
 use Rattle.lot_machine.specs.declared.after.After.{After}
 use Rattle.lot_machine.specs.declared.after.After.TheVariants.{GoesOn, Leaves}
-use Rattle.lot_machine.specs.Ports.{port_at, first_client, call, receive, reply}
+use Rattle.lot_machine.specs.Ports.{port_at, first_client, call, receive, reply, serve}
 use Rattle.lot_machine.specs.Mutexes.{mutex_at, lock, unlock}
 use Rattle.lot_machine.specs.Step.{Effect, is_bad_processor, started, draw, expire, trap_refusal, trap_effect, checked_effect, trap, thread_there, used_there, event_effect, step}
 use Rattle.lot_machine.specs.Facts.{RunsApart}
@@ -114,11 +114,20 @@ module _ (p t : ℕ) (records : List Record) (runs : RunsApart records) (alone :
       at (w ∷ ws) is =
           rw is (stopped (λ r. record r { status = status.Ready }) (slice_index (w ∷ ws) (unwrap_or (option_map (λ (drawn : Drawn). drawn.place) (winner (map value (w ∷ ws)) d)) 0)) (Leaves status.Ready) (λ r. ready-stops) ready-stops)
 
+-- a reply, and then a receipt
+serve-apart : (p t : ℕ) (records : List Record) → RunsApart records → RunsAlone records p t → (clients : List (List ℕ)) (ports : List Port) (server port number : ℕ)
+    → IsApart p t (serve records clients ports server port number).records (serve records clients ports server port number).after
+serve-apart p t records runs alone clients ports server port number =
+    let replied = reply records clients ports server number in
+    let is = reply-apart p t records runs alone clients ports server number in
+    receive-apart p t replied.records is.0 is.1 replied.clients replied.ports server port
+
 pub effect-apart : (s : State) (p t u : ℕ) (action : Action) → RunsApart s.records → RunsAlone s.records p t → IsApart p t (trap_effect s u action).state.records (trap_effect s u action).after
 effect-apart s p t u Yield runs alone = (runs, alone, ready-stops)
 effect-apart s p t u (Call port number) runs alone = call-apart p t s.records runs alone s.clients s.ports u port number
 effect-apart s p t u (Receive port) runs alone = receive-apart p t s.records runs alone s.clients s.ports u port
 effect-apart s p t u (ReplyTo number) runs alone = reply-apart p t s.records runs alone s.clients s.ports u number
+effect-apart s p t u (Serve port number) runs alone = serve-apart p t s.records runs alone s.clients s.ports u port number
 effect-apart s p t u (Lock m) runs alone = lock-apart p t s.records runs alone s.mutexes u m
 effect-apart s p t u (Unlock m d) runs alone = unlock-apart p t s.records runs alone s.mutexes (value_of s) m d
 effect-apart s p t u Exit runs alone = (runs, alone, tt)

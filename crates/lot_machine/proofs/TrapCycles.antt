@@ -182,12 +182,16 @@ module _ (finish : After → Record → Record) (leaves : (status : Status) (r :
       at [] is = rw is (cycle-nobody s (finish (Leaves (Receiving port))) t (leaves-nobody (Receiving port) refl) no_cycle)
       at (first ∷ others) is = rw is (taken first others is)
 
+  -- a reply, before the server goes on
+  pub replied-cycle : (number : ℕ) → HasNoCycle (funding_of (record s { records = (reply s.records s.clients s.ports t number).records }))
+  replied-cycle number = cycle-nobody s (λ r. record r { status = Ready; delivered = Some number }) (unwrap_or (first_client s.clients t) 0) (λ r. refl) no_cycle
+
   pub reply-cycle : (number : ℕ)
       → HasNoCycle (funding_of (record s { records = change_record (finish (reply s.records s.clients s.ports t number).after) (reply s.records s.clients s.ports t number).records t }))
   reply-cycle number =
       let client = unwrap_or (first_client s.clients t) 0 in
       let woken : State = record s { records = change_record (λ r. record r { status = Ready; delivered = Some number }) s.records client } in
-      cycle-nobody woken (finish GoesOn) t stays (cycle-nobody s (λ r. record r { status = Ready; delivered = Some number }) client (λ r. refl) no_cycle)
+      cycle-nobody woken (finish GoesOn) t stays (replied-cycle number)
 
   pub lock-cycle : (m : ℕ) → at_number s.mutexes m ≡ Some (mutex_at s.mutexes m) → option_any (λ owner. owner == t) (mutex_at s.mutexes m).owner ≡ false
       → option_any (λ owner. lends_on_to (funding_of s) owner t) (mutex_at s.mutexes m).owner ≡ false

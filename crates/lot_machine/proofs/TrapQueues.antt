@@ -192,15 +192,15 @@ module _ (finish : After → Record → Record) (leaves : (status : Status) (r :
       at [] is = rw is waits
       at (first ∷ others) is = rw is (taken first others is)
 
-  pub reply-queues : (number : ℕ) → is_none (first_client clients t) ≡ false
-      → HasQueues (change_record (finish (reply records clients ports t number).after) (reply records clients ports t number).records t)
-      (reply records clients ports t number).clients (reply records clients ports t number).ports mutexes
-  reply-queues number some = at (at_number clients t) refl
+  -- The client that a reply answers stands nowhere any more, and the server still runs.
+  pub replied-queues : (number : ℕ) → is_none (first_client clients t) ≡ false
+      → HasQueues (reply records clients ports t number).records (reply records clients ports t number).clients (reply records clients ports t number).ports mutexes
+      × (status_of (reply records clients ports t number).records t ≡ Some (Running p used))
+  replied-queues number some = at (at_number clients t) refl
     where
-      change : Record → Record
-      change r = record r { status = Ready; delivered = Some number }
-
-      answered : (client : ℕ) (rest : List ℕ) → at_number clients t ≡ Some (client ∷ rest) → HasQueues (change_record (finish GoesOn) (change_record (λ r. record r { status = Ready; delivered = Some number }) records client) t) (set_number clients t rest) ports mutexes
+      answered : (client : ℕ) (rest : List ℕ) → at_number clients t ≡ Some (client ∷ rest)
+          → HasQueues (change_record (λ r. record r { status = Ready; delivered = Some number }) records client) (set_number clients t rest) ports mutexes
+          × (status_of (change_record (λ r. record r { status = Ready; delivered = Some number }) records client) t ≡ Some (Running p used))
       answered client rest there =
           let queue = queues.served t (client ∷ rest) there in
           let waits = queue.each 0 client refl in
@@ -209,7 +209,7 @@ module _ (finish : After → Record → Record) (leaves : (status : Status) (r :
           (λ q other same at. absurd (not-receiving q same)) (λ q other same at. absurd (not-queued q same)) (λ m other same at. absurd (not-waiting m same))
           (λ u other same at. subst (λ x. IsAbsent x client) (at-set clients t u (client ∷ rest) rest other (served-same t u same) there at) (absent-rest records (Served t) client rest queue)) in
           let woken = queues-changed records (set_number clients t rest) ports mutexes shorter (λ r. record r { status = Ready; delivered = Some number }) client nowhere in
-          after-other (λ r. record r { status = Ready; delivered = Some number }) client (Served t) GoesOn (set_number clients t rest) ports mutexes woken waits (running-not t)
+          (woken, status-other (λ r. record r { status = Ready; delivered = Some number }) records client t (other-thread client (Served t) waits (running-not t)) ∙ runs)
         where
           not-receiving : (q : ℕ) → ¬ (Served t ≡ Receiving q)
           not-receiving q e = cc
@@ -224,8 +224,8 @@ module _ (finish : After → Record → Record) (leaves : (status : Status) (r :
           running-not q e = cc
 
       at : (o : Option (List ℕ)) → at_number clients t ≡ o
-          → HasQueues (change_record (finish (reply records clients ports t number).after) (reply records clients ports t number).records t)
-          (reply records clients ports t number).clients (reply records clients ports t number).ports mutexes
+          → HasQueues (reply records clients ports t number).records (reply records clients ports t number).clients (reply records clients ports t number).ports mutexes
+          × (status_of (reply records clients ports t number).records t ≡ Some (Running p used))
       at None is = let none : is_none (first_client clients t) ≡ true = rw is refl in absurd (different none)
         where
           different : is_none (first_client clients t) ≡ true → ⊥
@@ -235,6 +235,14 @@ module _ (finish : After → Record → Record) (leaves : (status : Status) (r :
           different : is_none (first_client clients t) ≡ true → ⊥
           different none = cc
       at (Some (client ∷ rest)) is = rw is (answered client rest is)
+
+  pub reply-queues : (number : ℕ) → is_none (first_client clients t) ≡ false
+      → HasQueues (change_record (finish (reply records clients ports t number).after) (reply records clients ports t number).records t)
+      (reply records clients ports t number).clients (reply records clients ports t number).ports mutexes
+  reply-queues number some =
+      let replied = reply records clients ports t number in
+      let left = replied-queues number some in
+      queues-live replied.records replied.clients replied.ports mutexes left.0 (finish GoesOn) t (Running p used) left.1 refl
 
   pub lock-queues : (m : ℕ) → at_number mutexes m ≡ Some (mutex_at mutexes m)
       → HasQueues (change_record (finish (lock records mutexes t m).after) (lock records mutexes t m).records t) clients ports (lock records mutexes t m).mutexes

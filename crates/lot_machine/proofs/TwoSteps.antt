@@ -1,13 +1,12 @@
 -- What a change in two steps touches, if the graph between them has no edge and no live thread that neither end has, and
 -- lacks none that both have.
-use Rattle.std.proofs.Common.{◌≡◌, ◌≢◌, ◌∙◌, ℕ, ◌⊎◌, inl, inr, sym, Bool, Some, List, [], ◌∷◌}
+use Rattle.std.proofs.Common.{◌≡◌, ◌∙◌, ℕ, ◌⊎◌, inl, inr, sym, Bool, Some, List, [], ◌∷◌}
 use Rattle.lot_machine.specs.declared.funding.Node.{Node}
-use Rattle.lot_machine.specs.declared.funding.Node.TheVariants.{Currency, Thread}
 use Rattle.lot_machine.specs.declared.funding.Edge.{Edge}
-use Rattle.lot_machine.specs.Funding.{Funding, ends_of, IsEdge}
+use Rattle.lot_machine.specs.Funding.{Funding, ends_of}
 use Rattle.lot_machine.specs.Numbered.{at_number}
 use Rattle.lot_machine.specs.Lends.{IsLive}
-use Rattle.lot_machine.specs.Touched.{IsEdgeOfEither, IsPath, PathLeads, IsEdgeOnlyIn, IsChangedEdge, IsChangedLife, IsChangedNode, IsTouched, EdgesBetween, LiveBetween}
+use Rattle.lot_machine.specs.Touched.{IsEdgeOfEither, IsPath, PathLeads, IsChangedEdge, IsChangedLife, IsChangedNode, IsTouched, EdgesBetween, LiveBetween}
 
 module _ (before mid after : Funding) (edges : EdgesBetween before mid after) where
   edge-first : (x y : Node) → IsEdgeOfEither before mid x y → IsEdgeOfEither before after x y

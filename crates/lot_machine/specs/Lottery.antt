@@ -1,5 +1,5 @@
 -- Weights, drawing and drawn numbers (2, 3.4, 4.1, 4.2, 4.5).
-use Rattle.std.specs.Prelude.{ℕ, suc, ◌+◌, ◌-◌, ◌*◌, ◌/◌, ◌%◌, ◌<◌, ◌≤◌, ◌==◌, nat_lt, Option, Some, None, List, [], ◌∷◌, take, sum, if◌then◌else◌}
+use Rattle.std.specs.Prelude.{ℕ, zero, suc, ◌+◌, ◌-◌, ◌*◌, ◌/◌, ◌%◌, ◌<◌, ◌≤◌, ◌==◌, nat_lt, Option, Some, None, List, [], ◌∷◌, take, sum, if◌then◌else◌}
 use Rattle.lot_machine.specs.declared.drawn.Drawn.{Drawn}
 
 -- What a value weighs in a processor's draw: with a compensation, which is the ticks used, it is inflated as if the
@@ -41,3 +41,18 @@ drawn_number s = (next_seed s - 1) * 2147483646 + (next_seed (next_seed s) - 1)
 -- the generator after a number was drawn
 abbrev pub seed_after_number : ℕ → ℕ
 seed_after_number s = next_seed (next_seed s)
+
+-- A wide number is drawn from the generator's next four values: the first two and the last two each make a drawn number, and the
+-- first of these counts for the more (4.1).
+abbrev pub wide_number : ℕ → ℕ
+wide_number s = drawn_number s * (2147483646 * 2147483646) + drawn_number (seed_after_number s)
+
+-- the generator after a wide number was drawn
+abbrev pub seed_after_wide_number : ℕ → ℕ
+seed_after_wide_number s = seed_after_number (seed_after_number s)
+
+-- A seed for each processor, so that processors don't draw in lock step: the pth value after 1 of the generator whose multiplier
+-- is 48271 (4.1).
+abbrev pub mixed_seed : ℕ → ℕ
+mixed_seed zero = 1
+mixed_seed (suc p) = 48271 * mixed_seed p % 2147483647

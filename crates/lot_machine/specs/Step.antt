@@ -3,7 +3,7 @@ use Rattle.std.specs.Prelude.{ℕ, ◌+◌, ◌-◌, nat_lt, nat_le, ◌==◌, B
 use Rattle.lot_machine.specs.declared.record.Record.{Record}
 use Rattle.lot_machine.specs.declared.record.Status.TheVariants as status
 use Rattle.lot_machine.specs.declared.action.Action.{Action}
-use Rattle.lot_machine.specs.declared.action.Action.TheVariants.{Yield, Call, Receive, Reply as ReplyTo, Lock, Unlock, Exit}
+use Rattle.lot_machine.specs.declared.action.Action.TheVariants.{Yield, Call, Receive, Reply as ReplyTo, Serve, Lock, Unlock, Exit}
 use Rattle.lot_machine.specs.declared.event.Event.{Event}
 use Rattle.lot_machine.specs.declared.event.Event.TheVariants as event
 use Rattle.lot_machine.specs.declared.refusal.Refusal.{Refusal}
@@ -23,7 +23,7 @@ use Rattle.lot_machine.specs.Commands.{Step, first_failing, unless_refused, comm
 use Rattle.lot_machine.specs.declared.after.After.{After}
 use Rattle.lot_machine.specs.Traps.{after_trap, with_ticks}
 use Rattle.lot_machine.specs.declared.after.After.TheVariants.{GoesOn, Leaves, Ends}
-use Rattle.lot_machine.specs.Ports.{PortTrap, first_client, call, receive, reply}
+use Rattle.lot_machine.specs.Ports.{PortTrap, first_client, call, receive, reply, serve}
 use Rattle.lot_machine.specs.Mutexes.{MutexTrap, mutex_at, lock, unlock}
 
 -- processors are numbered from 1
@@ -70,6 +70,7 @@ trap_refusal s t Yield = None
 trap_refusal s t (Call p number) = first_failing ((is_none (at_number s.ports p), NoPort) ∷ [])
 trap_refusal s t (Receive p) = first_failing ((is_none (at_number s.ports p), NoPort) ∷ [])
 trap_refusal s t (ReplyTo number) = first_failing ((is_none (first_client s.clients t), NothingToReply) ∷ [])
+trap_refusal s t (Serve p number) = first_failing ((is_none (at_number s.ports p), NoPort) ∷ (is_none (first_client s.clients t), NothingToReply) ∷ [])
 trap_refusal s t (Lock m) =
     first_failing ((is_none (at_number s.mutexes m), NoMutex) ∷ (owns s t m, AlreadyOwner)
     ∷ (option_any (λ owner. lends_on_to (funding_of s) owner t) (mutex_at s.mutexes m).owner, LockCycle) ∷ [])
@@ -96,6 +97,7 @@ trap_effect s t Yield = record { state = s; outcome = outcome.Yielded; after = L
 trap_effect s t (Call p number) = of_ports s (call s.records s.clients s.ports t p number)
 trap_effect s t (Receive p) = of_ports s (receive s.records s.clients s.ports t p)
 trap_effect s t (ReplyTo number) = of_ports s (reply s.records s.clients s.ports t number)
+trap_effect s t (Serve p number) = of_ports s (serve s.records s.clients s.ports t p number)
 trap_effect s t (Lock m) = of_mutexes s (lock s.records s.mutexes t m)
 trap_effect s t (Unlock m d) = of_mutexes s (unlock s.records s.mutexes (value_of s) m d)
 trap_effect s t Exit = record { state = s; outcome = outcome.Exited; after = Ends }

@@ -87,7 +87,7 @@ impl Lottery {
 
     /// Holds a lottery with the number `d` over what those are worth who are listed and wait for the mutex: `None` if that is
     /// nothing. No value is stale then.
-    pub(crate) fn hold(&mut self, threads: &Threads, mutex: u32, d: u64) -> Option<Drawn>
+    pub(crate) fn hold(&mut self, threads: &Threads, mutex: u32, d: u128) -> Option<Drawn>
         requires settled { threads.now.stale ≡ [] }
         requires mutex { IsMutex (funding_in threads.now) mutex }
         requires waiters { IsQueue threads.now.records (status.Waiting mutex) self.old.waiters }

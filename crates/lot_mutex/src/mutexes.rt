@@ -59,7 +59,7 @@ pub fn unlock(
     meter: &mut Meter,
     owner: u32,
     mutex: u32,
-    d: u64,
+    d: u128,
 ) -> Effect
     requires mutex { IsThere queues.old.mutexes mutex }
     requires owner { (mutex_at queues.old.mutexes mutex).owner ≡ Some owner }

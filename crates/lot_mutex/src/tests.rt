@@ -19,9 +19,9 @@ enum Step {
     AddThread(u32),
     Lock(u32, u32, Outcome),
     /// An unlock by a thread of a mutex, with the number of its lottery, and how many edges it reads.
-    Unlock(u32, u32, u64, Outcome, u64),
+    Unlock(u32, u32, u128, Outcome, u64),
     /// What a draw comes to.
-    Wins(u64, Won),
+    Wins(u128, Won),
     Stands(u32, Status),
     Owner(u32, Option<u32>),
 }
@@ -70,7 +70,7 @@ fn make_unlock(
     scene: &mut Scene,
     owner: u32,
     mutex: u32,
-    d: u64,
+    d: u128,
 ) -> (Effect, u64) {
     let Scene {
         threads,

@@ -1,2 +1,3 @@
 -- Lemmas, in the order in which they stand on each other.
 pub mod Callers
+pub mod Serving

@@ -8,4 +8,4 @@ mod ports;
 #[cfg(test)]
 mod tests;
 
-pub use ports::{call, receive, reply};
+pub use ports::{call, receive, reply, serve};

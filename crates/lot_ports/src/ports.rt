@@ -3,6 +3,7 @@ ghost use Rattle.std.specs.Prelude.{◌≡◌, Some, length};
 ghost use Rattle.lot_machine.specs.declared.funding.Node.{Node as ANode};
 ghost use Rattle.lot_machine.specs.Ports as machine;
 ghost use Rattle.lot_machine.specs.Ports.{first_client};
+ghost use Rattle.lot_machine.specs.declared.reply.Outcome.TheVariants.{Replied};
 ghost use Rattle.lot_queues.specs.QueueLists.{IsThere, IsNowhere};
 ghost use Rattle.lot_threads.specs.Threaded.{IsLiveIn, IsStaleIn, MakesStaleIn, with_records};
 ghost use Rattle.lot_ports.specs.Traps.{with_ports};
@@ -91,6 +92,7 @@ pub fn reply(
     ensures after { result.after ≡ (machine.reply threads.old.records queues.old.clients queues.old.ports server number).after }
     ensures threads { threads.new ≡ with_records threads.old (machine.reply threads.old.records queues.old.clients queues.old.ports server number).records threads.new.stale }
     ensures queues { queues.new ≡ with_ports queues.old (machine.reply threads.old.records queues.old.clients queues.old.ports server number) }
+    ensures nowhere { IsNowhere queues.new client }
     ensures kept { (node : ANode) → IsStaleIn threads.old node → IsStaleIn threads.new node }
     ensures stale { MakesStaleIn threads.old threads.new }
 {
@@ -99,5 +101,46 @@ pub fn reply(
     Effect {
         outcome: Outcome::Replied(client),
         after: After::GoesOn,
+    }
+}
+
+/// A reply of a thread that runs to the client that it answers next, and then its receipt at a port.
+pub fn serve(
+    threads: &mut Threads,
+    queues: &mut Queues,
+    server: u32,
+    client: u32,
+    port: u32,
+    number: u32,
+) -> Effect
+    requires port { IsThere queues.old.ports port }
+    requires server { IsLiveIn threads.old server }
+    requires nowhere { IsNowhere queues.old server }
+    requires client { first_client queues.old.clients server ≡ Some client }
+    requires same { length threads.old.records ≡ length queues.old.clients }
+    ensures outcome { result.outcome ≡ (machine.serve threads.old.records queues.old.clients queues.old.ports server port number).outcome }
+    ensures after { result.after ≡ (machine.serve threads.old.records queues.old.clients queues.old.ports server port number).after }
+    ensures threads { threads.new ≡ with_records threads.old (machine.serve threads.old.records queues.old.clients queues.old.ports server port number).records threads.new.stale }
+    ensures queues { queues.new ≡ with_ports queues.old (machine.serve threads.old.records queues.old.clients queues.old.ports server port number) }
+    ensures kept { (node : ANode) → IsStaleIn threads.old node → IsStaleIn threads.new node }
+    ensures stale { MakesStaleIn threads.old threads.new }
+{
+    let _ = reply(threads, queues, server, client, number);
+    let receipt = receive(threads, queues, server, port);
+    Effect {
+        outcome: replied_then(client, receipt.outcome),
+        after: receipt.after,
+    }
+}
+
+/// What came of a reply to a client, and then of a receipt.
+fn replied_then(to: u32, receipt: Outcome) -> Outcome
+    ensures { result ≡ machine.replied_then (Replied to) receipt }
+{
+    match receipt {
+        Outcome::Received { client, number } => {
+            Outcome::RepliedThenReceived { to, client, number }
+        }
+        _ => Outcome::RepliedThenWaits(to),
     }
 }

@@ -22,8 +22,10 @@ enum Step {
     Receive(u32, u32, Outcome),
     /// A reply by a thread with a number, or `None` if it has no client.
     Reply(u32, u32, Option<Outcome>),
+    /// A reply by a thread with a number, and a receipt at a port; `None` if it has no client.
+    Serve(u32, u32, u32, Option<Outcome>),
     /// What a draw comes to.
-    Wins(u64, Won),
+    Wins(u128, Won),
     Stands(u32, Status),
     /// What is delivered to a thread when it next runs.
     Gets(u32, Option<u32>),
@@ -85,6 +87,22 @@ fn make_reply(
     Some(reply(threads, queues, server, client, number))
 }
 
+fn make_serving(
+    rt: &impl Abort,
+    threads: &mut Threads,
+    queues: &mut Queues,
+    server: u32,
+    port: u32,
+    number: u32,
+) -> Option<Effect> {
+    assert!(rt; 0 < port && port <= queues.ports());
+    assert!(rt; 0 < server && server <= queues.threads());
+    assert!(rt; threads.is_live(server) && queues.is_nowhere(server));
+    assert!(rt; threads.records().len() == queues.threads() as usize);
+    let client = queues.first_client(server)?;
+    Some(serve(threads, queues, server, client, port, number))
+}
+
 /// The thread that made a trap goes on, or gets the status that it leaves with.
 fn finish(rt: &impl Abort, threads: &mut Threads, thread: u32, after: After) {
     let After::Leaves(status) = after else {
@@ -120,6 +138,13 @@ fn make_trap(rt: &impl Abort, threads: &mut Threads, queues: &mut Queues, step: 
         Step::Reply(server, number, outcome) => {
             let effect = make_reply(rt, threads, queues, server, number);
             assert!(rt; effect.map(|e| e.outcome) == outcome);
+        }
+        Step::Serve(server, port, number, outcome) => {
+            let effect = make_serving(rt, threads, queues, server, port, number);
+            assert!(rt; effect.map(|e| e.outcome) == outcome);
+            if let Some(made) = effect {
+                finish(rt, threads, server, made.after);
+            }
         }
         _ => {}
     }
@@ -227,6 +252,37 @@ const QUEUED_FIRST: [Step; 18] = [
     Step::Reply(1, 3, Some(Outcome::Replied(3))),
     Step::Wins(109, (3, 109, 110)),
 ];
+
+const SERVED: [Step; 13] = [
+    Step::AddThread(1),
+    Step::AddThread(10),
+    Step::AddThread(100),
+    Step::Serve(1, 1, 7, None),
+    Step::Receive(1, 1, Outcome::Waits),
+    Step::Call(2, 1, 5, Outcome::ServedBy(1)),
+    Step::Call(3, 1, 6, Outcome::Queued),
+    Step::Serve(
+        1,
+        1,
+        8,
+        Some(Outcome::RepliedThenReceived {
+            to: 2,
+            client: 3,
+            number: 6,
+        }),
+    ),
+    Step::Gets(2, Some(8)),
+    Step::Wins(110, (2, 110, 111)),
+    Step::Serve(1, 1, 9, Some(Outcome::RepliedThenWaits(3))),
+    Step::Stands(1, Status::Receiving(1)),
+    Step::Wins(109, (3, 109, 110)),
+];
+
+// A server replies and takes the next call, or waits, in one trap; with no client it does neither.
+#[test]
+fn a_server_serves(rt: HostRuntime) -> Result<(), Fail> {
+    play(&rt, rt.alloc(), small_limits(), &SERVED)
+}
 
 // Calls are taken in the order in which they were made, and answered in the order in which they were taken.
 #[test]

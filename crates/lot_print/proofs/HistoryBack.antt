@@ -30,9 +30,9 @@ schedule-back n start r history room =
     let histories : flat_map (λ (g : List ℕ). g) gs ≡ history = groups_of-joined (λ (g : List ℕ). g) (λ xs ys. refl) refl 63 history in
     read_same n start r (schedule_lines history) _ history _ texts histories (read-blocks schedule_text (λ (g : List ℕ). g) (IsGroup (λ (actor : ℕ). actor ≤ r.processors) 64) r.processors r.unit
     (Shown-schedule r.processors room.processors)
-    (λ n' end r' g good unclosed processors unit short within. read-schedule r.processors room.processors n' end r' g good unclosed processors short within)
+    (λ n' end r' g good unclosed untimed processors unit short within. read-schedule r.processors room.processors n' end r' g good unclosed untimed processors short within)
     n start r gs (groups_of-each (λ (actor : ℕ). actor ≤ r.processors) 63 history (Each-from_All (λ (actor : ℕ). actor ≤ r.processors) history room.actors))
-    room.no_script refl refl (rw histories room.schedule_length) (rw texts room.input_length))
+    room.no_script room.untimed refl refl (rw histories room.schedule_length) (rw texts room.input_length))
 
 -- lines of runs
 runs-back : (n start : ℕ) (r : Reading) (history : List ℕ) → r.unit ≡ 256 → HasRoom r start history (runs_lines history) → IsReadAs n start r (runs_lines history) history
@@ -46,9 +46,9 @@ runs-back n start r history unit room =
     groups_of-joined actors_of (λ xs ys. flat_map-append _ xs ys) refl 31 runs ∙ actors_of-runs_in history in
     read_same n start r (runs_lines history) _ history _ texts histories (read-blocks runs_text actors_of (IsGroup (IsRun r.processors 1000000) 32) r.processors 256
     (Shown-runs r.processors room.processors)
-    (λ n' end r' g good unclosed processors finer short within. read-runs r.processors room.processors n' end r' g good unclosed processors finer short within)
+    (λ n' end r' g good unclosed untimed processors finer short within. read-runs r.processors room.processors n' end r' g good unclosed untimed processors finer short within)
     n start r gs (groups_of-each (IsRun r.processors 1000000) 31 runs (Each-readable r.processors history few (Each-from_All (λ (actor : ℕ). actor ≤ r.processors) history room.actors)))
-    room.no_script refl unit (rw histories room.schedule_length) (rw texts room.input_length))
+    room.no_script room.untimed refl unit (rw histories room.schedule_length) (rw texts room.input_length))
 
 -- of the two versions
 pub history-back : (n start : ℕ) (r : Reading) (history : List ℕ) → HasRoom r start history (history_lines r.unit history) → IsReadAs n start r (history_lines r.unit history) history

@@ -84,22 +84,22 @@ IsRunsLine p runs = IsGroup (IsRun p 1000000) 32 runs
 pub Shown-runs : (p : ℕ) → p ≤ 64 → (runs : List ActorRun) → IsRunsLine p runs → Shown (runs_text runs)
 Shown-runs p few runs good = Shown-append (codes "runs") (spaced (run_words runs)) (search arith) (Shown-spaced (run_words runs) (Words-runs p runs few good.2))
 
-body-runs : (n : ℕ) (r : Reading) (runs : List ActorRun) → r.unit ≡ 256 → r.processors ≤ 64 → IsRunsLine r.processors runs → length r.schedule + length (actors_of runs) ≤ 1000000
+body-runs : (n : ℕ) (r : Reading) (runs : List ActorRun) → r.is_timed ≡ false → r.unit ≡ 256 → r.processors ≤ 64 → IsRunsLine r.processors runs → length r.schedule + length (actors_of runs) ≤ 1000000
     → body_after_header n r body.Runs (run_words runs) ≡ Ok (scheduled r (actors_of runs))
-body-runs n r [] unit few good room = absurd (omega (arith, good.0))
-body-runs n r (run ∷ runs) unit few good room =
+body-runs n r [] untimed unit few good room = absurd (omega (arith, good.0))
+body-runs n r (run ∷ runs) untimed unit few good room =
     let turns : length r.schedule + sum_by (λ (x : ActorRun). x.count) (run ∷ runs) ≤ 1000000 = omega (arith, room, length-actors_of (run ∷ runs)) in
     let pairs : (length (run_words (run ∷ runs)) % 2 == 1) ≡ false = rw (even (run ∷ runs)) refl in
-    rw (unit, pairs, each_pair-runs r.processors (run ∷ runs) few good.2, le-ltb 1000000 (length r.schedule + sum_by (λ (x : ActorRun). x.count) (run ∷ runs)) turns) refl
+    rw (unit, untimed, pairs, each_pair-runs r.processors (run ∷ runs) few good.2, le-ltb 1000000 (length r.schedule + sum_by (λ (x : ActorRun). x.count) (run ∷ runs)) turns) refl
 
-pub read-runs : (p : ℕ) → p ≤ 64 → (n end : ℕ) (r : Reading) (runs : List ActorRun) → IsRunsLine p runs → r.unclosed ≡ None → r.processors ≡ p → r.unit ≡ 256
+pub read-runs : (p : ℕ) → p ≤ 64 → (n end : ℕ) (r : Reading) (runs : List ActorRun) → IsRunsLine p runs → r.unclosed ≡ None → r.is_timed ≡ false → r.processors ≡ p → r.unit ≡ 256
     → length r.schedule + length (actors_of runs) ≤ 1000000 → end ≤ 16777216 → read_line n end (Some r) (runs_text runs) ≡ Ok (Some (scheduled r (actors_of runs)))
-read-runs p few n end r runs good unclosed processors unit room within =
+read-runs p few n end r runs good unclosed untimed processors unit room within =
     let words : Words (codes "runs" ∷ run_words runs) = (omega arith, search arith, Words-runs p runs few good.2) in
     let short : length (runs_text runs) ≤ 4096 = omega (arith, length-append (codes "runs") (spaced (run_words runs)), length-words p runs few good.2, good.1) in
     read_line-words n end r (scheduled r (actors_of runs)) (runs_text runs) (codes "runs") (run_words runs) body.Runs
-    unclosed within short (is_printable-shown (runs_text runs) (Shown-runs p few runs good)) (tokens_of-words (codes "runs") (run_words runs) words)
-    refl refl refl (body-runs n r runs unit (rw processors few) (rw processors good) room)
+    unclosed untimed within short (is_printable-shown (runs_text runs) (Shown-runs p few runs good)) (tokens_of-words (codes "runs") (run_words runs) words)
+    refl refl refl (body-runs n r runs untimed unit (rw processors few) (rw processors good) room)
 
 -- ---- the runs of a history
 

@@ -1,5 +1,5 @@
 -- When the lines that are printed for a history are read as that history.
-use Rattle.std.specs.Prelude.{◌≡◌, ◌+◌, ◌≤◌, ℕ, Some, None, Ok, List, ◌++◌, length, All}
+use Rattle.std.specs.Prelude.{◌≡◌, ◌+◌, ◌≤◌, ℕ, false, Some, None, Ok, List, ◌++◌, length, All}
 use Rattle.lot_machine.specs.Bounds.{IsUnit}
 use Rattle.lot_simulation.specs.Lines.{lines_of}
 use Rattle.lot_simulation.specs.Reading.{Reading}
@@ -9,6 +9,7 @@ use Rattle.lot_simulation.specs.Grammar.{read_lines}
 -- what an input may have, if the text begins after this many bytes.
 pub record HasRoom (r : Reading) (start : ℕ) (history text : List ℕ) : Type 0 where
   pub unit : IsUnit r.unit
+  pub untimed : r.is_timed ≡ false
   pub processors : r.processors ≤ 64
   pub no_script : r.unclosed ≡ None
   pub actors : All (λ actor. actor ≤ r.processors) history

@@ -12,6 +12,7 @@ mod refused;
 mod replies;
 mod rows;
 mod runs;
+mod timed_totals;
 mod totals;
 
 pub use fault::WriteFault;
@@ -19,8 +20,12 @@ pub use histories::write_history;
 pub use laws::histories_are_read_back;
 pub use page::Page;
 pub use refused::write_fault;
-pub use replies::{write_ended, write_reply};
+pub use replies::{Heading, write_ended, write_reply};
 pub use rows::{write_currency, write_listing_line, write_thread, write_ticket};
+pub use timed_totals::{
+    ThreadShares, TimedProcessorTotal, TimedWholeTotal, write_timed_processor_total,
+    write_timed_thread_total, write_timed_whole_total,
+};
 pub use totals::{
     ProcessorTotal, WholeTotal, write_processor_total, write_report_line, write_thread_total,
     write_whole_total,

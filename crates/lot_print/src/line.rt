@@ -1,11 +1,13 @@
 //! A line that is put together, and then written by one call.
-ghost use Rattle.std.specs.Prelude.{◌≡◌, ◌<◌, ◌≤◌, ◌+◌, ◌++◌, ◌∷◌, [], false, length};
+ghost use Rattle.std.specs.Prelude.{◌≡◌, ◌<◌, ◌≤◌, ◌+◌, ◌^◌, ◌++◌, ◌∷◌, [], false, length};
 ghost use Rattle.std.specs.Fmt.{decimal};
+ghost use Rattle.lot_simulation.specs.Texts.{behind_point, drawn_value, front, quotient_text, value_text};
 ghost use Rattle.lot_print.specs.Writing.{Writes};
 
 use crate::WriteFault;
 use arrayvec::ArrayVec;
 use itoa::{Buffer, Integer};
+use lot_simulation::Manner;
 use lot_text::Watched;
 use std::io::Write;
 use std::marker::Model;
@@ -122,6 +124,78 @@ impl<const N: usize> Line<N> {
         match u32::try_from(number) {
             Ok(count) => self.push_count(text, count),
             Err(_) => self.push_field(text, number),
+        }
+    }
+
+    /// Puts the text and then the quotient at the end, with at most three digits behind the point.
+    pub(crate) fn push_quotient(&mut self, text: &str, number: u128, divisor: u128)
+        requires room { length self.old + length text.now + 43 ≤ N }
+        requires divisor { (0 < divisor) × (divisor < 2 ^ 96) }
+        ensures text { self.new ≡ self.old ++ (text.now ++ quotient_text number divisor) }
+        ensures len { length self.new ≤ length self.old + length text.now + 43 }
+    {
+        self.push_wide(text, number / divisor);
+        self.push_thousandths((number % divisor * 1000 / divisor) as u32);
+    }
+
+    /// Puts thousandths at the end: a point and up to three digits, without a 0 at the end; nothing if there are none.
+    fn push_thousandths(&mut self, thousandths: u32)
+        requires { (length self.old + 4 ≤ N) × (thousandths < 1000) }
+        ensures text { self.new ≡ self.old ++ behind_point thousandths }
+        ensures len { length self.new ≤ length self.old + 4 }
+    {
+        if thousandths == 0 {
+            return;
+        }
+        self.push_text(".");
+        self.push_digit(thousandths / 100);
+        if thousandths % 100 == 0 {
+            return;
+        }
+        self.push_digit(thousandths / 10 % 10);
+        if thousandths % 10 == 0 {
+            return;
+        }
+        self.push_digit(thousandths % 10);
+    }
+
+    /// Puts what a line of this manner begins with.
+    #[inline(always)]
+    pub(crate) fn push_front(&mut self, manner: Manner)
+        requires { length self.old + 11 ≤ N }
+        ensures text { self.new ≡ self.old ++ front manner }
+        ensures len { length self.new ≤ length self.old + 11 }
+    {
+        if let Manner::Timed(time) = manner {
+            self.push_count("", time);
+            self.push_text(" ");
+        }
+    }
+
+    /// Puts the text and then a value, which is kept in so many parts to the unit.
+    pub(crate) fn push_value(&mut self, text: &str, manner: Manner, unit: u32, value: u128)
+        requires room { length self.old + length text.now + 43 ≤ N }
+        requires unit { 0 < unit }
+        ensures text { self.new ≡ self.old ++ (text.now ++ value_text manner unit value) }
+        ensures len { length self.new ≤ length self.old + length text.now + 43 }
+    {
+        match manner {
+            Manner::Whole => self.push_wide(text, value / u128::from(unit)),
+            Manner::Timed(_) => self.push_quotient(text, value, u128::from(unit)),
+        }
+    }
+
+    /// Puts the text and then a number that was drawn, or the total that it was drawn from.
+    #[inline(always)]
+    pub(crate) fn push_drawn(&mut self, text: &str, manner: Manner, unit: u32, number: u128)
+        requires room { length self.old + length text.now + 43 ≤ N }
+        requires unit { 0 < unit }
+        ensures text { self.new ≡ self.old ++ (text.now ++ drawn_value manner unit number) }
+        ensures len { length self.new ≤ length self.old + length text.now + 43 }
+    {
+        match manner {
+            Manner::Whole => self.push_wide(text, number),
+            Manner::Timed(_) => self.push_quotient(text, number, u128::from(unit)),
         }
     }
 

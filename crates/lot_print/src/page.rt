@@ -12,7 +12,7 @@ use std::marker::Model;
 const PAGE: usize = 4096;
 
 /// The room that the line of a turn needs at most, whatever its numbers are.
-const TURN: usize = 144;
+const TURN: usize = 192;
 
 /// Lines of turns that wait to be written together. It takes no memory.
 #[derive(Debug, Drop)]
@@ -54,7 +54,7 @@ impl Page {
     pub(crate) fn make_room<W: Write>(&mut self, writer: &mut Watched<W>) -> Result<(), WriteFault>
         requires { writer.old.failed ≡ false }
         ensures text { Puts W.contents writer.old writer.new self.old self.new result [] }
-        ensures room { OnOk result (length self.new + 144 ≤ 4096) }
+        ensures room { OnOk result (length self.new + 192 ≤ 4096) }
     {
         if self.lines.len() + TURN <= PAGE {
             return Ok(());

@@ -1,8 +1,8 @@
 //! The lines of turns.
-ghost use Rattle.std.specs.Prelude.{◌≡◌, ◌≤◌, ◌+◌, ◌++◌, codes, false, length};
+ghost use Rattle.std.specs.Prelude.{◌≡◌, ◌<◌, ◌≤◌, ◌+◌, ◌++◌, codes, false, length};
 ghost use Rattle.std.specs.Fmt.{decimal};
 ghost use Rattle.lot_simulation.specs.Texts as texts;
-ghost use Rattle.lot_simulation.specs.Texts.{delivered_text, drawn_text, ends_text, newline, plain_text, refused, trap_text, trap_text_of};
+ghost use Rattle.lot_simulation.specs.Texts.{delivered_text, drawn_text, drawn_value, ends_text, front, newline, plain_text, received_text, refused, replied_text, trap_text, trap_text_of};
 ghost use Rattle.lot_print.specs.Writing.{Puts};
 
 use crate::WriteFault;
@@ -12,8 +12,20 @@ use crate::refused::{
     push_refused, refusal_code, refusal_name, trap_refusal_code, trap_refusal_name,
 };
 use lot_machine::{Action, Event, Outcome, Refusal, Reply};
+use lot_simulation::Manner;
 use lot_text::Watched;
 use std::io::Write;
+
+/// What the line of a turn needs besides what the turn was answered.
+#[derive(Clone, Copy, Debug)]
+pub struct Heading {
+    /// How it's printed.
+    pub manner: Manner,
+    /// In how many parts to the unit values are kept: 1 or 256.
+    pub unit: u32,
+    /// Whose turn it was.
+    pub actor: u32,
+}
 
 /// Puts the line of an actor's turn on the page: the reply to this event, which asks for no listing. If the page has no room for
 /// it, what is there is written first.
@@ -21,15 +33,16 @@ use std::io::Write;
 pub fn write_reply<W: Write>(
     writer: &mut Watched<W>,
     page: &mut Page,
-    actor: u32,
+    heading: Heading,
     event: &Event,
     reply: Reply,
 ) -> Result<(), WriteFault>
-    requires { writer.old.failed ≡ false }
-    ensures { Puts W.contents writer.old writer.new page.old page.new result (decimal actor ++ (codes " " ++ plain_text event.now reply)) }
+    requires working { writer.old.failed ≡ false }
+    requires unit { 0 < heading.unit }
+    ensures { Puts W.contents writer.old writer.new page.old page.new result (front heading.manner ++ (decimal heading.actor ++ (codes " " ++ plain_text heading.manner heading.unit event.now reply))) }
 {
     page.make_room(writer)?;
-    push_turn(&mut page.lines, actor, event, reply);
+    push_turn(&mut page.lines, heading, event, reply);
     Ok(())
 }
 
@@ -37,42 +50,54 @@ pub fn write_reply<W: Write>(
 pub fn write_ended<W: Write>(
     writer: &mut Watched<W>,
     page: &mut Page,
-    actor: u32,
+    heading: Heading,
 ) -> Result<(), WriteFault>
     requires { writer.old.failed ≡ false }
-    ensures { Puts W.contents writer.old writer.new page.old page.new result (decimal actor ++ (codes " " ++ (refused 41 (codes "Ended") ++ newline))) }
+    ensures { Puts W.contents writer.old writer.new page.old page.new result (front heading.manner ++ (decimal heading.actor ++ (codes " " ++ (refused 41 (codes "Ended") ++ newline)))) }
 {
     page.make_room(writer)?;
-    push_ended(&mut page.lines, actor);
+    push_ended(&mut page.lines, heading);
     Ok(())
 }
 
 /// Puts the line of an actor's turn.
 #[inline(always)]
-fn push_turn<const N: usize>(line: &mut Line<N>, actor: u32, event: &Event, reply: Reply)
-    requires { length line.old + 144 ≤ N }
-    ensures { line.new ≡ line.old ++ (decimal actor ++ (codes " " ++ plain_text event.now reply)) }
+fn push_turn<const N: usize>(line: &mut Line<N>, heading: Heading, event: &Event, reply: Reply)
+    requires room { length line.old + 192 ≤ N }
+    requires unit { 0 < heading.unit }
+    ensures { line.new ≡ line.old ++ (front heading.manner ++ (decimal heading.actor ++ (codes " " ++ plain_text heading.manner heading.unit event.now reply))) }
 {
-    line.push_count("", actor);
-    line.push_text(" ");
-    push_reply(line, event, reply);
+    push_heading(line, heading);
+    push_reply(line, heading, event, reply);
 }
 
 /// Puts the line of a turn of the console without a command.
-fn push_ended<const N: usize>(line: &mut Line<N>, actor: u32)
-    requires { length line.old + 144 ≤ N }
-    ensures { line.new ≡ line.old ++ (decimal actor ++ (codes " " ++ (refused 41 (codes "Ended") ++ newline))) }
+fn push_ended<const N: usize>(line: &mut Line<N>, heading: Heading)
+    requires { length line.old + 192 ≤ N }
+    ensures { line.new ≡ line.old ++ (front heading.manner ++ (decimal heading.actor ++ (codes " " ++ (refused 41 (codes "Ended") ++ newline)))) }
 {
-    line.push_count("", actor);
-    line.push_text(" ");
+    push_heading(line, heading);
     push_refused(line, 41, "Ended");
     line.push_text("\n");
 }
 
+/// Puts what the line of a turn begins with.
+#[inline(always)]
+fn push_heading<const N: usize>(line: &mut Line<N>, heading: Heading)
+    requires { length line.old + 192 ≤ N }
+    ensures text { line.new ≡ line.old ++ (front heading.manner ++ (decimal heading.actor ++ codes " ")) }
+    ensures len { length line.new ≤ length line.old + 22 }
+{
+    line.push_front(heading.manner);
+    line.push_count("", heading.actor);
+    line.push_text(" ");
+}
+
 /// Puts the reply to the event, and the line's end.
-fn push_reply<const N: usize>(line: &mut Line<N>, event: &Event, reply: Reply)
-    requires { length line.old + 133 ≤ N }
-    ensures { line.new ≡ line.old ++ plain_text event.now reply }
+fn push_reply<const N: usize>(line: &mut Line<N>, heading: Heading, event: &Event, reply: Reply)
+    requires room { length line.old + 170 ≤ N }
+    requires unit { 0 < heading.unit }
+    ensures { line.new ≡ line.old ++ plain_text heading.manner heading.unit event.now reply }
 {
     match reply {
         Reply::Ticket(n) => push_made(line, "ticket ", n),
@@ -89,7 +114,7 @@ fn push_reply<const N: usize>(line: &mut Line<N>, event: &Event, reply: Reply)
             number,
             total,
             delivered,
-        } => push_winner(line, thread, (number, total), delivered),
+        } => push_winner(line, heading, thread, (number, total), delivered),
         Reply::Idle => line.push_text("idle\n"),
         Reply::Expired { thread, ticks } => {
             push_ran(line, thread, ticks);
@@ -102,7 +127,7 @@ fn push_reply<const N: usize>(line: &mut Line<N>, event: &Event, reply: Reply)
             ends,
         } => {
             push_ran(line, thread, ticks);
-            push_trap_of(line, event, outcome, ends);
+            push_trap_of(line, heading, event, outcome, ends);
         }
         Reply::Refused(why) => push_refusal(line, why),
     }
@@ -110,7 +135,7 @@ fn push_reply<const N: usize>(line: &mut Line<N>, event: &Event, reply: Reply)
 
 /// Puts why the event was refused, and the line's end.
 fn push_refusal<const N: usize>(line: &mut Line<N>, why: Refusal)
-    requires { length line.old + 133 ≤ N }
+    requires { length line.old + 170 ≤ N }
     ensures { line.new ≡ line.old ++ (refused (texts.refusal_code why) (texts.refusal_name why) ++ newline) }
 {
     push_refused(line, refusal_code(why), refusal_name(why));
@@ -130,16 +155,18 @@ fn push_made<const N: usize>(line: &mut Line<N>, word: &str, number: u32)
 #[inline(always)]
 fn push_winner<const N: usize>(
     line: &mut Line<N>,
+    heading: Heading,
     thread: u32,
     drawn: (u128, u128),
     delivered: Option<u32>,
 )
-    requires { length line.old + 133 ≤ N }
-    ensures { line.new ≡ line.old ++ (codes "draw " ++ (decimal drawn.0 ++ (codes " of " ++ (decimal drawn.1 ++ (codes " thread " ++ (decimal thread ++ (delivered_text delivered ++ newline))))))) }
+    requires room { length line.old + 170 ≤ N }
+    requires unit { 0 < heading.unit }
+    ensures { line.new ≡ line.old ++ (codes "draw " ++ (drawn_value heading.manner heading.unit drawn.0 ++ (codes " of " ++ (drawn_value heading.manner heading.unit drawn.1 ++ (codes " thread " ++ (decimal thread ++ (delivered_text delivered ++ newline))))))) }
 {
     let (number, total) = drawn;
-    line.push_wide("draw ", number);
-    line.push_wide(" of ", total);
+    line.push_drawn("draw ", heading.manner, heading.unit, number);
+    line.push_drawn(" of ", heading.manner, heading.unit, total);
     line.push_count(" thread ", thread);
     if let Some(number) = delivered {
         line.push_count(" got ", number);
@@ -150,7 +177,7 @@ fn push_winner<const N: usize>(
 /// Puts the thread that ran, and for how many ticks.
 #[inline(always)]
 fn push_ran<const N: usize>(line: &mut Line<N>, thread: u32, ticks: u32)
-    requires { length line.old + 133 ≤ N }
+    requires { length line.old + 170 ≤ N }
     ensures text { line.new ≡ line.old ++ (codes "thread " ++ (decimal thread ++ (codes " ticks " ++ decimal ticks))) }
     ensures len { length line.new ≤ length line.old + 34 }
 {
@@ -159,22 +186,30 @@ fn push_ran<const N: usize>(line: &mut Line<N>, thread: u32, ticks: u32)
 }
 
 /// Puts what the event, a trap, came to, whether the quantum was used up, and the line's end.
-fn push_trap_of<const N: usize>(line: &mut Line<N>, event: &Event, outcome: Outcome, ends: bool)
-    requires { length line.old + 99 ≤ N }
-    ensures { line.new ≡ line.old ++ (codes " " ++ (trap_text_of event.now outcome ++ (ends_text ends ++ newline))) }
+fn push_trap_of<const N: usize>(
+    line: &mut Line<N>,
+    heading: Heading,
+    event: &Event,
+    outcome: Outcome,
+    ends: bool,
+)
+    requires room { length line.old + 136 ≤ N }
+    requires unit { 0 < heading.unit }
+    ensures { line.new ≡ line.old ++ (codes " " ++ (trap_text_of heading.manner heading.unit event.now outcome ++ (ends_text ends ++ newline))) }
 {
     line.push_text(" ");
     if let Event::Trap(_, _, action) = event {
-        push_trap(line, *action, outcome);
+        push_trap(line, heading, *action, outcome);
     }
     line.push_text(if ends { " ends\n" } else { "\n" });
 }
 
 /// Puts what a trap came to. An outcome that the action never has is no text.
-fn push_trap<const N: usize>(line: &mut Line<N>, action: Action, outcome: Outcome)
-    requires { length line.old + 84 ≤ N }
-    ensures text { line.new ≡ line.old ++ trap_text action outcome }
-    ensures len { length line.new ≤ length line.old + 84 }
+fn push_trap<const N: usize>(line: &mut Line<N>, heading: Heading, action: Action, outcome: Outcome)
+    requires room { length line.old + 128 ≤ N }
+    requires unit { 0 < heading.unit }
+    ensures text { line.new ≡ line.old ++ trap_text heading.manner heading.unit action outcome }
+    ensures len { length line.new ≤ length line.old + 128 }
 {
     match (action, outcome) {
         (_, Outcome::Refused(why)) => {
@@ -187,23 +222,50 @@ fn push_trap<const N: usize>(line: &mut Line<N>, action: Action, outcome: Outcom
         }
         (Action::Call(port, _), Outcome::Queued) => push_state(line, "call ", port, " queued"),
         (Action::Receive(port), Outcome::Received { client, number }) => {
-            line.push_count("receive ", port);
-            line.push_count(" client ", client);
-            line.push_count(" got ", number);
+            push_received(line, port, client, number);
         }
         (Action::Receive(port), Outcome::Waits) => push_state(line, "receive ", port, " waits"),
         (Action::Reply(_), Outcome::Replied(client)) => line.push_count("reply client ", client),
+        (Action::Serve(port, _), Outcome::RepliedThenReceived { to, client, number }) => {
+            push_replied_then(line, to);
+            push_received(line, port, client, number);
+        }
+        (Action::Serve(port, _), Outcome::RepliedThenWaits(to)) => {
+            push_replied_then(line, to);
+            push_state(line, "receive ", port, " waits");
+        }
         (Action::Lock(mutex), Outcome::Locked) => push_state(line, "lock ", mutex, " taken"),
         (Action::Lock(mutex), Outcome::Waits) => push_state(line, "lock ", mutex, " waits"),
         (Action::Unlock(mutex, _), Outcome::Freed) => push_state(line, "unlock ", mutex, " free"),
         (Action::Unlock(mutex, _), Outcome::Passed { to, draw }) => {
             line.push_count("unlock ", mutex);
             line.push_count(" to ", to);
-            push_drawn(line, draw);
+            push_draw(line, heading, draw);
         }
         (Action::Exit, Outcome::Exited) => line.push_text("exit"),
         _ => (),
     }
+}
+
+/// Puts the port of a receipt, whose call was taken, and the number that it sent.
+fn push_received<const N: usize>(line: &mut Line<N>, port: u32, client: u32, number: u32)
+    requires { length line.old + 51 ≤ N }
+    ensures text { line.new ≡ line.old ++ received_text port client number }
+    ensures len { length line.new ≤ length line.old + 51 }
+{
+    line.push_count("receive ", port);
+    line.push_count(" client ", client);
+    line.push_count(" got ", number);
+}
+
+/// Puts whom a reply went to, before what came of the receipt after it.
+fn push_replied_then<const N: usize>(line: &mut Line<N>, client: u32)
+    requires { length line.old + 24 ≤ N }
+    ensures text { line.new ≡ line.old ++ (replied_text client ++ codes " ") }
+    ensures len { length line.new ≤ length line.old + 24 }
+{
+    line.push_count("reply client ", client);
+    line.push_text(" ");
 }
 
 /// Puts the port or mutex of a trap, and what the trap came to there.
@@ -217,16 +279,17 @@ fn push_state<const N: usize>(line: &mut Line<N>, word: &str, number: u32, state
 }
 
 /// Puts how the mutex was passed on: by a lottery, or to the one that had waited longest.
-fn push_drawn<const N: usize>(line: &mut Line<N>, drawn: Option<(u64, u64)>)
-    requires { length line.old + 50 ≤ N }
-    ensures text { line.new ≡ line.old ++ drawn_text drawn }
-    ensures len { length line.new ≤ length line.old + 50 }
+fn push_draw<const N: usize>(line: &mut Line<N>, heading: Heading, drawn: Option<(u64, u64)>)
+    requires room { length line.old + 96 ≤ N }
+    requires unit { 0 < heading.unit }
+    ensures text { line.new ≡ line.old ++ drawn_text heading.manner heading.unit drawn }
+    ensures len { length line.new ≤ length line.old + 96 }
 {
     match drawn {
         None => line.push_text(" oldest"),
         Some((number, total)) => {
-            line.push_field(" draw ", number);
-            line.push_field(" of ", total);
+            line.push_drawn(" draw ", heading.manner, heading.unit, u128::from(number));
+            line.push_drawn(" of ", heading.manner, heading.unit, u128::from(total));
         }
     }
 }

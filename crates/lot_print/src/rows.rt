@@ -1,27 +1,30 @@
 //! What is printed for listings.
-ghost use Rattle.std.specs.Prelude.{◌≡◌, ◌≤◌, ◌+◌, ◌/◌, ◌++◌, codes, false, length};
+ghost use Rattle.std.specs.Prelude.{◌≡◌, ◌≤◌, ◌+◌, ◌++◌, codes, false, length};
 ghost use Rattle.std.specs.Fmt.{decimal};
-ghost use Rattle.lot_simulation.specs.Texts.{activity_text, currency_line, shown_value, status_text, thread_line, ticket_line};
+ghost use Rattle.lot_simulation.specs.Texts.{activity_text, currency_line, currency_value, front, status_text, thread_line, ticket_line};
 ghost use Rattle.lot_print.specs.Listings.{listing_line, target_text, used_text};
 ghost use Rattle.lot_print.specs.Writing.{Writes};
 
 use crate::WriteFault;
-use crate::line::RowLine;
+use crate::line::{Line, RowLine};
 use lot_machine::{CurrencyRow, Kind, Limits, Name, Status, ThreadRow, TicketRow};
+use lot_simulation::Manner;
 use lot_text::Watched;
 use std::io::Write;
 
 /// Writes the line of an actor's turn that asked for a listing: what it is of, and how many rows follow.
 pub fn write_listing_line<W: Write>(
     writer: &mut Watched<W>,
+    manner: Manner,
     actor: u32,
     kind: Kind,
     rows: u32,
 ) -> Result<(), WriteFault>
     requires { writer.old.failed ≡ false }
-    ensures { Writes W.contents writer.old writer.new result (decimal actor ++ (codes " " ++ listing_line kind rows)) }
+    ensures { Writes W.contents writer.old writer.new result (front manner ++ (decimal actor ++ (codes " " ++ listing_line kind rows))) }
 {
     let mut line = RowLine::new();
+    line.push_front(manner);
     line.push_number(actor);
     match kind {
         Kind::Tickets => line.push_field(" lstkt ", rows),
@@ -35,39 +38,50 @@ pub fn write_listing_line<W: Write>(
 /// Writes a ticket's line in a listing of a kernel with these limits.
 pub fn write_ticket<W: Write>(
     writer: &mut Watched<W>,
+    manner: Manner,
     limits: Limits,
     number: u32,
     row: &TicketRow,
 ) -> Result<(), WriteFault>
     requires { writer.old.failed ≡ false }
-    ensures { Writes W.contents writer.old writer.new result (ticket_line limits.unit number row.now) }
+    ensures { Writes W.contents writer.old writer.new result (ticket_line manner limits.unit number row.now) }
 {
-    ticket_text(limits, number, row).write_to(writer)
+    ticket_text(manner, limits, number, row).write_to(writer)
 }
 
 /// A ticket's line.
-fn ticket_text(limits: Limits, number: u32, row: &TicketRow) -> RowLine
-    ensures { result ≡ ticket_line limits.unit number row.now }
+fn ticket_text(manner: Manner, limits: Limits, number: u32, row: &TicketRow) -> RowLine
+    ensures { result ≡ ticket_line manner limits.unit number row.now }
 {
     let mut line = RowLine::new();
+    line.push_front(manner);
     line.push_field("ticket ", number);
-    line.push_field(" amount ", row.amount);
-    line.push_text(" in ");
-    line.push_bytes(row.issuer.as_bytes());
-    line.push_text(" funds ");
+    push_amount(&mut line, row.amount, &row.issuer);
     push_target(&mut line, &row.target);
     push_activity(&mut line, row.is_active);
-    line.push_field(" value ", shown(limits, row.value));
+    line.push_value(" value ", manner, limits.unit, u128::from(row.value));
     line.push_text("\n");
     line
+}
+
+/// Puts a ticket's amount, and the currency that it's in.
+fn push_amount(line: &mut RowLine, amount: u32, issuer: &Name)
+    requires { length line.old ≤ 200 }
+    ensures text { line.new ≡ line.old ++ (codes " amount " ++ (decimal amount ++ (codes " in " ++ issuer.now))) }
+    ensures len { length line.new ≤ length line.old + 38 }
+{
+    line.push_field(" amount ", amount);
+    line.push_text(" in ");
+    line.push_bytes(issuer.as_bytes());
 }
 
 /// Puts what a ticket funds; `-` if it funds nothing.
 fn push_target(line: &mut RowLine, target: &Option<Name>)
     requires { length line.old ≤ 200 }
-    ensures text { line.new ≡ line.old ++ target_text target.now }
-    ensures len { length line.new ≤ length line.old + 16 }
+    ensures text { line.new ≡ line.old ++ (codes " funds " ++ target_text target.now) }
+    ensures len { length line.new ≤ length line.old + 23 }
 {
+    line.push_text(" funds ");
     match target {
         Some(name) => line.push_bytes(name.as_bytes()),
         None => line.push_text("-"),
@@ -86,26 +100,28 @@ fn push_activity(line: &mut RowLine, is_active: bool)
 /// Writes a currency's line in a listing of a kernel with these limits; base is currency 0.
 pub fn write_currency<W: Write>(
     writer: &mut Watched<W>,
+    manner: Manner,
     limits: Limits,
     number: u32,
     row: &CurrencyRow,
 ) -> Result<(), WriteFault>
     requires { writer.old.failed ≡ false }
-    ensures { Writes W.contents writer.old writer.new result (currency_line limits.unit number row.now) }
+    ensures { Writes W.contents writer.old writer.new result (currency_line manner limits.unit number row.now) }
 {
-    currency_text(limits, number, row).write_to(writer)
+    currency_text(manner, limits, number, row).write_to(writer)
 }
 
 /// A currency's line.
-fn currency_text(limits: Limits, number: u32, row: &CurrencyRow) -> RowLine
-    ensures { result ≡ currency_line limits.unit number row.now }
+fn currency_text(manner: Manner, limits: Limits, number: u32, row: &CurrencyRow) -> RowLine
+    ensures { result ≡ currency_line manner limits.unit number row.now }
 {
     let mut line = RowLine::new();
+    line.push_front(manner);
     push_named(&mut line, "currency ", number, &row.name);
     line.push_field(" backing ", row.backing);
     line.push_field(" issued ", row.issued);
     line.push_field(" active ", row.active_amount);
-    line.push_field(" value ", shown_of_currency(limits, number, row.value));
+    push_currency_value(&mut line, manner, limits, number, row.value);
     line.push_text("\n");
     line
 }
@@ -113,26 +129,28 @@ fn currency_text(limits: Limits, number: u32, row: &CurrencyRow) -> RowLine
 /// Writes a thread's line in a listing of a kernel with these limits.
 pub fn write_thread<W: Write>(
     writer: &mut Watched<W>,
+    manner: Manner,
     limits: Limits,
     number: u32,
     row: &ThreadRow,
 ) -> Result<(), WriteFault>
     requires { writer.old.failed ≡ false }
-    ensures { Writes W.contents writer.old writer.new result (thread_line limits.unit number row.now) }
+    ensures { Writes W.contents writer.old writer.new result (thread_line manner limits.unit number row.now) }
 {
-    thread_text(limits, number, row).write_to(writer)
+    thread_text(manner, limits, number, row).write_to(writer)
 }
 
 /// A thread's line.
-fn thread_text(limits: Limits, number: u32, row: &ThreadRow) -> RowLine
-    ensures { result ≡ thread_line limits.unit number row.now }
+fn thread_text(manner: Manner, limits: Limits, number: u32, row: &ThreadRow) -> RowLine
+    ensures { result ≡ thread_line manner limits.unit number row.now }
 {
     let mut line = RowLine::new();
+    line.push_front(manner);
     push_named(&mut line, "thread ", number, &row.name);
     line.push_text(" ");
     push_status(&mut line, row.status);
-    line.push_field(" value ", shown(limits, row.value));
-    line.push_field(" weight ", shown_weight(limits, row.weight));
+    line.push_value(" value ", manner, limits.unit, u128::from(row.value));
+    line.push_value(" weight ", manner, limits.unit, row.weight);
     push_used(&mut line, row.quanta, row.ticks);
     line
 }
@@ -158,8 +176,8 @@ fn push_status(line: &mut RowLine, status: Status)
 }
 
 /// Puts a word, a number and its name.
-pub(crate) fn push_named(line: &mut RowLine, word: &str, number: u32, name: &Name)
-    requires { (length line.old ≤ 20) × (length word.now ≤ 9) }
+pub(crate) fn push_named<const N: usize>(line: &mut Line<N>, word: &str, number: u32, name: &Name)
+    requires { (length line.old + 36 ≤ N) × (length word.now ≤ 9) }
     ensures text { line.new ≡ line.old ++ (word.now ++ (decimal number ++ (codes " " ++ name.now))) }
     ensures len { length line.new ≤ length line.old + 36 }
 {
@@ -173,32 +191,29 @@ pub(crate) fn push_used(line: &mut RowLine, quanta: u64, ticks: u64)
     requires { length line.old ≤ 200 }
     ensures { line.new ≡ line.old ++ used_text quanta ticks }
 {
-    line.push_field(" quanta ", quanta);
-    line.push_field(" ticks ", ticks);
+    push_counts(line, quanta, ticks);
     line.push_text("\n");
 }
 
-/// A value as it is shown: in whole base units, rounded down.
-fn shown(limits: Limits, value: u64) -> u64
-    ensures { result ≡ value / limits.unit }
+/// Puts draws that were won, and ticks that were used.
+pub(crate) fn push_counts<const N: usize>(line: &mut Line<N>, quanta: u64, ticks: u64)
+    requires { length line.old + 55 ≤ N }
+    ensures text { line.new ≡ line.old ++ (codes " quanta " ++ (decimal quanta ++ (codes " ticks " ++ decimal ticks))) }
+    ensures len { length line.new ≤ length line.old + 55 }
 {
-    value / u64::from(limits.unit)
+    line.push_field(" quanta ", quanta);
+    line.push_field(" ticks ", ticks);
 }
 
-/// A weight as it is shown.
-fn shown_weight(limits: Limits, weight: u128) -> u128
-    ensures { result ≡ weight / limits.unit }
-{
-    weight / u128::from(limits.unit)
-}
-
-/// A currency's value as it is shown: base, which is currency 0, is worth its active amount.
-fn shown_of_currency(limits: Limits, number: u32, value: u64) -> u64
-    ensures { result ≡ shown_value limits.unit number value }
+/// Puts a currency's value: base, which is currency 0, is worth its active amount.
+fn push_currency_value(line: &mut RowLine, manner: Manner, limits: Limits, number: u32, value: u64)
+    requires { length line.old ≤ 200 }
+    ensures text { line.new ≡ line.old ++ (codes " value " ++ currency_value manner limits.unit number value) }
+    ensures len { length line.new ≤ length line.old + 50 }
 {
     if number == 0 {
-        value
+        line.push_field(" value ", value);
     } else {
-        shown(limits, value)
+        line.push_value(" value ", manner, limits.unit, u128::from(value));
     }
 }

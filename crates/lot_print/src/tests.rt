@@ -6,7 +6,7 @@ use lot_machine::{
     Action, CurrencyRow, Event, Kind, Limits, Name, Outcome, Refusal, Reply, Sizes, Status,
     ThreadRow, TicketRow, TrapRefusal,
 };
-use lot_simulation::{InputFault, InputRefusal};
+use lot_simulation::{InputFault, InputRefusal, Manner, Waits};
 use lot_text::Watched;
 use std::alloc::Global;
 use std::process::Abort;
@@ -23,6 +23,24 @@ fn name(text: &str) -> Result<Name, Fail> {
     Ok(Name::new(text).ok_or("a name")?)
 }
 
+/// A turn of this actor, printed with whole values.
+fn whole(actor: u32) -> Heading
+    ensures { result.unit ≡ 256 }
+{
+    Heading {
+        manner: Manner::Whole,
+        unit: 256,
+        actor,
+    }
+}
+
+/// A turn of processor 1 at tick 120, printed with its time.
+const TIMED: Heading = Heading {
+    manner: Manner::Timed(120),
+    unit: 256,
+    actor: 1,
+};
+
 fn check_event(
     rt: &impl Abort,
     alloc: Global,
@@ -33,7 +51,7 @@ fn check_event(
 ) {
     let mut writer = Watched::new(Vec::new(alloc));
     let mut page = Page::new();
-    let mut ended = write_reply(&mut writer, &mut page, actor, event, reply);
+    let mut ended = write_reply(&mut writer, &mut page, whole(actor), event, reply);
     if ended.is_ok() {
         ended = page.write_out(&mut writer);
     }
@@ -137,7 +155,7 @@ fn check_trap(rt: &impl Abort, alloc: Global, printed: &PrintedTrap<'_>) {
     check_event(rt, alloc, 1, &event, reply, printed.line);
 }
 
-const TRAPS: [PrintedTrap<'_>; 13] = [
+const TRAPS: [PrintedTrap<'_>; 15] = [
     PrintedTrap {
         action: Action::Yield,
         outcome: Outcome::Yielded,
@@ -176,6 +194,22 @@ const TRAPS: [PrintedTrap<'_>; 13] = [
         outcome: Outcome::Replied(5),
         ends: false,
         line: "1 thread 1 ticks 2 reply client 5\n",
+    },
+    PrintedTrap {
+        action: Action::Serve(3, 42),
+        outcome: Outcome::RepliedThenReceived {
+            to: 5,
+            client: 6,
+            number: 41,
+        },
+        ends: true,
+        line: "1 thread 1 ticks 2 reply client 5 receive 3 client 6 got 41 ends\n",
+    },
+    PrintedTrap {
+        action: Action::Serve(3, 42),
+        outcome: Outcome::RepliedThenWaits(5),
+        ends: false,
+        line: "1 thread 1 ticks 2 reply client 5 receive 3 waits\n",
     },
     PrintedTrap {
         action: Action::Lock(4),
@@ -374,7 +408,7 @@ fn prints_faults(rt: HostRuntime) {
 fn prints_ended(rt: HostRuntime) {
     let mut writer = Watched::new(Vec::new(rt.alloc()));
     let mut page = Page::new();
-    let mut ended = write_ended(&mut writer, &mut page, 0);
+    let mut ended = write_ended(&mut writer, &mut page, whole(0));
     if ended.is_ok() {
         ended = page.write_out(&mut writer);
     }
@@ -465,7 +499,7 @@ fn ticket_row(printed: &PrintedTicket<'_>) -> Result<TicketRow, Fail> {
 
 fn check_ticket(rt: &impl Abort, alloc: Global, limits: Limits, row: &TicketRow, wanted: &str) {
     let mut writer = Watched::new(Vec::new(alloc));
-    let ended = write_ticket(&mut writer, limits, 1, row);
+    let ended = write_ticket(&mut writer, Manner::Whole, limits, 1, row);
     check(rt, writer, ended, wanted);
 }
 
@@ -524,7 +558,7 @@ fn check_currency(
 ) -> Result<(), Fail> {
     let limits = limits(printed.unit)?;
     let mut writer = Watched::new(Vec::new(alloc));
-    let ended = write_currency(&mut writer, limits, printed.number, row);
+    let ended = write_currency(&mut writer, Manner::Whole, limits, printed.number, row);
     check(rt, writer, ended, printed.line);
     Ok(())
 }
@@ -585,7 +619,7 @@ fn thread_row(status: Status) -> Result<ThreadRow, Fail> {
 
 fn check_thread(rt: &impl Abort, alloc: Global, limits: Limits, row: &ThreadRow, wanted: &str) {
     let mut writer = Watched::new(Vec::new(alloc));
-    let ended = write_thread(&mut writer, limits, 1, row);
+    let ended = write_thread(&mut writer, Manner::Whole, limits, 1, row);
     check(rt, writer, ended, wanted);
 }
 
@@ -609,7 +643,7 @@ fn prints_threads(rt: HostRuntime) -> Result<(), Fail> {
 
 fn check_listing_line(rt: &impl Abort, alloc: Global, kind: Kind, wanted: &str) {
     let mut writer = Watched::new(Vec::new(alloc));
-    let ended = write_listing_line(&mut writer, 0, kind, 8);
+    let ended = write_listing_line(&mut writer, Manner::Whole, 0, kind, 8);
     check(rt, writer, ended, wanted);
 }
 
@@ -704,4 +738,165 @@ fn histories_after_a_line(rt: HostRuntime) -> Result<(), Fail> {
     check_after_line(&rt, &[1, 1, 0], &[]);
     check_after_line(&rt, &history, &[32, 32]);
     Ok(())
+}
+
+/// Checks the line of a reply to this event, with its time.
+fn check_timed(rt: &impl Abort, alloc: Global, event: Event, reply: Reply, wanted: &str) {
+    let mut writer = Watched::new(Vec::new(alloc));
+    let mut page = Page::new();
+    let mut ended = write_reply(&mut writer, &mut page, TIMED, &event, reply);
+    if ended.is_ok() {
+        ended = page.write_out(&mut writer);
+    }
+    check(rt, writer, ended, wanted);
+}
+
+// 2561 / 256 is 10.00390625, 384 / 256 is 1.5, and 64 / 256 is 0.25.
+#[test]
+fn prints_what_is_behind_the_point(rt: HostRuntime) {
+    let rt = &rt;
+    let won = |number, total| Reply::Winner {
+        thread: 2,
+        number,
+        total,
+        delivered: None,
+    };
+    let draw = Event::Draw(1, 0);
+    check_timed(
+        rt,
+        rt.alloc(),
+        draw,
+        won(384, 2561),
+        "120 1 draw 1.5 of 10.003 thread 2\n",
+    );
+    let draw = Event::Draw(1, 0);
+    check_timed(
+        rt,
+        rt.alloc(),
+        draw,
+        won(64, 2560),
+        "120 1 draw 0.25 of 10 thread 2\n",
+    );
+    let trapped = |outcome| Reply::Trapped {
+        thread: 3,
+        ticks: 7,
+        outcome,
+        ends: false,
+    };
+    check_timed(
+        rt,
+        rt.alloc(),
+        Event::Trap(1, 6, Action::Unlock(4, 99)),
+        trapped(Outcome::Passed {
+            to: 5,
+            draw: Some((1, 26)),
+        }),
+        "120 1 thread 3 ticks 7 unlock 4 to 5 draw 0.003 of 0.101\n",
+    );
+    check_timed(
+        rt,
+        rt.alloc(),
+        Event::Trap(1, 6, Action::Serve(2, 9)),
+        trapped(Outcome::RepliedThenReceived {
+            to: 5,
+            client: 6,
+            number: 41,
+        }),
+        "120 1 thread 3 ticks 7 reply client 5 receive 2 client 6 got 41\n",
+    );
+    check_timed(
+        rt,
+        rt.alloc(),
+        Event::Trap(1, 6, Action::Serve(2, 9)),
+        trapped(Outcome::RepliedThenWaits(5)),
+        "120 1 thread 3 ticks 7 reply client 5 receive 2 waits\n",
+    );
+}
+
+/// The greatest waits that there may be.
+const LONG: Waits = Waits {
+    count: u32::MAX,
+    total: u64::MAX,
+    longest: u32::MAX,
+    since: None,
+};
+
+/// None.
+const NO_WAITS: Waits = Waits {
+    count: 0,
+    total: 0,
+    longest: 0,
+    since: None,
+};
+
+// 2 of 3 ticks are 66.666%; 5 waits of 12 ticks in all are 2.4 on average. 18446744073709551615 / 4294967295 is 4294967297.
+#[test]
+fn prints_timed_totals(rt: HostRuntime) -> Result<(), Fail> {
+    let mut row = thread_row(Status::Ready)?;
+    row.quanta = 4;
+    row.ticks = 2;
+    let mut writer = Watched::new(Vec::new(rt.alloc()));
+    let shares = ThreadShares {
+        all_ticks: 3,
+        live_value: 1,
+        all_values: 8,
+        mutexes: Waits {
+            count: 5,
+            total: 12,
+            longest: 4,
+            since: None,
+        },
+        replies: NO_WAITS,
+    };
+    let ended = write_timed_thread_total(&mut writer, 1, &row, shares);
+    let wanted =
+        "thread 1 thread2 quanta 4 ticks 2 share 66.666% value 12.5% mutex waits 5 mean 2.4 longest 4\n";
+    check(&rt, writer, ended, wanted);
+    let mut writer = Watched::new(Vec::new(rt.alloc()));
+    let shares = ThreadShares {
+        all_ticks: 0,
+        live_value: 0,
+        all_values: 0,
+        mutexes: NO_WAITS,
+        replies: LONG,
+    };
+    let ended = write_timed_thread_total(&mut writer, 1, &row, shares);
+    let wanted =
+        "thread 1 thread2 quanta 4 ticks 2 share 0% value 0% reply waits 4294967295 mean 4294967297 longest 4294967295\n";
+    check(&rt, writer, ended, wanted);
+    Ok(())
+}
+
+#[test]
+fn prints_timed_ends(rt: HostRuntime) {
+    let mut writer = Watched::new(Vec::new(rt.alloc()));
+    let total = TimedProcessorTotal {
+        processor: 2,
+        quanta: 3,
+        idles: 4,
+        ticks: 5,
+        unused: 6,
+    };
+    let ended = write_timed_processor_total(&mut writer, total);
+    check(
+        &rt,
+        writer,
+        ended,
+        "processor 2 quanta 3 idle 4 ticks 5 unused 6\n",
+    );
+    let mut writer = Watched::new(Vec::new(rt.alloc()));
+    let total = TimedWholeTotal {
+        turns: 1,
+        quanta: 2,
+        ticks: 3,
+        refused: 4,
+        left: 5,
+    };
+    let ended = write_timed_whole_total(&mut writer, total);
+    check(
+        &rt,
+        writer,
+        ended,
+        "total turns 1 quanta 2 ticks 3 refused 4 left 5\n",
+    );
 }

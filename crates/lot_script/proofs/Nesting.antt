@@ -17,6 +17,7 @@ after-most loops (line.Add n) most nests = most
 after-most loops line.Yield most nests = most
 after-most loops (line.Call n) most nests = most
 after-most loops (line.Receive n) most nests = most
+after-most loops (line.Serve n) most nests = most
 after-most loops line.Reply most nests = most
 after-most loops (line.Lock n) most nests = most
 after-most loops (line.Unlock n) most nests = most

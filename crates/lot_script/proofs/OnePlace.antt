@@ -6,7 +6,7 @@ use Rattle.std.proofs.lemmas.Option.{slice_get_within}
 use Rattle.std.proofs.lemmas.Bool.{cases_lt}
 use Rattle.lot_simulation.specs.declared.script.Line.{Line}
 use Rattle.lot_simulation.specs.declared.script.Line.TheVariants as line
-use Rattle.lot_simulation.specs.declared.script.ScriptTrap.TheVariants.{Yield, Call, Receive, Reply, Lock, Unlock, Exit}
+use Rattle.lot_simulation.specs.declared.script.ScriptTrap.TheVariants.{Yield, Call, Receive, Reply, Serve, Lock, Unlock, Exit}
 use Rattle.lot_simulation.specs.Script.{unrolled}
 use Rattle.lot_simulation.specs.Script.Item.{Traps}
 use Rattle.lot_script.specs.declared.open_loops.OpenLoop.{OpenLoop}
@@ -340,6 +340,10 @@ stepped lines p (line.Receive n) at =
     let q : Place = record p { line = p.line + 1; done = 0 } in
     let makes = MakesTrap-line lines p (line.Receive n) (Receive n) at refl in
     (q, left_line lines p q (line.Receive n) at.next refl refl (stands-done lines p (line.Receive n) at, refl) makes.fits makes.rest)
+stepped lines p (line.Serve n) at =
+    let q : Place = record p { line = p.line + 1; done = 0 } in
+    let makes = MakesTrap-line lines p (line.Serve n) (Serve n) at refl in
+    (q, left_line lines p q (line.Serve n) at.next refl refl (stands-done lines p (line.Serve n) at, refl) makes.fits makes.rest)
 stepped lines p line.Reply at =
     let q : Place = record p { line = p.line + 1; done = 0 } in
     let makes = MakesTrap-line lines p line.Reply Reply at refl in

@@ -8,7 +8,7 @@ use Rattle.std.proofs.lemmas.Bool.{cases_lt}
 use Rattle.lot_simulation.specs.declared.script.Line.{Line}
 use Rattle.lot_simulation.specs.declared.script.Line.TheVariants as line
 use Rattle.lot_simulation.specs.declared.script.ScriptTrap.{ScriptTrap}
-use Rattle.lot_simulation.specs.declared.script.ScriptTrap.TheVariants.{Yield, Call, Receive, Reply, Lock, Unlock, Exit}
+use Rattle.lot_simulation.specs.declared.script.ScriptTrap.TheVariants.{Yield, Call, Receive, Reply, Serve, Lock, Unlock, Exit}
 use Rattle.lot_simulation.specs.Script.{Item, pieces, items_of, is_mark, rest_after, accumulated}
 use Rattle.lot_simulation.specs.Script.Item.{Work, Set, Add, Traps}
 use Rattle.lot_script.specs.declared.open_loops.OpenLoop.{OpenLoop}
@@ -44,6 +44,7 @@ done-none (Some line.End) good = refl
 done-none (Some line.Yield) good = refl
 done-none (Some (line.Call n)) good = refl
 done-none (Some (line.Receive n)) good = refl
+done-none (Some (line.Serve n)) good = refl
 done-none (Some line.Reply) good = refl
 done-none (Some (line.Lock n)) good = refl
 done-none (Some (line.Unlock n)) good = refl
@@ -67,6 +68,7 @@ open_at-plain lines p (line.Add n) plain at = open_at-next lines p.line (p.line 
 open_at-plain lines p line.Yield plain at = open_at-next lines p.line (p.line + 1) line.Yield at.next refl
 open_at-plain lines p (line.Call n) plain at = open_at-next lines p.line (p.line + 1) (line.Call n) at.next refl
 open_at-plain lines p (line.Receive n) plain at = open_at-next lines p.line (p.line + 1) (line.Receive n) at.next refl
+open_at-plain lines p (line.Serve n) plain at = open_at-next lines p.line (p.line + 1) (line.Serve n) at.next refl
 open_at-plain lines p line.Reply plain at = open_at-next lines p.line (p.line + 1) line.Reply at.next refl
 open_at-plain lines p (line.Lock n) plain at = open_at-next lines p.line (p.line + 1) (line.Lock n) at.next refl
 open_at-plain lines p (line.Unlock n) plain at = open_at-next lines p.line (p.line + 1) (line.Unlock n) at.next refl
@@ -243,6 +245,7 @@ trap-plain (line.Add n) t is = tt
 trap-plain line.Yield t is = tt
 trap-plain (line.Call n) t is = tt
 trap-plain (line.Receive n) t is = tt
+trap-plain (line.Serve n) t is = tt
 trap-plain line.Reply t is = tt
 trap-plain (line.Lock n) t is = tt
 trap-plain (line.Unlock n) t is = tt
@@ -257,6 +260,7 @@ trap-done (line.Add n) t done is can = can
 trap-done line.Yield t done is can = can
 trap-done (line.Call n) t done is can = can
 trap-done (line.Receive n) t done is can = can
+trap-done (line.Serve n) t done is can = can
 trap-done line.Reply t done is can = can
 trap-done (line.Lock n) t done is can = can
 trap-done (line.Unlock n) t done is can = can
@@ -272,6 +276,7 @@ trap-after (line.Add n) t rest is = cc
 trap-after line.Yield t rest is = let same : t ≡ Yield = cc in rw same refl
 trap-after (line.Call n) t rest is = let same : t ≡ Call n = cc in rw same refl
 trap-after (line.Receive n) t rest is = let same : t ≡ Receive n = cc in rw same refl
+trap-after (line.Serve n) t rest is = let same : t ≡ Serve n = cc in rw same refl
 trap-after line.Reply t rest is = let same : t ≡ Reply = cc in rw same refl
 trap-after (line.Lock n) t rest is = let same : t ≡ Lock n = cc in rw same refl
 trap-after (line.Unlock n) t rest is = let same : t ≡ Unlock n = cc in rw same refl

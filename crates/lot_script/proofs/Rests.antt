@@ -25,6 +25,7 @@ plain-pieces (line.Add n) lines plain = refl
 plain-pieces line.Yield lines plain = refl
 plain-pieces (line.Call n) lines plain = refl
 plain-pieces (line.Receive n) lines plain = refl
+plain-pieces (line.Serve n) lines plain = refl
 plain-pieces line.Reply lines plain = refl
 plain-pieces (line.Lock n) lines plain = refl
 plain-pieces (line.Unlock n) lines plain = refl

@@ -26,6 +26,7 @@ fn trap_on(line: Line) -> Option<ScriptTrap>
         Line::Yield => Some(ScriptTrap::Yield),
         Line::Call(port) => Some(ScriptTrap::Call(port)),
         Line::Receive(port) => Some(ScriptTrap::Receive(port)),
+        Line::Serve(port) => Some(ScriptTrap::Serve(port)),
         Line::Reply => Some(ScriptTrap::Reply),
         Line::Lock(mutex) => Some(ScriptTrap::Lock(mutex)),
         Line::Unlock(mutex) => Some(ScriptTrap::Unlock(mutex)),

@@ -79,6 +79,7 @@ fn traps(rt: HostRuntime) -> Result<(), Fail> {
     let lines = [
         Line::Call(3),
         Line::Reply,
+        Line::Serve(2),
         Line::Lock(1),
         Line::Unlock(1),
         Line::Yield,
@@ -90,6 +91,7 @@ fn traps(rt: HostRuntime) -> Result<(), Fail> {
         &[
             (1, 0, Some(ScriptTrap::Call(3)), 0),
             (1, 0, Some(ScriptTrap::Reply), 0),
+            (1, 0, Some(ScriptTrap::Serve(2)), 0),
             (1, 0, Some(ScriptTrap::Lock(1)), 0),
             (1, 0, Some(ScriptTrap::Unlock(1)), 0),
             (1, 0, Some(ScriptTrap::Yield), 0),

@@ -1,5 +1,6 @@
 mod outputs;
 mod runs;
+mod timed;
 mod told;
 
 use crate::status::status;

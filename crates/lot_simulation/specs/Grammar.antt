@@ -1,5 +1,5 @@
 -- What an input says, or on which line it is refused.
-use Rattle.std.specs.Prelude.{ℕ, ◌+◌, ◌-◌, ◌%◌, max, ◌==◌, nat_lt, nat_le, Bool, true, false, not, ◌&&◌, ◌||◌, Option, Some, None, Result, Ok, Err, List, [], ◌∷◌, ◌++◌, length, map, sum_by, replicate, codes, unwrap_or, if◌then◌else◌}
+use Rattle.std.specs.Prelude.{ℕ, ◌+◌, ◌-◌, ◌%◌, max, ◌==◌, nat_lt, nat_le, Bool, true, false, not, ◌&&◌, ◌||◌, Option, Some, None, is_none, Result, Ok, Err, List, [], ◌∷◌, ◌++◌, length, map, sum_by, replicate, codes, unwrap_or, if◌then◌else◌}
 use Rattle.std.specs.List.{flat_map, range_with_len}
 use Rattle.std.specs.Str.{bytes_eq}
 use Rattle.lot_simulation.specs.declared.script.Line.{Line}
@@ -18,17 +18,24 @@ use Rattle.lot_simulation.specs.declared.input.InputRefusal.TheVariants.{BadHead
 use Rattle.lot_simulation.specs.declared.input.InputFault.{InputFault}
 use Rattle.lot_machine.specs.declared.sizes.Sizes.{Sizes}
 use Rattle.lot_simulation.specs.Lines.{lines_of, without_end, tokens_of, is_ignored, is_printable}
-use Rattle.lot_simulation.specs.Words.{word_in, header_words, header_place, body_words, script_words}
+use Rattle.lot_simulation.specs.Words.{word_in, header_words, timed_header_words, header_place, body_words, timed_body_words, script_words, timed_script_words}
 use Rattle.lot_simulation.specs.Reading.{OpenScript, Reading, opening_reading, ◌>>=◌, checked, each, each_pair, number_between, any_number, actor_below, any_name, new_name, known_name, script_number}
+use Rattle.lot_machine.specs.Lottery.{mixed_seed}
 use Rattle.lot_simulation.specs.World.{Program}
+
+-- whether it isn't said yet how long the input runs, though that must be said
+abbrev pub lacks_duration : Reading → Bool
+lacks_duration r = r.is_timed && is_none r.duration
 
 -- ---- lines of the header
 
--- the first line that isn't ignored: `lottery 1` means unit 1, and `lottery 2` unit 256
+-- The first line that isn't ignored: `lottery 1` means unit 1, and `lottery 2` unit 256. In `lottery 3` turns come in the order of
+-- time, with unit 256.
 abbrev pub first_line : List (List ℕ) → Result Reading InputRefusal
 first_line (word ∷ version ∷ []) =
-    if bytes_eq word (codes "lottery") && bytes_eq version (codes "1") then Ok (opening_reading 1)
-    else if bytes_eq word (codes "lottery") && bytes_eq version (codes "2") then Ok (opening_reading 256)
+    if bytes_eq word (codes "lottery") && bytes_eq version (codes "1") then Ok (opening_reading false 1)
+    else if bytes_eq word (codes "lottery") && bytes_eq version (codes "2") then Ok (opening_reading false 256)
+    else if bytes_eq word (codes "lottery") && bytes_eq version (codes "3") then Ok (opening_reading true 256)
     else Err BadHeader
 first_line other = Err BadHeader
 
@@ -43,6 +50,9 @@ header_line r header.Quantum (q ∷ []) = do
 header_line r header.Turns (t ∷ []) = do
   turns ← number_between 0 10000 t
   Ok (record r { turns = turns })
+header_line r header.For (t ∷ []) = do
+  duration ← number_between 1 4294967295 t
+  Ok (record r { duration = Some duration })
 header_line r header.Seed tokens = do
   given ← checked ((not (length tokens == r.processors), BadLine) ∷ []) tokens
   seeds ← each (number_between 1 2147483646) given
@@ -93,6 +103,9 @@ script_line r s script.End [] =
     checked ((s.loops == 0, BadLine) ∷ (is_full s, TooLong) ∷ []) (record r { unclosed = Some (record (with_line s line.End) { loops = s.loops - 1 }) })
 script_line r s script.Yield [] = add_line r s line.Yield
 script_line r s script.Reply [] = add_line r s line.Reply
+script_line r s script.Serve (name ∷ []) = do
+  port ← known_name r.ports name
+  add_line r s (line.Serve port)
 script_line r s script.Call (name ∷ []) = do
   port ← known_name r.ports name
   add_line r s (line.Call port)
@@ -115,9 +128,9 @@ script_line r s word tokens = Err BadLine
 abbrev pub script_names : Reading → List (List ℕ)
 script_names r = map (λ s. s.name) r.scripts
 
--- one command more
+-- one command more, which is made at the time that was said last
 abbrev pub add_command : Reading → Command → Result Reading InputRefusal
-add_command r c = checked ((nat_le 100000 (length r.commands), TooLong) ∷ []) (record r { commands = r.commands ++ c ∷ [] })
+add_command r c = checked ((nat_le 100000 (length r.commands), TooLong) ∷ []) (record r { commands = r.commands ++ c ∷ []; times = r.times ++ r.time ∷ [] })
 
 -- turns of one actor in a row
 pub record ActorRun : Type 0 where
@@ -141,7 +154,8 @@ add_runs r runs = do
   fitting ← checked ((nat_lt 1000000 (length r.schedule + sum_by (λ run. run.count) runs), TooLong) ∷ []) runs
   Ok (record r { schedule = r.schedule ++ actors_of fitting })
 
--- What a line of the body says. There are no runs if the unit is 1.
+-- What a line of the body says. There are no runs if the unit is 1, and neither runs nor a schedule if turns come in the order of
+-- time. Times don't fall.
 abbrev pub body_line : ℕ → Reading → BodyWord → List (List ℕ) → Result Reading InputRefusal
 body_line n r body.Port (token ∷ []) = do
   name ← new_name r.ports token
@@ -185,11 +199,15 @@ body_line n r body.MakeFunded (a ∷ c ∷ token ∷ s ∷ []) = do
 body_line n r body.ListTickets [] = add_command r (Listing Tickets)
 body_line n r body.ListCurrencies [] = add_command r (Listing Currencies)
 body_line n r body.ListThreads [] = add_command r (Listing Threads)
+body_line n r body.At (t ∷ []) = do
+  time ← number_between r.time 4294967295 t
+  Ok (record r { time = time })
 body_line n r body.Schedule (first ∷ others) = do
-  actors ← each (actor_below r.processors) (first ∷ others)
+  tokens ← checked ((r.is_timed, BadLine) ∷ []) (first ∷ others)
+  actors ← each (actor_below r.processors) tokens
   checked ((nat_lt 1000000 (length r.schedule + length actors), TooLong) ∷ []) (record r { schedule = r.schedule ++ actors })
 body_line n r body.Runs (first ∷ others) = do
-  tokens ← checked ((r.unit == 1, BadLine) ∷ (length (first ∷ others) % 2 == 1, BadLine) ∷ []) (first ∷ others)
+  tokens ← checked ((r.unit == 1 || r.is_timed, BadLine) ∷ (length (first ∷ others) % 2 == 1, BadLine) ∷ []) (first ∷ others)
   runs ← each_pair (run_of r.processors) tokens
   add_runs r runs
 body_line n r word tokens = Err BadLine
@@ -198,7 +216,7 @@ body_line n r word tokens = Err BadLine
 abbrev pub body_after_header : ℕ → Reading → BodyWord → List (List ℕ) → Result Reading InputRefusal
 body_after_header n r word tokens = do
   after ← body_line n r word tokens
-  Ok (record after { place = 6 })
+  Ok (record after { place = 7 })
 
 -- ---- a line
 
@@ -207,16 +225,28 @@ abbrev pub line_inside : Reading → OpenScript → Option ScriptWord → List (
 line_inside r s None tokens = Err BadLine
 line_inside r s (Some word) tokens = script_line r s word tokens
 
--- a line outside scripts
+-- A line outside scripts. Before the first of the body the header has said how long the input runs, if it must.
 abbrev pub line_outside : ℕ → Reading → Option HeaderWord → Option BodyWord → List (List ℕ) → Result Reading InputRefusal
 line_outside n r (Some word) other tokens = header_in_order r word tokens
-line_outside n r None (Some word) tokens = body_after_header n r word tokens
+line_outside n r None (Some word) tokens = do
+  before ← checked ((lacks_duration r, BadHeader) ∷ []) r
+  body_after_header n before word tokens
 line_outside n r None None tokens = Err BadLine
+
+-- the words that may begin lines of this input
+abbrev pub header_words_of : Reading → List (List ℕ × HeaderWord)
+header_words_of r = if r.is_timed then timed_header_words else header_words
+
+abbrev pub body_words_of : Reading → List (List ℕ × BodyWord)
+body_words_of r = if r.is_timed then timed_body_words else body_words
+
+abbrev pub script_words_of : Reading → List (List ℕ × ScriptWord)
+script_words_of r = if r.is_timed then timed_script_words else script_words
 
 -- a line after the first, by its first token
 abbrev pub later_line : ℕ → Reading → Option OpenScript → List ℕ → List (List ℕ) → Result Reading InputRefusal
-later_line n r (Some s) word tokens = line_inside r s (word_in script_words word) tokens
-later_line n r None word tokens = line_outside n r (word_in header_words word) (word_in body_words word) tokens
+later_line n r (Some s) word tokens = line_inside r s (word_in (script_words_of r) word) tokens
+later_line n r None word tokens = line_outside n r (word_in (header_words_of r) word) (word_in (body_words_of r) word) tokens
 
 -- a line that isn't ignored, by its tokens; nothing has been read before the first
 abbrev pub token_line : ℕ → Option Reading → List (List ℕ) → Result Reading InputRefusal
@@ -267,15 +297,21 @@ limits_of r = record {
   unit = r.unit;
 }
 
--- what was read; if seeds are left out, processor p has seed p
+-- The seeds if they are left out: processor p has seed p, or a mixed one if turns come in the order of time.
+abbrev pub default_seeds : Reading → List ℕ
+default_seeds r = if r.is_timed then map mixed_seed (range_with_len 1 r.processors) else range_with_len 1 r.processors
+
+-- what was read
 abbrev pub program_of : Reading → Program
 program_of r = record {
   limits = limits_of r;
-  seeds = unwrap_or r.seeds (range_with_len 1 r.processors);
+  seeds = unwrap_or r.seeds (default_seeds r);
   turns = r.turns;
   scripts = map (λ s. s.lines) r.scripts;
   commands = r.commands;
   schedule = r.schedule;
+  duration = r.duration;
+  times = r.times;
 }
 
 -- A script that is still open is refused on the line where it began.
@@ -283,10 +319,11 @@ abbrev pub closed_program : Reading → Option OpenScript → Result Program Inp
 closed_program r None = Ok (program_of r)
 closed_program r (Some s) = Err (record { line = s.begins; refusal = ScriptIsOpen })
 
--- An input of this many lines, all ignored, is refused on the last, or on line 1 if it has none.
+-- An input of this many lines, all ignored, is refused on the last, or on line 1 if it has none; and so is one that has a header alone,
+-- which lacks how long it runs.
 abbrev pub whole_program : ℕ → Option Reading → Result Program InputFault
 whole_program count None = Err (record { line = max 1 count; refusal = BadHeader })
-whole_program count (Some r) = closed_program r r.unclosed
+whole_program count (Some r) = if lacks_duration r then Err (record { line = max 1 count; refusal = BadHeader }) else closed_program r r.unclosed
 
 -- what the bytes say, or on which line they are refused and why
 abbrev pub program_in : List ℕ → Result Program InputFault

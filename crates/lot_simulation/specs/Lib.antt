@@ -18,6 +18,10 @@ pub mod Grammar
 pub mod Texts
 -- The report, and the lines that give a history back.
 pub mod Report
+-- Turns in the order of time.
+pub mod Timed
+-- Their report.
+pub mod TimedReport
 -- The whole of what the program writes.
 pub mod Output
 -- Small inputs, and what is printed of them.

@@ -1,35 +1,53 @@
 -- The whole of what the program writes.
-use Rattle.std.specs.Prelude.{ℕ, Result, Ok, Err, List, [], ◌∷◌, ◌++◌, codes}
+use Rattle.std.specs.Prelude.{ℕ, Option, Some, None, Result, Ok, Err, List, [], ◌∷◌, ◌++◌, codes}
 use Rattle.std.specs.Fmt.{decimal}
 use Rattle.lot_simulation.specs.declared.input.InputFault.{InputFault}
 use Rattle.lot_machine.specs.State.{State}
 use Rattle.lot_simulation.specs.Grammar.{program_in}
-use Rattle.lot_simulation.specs.Texts.{newline, refused, reply_text, fault_line}
+use Rattle.lot_simulation.specs.Texts.{newline, front, refused, reply_text, fault_line}
 use Rattle.lot_simulation.specs.Report.{report, history_lines}
+use Rattle.std.specs.List.{flat_map}
+use Rattle.lot_simulation.specs.declared.manner.Manner.{Manner}
+use Rattle.lot_simulation.specs.declared.manner.Manner.TheVariants.{Whole, Timed}
+use Rattle.lot_simulation.specs.Timed.{TimedTurn, timed_turns}
+use Rattle.lot_simulation.specs.TimedReport.{timed_report}
 use Rattle.lot_simulation.specs.World.{Program, World, Answer, Turn, opening_world, system_turn, system_run}
 use Rattle.lot_simulation.specs.World.Answer.{Answered, Ended}
 
 -- what is printed of an answer, given the state after the turn
-abbrev pub answer_text : State → Answer → List ℕ
-answer_text s (Answered e r) = reply_text s e r
-answer_text s Ended = refused 41 (codes "Ended") ++ newline
+abbrev pub answer_text : Manner → State → Answer → List ℕ
+answer_text manner s (Answered e r) = reply_text manner s e r
+answer_text manner s Ended = refused 41 (codes "Ended") ++ newline
 
--- the lines of a turn, which begin with the actor
-abbrev pub turn_text : ℕ → Turn → List ℕ
-turn_text actor turn = decimal actor ++ (codes " " ++ answer_text turn.world.state turn.answer)
+-- the lines of a turn, the first of which names the actor
+abbrev pub turn_text : Manner → ℕ → Turn → List ℕ
+turn_text manner actor turn = front manner ++ (decimal actor ++ (codes " " ++ answer_text manner turn.world.state turn.answer))
 
 -- the lines of the turns of these actors, from this world on
 abbrev pub turn_texts : Program → World → List ℕ → List ℕ
 turn_texts program w [] = []
-turn_texts program w (actor ∷ actors) = turn_text actor (system_turn program w actor) ++ turn_texts program (system_turn program w actor).world actors
+turn_texts program w (actor ∷ actors) = turn_text Whole actor (system_turn program w actor) ++ turn_texts program (system_turn program w actor).world actors
 
 -- the lines of the program's whole schedule, and the report of the history that it leaves
 abbrev pub scheduled_output : Program → List ℕ
 scheduled_output program = turn_texts program (opening_world program) program.schedule ++ report program (system_run program program.schedule).history
 
+-- the lines of a turn at its time
+abbrev pub timed_text : TimedTurn → List ℕ
+timed_text done = turn_text (Timed done.time) done.actor done.turn
+
+-- the lines of the program's turns in the order of time, and their report
+abbrev pub timed_output : Program → List ℕ
+timed_output program = flat_map timed_text (timed_turns program) ++ timed_report program
+
+-- what `play` writes of a program: a schedule is played, or turns in the order of time if the input says how long it runs
+abbrev pub played_output : Program → Option ℕ → List ℕ
+played_output program None = scheduled_output program
+played_output program (Some duration) = timed_output program
+
 -- what `play` writes of what was read
 abbrev pub output_of : Result Program InputFault → List ℕ
-output_of (Ok program) = scheduled_output program
+output_of (Ok program) = played_output program program.duration
 output_of (Err fault) = fault_line fault
 
 -- what `play` writes if it reads these bytes

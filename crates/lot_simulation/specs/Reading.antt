@@ -20,13 +20,15 @@ pub record OpenScript : Type 0 where
   pub lines : List Line
   pub loops : ℕ
 
--- What the lines since the first have said. The header's place is that of its last line, and 6 from the body on.
+-- What the lines since the first have said. The header's place is that of its last line, and 7 from the body on.
 pub record Reading : Type 0 where
   pub place : ℕ
+  pub is_timed : Bool  -- whether its turns come in the order of time
   pub unit : ℕ
   pub processors : ℕ
   pub quantum : ℕ
   pub turns : ℕ
+  pub duration : Option ℕ  -- the ticks that it runs for
   pub seeds : Option (List ℕ)
   pub tickets : ℕ
   pub currencies : ℕ
@@ -36,16 +38,20 @@ pub record Reading : Type 0 where
   pub scripts : List NamedScript
   pub unclosed : Option OpenScript
   pub commands : List Command
+  pub time : ℕ  -- when the commands to come are made
+  pub times : List ℕ  -- when those so far are
   pub schedule : List ℕ
 
--- after the first line, which says the unit
-abbrev pub opening_reading : ℕ → Reading
-opening_reading unit = record {
+-- after the first line, which says whether turns come in the order of time, and the unit
+abbrev pub opening_reading : Bool → ℕ → Reading
+opening_reading is_timed unit = record {
   place = 0;
+  is_timed = is_timed;
   unit = unit;
   processors = 1;
   quantum = 100;
   turns = 0;
+  duration = None;
   seeds = None;
   tickets = 65535;
   currencies = 4096;
@@ -55,6 +61,8 @@ opening_reading unit = record {
   scripts = [];
   unclosed = None;
   commands = [];
+  time = 0;
+  times = [];
   schedule = [];
 }
 

@@ -1,5 +1,5 @@
 -- What is printed of replies, refusals and listings.
-use Rattle.std.specs.Prelude.{ℕ, ◌/◌, ◌==◌, Bool, true, false, Option, Some, None, List, [], ◌∷◌, ◌++◌, length, filter, is_some, codes, unwrap_or, if◌then◌else◌}
+use Rattle.std.specs.Prelude.{ℕ, ◌*◌, ◌/◌, ◌%◌, ◌==◌, Bool, true, false, Option, Some, None, List, [], ◌∷◌, ◌++◌, length, filter, is_some, codes, unwrap_or, if◌then◌else◌}
 use Rattle.std.specs.List.{flat_map, range_with_len}
 use Rattle.std.specs.Option.{option_map_or}
 use Rattle.std.specs.Fmt.{decimal}
@@ -22,6 +22,8 @@ use Rattle.lot_machine.specs.declared.reply.Outcome.TheVariants as outcome
 use Rattle.lot_simulation.specs.declared.input.InputRefusal.{InputRefusal}
 use Rattle.lot_simulation.specs.declared.input.InputRefusal.TheVariants as input_refusal
 use Rattle.lot_simulation.specs.declared.input.InputFault.{InputFault}
+use Rattle.lot_simulation.specs.declared.manner.Manner.{Manner}
+use Rattle.lot_simulation.specs.declared.manner.Manner.TheVariants.{Whole, Timed}
 use Rattle.lot_machine.specs.declared.row.TicketRow.{TicketRow}
 use Rattle.lot_machine.specs.declared.row.CurrencyRow.{CurrencyRow}
 use Rattle.lot_machine.specs.declared.row.ThreadRow.{ThreadRow}
@@ -32,6 +34,35 @@ use Rattle.lot_machine.specs.Rows.{ticket_row, currency_row, thread_row}
 -- the byte that ends a line
 abbrev pub newline : List ℕ
 newline = 10 ∷ []
+
+-- ---- manners
+
+-- what a line of a turn begins with: its time, if it has one
+abbrev pub front : Manner → List ℕ
+front Whole = []
+front (Timed time) = decimal time ++ codes " "
+
+-- thousandths, as up to three digits behind a point: no 0 at the end, and nothing at all if there are none
+abbrev pub behind_point : ℕ → List ℕ
+behind_point m =
+    if m == 0 then []
+    else if m % 100 == 0 then codes "." ++ decimal (m / 100)
+    else if m % 10 == 0 then codes "." ++ (decimal (m / 100) ++ decimal (m / 10 % 10))
+    else codes "." ++ (decimal (m / 100) ++ (decimal (m / 10 % 10) ++ decimal (m % 10)))
+
+-- the quotient, with at most three digits behind the point; what comes after them is left out
+abbrev pub quotient_text : ℕ → ℕ → List ℕ
+quotient_text n d = decimal (n / d) ++ behind_point (n % d * 1000 / d)
+
+-- a value, which is kept in so many parts to the unit
+abbrev pub value_text : Manner → ℕ → ℕ → List ℕ
+value_text Whole unit value = decimal (value / unit)
+value_text (Timed time) unit value = quotient_text value unit
+
+-- a number that was drawn, or the total that it was drawn from: those of whole manner are printed as they are kept
+abbrev pub drawn_value : Manner → ℕ → ℕ → List ℕ
+drawn_value Whole unit n = decimal n
+drawn_value (Timed time) unit n = quotient_text n unit
 
 -- ---- refusals
 
@@ -130,31 +161,43 @@ fault_line fault =
 -- ---- traps
 
 -- how the mutex's new owner was picked: by a lottery, or as the one that had waited longest
-abbrev pub drawn_text : Option (ℕ × ℕ) → List ℕ
-drawn_text None = codes " oldest"
-drawn_text (Some drawn) = codes " draw " ++ (decimal drawn.0 ++ (codes " of " ++ decimal drawn.1))
+abbrev pub drawn_text : Manner → ℕ → Option (ℕ × ℕ) → List ℕ
+drawn_text manner unit None = codes " oldest"
+drawn_text manner unit (Some drawn) = codes " draw " ++ (drawn_value manner unit drawn.0 ++ (codes " of " ++ drawn_value manner unit drawn.1))
+
+-- a receipt at a port: whose call was taken, and the number that it sent, or that the thread waits
+abbrev pub received_text : ℕ → ℕ → ℕ → List ℕ
+received_text port client number = codes "receive " ++ (decimal port ++ (codes " client " ++ (decimal client ++ (codes " got " ++ decimal number))))
+
+abbrev pub receiving_text : ℕ → List ℕ
+receiving_text port = codes "receive " ++ (decimal port ++ codes " waits")
+
+-- a reply to a client
+abbrev pub replied_text : ℕ → List ℕ
+replied_text client = codes "reply client " ++ decimal client
 
 -- What a trap came to. An outcome that an action never has gives no text.
-abbrev pub trap_text : Action → Outcome → List ℕ
-trap_text made (outcome.Refused why) = refused (trap_refusal_code why) (trap_refusal_name why)
-trap_text action.Yield outcome.Yielded = codes "yield"
-trap_text (action.Call port number) (outcome.ServedBy server) = codes "call " ++ (decimal port ++ (codes " served by " ++ decimal server))
-trap_text (action.Call port number) outcome.Queued = codes "call " ++ (decimal port ++ codes " queued")
-trap_text (action.Receive port) (outcome.Received client number) =
-    codes "receive " ++ (decimal port ++ (codes " client " ++ (decimal client ++ (codes " got " ++ decimal number))))
-trap_text (action.Receive port) outcome.Waits = codes "receive " ++ (decimal port ++ codes " waits")
-trap_text (action.Reply number) (outcome.Replied client) = codes "reply client " ++ decimal client
-trap_text (action.Lock mutex) outcome.Locked = codes "lock " ++ (decimal mutex ++ codes " taken")
-trap_text (action.Lock mutex) outcome.Waits = codes "lock " ++ (decimal mutex ++ codes " waits")
-trap_text (action.Unlock mutex d) outcome.Freed = codes "unlock " ++ (decimal mutex ++ codes " free")
-trap_text (action.Unlock mutex d) (outcome.Passed to drawn) = codes "unlock " ++ (decimal mutex ++ (codes " to " ++ (decimal to ++ drawn_text drawn)))
-trap_text action.Exit outcome.Exited = codes "exit"
-trap_text other never = []
+abbrev pub trap_text : Manner → ℕ → Action → Outcome → List ℕ
+trap_text manner unit made (outcome.Refused why) = refused (trap_refusal_code why) (trap_refusal_name why)
+trap_text manner unit action.Yield outcome.Yielded = codes "yield"
+trap_text manner unit (action.Call port number) (outcome.ServedBy server) = codes "call " ++ (decimal port ++ (codes " served by " ++ decimal server))
+trap_text manner unit (action.Call port number) outcome.Queued = codes "call " ++ (decimal port ++ codes " queued")
+trap_text manner unit (action.Receive port) (outcome.Received client number) = received_text port client number
+trap_text manner unit (action.Receive port) outcome.Waits = receiving_text port
+trap_text manner unit (action.Reply number) (outcome.Replied client) = replied_text client
+trap_text manner unit (action.Serve port number) (outcome.RepliedThenReceived to client got) = replied_text to ++ (codes " " ++ received_text port client got)
+trap_text manner unit (action.Serve port number) (outcome.RepliedThenWaits to) = replied_text to ++ (codes " " ++ receiving_text port)
+trap_text manner unit (action.Lock mutex) outcome.Locked = codes "lock " ++ (decimal mutex ++ codes " taken")
+trap_text manner unit (action.Lock mutex) outcome.Waits = codes "lock " ++ (decimal mutex ++ codes " waits")
+trap_text manner unit (action.Unlock mutex d) outcome.Freed = codes "unlock " ++ (decimal mutex ++ codes " free")
+trap_text manner unit (action.Unlock mutex d) (outcome.Passed to drawn) = codes "unlock " ++ (decimal mutex ++ (codes " to " ++ (decimal to ++ drawn_text manner unit drawn)))
+trap_text manner unit action.Exit outcome.Exited = codes "exit"
+trap_text manner unit other never = []
 
 -- the same, of the event that the trap was
-abbrev pub trap_text_of : Event → Outcome → List ℕ
-trap_text_of (event.Trap p ran made) came = trap_text made came
-trap_text_of other came = []
+abbrev pub trap_text_of : Manner → ℕ → Event → Outcome → List ℕ
+trap_text_of manner unit (event.Trap p ran made) came = trap_text manner unit made came
+trap_text_of manner unit other came = []
 
 -- whether the quantum was used up
 abbrev pub ends_text : Bool → List ℕ
@@ -179,29 +222,29 @@ activity_text true = codes " active"
 activity_text false = codes " inactive"
 
 -- a ticket's line; `-` stands for no target
-abbrev pub ticket_line : ℕ → ℕ → TicketRow → List ℕ
-ticket_line unit n row =
-    codes "ticket " ++ (decimal n ++ (codes " amount " ++ (decimal row.amount ++ (codes " in " ++ (row.issuer
+abbrev pub ticket_line : Manner → ℕ → ℕ → TicketRow → List ℕ
+ticket_line manner unit n row =
+    front manner ++ (codes "ticket " ++ (decimal n ++ (codes " amount " ++ (decimal row.amount ++ (codes " in " ++ (row.issuer
     ++ (codes " funds " ++ (unwrap_or row.target (codes "-") ++ (activity_text row.is_active
-    ++ (codes " value " ++ (decimal (row.value / unit) ++ newline))))))))))
+    ++ (codes " value " ++ (value_text manner unit row.value ++ newline)))))))))))
 
 -- a currency's value as it is shown: base, which is currency 0, is worth its active amount
-abbrev pub shown_value : ℕ → ℕ → ℕ → ℕ
-shown_value unit n value = if n == 0 then value else value / unit
+abbrev pub currency_value : Manner → ℕ → ℕ → ℕ → List ℕ
+currency_value manner unit n value = if n == 0 then decimal value else value_text manner unit value
 
 -- a currency's line
-abbrev pub currency_line : ℕ → ℕ → CurrencyRow → List ℕ
-currency_line unit n row =
-    codes "currency " ++ (decimal n ++ (codes " " ++ (row.name ++ (codes " backing " ++ (decimal row.backing
+abbrev pub currency_line : Manner → ℕ → ℕ → CurrencyRow → List ℕ
+currency_line manner unit n row =
+    front manner ++ (codes "currency " ++ (decimal n ++ (codes " " ++ (row.name ++ (codes " backing " ++ (decimal row.backing
     ++ (codes " issued " ++ (decimal row.issued ++ (codes " active " ++ (decimal row.active_amount
-    ++ (codes " value " ++ (decimal (shown_value unit n row.value) ++ newline)))))))))))
+    ++ (codes " value " ++ (currency_value manner unit n row.value ++ newline))))))))))))
 
 -- a thread's line
-abbrev pub thread_line : ℕ → ℕ → ThreadRow → List ℕ
-thread_line unit n row =
-    codes "thread " ++ (decimal n ++ (codes " " ++ (row.name ++ (codes " " ++ (status_text row.status
-    ++ (codes " value " ++ (decimal (row.value / unit) ++ (codes " weight " ++ (decimal (row.weight / unit)
-    ++ (codes " quanta " ++ (decimal row.quanta ++ (codes " ticks " ++ (decimal row.ticks ++ newline)))))))))))))
+abbrev pub thread_line : Manner → ℕ → ℕ → ThreadRow → List ℕ
+thread_line manner unit n row =
+    front manner ++ (codes "thread " ++ (decimal n ++ (codes " " ++ (row.name ++ (codes " " ++ (status_text row.status
+    ++ (codes " value " ++ (value_text manner unit row.value ++ (codes " weight " ++ (value_text manner unit row.weight
+    ++ (codes " quanta " ++ (decimal row.quanta ++ (codes " ticks " ++ (decimal row.ticks ++ newline))))))))))))))
 
 -- the lines of the rows that there are
 abbrev pub lines_for : {R : Type 0} → (ℕ → R → List ℕ) → (ℕ → Option R) → List ℕ → List ℕ
@@ -212,13 +255,13 @@ abbrev pub row_count : {R : Type 0} → (ℕ → Option R) → List ℕ → ℕ
 row_count row ns = length (filter (λ n. is_some (row n)) ns)
 
 -- a listing: how many rows it has, and then their lines, by rising number
-abbrev pub listing_text : State → Kind → List ℕ
-listing_text s Tickets =
-    codes "lstkt " ++ (decimal (row_count (ticket_row s) (numbers s.tickets)) ++ (newline ++ lines_for (ticket_line s.limits.unit) (ticket_row s) (numbers s.tickets)))
-listing_text s Currencies =
-    codes "lscur " ++ (decimal (row_count (currency_row s) (range_with_len 0 (length s.currencies))) ++ (newline ++ lines_for (currency_line s.limits.unit) (currency_row s) (range_with_len 0 (length s.currencies))))
-listing_text s Threads =
-    codes "lsthr " ++ (decimal (length s.records) ++ (newline ++ lines_for (thread_line s.limits.unit) (thread_row s) (numbers s.records)))
+abbrev pub listing_text : Manner → State → Kind → List ℕ
+listing_text manner s Tickets =
+    codes "lstkt " ++ (decimal (row_count (ticket_row s) (numbers s.tickets)) ++ (newline ++ lines_for (ticket_line manner s.limits.unit) (ticket_row s) (numbers s.tickets)))
+listing_text manner s Currencies =
+    codes "lscur " ++ (decimal (row_count (currency_row s) (range_with_len 0 (length s.currencies))) ++ (newline ++ lines_for (currency_line manner s.limits.unit) (currency_row s) (range_with_len 0 (length s.currencies))))
+listing_text manner s Threads =
+    codes "lsthr " ++ (decimal (length s.records) ++ (newline ++ lines_for (thread_line manner s.limits.unit) (thread_row s) (numbers s.records)))
 
 -- ---- replies
 
@@ -228,22 +271,22 @@ delivered_text None = []
 delivered_text (Some number) = codes " got " ++ decimal number
 
 -- A reply that asks for no listing. What ends its line is part of it.
-abbrev pub plain_text : Event → Reply → List ℕ
-plain_text e (reply.Ticket n) = codes "ticket " ++ (decimal n ++ newline)
-plain_text e (reply.Currency n) = codes "currency " ++ (decimal n ++ newline)
-plain_text e (reply.Thread n) = codes "thread " ++ (decimal n ++ newline)
-plain_text e (reply.Funded ticket thread) = codes "funded " ++ (decimal ticket ++ (codes " " ++ (decimal thread ++ newline)))
-plain_text e reply.Done = codes "done" ++ newline
-plain_text e (reply.List kind) = []
-plain_text e (reply.Winner thread number total delivered) =
-    codes "draw " ++ (decimal number ++ (codes " of " ++ (decimal total ++ (codes " thread " ++ (decimal thread ++ (delivered_text delivered ++ newline))))))
-plain_text e reply.Idle = codes "idle" ++ newline
-plain_text e (reply.Expired thread ticks) = codes "thread " ++ (decimal thread ++ (codes " ticks " ++ (decimal ticks ++ (codes " expire" ++ newline))))
-plain_text e (reply.Trapped thread ticks came ends) =
-    codes "thread " ++ (decimal thread ++ (codes " ticks " ++ (decimal ticks ++ (codes " " ++ (trap_text_of e came ++ (ends_text ends ++ newline))))))
-plain_text e (reply.Refused why) = refused (refusal_code why) (refusal_name why) ++ newline
+abbrev pub plain_text : Manner → ℕ → Event → Reply → List ℕ
+plain_text manner unit e (reply.Ticket n) = codes "ticket " ++ (decimal n ++ newline)
+plain_text manner unit e (reply.Currency n) = codes "currency " ++ (decimal n ++ newline)
+plain_text manner unit e (reply.Thread n) = codes "thread " ++ (decimal n ++ newline)
+plain_text manner unit e (reply.Funded ticket thread) = codes "funded " ++ (decimal ticket ++ (codes " " ++ (decimal thread ++ newline)))
+plain_text manner unit e reply.Done = codes "done" ++ newline
+plain_text manner unit e (reply.List kind) = []
+plain_text manner unit e (reply.Winner thread number total delivered) =
+    codes "draw " ++ (drawn_value manner unit number ++ (codes " of " ++ (drawn_value manner unit total ++ (codes " thread " ++ (decimal thread ++ (delivered_text delivered ++ newline))))))
+plain_text manner unit e reply.Idle = codes "idle" ++ newline
+plain_text manner unit e (reply.Expired thread ticks) = codes "thread " ++ (decimal thread ++ (codes " ticks " ++ (decimal ticks ++ (codes " expire" ++ newline))))
+plain_text manner unit e (reply.Trapped thread ticks came ends) =
+    codes "thread " ++ (decimal thread ++ (codes " ticks " ++ (decimal ticks ++ (codes " " ++ (trap_text_of manner unit e came ++ (ends_text ends ++ newline))))))
+plain_text manner unit e (reply.Refused why) = refused (refusal_code why) (refusal_name why) ++ newline
 
 -- a reply, and its listing, given the state after the event
-abbrev pub reply_text : State → Event → Reply → List ℕ
-reply_text s e (reply.List kind) = listing_text s kind
-reply_text s e other = plain_text e other
+abbrev pub reply_text : Manner → State → Event → Reply → List ℕ
+reply_text manner s e (reply.List kind) = listing_text manner s kind
+reply_text manner s e other = plain_text manner s.limits.unit e other

@@ -18,14 +18,19 @@ header_words =
     (codes "lottery", header.Lottery) ∷ (codes "processors", header.Processors) ∷ (codes "quantum", header.Quantum)
     ∷ (codes "turns", header.Turns) ∷ (codes "seed", header.Seed) ∷ (codes "limits", header.Limits) ∷ []
 
+-- the same of an input whose turns come in the order of time, which says besides how long it runs
+abbrev pub timed_header_words : List (List ℕ × HeaderWord)
+timed_header_words = (codes "for", header.For) ∷ header_words
+
 -- a header word's place in that order
 abbrev pub header_place : HeaderWord → ℕ
 header_place header.Lottery = 0
 header_place header.Processors = 1
 header_place header.Quantum = 2
 header_place header.Turns = 3
-header_place header.Seed = 4
-header_place header.Limits = 5
+header_place header.For = 4
+header_place header.Seed = 5
+header_place header.Limits = 6
 
 -- the words of the body
 abbrev pub body_words : List (List ℕ × BodyWord)
@@ -37,6 +42,10 @@ body_words =
     ∷ (codes "lscur", body.ListCurrencies) ∷ (codes "lsthr", body.ListThreads) ∷ (codes "schedule", body.Schedule)
     ∷ (codes "runs", body.Runs) ∷ []
 
+-- the same of an input whose turns come in the order of time, which says besides when its commands are made
+abbrev pub timed_body_words : List (List ℕ × BodyWord)
+timed_body_words = (codes "at", body.At) ∷ body_words
+
 -- the words of a script
 abbrev pub script_words : List (List ℕ × ScriptWord)
 script_words =
@@ -44,3 +53,7 @@ script_words =
     ∷ (codes "end", script.End) ∷ (codes "yield", script.Yield) ∷ (codes "reply", script.Reply) ∷ (codes "call", script.Call)
     ∷ (codes "receive", script.Receive) ∷ (codes "lock", script.Lock) ∷ (codes "unlock", script.Unlock)
     ∷ (codes "endscript", script.EndScript) ∷ []
+
+-- the same of an input whose turns come in the order of time, whose servers may reply and receive in one trap
+abbrev pub timed_script_words : List (List ℕ × ScriptWord)
+timed_script_words = (codes "serve", script.Serve) ∷ script_words

@@ -25,6 +25,8 @@ first_run = record {
   commands = MakeTicket 10 base ∷ MakeThread (codes "a") 1 ∷ Fund 1 (codes "a") ∷ MakeTicket 5 base ∷ MakeThread (codes "b") 1 ∷ Fund 2 (codes "b") ∷ [];
   turns = 0;
   schedule = [];
+  duration = None;
+  times = [];
 }
 
 -- the same with finer values
@@ -40,8 +42,17 @@ call_and_reply = record {
   commands = MakeFunded 5 base (codes "s") 1 ∷ MakeFunded 5 base (codes "c") 2 ∷ [];
   turns = 0;
   schedule = [];
+  duration = None;
+  times = [];
+}
+
+-- a server that replies and receives in one trap, and two clients
+abbrev pub serving : Program
+serving = record call_and_reply {
+  scripts = (line.Receive 1 ∷ line.Add 1 ∷ line.Serve 1 ∷ line.Add 1 ∷ line.Serve 1 ∷ []) ∷ (line.Set 41 ∷ line.Call 1 ∷ []) ∷ [];
+  commands = MakeFunded 5 base (codes "s") 1 ∷ MakeFunded 5 base (codes "c") 2 ∷ MakeFunded 5 base (codes "d") 2 ∷ [];
 }
 
 -- two processors and one thread
 abbrev pub two_processors : Program
-two_processors = record { limits = largest; seeds = 1 ∷ 2 ∷ []; scripts = (line.Compute 150 ∷ []) ∷ []; commands = MakeFunded 10 base (codes "a") 1 ∷ []; turns = 0; schedule = [] }
+two_processors = record { limits = largest; seeds = 1 ∷ 2 ∷ []; scripts = (line.Compute 150 ∷ []) ∷ []; commands = MakeFunded 10 base (codes "a") 1 ∷ []; turns = 0; schedule = []; duration = None; times = [] }

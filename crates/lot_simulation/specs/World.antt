@@ -1,5 +1,5 @@
 -- The simulated system: a console, processors with their generators, and threads with their scripts.
-use Rattle.std.specs.Prelude.{ℕ, ◌-◌, ◌≤◌, ◌==◌, Bool, true, false, Option, Some, None, List, [], ◌∷◌, ◌++◌, length, map, drop, count_by, All, unwrap_or, if◌then◌else◌}
+use Rattle.std.specs.Prelude.{ℕ, ◌-◌, ◌≤◌, ◌==◌, Bool, true, false, Option, Some, None, is_some, List, [], ◌∷◌, ◌++◌, length, map, drop, count_by, All, unwrap_or, if◌then◌else◌}
 use Rattle.std.specs.List.{last_or}
 use Rattle.lot_simulation.specs.declared.script.Line.{Line}
 use Rattle.lot_simulation.specs.declared.script.ScriptTrap.{ScriptTrap}
@@ -12,16 +12,17 @@ use Rattle.lot_machine.specs.declared.event.Event.TheVariants as event
 use Rattle.lot_machine.specs.declared.reply.Reply.{Reply}
 use Rattle.lot_machine.specs.declared.reply.Reply.TheVariants as reply
 use Rattle.lot_machine.specs.declared.reply.Outcome.{Outcome}
-use Rattle.lot_machine.specs.declared.reply.Outcome.TheVariants.{Received}
+use Rattle.lot_machine.specs.declared.reply.Outcome.TheVariants.{Received, RepliedThenReceived}
 use Rattle.lot_machine.specs.declared.sizes.Sizes.{Sizes}
 use Rattle.lot_machine.specs.Numbered.{at_number, set_number}
-use Rattle.lot_machine.specs.Lottery.{drawn_number, seed_after_number}
+use Rattle.lot_machine.specs.Lottery.{drawn_number, seed_after_number, wide_number, seed_after_wide_number}
 use Rattle.lot_machine.specs.State.{State, opening, thread_on}
 use Rattle.lot_machine.specs.Commands.{Step}
 use Rattle.lot_machine.specs.Step.{step, used_there}
 use Rattle.lot_simulation.specs.Script.{Context, Slice, slice, start}
 
--- what an input says: a system, how many turns each processor has in a free run, and whose turns a scheduled one has
+-- What an input says: a system, how many turns each processor has in a free run, and whose turns a scheduled one has; or how many
+-- ticks it runs for, if its turns come in the order of time.
 pub record Program : Type 0 where
   pub limits : Sizes
   pub seeds : List ℕ  -- one for each processor
@@ -29,24 +30,39 @@ pub record Program : Type 0 where
   pub scripts : List (List Line)  -- numbered from 1
   pub commands : List Command
   pub schedule : List ℕ
+  pub duration : Option ℕ
+  pub times : List ℕ  -- when the commands are made, in the order of time
 
 -- the kernel's state, each thread's context, each processor's generator, the commands left, and who has had turns
 pub record World : Type 0 where
   pub state : State
   pub contexts : List Context
   pub generators : List ℕ
+  pub is_wide : Bool  -- whether wide numbers are drawn
   pub commands : List Command
   pub history : List ℕ
 
--- at the start: no thread, all commands, and no turn made
+-- At the start: no thread, all commands, and no turn made. Wide numbers are drawn if turns come in the order of time.
 abbrev pub opening_world : Program → World
-opening_world program = record { state = opening program.limits; contexts = []; generators = program.seeds; commands = program.commands; history = [] }
+opening_world program = record { state = opening program.limits; contexts = []; generators = program.seeds; is_wide = is_some program.duration; commands = program.commands; history = [] }
 
 -- ---- what an actor's next turn is
 
 -- the value of the processor's generator
 abbrev pub generator_of : World → ℕ → ℕ
 generator_of w p = unwrap_or (at_number w.generators p) 0
+
+-- the number that a generator with this value gives, a wide one or not
+abbrev pub number_from : Bool → ℕ → ℕ
+number_from is_wide seed = if is_wide then wide_number seed else drawn_number seed
+
+-- the generator's value after that number
+abbrev pub seed_from : Bool → ℕ → ℕ
+seed_from is_wide seed = if is_wide then seed_after_wide_number seed else seed_after_number seed
+
+-- the processor's next number
+abbrev pub number_of : World → ℕ → ℕ
+number_of w p = number_from w.is_wide (generator_of w p)
 
 -- where the thread is in its script
 abbrev pub context_of : World → ℕ → Context
@@ -56,12 +72,13 @@ context_of w t = unwrap_or (at_number w.contexts t) (record { rest = []; accumul
 abbrev pub slice_on : World → ℕ → ℕ → Slice
 slice_on w p t = slice (context_of w t) (w.state.limits.quantum - used_there w.state p)
 
--- Calls and replies carry the accumulator, and an unlock the drawn number.
+-- Calls, replies and servings carry the accumulator, and an unlock the drawn number.
 abbrev pub action_of : ScriptTrap → ℕ → ℕ → Action
 action_of script_trap.Yield accumulator drawn = action.Yield
 action_of (script_trap.Call port) accumulator drawn = action.Call port accumulator
 action_of (script_trap.Receive port) accumulator drawn = action.Receive port
 action_of script_trap.Reply accumulator drawn = action.Reply accumulator
+action_of (script_trap.Serve port) accumulator drawn = action.Serve port accumulator
 action_of (script_trap.Lock mutex) accumulator drawn = action.Lock mutex
 action_of (script_trap.Unlock mutex) accumulator drawn = action.Unlock mutex drawn
 action_of script_trap.Exit accumulator drawn = action.Exit
@@ -79,8 +96,8 @@ abbrev pub processor_event : World → ℕ → Event
 processor_event w p = made (thread_on w.state.records p)
   where
     made : Option ℕ → Event
-    made None = event.Draw p (drawn_number (generator_of w p))
-    made (Some t) = event_of_slice p (drawn_number (generator_of w p)) (slice_on w p t)
+    made None = event.Draw p (number_of w p)
+    made (Some t) = event_of_slice p (number_of w p) (slice_on w p t)
 
 -- ---- what it leaves
 
@@ -92,11 +109,12 @@ takes_number other = false
 
 -- the generators after the event
 abbrev pub generators_after : World → ℕ → Event → List ℕ
-generators_after w p e = if takes_number e then set_number w.generators p (seed_after_number (generator_of w p)) else w.generators
+generators_after w p e = if takes_number e then set_number w.generators p (seed_from w.is_wide (generator_of w p)) else w.generators
 
 -- the number that was received with a call
 abbrev pub number_delivered : Outcome → Option ℕ
 number_delivered (Received client number) = Some number
+number_delivered (RepliedThenReceived to client number) = Some number
 number_delivered other = None
 
 -- a number that is handed over becomes the accumulator
@@ -135,7 +153,7 @@ console_turn program w (c ∷ cs) = made (step w.state (event.Command c))
   where
     made : Step → Turn
     made done = record {
-      world = record { state = done.state; contexts = w.contexts ++ new_contexts program w.state done.state; generators = w.generators; commands = cs; history = w.history ++ 0 ∷ [] };
+      world = record { state = done.state; contexts = w.contexts ++ new_contexts program w.state done.state; generators = w.generators; is_wide = w.is_wide; commands = cs; history = w.history ++ 0 ∷ [] };
       answer = Answered (event.Command c) done.reply;
     }
 
@@ -145,7 +163,7 @@ processor_turn w p e = made (step w.state e)
   where
     made : Step → Turn
     made done = record {
-      world = record { state = done.state; contexts = contexts_after w p done.reply; generators = generators_after w p e; commands = w.commands; history = w.history ++ p ∷ [] };
+      world = record { state = done.state; contexts = contexts_after w p done.reply; generators = generators_after w p e; is_wide = w.is_wide; commands = w.commands; history = w.history ++ p ∷ [] };
       answer = Answered e done.reply;
     }
 

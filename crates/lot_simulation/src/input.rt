@@ -7,6 +7,7 @@ pub enum HeaderWord {
     Processors,
     Quantum,
     Turns,
+    For,
     Seed,
     Limits,
 }
@@ -30,6 +31,7 @@ pub enum BodyWord {
     ListThreads,
     Schedule,
     Runs,
+    At,
 }
 
 /// A word that begins a line of a script, or the line that closes it.
@@ -42,6 +44,7 @@ pub enum ScriptWord {
     End,
     Yield,
     Reply,
+    Serve,
     Call,
     Receive,
     Lock,

@@ -4,11 +4,16 @@
 
 mod input;
 pub mod laws;
+mod manner;
 pub mod printed;
 pub mod read;
 mod script;
 pub mod sliced;
+mod timed;
+pub mod timed_rows;
 pub mod worked;
 
 pub use input::{BodyWord, HeaderWord, InputFault, InputRefusal, ScriptWord};
+pub use manner::Manner;
 pub use script::{Line, ScriptTrap};
+pub use timed::{Clock, Due, WaitChange, Waits};

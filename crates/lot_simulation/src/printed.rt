@@ -73,7 +73,7 @@ pub fn refused_inputs()
     ensures body { output (text (codes "lottery 1" ∷ codes "schedule 0" ∷ codes "seed 1" ∷ [])) ≡ refused_on_line (codes "3 50 BadHeader") }
     ensures seeds { output (text (codes "lottery 1" ∷ codes "seed 1 2" ∷ [])) ≡ refused_on_line (codes "2 51 BadLine") }
     ensures unknown { output (text (codes "lottery 1" ∷ codes "script s" ∷ codes "call q" ∷ [])) ≡ refused_on_line (codes "3 53 UnknownName") }
-    ensures version { output (text (codes "lottery 3" ∷ [])) ≡ refused_on_line (codes "1 50 BadHeader") }
+    ensures version { output (text (codes "lottery 4" ∷ [])) ≡ refused_on_line (codes "1 50 BadHeader") }
     ensures long { output (text (codes "lottery 1" ∷ comment 4096 ∷ [])) ≡ refused_on_line (codes "2 56 TooLong") }
     ensures fits { output (text (codes "lottery 1" ∷ comment 4095 ∷ [])) ≡ empty_report }
 {}

@@ -1,6 +1,6 @@
 //! Whole systems, computed turn by turn.
 ghost use Rattle.std.specs.Prelude.{◌≡◌, [], ◌∷◌, false, Some, None};
-ghost use Rattle.lot_simulation.specs.WorkedSystems.{played, first_run, finer_run, call_and_reply, two_processors};
+ghost use Rattle.lot_simulation.specs.WorkedSystems.{played, first_run, finer_run, call_and_reply, serving, two_processors};
 ghost use Rattle.lot_simulation.specs.Script.{unrolled};
 ghost use Rattle.lot_simulation.specs.Script.Item.{Work, Set, Traps};
 ghost use Rattle.lot_simulation.specs.World.{IsLegal, last_answer};
@@ -23,6 +23,11 @@ pub fn systems()
         ≡ Some (reply.Funded 1 1) ∷ Some (reply.Funded 2 2) ∷ Some (reply.Winner 1 4 10 None) ∷ Some (reply.Trapped 1 1 outcome.Waits false)
         ∷ Some (reply.Winner 2 4 5 None) ∷ Some (reply.Trapped 2 2 (outcome.ServedBy 1) false) ∷ Some (reply.Winner 1 5 100 (Some 41)) ∷ Some (reply.Trapped 1 2 (outcome.Replied 2) false)
         ∷ Some (reply.Trapped 1 1 outcome.Exited false) ∷ Some (reply.Winner 2 5 25 (Some 42)) ∷ Some (reply.Trapped 2 3 outcome.Exited false) ∷ Some reply.Idle ∷ [] }
+    ensures serving { played serving (0 ∷ 0 ∷ 0 ∷ 1 ∷ 1 ∷ 1 ∷ 1 ∷ 1 ∷ 1 ∷ 1 ∷ 1 ∷ 1 ∷ 1 ∷ 1 ∷ 1 ∷ [])
+        ≡ Some (reply.Funded 1 1) ∷ Some (reply.Funded 2 2) ∷ Some (reply.Funded 3 3) ∷ Some (reply.Winner 2 9 15 None) ∷ Some (reply.Trapped 2 2 outcome.Queued false)
+        ∷ Some (reply.Winner 3 9 10 None) ∷ Some (reply.Trapped 3 2 outcome.Queued false) ∷ Some (reply.Winner 1 0 5 None) ∷ Some (reply.Trapped 1 1 (outcome.Received 2 41) false)
+        ∷ Some (reply.Trapped 1 2 (outcome.RepliedThenReceived 2 3 41) false) ∷ Some (reply.Trapped 1 2 (outcome.RepliedThenWaits 3) false)
+        ∷ Some (reply.Winner 2 5 50 (Some 42)) ∷ Some (reply.Trapped 2 1 outcome.Exited false) ∷ Some (reply.Winner 3 20 25 (Some 42)) ∷ Some (reply.Trapped 3 1 outcome.Exited false) ∷ [] }
     ensures two_processors { played two_processors (0 ∷ 1 ∷ 2 ∷ 1 ∷ 2 ∷ 0 ∷ [])
         ≡ Some (reply.Funded 1 1) ∷ Some (reply.Winner 1 4 10 None) ∷ Some reply.Idle ∷ Some (reply.Expired 1 100) ∷ Some (reply.Winner 1 3 10 None) ∷ None ∷ [] }
     ensures loops { unrolled (line.Loop 2 ∷ line.Set 7 ∷ line.Loop 1 ∷ line.Yield ∷ line.End ∷ line.End ∷ line.Reply ∷ [])

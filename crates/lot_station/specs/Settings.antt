@@ -1,5 +1,5 @@
 -- Systems of a program and a room.
-use Rattle.std.specs.Prelude.{ℕ, ◌==◌, List, [], count_by}
+use Rattle.std.specs.Prelude.{ℕ, ◌==◌, List, [], count_by, None}
 use Rattle.lot_simulation.specs.Report.{ActorTurn, turns_made, turns_of}
 use Rattle.lot_simulation.specs.World.{IsLegal}
 use Rattle.lot_system.specs.declared.counts.Counts.{Counts}
@@ -46,6 +46,8 @@ no_setting = record {
     scripts = [];
     commands = [];
     schedule = [];
+    duration = None;
+    times = [];
   };
   room = 0;
 }

@@ -3,6 +3,10 @@ pub mod ReplyFacts
 pub mod Runs
 pub mod PlaceFacts
 pub mod TurnFacts
+pub mod TimeFacts
+pub mod WaitFacts
+pub mod FollowFacts
+pub mod TimedReportFacts
 pub mod CountFacts
 pub mod RecordCounts
 pub mod ProcessorCounts

@@ -12,6 +12,7 @@ opens program = record {
   kept = record { limits = refl; records = refl; count = omega arith };
   places_at = tt;
   seeds = refl;
+  wide = refl;
   commands = refl;
 }
 

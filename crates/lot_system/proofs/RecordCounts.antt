@@ -8,7 +8,7 @@ use Rattle.lot_machine.specs.declared.record.Record.{Record}
 use Rattle.lot_machine.specs.declared.record.Status.{Status}
 use Rattle.lot_machine.specs.declared.record.Status.TheVariants as status
 use Rattle.lot_machine.specs.declared.action.Action.{Action}
-use Rattle.lot_machine.specs.declared.action.Action.TheVariants.{Yield, Call, Receive, Reply as ReplyTo, Lock, Unlock, Exit}
+use Rattle.lot_machine.specs.declared.action.Action.TheVariants.{Yield, Call, Receive, Reply as ReplyTo, Serve, Lock, Unlock, Exit}
 use Rattle.lot_machine.specs.declared.after.After.{After}
 use Rattle.lot_machine.specs.declared.after.After.TheVariants.{GoesOn, Leaves, Ends}
 use Rattle.lot_machine.specs.declared.command.Command.{Command}
@@ -25,7 +25,7 @@ use Rattle.lot_machine.specs.Lottery.{winner}
 use Rattle.lot_machine.specs.State.{State, QueuedCall, Port, Mutex, thread_on, change_record, ready_threads, value_of, weight_of, saturated}
 use Rattle.lot_machine.specs.Commands.{Step, with_thread, command_effect, command_step, unless_refused}
 use Rattle.lot_machine.specs.Traps.{after_trap, with_ticks}
-use Rattle.lot_machine.specs.Ports.{port_at, call, receive, reply}
+use Rattle.lot_machine.specs.Ports.{port_at, call, receive, reply, serve}
 use Rattle.lot_machine.specs.Mutexes.{mutex_at, lock, unlock}
 use Rattle.lot_machine.specs.Step.{Effect, is_bad_processor, started, draw, expire, trap, trap_refusal, trap_effect, checked_effect, thread_there, used_there, event_effect, step}
 use Rattle.lot_machine.specs.Order.{IsInOrder}
@@ -198,6 +198,11 @@ module _ (g : Record → ℕ) (even : (r : Record) (st : Status) (compensation d
   reply-even : (records : List Record) (clients : List (List ℕ)) (ports : List Port) (server number : ℕ) → sum_by g (reply records clients ports server number).records ≡ sum_by g records
   reply-even records clients ports server number = change-leaves g _ records _ (λ r. even r status.Ready r.compensation (Some number))
 
+  serve-even : (records : List Record) (clients : List (List ℕ)) (ports : List Port) (server port number : ℕ) → sum_by g (serve records clients ports server port number).records ≡ sum_by g records
+  serve-even records clients ports server port number =
+      let replied = reply records clients ports server number in
+      receive-even replied.records replied.clients replied.ports server port ∙ reply-even records clients ports server number
+
   lock-even : (records : List Record) (mutexes : List Mutex) (u m : ℕ) → sum_by g (lock records mutexes u m).records ≡ sum_by g records
   lock-even records mutexes u m = at (mutex_at mutexes m).owner refl
     where
@@ -217,6 +222,7 @@ module _ (g : Record → ℕ) (even : (r : Record) (st : Status) (compensation d
   effect-even s t (Call port number) = call-even s.records s.clients s.ports t port number
   effect-even s t (Receive port) = receive-even s.records s.clients s.ports t port
   effect-even s t (ReplyTo number) = reply-even s.records s.clients s.ports t number
+  effect-even s t (Serve port number) = serve-even s.records s.clients s.ports t port number
   effect-even s t (Lock m) = lock-even s.records s.mutexes t m
   effect-even s t (Unlock m d) = unlock-even s.records s.mutexes (value_of s) m d
   effect-even s t Exit = refl

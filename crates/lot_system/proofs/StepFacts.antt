@@ -3,7 +3,7 @@ use Rattle.std.proofs.Common.{◌≡◌, ℕ, Option, Some, None, List, [], ◌�
 use Rattle.std.proofs.lemmas.List.{length-set}
 use Rattle.lot_machine.specs.declared.record.Record.{Record}
 use Rattle.lot_machine.specs.declared.action.Action.{Action}
-use Rattle.lot_machine.specs.declared.action.Action.TheVariants.{Yield, Call, Receive, Reply as ReplyTo, Lock, Unlock, Exit}
+use Rattle.lot_machine.specs.declared.action.Action.TheVariants.{Yield, Call, Receive, Reply as ReplyTo, Serve, Lock, Unlock, Exit}
 use Rattle.lot_machine.specs.declared.event.Event.TheVariants as event
 use Rattle.lot_machine.specs.declared.drawn.Drawn.{Drawn}
 use Rattle.lot_machine.specs.declared.refusal.Refusal.{Refusal}
@@ -13,7 +13,7 @@ use Rattle.lot_machine.specs.Lottery.{winner}
 use Rattle.lot_machine.specs.State.{State, QueuedCall, Port, Mutex, change_record, ready_threads, value_of, weight_of}
 use Rattle.lot_machine.specs.Commands.{Step, unless_refused}
 use Rattle.lot_system.specs.Steps.{KeepsThreads}
-use Rattle.lot_machine.specs.Ports.{port_at, call, receive, reply}
+use Rattle.lot_machine.specs.Ports.{port_at, call, receive, reply, serve}
 use Rattle.lot_machine.specs.Mutexes.{mutex_at, lock, unlock}
 use Rattle.lot_machine.specs.Step.{Effect, draw, expire, trap, trap_refusal, trap_effect, checked_effect, thread_there, used_there, event_refusal, event_effect, step}
 
@@ -61,11 +61,17 @@ module _ (records : List Record) where
       at [] is = rw is refl
       at (w ∷ ws) is = rw is (length-change_record _ records _)
 
+serve-records : (records : List Record) (clients : List (List ℕ)) (ports : List Port) (server port number : ℕ) → length (serve records clients ports server port number).records ≡ length records
+serve-records records clients ports server port number =
+    let replied = reply records clients ports server number in
+    receive-records replied.records replied.clients replied.ports server port ∙ reply-records records clients ports server number
+
 pub effect-same : (s : State) (t : ℕ) (action : Action) → KeepsThreads s (trap_effect s t action).state
 effect-same s t Yield = same s
 effect-same s t (Call port number) = record { threads = refl; records = call-records s.records s.clients s.ports t port number; limits = refl }
 effect-same s t (Receive port) = record { threads = refl; records = receive-records s.records s.clients s.ports t port; limits = refl }
 effect-same s t (ReplyTo number) = record { threads = refl; records = reply-records s.records s.clients s.ports t number; limits = refl }
+effect-same s t (Serve port number) = record { threads = refl; records = serve-records s.records s.clients s.ports t port number; limits = refl }
 effect-same s t (Lock m) = record { threads = refl; records = lock-records s.records s.mutexes t m; limits = refl }
 effect-same s t (Unlock m d) = record { threads = refl; records = unlock-records s.records s.mutexes (value_of s) m d; limits = refl }
 effect-same s t Exit = same s

@@ -1,6 +1,6 @@
 -- What a system holds after a turn is what the world comes to.
 use Rattle.std.proofs.Common.{◌≡◌, ◌↔◌, ℕ, suc, ◌+◌, ◌-◌, ◌<◌, ◌≤◌, ◌==◌, Bool, true, false, Option, Some, None, List, [], ◌∷◌, ◌++◌, length, drop, get_or, unwrap_or, option_map, refl, sym, ◌∙◌, ap, subst, arith, length-append, ne_eqb}
-use Rattle.std.specs.Prelude.{if◌then◌else◌, nat_lt, count_by}
+use Rattle.std.specs.Prelude.{if◌then◌else◌, nat_lt, count_by, is_some}
 use Rattle.std.proofs.Math.Seq.{drop-cons}
 use Rattle.std.proofs.Math.ListN.{drop_of_length-le}
 use Rattle.std.proofs.lemmas.Bool.{ltb-true, ltb-false}
@@ -19,12 +19,11 @@ use Rattle.lot_machine.specs.declared.event.Event.TheVariants as event
 use Rattle.lot_machine.specs.declared.reply.Reply.{Reply}
 use Rattle.lot_machine.specs.declared.reply.Reply.TheVariants as reply
 use Rattle.lot_machine.specs.Bounds.{IsBetween}
-use Rattle.lot_machine.specs.Lottery.{drawn_number, seed_after_number}
 use Rattle.lot_machine.specs.Numbered.{at_number, set_number}
 use Rattle.lot_simulation.specs.Script.{Context, slice}
 use Rattle.lot_machine.specs.State.{State, thread_on, used_by}
 use Rattle.lot_machine.specs.Step.{step, thread_there, used_there}
-use Rattle.lot_simulation.specs.World.{Program, World, action_of, event_of_slice, generator_of, context_of, slice_on, processor_event, takes_number, delivered_to, number_delivered, contexts_after, new_contexts, console_turn, processor_turn, system_turn, IsLegal}
+use Rattle.lot_simulation.specs.World.{Program, World, action_of, event_of_slice, generator_of, number_from, seed_from, number_of, context_of, slice_on, processor_event, takes_number, delivered_to, number_delivered, contexts_after, new_contexts, console_turn, processor_turn, system_turn, IsLegal}
 use Rattle.lot_simulation.specs.World.Answer.{Answered}
 use Rattle.lot_machine.proofs.RecordsKept.{found-runs}
 use Rattle.lot_script.specs.Drafts.{IsScript}
@@ -101,6 +100,7 @@ module _ (program : Program) (w : World) (s : State) (places : List Place) (seed
           kept = kept-made program s after r held.kept command-made;
           places_at = subst (λ (x : State). AreAt program after.threads now (w.contexts ++ new_contexts program w.state x)) ends (subst (λ (x : State). AreAt program after.threads now (w.contexts ++ new_contexts program x after)) held.state at);
           seeds = held.seeds;
+          wide = held.wide;
           commands = sym left;
         })
 
@@ -118,7 +118,7 @@ slice-done program w p work given is of exact =
     ap (λ b. slice (context_of w work.thread) b) budget ∙ ap (λ x. slice x given.budget) context ∙ exact.sliced
 
 pub event-is : (program : Program) (w : World) (p drawn : ℕ) (work : Option Work) (given : Option Parts) → 0 < p → IsWorkIn program w p work → Matches program work given → IfSome given IsSlice
-    → drawn ≡ drawn_number (generator_of w p) → processor_event w p ≡ event_given p drawn given
+    → drawn ≡ number_of w p → processor_event w p ≡ event_given p drawn given
 event-is program w p drawn None None some is matches exact e = rw (is some, e) refl
 event-is program w p drawn None (Some given) some is matches exact e = absurd matches
 event-is program w p drawn (Some work) None some is matches exact e = absurd matches
@@ -259,11 +259,11 @@ module _ (program : Program) (w : World) (p : ℕ) (threads : List Thread) (plac
     slice-follows (reply.List kind) names = absurd names
 
 module _ (program : Program) (w : World) (s : State) (places : List Place) (seeds : List ℕ) (spent : ℕ) (held : IsHeld program w s places seeds spent) (p : ℕ) (some : 0 < p) where
-  module _ (drawn : ℕ) (work : Option Work) (given : Option Parts) (is : IsWorkIn program w p work) (matches : Matches program work given) (exact : IfSome given IsSlice) (number : drawn ≡ drawn_number (unwrap_or (at_number seeds p) 0)) where
+  module _ (drawn : ℕ) (work : Option Work) (given : Option Parts) (is : IsWorkIn program w p work) (matches : Matches program work given) (exact : IfSome given IsSlice) (number : drawn ≡ number_from (is_some program.duration) (unwrap_or (at_number seeds p) 0)) where
     module _ (e : Event) (event_is : e ≡ event_given p drawn given) (after : State) (r : Reply) (state : after ≡ (step s e).state) (replied : r ≡ (step s e).reply) where
       its-event : processor_event w p ≡ e
       its-event =
-          event-is program w p drawn work given some is matches exact (number ∙ ap (λ (ns : List ℕ). drawn_number (unwrap_or (at_number ns p) 0)) held.seeds) ∙ sym event_is
+          event-is program w p drawn work given some is matches exact (number ∙ ap (λ (ns : List ℕ). number_from (is_some program.duration) (unwrap_or (at_number ns p) 0)) held.seeds ∙ ap (λ wide. number_from wide (generator_of w p)) (sym held.wide)) ∙ sym event_is
 
       its-turn : system_turn program w p ≡ processor_turn w p e
       its-turn = system_turn-processor program w p some ∙ ap (processor_turn w p) its-event
@@ -297,7 +297,7 @@ module _ (program : Program) (w : World) (s : State) (places : List Place) (seed
               slice-follows program w p s.threads places held.places_at wk g a.1 b c (ap (λ (x : State). x.threads) held.state) (rw (← count) between) r
               (rw told (subst (λ t. OfRun t (step s (event_given p drawn (Some g))).reply) (there-is program w s p held.state wk.thread a.1.runs) named))
 
-      pub turn-held : (now : List Place) (passed : List ℕ) → now ≡ places_after places given r → passed ≡ (if takes_number e then set_number seeds p (seed_after_number (unwrap_or (at_number seeds p) 0)) else seeds)
+      pub turn-held : (now : List Place) (passed : List ℕ) → now ≡ places_after places given r → passed ≡ (if takes_number e then set_number seeds p (seed_from (is_some program.duration) (unwrap_or (at_number seeds p) 0)) else seeds)
           → IsHeld program (system_turn program w p).world after now passed spent
       turn-held now passed at numbers =
           let replies : r ≡ (step w.state e).reply = replied ∙ ap (λ (x : State). (step x e).reply) held.state in
@@ -306,7 +306,9 @@ module _ (program : Program) (w : World) (s : State) (places : List Place) (seed
             state = state ∙ ap (λ (x : State). (step x e).state) held.state;
             kept = kept-in program s after None held.kept same-threads;
             places_at = subst (λ (x : Reply). AreAt program after.threads now (contexts_after w p x)) replies places_now;
-            seeds = numbers ∙ ap (λ (ns : List ℕ). if takes_number e then set_number ns p (seed_after_number (unwrap_or (at_number ns p) 0)) else ns) held.seeds;
+            seeds = numbers ∙ ap (λ (ns : List ℕ). if takes_number e then set_number ns p (seed_from (is_some program.duration) (unwrap_or (at_number ns p) 0)) else ns) held.seeds
+                ∙ ap (λ wide. if takes_number e then set_number w.generators p (seed_from wide (generator_of w p)) else w.generators) (sym held.wide);
+            wide = held.wide;
             commands = held.commands;
           })
 

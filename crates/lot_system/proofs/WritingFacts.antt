@@ -19,7 +19,7 @@ put-written old mid new before after text failed (Err fault) none one two = (two
 
 -- ---- texts of the numbers of a range
 
-range-push : (f : ℕ → List ℕ) (a k : ℕ) → flat_map f (range_with_len a (suc k)) ≡ flat_map f (range_with_len a k) ++ f (a + k)
+pub range-push : {A : Type 0} (f : ℕ → List A) (a k : ℕ) → flat_map f (range_with_len a (suc k)) ≡ flat_map f (range_with_len a k) ++ f (a + k)
 range-push f a zero = let e : a + 0 ≡ a = omega arith in append-nil (f a) ∙ ap f (sym e)
 range-push f a (suc k) =
     let e : a + 1 + k ≡ a + suc k = omega arith in

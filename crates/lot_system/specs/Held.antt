@@ -1,5 +1,5 @@
 -- How a system's fields hold the world of its history.
-use Rattle.std.specs.Prelude.{◌≡◌, ℕ, ◌≤◌, ⊤, List, [], ◌∷◌, length, drop, unwrap_or}
+use Rattle.std.specs.Prelude.{◌≡◌, ℕ, ◌≤◌, ⊤, List, [], ◌∷◌, length, drop, is_some, unwrap_or}
 use Rattle.lot_simulation.specs.declared.script.Line.{Line}
 use Rattle.lot_machine.specs.declared.record.Thread.{Thread}
 use Rattle.lot_machine.specs.Bounds.{IsBetween}
@@ -31,10 +31,12 @@ pub record IsKept (program : Program) (s : State) : Type 0 where
   pub records : length s.records ≡ length s.threads
   pub count : length s.threads ≤ s.limits.threads
 
--- the kernel's state, the threads' places, the values of the generators and the count of commands run are those of the world
+-- The kernel's state, the threads' places, the values of the generators and the count of commands run are those of the world, which draws
+-- wide numbers if the program says how long it runs.
 pub record IsHeld (program : Program) (w : World) (s : State) (places : List Place) (generators : List ℕ) (spent : ℕ) : Type 0 where
   pub state : s ≡ w.state
   pub kept : IsKept program s
   pub places_at : AreAt program s.threads places w.contexts
   pub seeds : generators ≡ w.generators
+  pub wide : w.is_wide ≡ is_some program.duration
   pub commands : drop spent program.commands ≡ w.commands

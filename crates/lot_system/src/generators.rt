@@ -1,9 +1,9 @@
 //! The processors' generators.
 ghost use Rattle.std.specs.Prelude.{◌≡◌, IfOk, length, unwrap_or, vec_len, if◌then◌else◌};
 ghost use Rattle.lot_machine.specs.Bounds.{IsBetween};
-ghost use Rattle.lot_machine.specs.Lottery.{drawn_number, seed_after_number};
 ghost use Rattle.lot_machine.specs.Numbered.{at_number, set_number};
 ghost use Rattle.lot_simulation.specs.World as world;
+ghost use Rattle.lot_simulation.specs.World.{number_from, seed_from};
 
 use crate::turn::takes_number;
 use lot_draw::ParkMiller;
@@ -26,22 +26,24 @@ pub(crate) fn generators_of(alloc: Global, program: &Program) -> Result<Vec<Park
 /// A processor's next number, and its generator after it.
 #[derive(Clone, Copy, Debug)]
 pub(crate) struct NextNumber {
-    pub(crate) number: u64,
+    pub(crate) number: u128,
     after: ParkMiller,
 }
 
-/// The processor's next number, which stays its next one.
+/// The processor's next number, a wide one or not, which stays its next one.
 #[inline(always)]
-pub(crate) fn next_number(generators: &[ParkMiller], processor: u32) -> NextNumber
+pub(crate) fn next_number(generators: &[ParkMiller], processor: u32, is_wide: bool) -> NextNumber
     requires { IsBetween 1 (length generators.now) processor }
-    ensures number { result.number ≡ drawn_number (unwrap_or (at_number generators.now processor) 0) }
-    ensures after { result.after ≡ seed_after_number (unwrap_or (at_number generators.now processor) 0) }
+    ensures number { result.number ≡ number_from is_wide (unwrap_or (at_number generators.now processor) 0) }
+    ensures after { result.after ≡ seed_from is_wide (unwrap_or (at_number generators.now processor) 0) }
 {
     let mut after = generators[processor as usize - 1];
-    NextNumber {
-        number: after.number(),
-        after,
-    }
+    let number = if is_wide {
+        after.wide_number()
+    } else {
+        u128::from(after.number())
+    };
+    NextNumber { number, after }
 }
 
 /// Takes the processor's next number, if the event takes one.
@@ -53,8 +55,7 @@ pub(crate) fn pass_number(
     next: NextNumber,
 )
     requires processor { IsBetween 1 (vec_len generators.old) processor }
-    requires next { next.after ≡ seed_after_number (unwrap_or (at_number generators.old.items processor) 0) }
-    ensures values { generators.new.items ≡ (if world.takes_number event.now then set_number generators.old.items processor (seed_after_number (unwrap_or (at_number generators.old.items processor) 0)) else generators.old.items) }
+    ensures values { generators.new.items ≡ (if world.takes_number event.now then set_number generators.old.items processor next.after else generators.old.items) }
     ensures count { vec_len generators.new ≡ vec_len generators.old }
 {
     if takes_number(event) {

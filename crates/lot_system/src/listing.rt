@@ -13,6 +13,7 @@ ghost use Rattle.lot_system.specs.Writing.{Writes};
 use crate::{PlayFault, System};
 use lot_machine::Kind;
 use lot_print::{write_currency, write_listing_line, write_thread, write_ticket};
+use lot_simulation::Manner;
 use lot_text::Watched;
 use std::io::Write;
 
@@ -20,17 +21,18 @@ use std::io::Write;
 /// rising number.
 pub(crate) fn write_listing<W: Write>(
     system: &mut System,
+    manner: Manner,
     actor: u32,
     kind: Kind,
     writer: &mut Watched<W>,
 ) -> Result<(), PlayFault>
     requires { writer.old.failed ≡ false }
     ensures same { system.new ≡ system.old }
-    ensures text { Writes W.contents writer.old writer.new result (decimal actor ++ (codes " " ++ texts.listing_text (world_of system.old).state kind)) }
+    ensures text { Writes W.contents writer.old writer.new result (texts.front manner ++ (decimal actor ++ (codes " " ++ texts.listing_text manner (world_of system.old).state kind))) }
 {
     let rows = count_rows(system, kind);
-    write_listing_line(writer, actor, kind, rows)?;
-    write_rows(system, kind, writer)
+    write_listing_line(writer, manner, actor, kind, rows)?;
+    write_rows(system, manner, kind, writer)
 }
 
 /// How many rows the listing has.
@@ -73,16 +75,17 @@ fn has_row(system: &mut System, kind: Kind, number: u32) -> bool
 /// Writes the lines of the rows that there are.
 fn write_rows<W: Write>(
     system: &mut System,
+    manner: Manner,
     kind: Kind,
     writer: &mut Watched<W>,
 ) -> Result<(), PlayFault>
     requires { writer.old.failed ≡ false }
     ensures same { system.new ≡ system.old }
-    ensures text { Writes W.contents writer.old writer.new result (flat_map (row_line (world_of system.old).state kind) (range_with_len (listing.first_number kind) (given_count (world_of system.old).state kind))) }
+    ensures text { Writes W.contents writer.old writer.new result (flat_map (row_line manner (world_of system.old).state kind) (range_with_len (listing.first_number kind) (given_count (world_of system.old).state kind))) }
 {
     let first = first_number(kind);
     for place in 0..system.given_count(kind) {
-        write_row(system, kind, first + place, writer)?;
+        write_row(system, manner, kind, first + place, writer)?;
     }
     Ok(())
 }
@@ -90,34 +93,36 @@ fn write_rows<W: Write>(
 /// Writes the line of the row with this number, if there is one.
 fn write_row<W: Write>(
     system: &mut System,
+    manner: Manner,
     kind: Kind,
     number: u32,
     writer: &mut Watched<W>,
 ) -> Result<(), PlayFault>
     requires { writer.old.failed ≡ false }
     ensures same { system.new ≡ system.old }
-    ensures text { Writes W.contents writer.old writer.new result (row_line (world_of system.old).state kind number) }
+    ensures text { Writes W.contents writer.old writer.new result (row_line manner (world_of system.old).state kind number) }
 {
     match kind {
-        Kind::Tickets => write_ticket_row(system, number, writer),
-        Kind::Currencies => write_currency_row(system, number, writer),
-        Kind::Threads => write_thread_row(system, number, writer),
+        Kind::Tickets => write_ticket_row(system, manner, number, writer),
+        Kind::Currencies => write_currency_row(system, manner, number, writer),
+        Kind::Threads => write_thread_row(system, manner, number, writer),
     }
 }
 
 /// Writes the line of the ticket with this number, if there is one.
 fn write_ticket_row<W: Write>(
     system: &mut System,
+    manner: Manner,
     number: u32,
     writer: &mut Watched<W>,
 ) -> Result<(), PlayFault>
     requires { writer.old.failed ≡ false }
     ensures same { system.new ≡ system.old }
-    ensures text { Writes W.contents writer.old writer.new result (option_map_or (texts.ticket_line (world_of system.old).state.limits.unit number) (rows.ticket_row (world_of system.old).state number) []) }
+    ensures text { Writes W.contents writer.old writer.new result (option_map_or (texts.ticket_line manner (world_of system.old).state.limits.unit number) (rows.ticket_row (world_of system.old).state number) []) }
 {
     let limits = system.limits();
     if let Some(row) = system.ticket_row(number) {
-        write_ticket(writer, limits, number, &row)?;
+        write_ticket(writer, manner, limits, number, &row)?;
     }
     Ok(())
 }
@@ -125,16 +130,17 @@ fn write_ticket_row<W: Write>(
 /// Writes the line of the currency with this number, if there is one.
 fn write_currency_row<W: Write>(
     system: &mut System,
+    manner: Manner,
     number: u32,
     writer: &mut Watched<W>,
 ) -> Result<(), PlayFault>
     requires { writer.old.failed ≡ false }
     ensures same { system.new ≡ system.old }
-    ensures text { Writes W.contents writer.old writer.new result (option_map_or (texts.currency_line (world_of system.old).state.limits.unit number) (rows.currency_row (world_of system.old).state number) []) }
+    ensures text { Writes W.contents writer.old writer.new result (option_map_or (texts.currency_line manner (world_of system.old).state.limits.unit number) (rows.currency_row (world_of system.old).state number) []) }
 {
     let limits = system.limits();
     if let Some(row) = system.currency_row(number) {
-        write_currency(writer, limits, number, &row)?;
+        write_currency(writer, manner, limits, number, &row)?;
     }
     Ok(())
 }
@@ -142,16 +148,17 @@ fn write_currency_row<W: Write>(
 /// Writes the line of the thread with this number, if there is one.
 fn write_thread_row<W: Write>(
     system: &mut System,
+    manner: Manner,
     number: u32,
     writer: &mut Watched<W>,
 ) -> Result<(), PlayFault>
     requires { writer.old.failed ≡ false }
     ensures same { system.new ≡ system.old }
-    ensures text { Writes W.contents writer.old writer.new result (option_map_or (texts.thread_line (world_of system.old).state.limits.unit number) (rows.thread_row (world_of system.old).state number) []) }
+    ensures text { Writes W.contents writer.old writer.new result (option_map_or (texts.thread_line manner (world_of system.old).state.limits.unit number) (rows.thread_row (world_of system.old).state number) []) }
 {
     let limits = system.limits();
     if let Some(row) = system.thread_row(number) {
-        write_thread(writer, limits, number, &row)?;
+        write_thread(writer, manner, limits, number, &row)?;
     }
     Ok(())
 }

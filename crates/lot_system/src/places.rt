@@ -119,6 +119,7 @@ fn number_delivered(outcome: Outcome) -> Option<u32>
 {
     match outcome {
         Outcome::Received { number, .. } => Some(number),
+        Outcome::RepliedThenReceived { number, .. } => Some(number),
         _ => None,
     }
 }

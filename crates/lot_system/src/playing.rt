@@ -4,8 +4,9 @@ ghost use Rattle.std.specs.Fmt.{decimal};
 ghost use Rattle.std.specs.Io.KnownBytes.{Appends};
 ghost use Rattle.lot_machine.specs.Bounds.{IsBetween};
 ghost use Rattle.lot_simulation.specs.Grammar.{program_in};
-ghost use Rattle.lot_simulation.specs.Output.{output, scheduled_output, turn_text, turn_texts};
-ghost use Rattle.lot_simulation.specs.Texts.{fault_line, reply_text};
+ghost use Rattle.lot_simulation.specs.Output.{output, played_output, scheduled_output, timed_output, turn_text, turn_texts};
+ghost use Rattle.lot_simulation.specs.Texts.{fault_line, front, reply_text};
+ghost use Rattle.lot_simulation.specs.declared.manner.Manner.TheVariants as manners;
 ghost use Rattle.lot_simulation.specs.World.{opening_world};
 ghost use Rattle.lot_script.specs.Places.{Fits};
 ghost use Rattle.lot_system.specs.Held.{script_lines};
@@ -17,7 +18,9 @@ ghost use Rattle.lot_system.specs.Seen.{world_of};
 ghost use Rattle.lot_system.specs.Turns.{IsFresh};
 ghost use Rattle.lot_system.specs.Writing.{IsFaultOf, Puts, Writes};
 ghost use Rattle.lot_text.specs.Faults.{IsFaultOf as IsParseFaultOf};
+ghost use Rattle.lot_text.specs.Programs.{IsProgram};
 
+use crate::in_time::{MOST_TURNS, Watch, play_in_time};
 use crate::listing::write_listing;
 use crate::report::write_report;
 use crate::slices::slice_of_kept;
@@ -25,9 +28,9 @@ use crate::turn::Unmade;
 use crate::writing::flush;
 use crate::{Leftovers, PlayFault, System, read_input};
 use lot_machine::{Event, Reply};
-use lot_print::{Page, write_ended, write_fault, write_reply};
+use lot_print::{Heading, Page, write_ended, write_fault, write_reply};
 use lot_script::Slice;
-use lot_simulation::InputFault;
+use lot_simulation::{InputFault, Manner};
 use lot_text::{ParseFault, Program, Watched, parse};
 use std::alloc::Global;
 use std::io::{Read, Write};
@@ -109,6 +112,23 @@ fn play_program<W: Write>(
 ) -> Result<Played, PlayFault>
     requires { writer.old.failed ≡ false }
     ensures flushed { OnOk result (writer.new.flushed ≡ true) }
+    ensures played { Plays W.contents writer.old writer.new result Done (played_output program.now program.now.duration) }
+{
+    match program.duration() {
+        Some(_) => play_timed(alloc, program, leftovers, writer),
+        None => play_scheduled(alloc, program, leftovers, writer),
+    }
+}
+
+/// Plays a program whose turns come by its schedule.
+fn play_scheduled<W: Write>(
+    alloc: Global,
+    program: &Program,
+    leftovers: &mut Leftovers,
+    writer: &mut Watched<W>,
+) -> Result<Played, PlayFault>
+    requires { writer.old.failed ≡ false }
+    ensures flushed { OnOk result (writer.new.flushed ≡ true) }
     ensures played { Plays W.contents writer.old writer.new result Done (scheduled_output program.now) }
 {
     let room = program.schedule().len() as u32;
@@ -116,6 +136,29 @@ fn play_program<W: Write>(
         return Err(PlayFault::Memory);
     };
     play_schedule(program, &mut system, leftovers, writer)?;
+    leftovers.note_end(&mut system);
+    Ok(Played::Done)
+}
+
+/// Plays a program whose turns come in the order of time.
+fn play_timed<W: Write>(
+    alloc: Global,
+    program: &Program,
+    leftovers: &mut Leftovers,
+    writer: &mut Watched<W>,
+) -> Result<Played, PlayFault>
+    requires legal { IsProgram program.now }
+    requires working { writer.old.failed ≡ false }
+    ensures flushed { OnOk result (writer.new.flushed ≡ true) }
+    ensures played { Plays W.contents writer.old writer.new result Done (timed_output program.now) }
+{
+    let Ok(mut system) = System::open(alloc, program, MOST_TURNS) else {
+        return Err(PlayFault::Memory);
+    };
+    let Ok(mut watch) = Watch::open(alloc, program) else {
+        return Err(PlayFault::Memory);
+    };
+    play_in_time(program, &mut system, &mut watch, leftovers, writer)?;
     leftovers.note_end(&mut system);
     Ok(Played::Done)
 }
@@ -178,7 +221,7 @@ fn play_turn<W: Write>(
     requires room { length system.old.history < system.old.setting.room }
     requires working { writer.old.failed ≡ false }
     ensures played { IsPlayed system.old actor system.new }
-    ensures text { Puts W.contents writer.old writer.new page.old page.new result (turn_text actor (turn_in system.old actor)) }
+    ensures text { Puts W.contents writer.old writer.new page.old page.new result (turn_text manners.Whole actor (turn_in system.old actor)) }
 {
     // Two calls, since with a slice and without one a turn does different things, each of which is compiled for itself.
     match slice_in(system, program, actor) {
@@ -202,15 +245,15 @@ fn play_slice<W: Write>(
     requires room { length system.old.history < system.old.setting.room }
     requires working { writer.old.failed ≡ false }
     ensures played { IsPlayed system.old actor system.new }
-    ensures text { Puts W.contents writer.old writer.new page.old page.new result (turn_text actor (turn_in system.old actor)) }
+    ensures text { Puts W.contents writer.old writer.new page.old page.new result (turn_text manners.Whole actor (turn_in system.old actor)) }
 {
     let mut event = Event::Expire(actor);
     match system.try_turn(actor, &slice, &mut event) {
         Ok(reply) => {
             leftovers.note(actor, reply);
-            put_answer(system, actor, &event, reply, writer, page)
+            put_answer(system, Manner::Whole, actor, &event, reply, writer, page)
         }
-        Err(Unmade::Ended) => Ok(write_ended(writer, page, actor)?),
+        Err(Unmade::Ended) => Ok(write_ended(writer, page, heading(system, Manner::Whole, actor))?),
         Err(Unmade::Stale) => unreachable!(),
         Err(Unmade::HistoryFull) => unreachable!(),
     }
@@ -218,7 +261,7 @@ fn play_slice<W: Write>(
 
 /// The slice of the actor's work, if it has any.
 #[inline(always)]
-fn slice_in<'a>(system: &System, program: &'a Program, actor: u32) -> Option<Slice<'a>>
+pub(crate) fn slice_in<'a>(system: &System, program: &'a Program, actor: u32) -> Option<Slice<'a>>
     requires { system.now.setting.program ≡ program.now }
     ensures { IsFresh system.now actor result }
 {
@@ -230,8 +273,9 @@ fn slice_in<'a>(system: &System, program: &'a Program, actor: u32) -> Option<Sli
 
 /// Puts on the page what a turn answered. A listing that was asked for is written at once.
 #[inline(always)]
-fn put_answer<W: Write>(
+pub(crate) fn put_answer<W: Write>(
     system: &mut System,
+    manner: Manner,
     actor: u32,
     event: &Event,
     reply: Reply,
@@ -240,13 +284,28 @@ fn put_answer<W: Write>(
 ) -> Result<(), PlayFault>
     requires { writer.old.failed ≡ false }
     ensures same { system.new ≡ system.old }
-    ensures text { Puts W.contents writer.old writer.new page.old page.new result (decimal actor ++ (codes " " ++ reply_text (world_of system.old).state event.now reply)) }
+    ensures text { Puts W.contents writer.old writer.new page.old page.new result (front manner ++ (decimal actor ++ (codes " " ++ reply_text manner (world_of system.old).state event.now reply))) }
 {
     match reply {
         Reply::List(kind) => {
             page.write_out(writer)?;
-            write_listing(system, actor, kind, writer)
+            write_listing(system, manner, actor, kind, writer)
         }
-        reply => Ok(write_reply(writer, page, actor, event, reply)?),
+        reply => Ok(write_reply(writer, page, heading(system, manner, actor), event, reply)?),
+    }
+}
+
+/// What the line of the actor's turn needs besides what the turn was answered.
+#[inline(always)]
+fn heading(system: &System, manner: Manner, actor: u32) -> Heading
+    ensures manner { result.manner ≡ manner }
+    ensures actor { result.actor ≡ actor }
+    ensures unit { result.unit ≡ (world_of system.now).state.limits.unit }
+    ensures some { 0 < result.unit }
+{
+    Heading {
+        manner,
+        unit: system.unit(),
+        actor,
     }
 }

@@ -1,13 +1,14 @@
 //! The system.
-ghost use Rattle.std.specs.Prelude.{◌≡◌, ◌↔◌, ◌<◌, ◌≤◌, ◌^◌, [], ◌∷◌, ◌++◌, All, IfOk, IfErr, IsTrue, length, vec_len, vec_capacity};
+ghost use Rattle.std.specs.Prelude.{◌≡◌, ◌↔◌, ◌<◌, ◌≤◌, ◌*◌, ◌^◌, [], ◌∷◌, ◌++◌, All, IfOk, IfErr, IsTrue, length, vec_len, vec_capacity};
 ghost use Rattle.lot_machine.specs.Bounds.{IsBetween};
 ghost use Rattle.lot_machine.specs.Rows as rows;
 ghost use Rattle.lot_machine.specs.State.{sizes_of};
 ghost use Rattle.lot_simulation.specs.World.Answer.{Answered};
 ghost use Rattle.lot_simulation.specs.World.{IsLegal, system_turn};
-ghost use Rattle.lot_simulation.specs.Report.{turns_made, turns_of};
+ghost use Rattle.lot_simulation.specs.Report.{ticks_in, total_of, turns_made, turns_of};
 ghost use Rattle.lot_system.specs.Counted.{counted};
 ghost use Rattle.lot_system.specs.Listing.{given_count};
+ghost use Rattle.lot_system.specs.InTime.{commands_made};
 ghost use Rattle.lot_system.specs.Seen.{after_turn, world_of};
 ghost use Rattle.lot_system.specs.Turns.{Answers, Faults, Goes, IfStale, IsEnded, IsFresh, IsWorkOf, Prevents};
 
@@ -36,6 +37,8 @@ pub struct System {
     spent: usize,
     /// Each processor's generator.
     generators: Vec<ParkMiller>,
+    /// Whether it gives wide numbers.
+    is_wide: bool,
     /// Where each thread is in its script.
     places: Vec<Place>,
     history: Vec<u8>,
@@ -54,6 +57,7 @@ impl Drop for System {
             program: _,
             spent: _,
             generators: _,
+            is_wide: _,
             places: _,
             history: _,
             counts: _,
@@ -64,7 +68,7 @@ impl Drop for System {
 }
 
 impl Model for System {
-    ghost use Rattle.std.specs.Prelude.{◌≡◌, ◌==◌, ◌+◌, ◌≤◌, All, count_by, length, vec_len, vec_capacity};
+    ghost use Rattle.std.specs.Prelude.{◌≡◌, ◌==◌, ◌+◌, ◌≤◌, All, count_by, is_some, length, vec_len, vec_capacity};
     ghost use Rattle.lot_simulation.specs.Report.{turns_made};
     ghost use Rattle.lot_simulation.specs.World.{IsLegal, system_run};
     ghost use Rattle.lot_text.specs.Programs.{IsProgram};
@@ -81,6 +85,7 @@ impl Model for System {
       legal : IsLegal s.program s.room s.history.items;
       held : IsHeld s.program (system_run s.program s.history.items) s.kernel.state s.places.items s.generators.items s.spent;
       generators : vec_len s.generators ≡ s.program.limits.processors;
+      wide : s.is_wide ≡ is_some s.program.duration;
       past : (system_run s.program s.history.items).history ≡ s.history.items;
       spent : s.spent ≡ count_by (λ actor. actor == 0) s.history.items;
       counts : vec_len s.counts ≡ s.program.limits.processors + 1;
@@ -103,6 +108,7 @@ impl System {
             program: program.copied(alloc)?,
             spent: 0,
             generators: generators_of(alloc, program)?,
+            is_wide: program.duration().is_some(),
             places: places_for(alloc, limits.threads)?,
             history: Vec::with_capacity(alloc, room as usize)?,
             counts: no_counts(alloc, limits.processors as usize + 1)?,
@@ -218,7 +224,7 @@ impl System {
 
     /// Whether there is no room for one more turn.
     #[inline(always)]
-    fn is_full(&self) -> bool
+    pub(crate) fn is_full(&self) -> bool
         ensures { IsTrue result ↔ (self.now.setting.room ≤ length self.now.history) }
     {
         self.history.len() >= self.room as usize
@@ -265,7 +271,7 @@ impl System {
         ensures seen { self.new ≡ after_turn self.old actor }
         ensures answer { (system_turn self.old.setting.program (world_of self.old) actor).answer ≡ Answered event.new result }
     {
-        let next = next_number(&self.generators, actor);
+        let next = next_number(&self.generators, actor, self.is_wide);
         *event = event_of(actor, slice, next.number);
         pass_number(&mut self.generators, actor, event, next);
         let reply = self.kernel.event(event);
@@ -300,7 +306,7 @@ impl System {
     }
 
     /// What the kernel shows of the thread with this number, if there is one.
-    pub(crate) fn thread_row(&mut self, thread: u32) -> Option<ThreadRow>
+    pub fn thread_row(&mut self, thread: u32) -> Option<ThreadRow>
         ensures row { result ≡ rows.thread_row (world_of self.old).state thread }
         ensures state { self.new ≡ self.old }
     {
@@ -309,7 +315,9 @@ impl System {
 
     /// The unit of the program.
     pub(crate) fn unit(&self) -> u32
-        ensures { result ≡ self.now.setting.program.limits.unit }
+        ensures program { result ≡ self.now.setting.program.limits.unit }
+        ensures world { result ≡ (world_of self.now).state.limits.unit }
+        ensures some { 0 < result }
     {
         self.program.limits().unit
     }
@@ -325,15 +333,25 @@ impl System {
         }
     }
 
+    /// How many commands were made.
+    pub(crate) fn commands_made(&self) -> usize
+        ensures { result ≡ commands_made self.now }
+    {
+        self.spent
+    }
+
     /// How many commands weren't made yet.
-    pub(crate) fn commands_left(&self) -> usize {
+    pub(crate) fn commands_left(&self) -> usize
+        ensures { result ≡ length (world_of self.now).commands }
+    {
         let all = self.program.commands().len();
         all.saturating_sub(self.spent)
     }
 
     /// How many threads there are.
-    pub(crate) fn thread_count(&self) -> u32
-        ensures { result ≡ length (world_of self.now).state.records }
+    pub fn thread_count(&self) -> u32
+        ensures count { result ≡ length (world_of self.now).state.records }
+        ensures within { result ≤ self.now.setting.program.limits.threads }
     {
         self.places.len() as u32
     }
@@ -351,6 +369,15 @@ impl System {
         ensures { result ≡ counted (turns_of actor (turns_made self.now.setting.program self.now.history)) }
     {
         self.counts[actor as usize]
+    }
+
+    /// The actor's own time: the ticks of its turns so far.
+    pub fn clock(&self, actor: u32) -> u64
+        requires { actor ≤ self.now.setting.program.limits.processors }
+        ensures ticks { result ≡ total_of ticks_in (turns_of actor (turns_made self.now.setting.program self.now.history)) }
+        ensures small { result ≤ length self.now.history * 2 ^ 32 }
+    {
+        self.counts[actor as usize].ticks
     }
 
     /// What is counted of all turns so far.

@@ -105,7 +105,7 @@ fn is_slice_of(program: &Program, work: &KeptWork<'_>, slice: &Slice) -> bool
 
 /// The event of a processor's turn with this slice, or a draw without one, if this is the processor's next number.
 #[inline(always)]
-pub(crate) fn event_of(actor: u32, slice: &Option<Slice>, drawn: u64) -> Event
+pub(crate) fn event_of(actor: u32, slice: &Option<Slice>, drawn: u128) -> Event
     ensures event { result ≡ event_given actor drawn slice.now }
     ensures exact { IfSome slice.now IsSlice }
 {
@@ -117,7 +117,7 @@ pub(crate) fn event_of(actor: u32, slice: &Option<Slice>, drawn: u64) -> Event
 
 /// The slice as an event: an expiry, or its ticks and then its trap.
 #[inline(always)]
-fn slice_event(actor: u32, slice: &Slice, drawn: u64) -> Event
+fn slice_event(actor: u32, slice: &Slice, drawn: u128) -> Event
     ensures event { result ≡ world.event_of_slice actor drawn (done_of slice.now) }
     ensures exact { IsSlice slice.now }
 {
@@ -131,9 +131,10 @@ fn slice_event(actor: u32, slice: &Slice, drawn: u64) -> Event
     }
 }
 
-/// A trap of a script as the kernel is asked for it. Calls and replies carry the accumulator, and an unlock the drawn number.
+/// A trap of a script as the kernel is asked for it. Calls, replies and servings carry the accumulator, and an
+/// unlock the drawn number.
 #[inline(always)]
-fn action_of(trap: ScriptTrap, accumulator: u32, drawn: u64) -> Action
+fn action_of(trap: ScriptTrap, accumulator: u32, drawn: u128) -> Action
     ensures { result ≡ world.action_of trap accumulator drawn }
 {
     match trap {
@@ -141,6 +142,7 @@ fn action_of(trap: ScriptTrap, accumulator: u32, drawn: u64) -> Action
         ScriptTrap::Call(port) => Action::Call(port, accumulator),
         ScriptTrap::Receive(port) => Action::Receive(port),
         ScriptTrap::Reply => Action::Reply(accumulator),
+        ScriptTrap::Serve(port) => Action::Serve(port, accumulator),
         ScriptTrap::Lock(mutex) => Action::Lock(mutex),
         ScriptTrap::Unlock(mutex) => Action::Unlock(mutex, drawn),
         ScriptTrap::Exit => Action::Exit,

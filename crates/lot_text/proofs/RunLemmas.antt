@@ -23,15 +23,16 @@ All-actors_of p (run ∷ runs) each =
     (All-replicate (λ (a : ℕ). a ≤ p) run.count run.actor (All-head (λ (r : ActorRun). r.actor ≤ p) run runs each))
     (All-actors_of p runs (All-tail (λ (r : ActorRun). r.actor ≤ p) run runs each))
 
--- an odd number of tokens is refused, and so is a line of runs if the unit is 1: else the runs are read, and then added
+-- an odd number of tokens is refused, and so is a line of runs if the unit is 1 or turns come in the order of time: else the runs are read, and then added
 pub runs_line-pairs : (n : ℕ) (before r : Reading) (tokens : List (List ℕ)) (is_empty are_pairs : Bool) → before ≡ r
-    → IsTrue is_empty ↔ (length tokens ≡ 0) → is_empty ≡ false → before.unit ≢ 1 → IsTrue are_pairs ↔ (length tokens % 2 ≡ 0) → are_pairs ≡ true
+    → IsTrue is_empty ↔ (length tokens ≡ 0) → is_empty ≡ false → before.unit ≢ 1 → before.is_timed ≡ false → IsTrue are_pairs ↔ (length tokens % 2 ≡ 0) → are_pairs ≡ true
     → body_after_header n r body.Runs tokens ≡ after_header (pairs_added r tokens)
-runs_line-pairs n before r [] is_empty are_pairs same empty none finer pairs all = absurd (true≢false (sym (empty.1 refl) ∙ none))
-runs_line-pairs n before r (first ∷ others) is_empty are_pairs same empty none finer pairs all =
+runs_line-pairs n before r [] is_empty are_pairs same empty none finer untimed pairs all = absurd (true≢false (sym (empty.1 refl) ∙ none))
+runs_line-pairs n before r (first ∷ others) is_empty are_pairs same empty none finer untimed pairs all =
     let unit : (r.unit == 1) ≡ false = rw (← same) (ne_eqb before.unit 1 finer) in
     let even : (length (first ∷ others) % 2 == 1) ≡ false = rw (pairs.0 all) refl in
-    rw (unit, even) refl
+    let timed : r.is_timed ≡ false = rw (← same) untimed in
+    rw (unit, timed, even) refl
 
 -- runs that were read are added
 pub pairs_added-read : (before r : Reading) (tokens : List (List ℕ)) (runs : List ActorRun) → before ≡ r → each_pair (run_of before.processors) tokens ≡ Ok runs

@@ -5,9 +5,9 @@ use Rattle.std.specs.List.{prefix_len}
 use Rattle.std.specs.Str.{bytes_eq}
 use Rattle.std.proofs.lemmas.List.{length-map}
 use Rattle.lot_simulation.specs.declared.input.ScriptWord.{ScriptWord}
-use Rattle.lot_simulation.specs.Words.{word_in, script_words}
+use Rattle.lot_simulation.specs.Words.{word_in}
 use Rattle.lot_simulation.specs.Reading.{NamedScript, OpenScript, Reading, number_named}
-use Rattle.lot_simulation.specs.Grammar.{later_line, script_line}
+use Rattle.lot_simulation.specs.Grammar.{later_line, script_line, script_words_of}
 use Rattle.lot_text.specs.Readings.{within_script}
 
 -- how many stand at the front is not changed by looking at a part of each
@@ -36,7 +36,7 @@ within_script-same r s unclosed = ap (λ u. record r { unclosed = u }) (sym uncl
 
 -- a line within a script is one of that script
 pub later_line-inside : (n : ℕ) (before r : Reading) (s : OpenScript) (word : List ℕ) (known : ScriptWord) (tokens : List (List ℕ))
-    → before ≡ r → before.unclosed ≡ Some s → word_in script_words word ≡ Some known
+    → before ≡ r → before.unclosed ≡ Some s → word_in (script_words_of before) word ≡ Some known
     → script_line (within_script before s) s known tokens ≡ later_line n r r.unclosed word tokens
 later_line-inside n before r s word known tokens same unclosed is =
     rw (← same) (rw (unclosed, is, within_script-same before s unclosed) refl)

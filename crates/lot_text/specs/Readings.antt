@@ -1,5 +1,6 @@
 -- What is true of everything that is read of an input.
 use Rattle.std.specs.Prelude.{◌≡◌, ℕ, ◌<◌, ◌≤◌, Result, Ok, List, [], ◌∷◌, length, All, IsSome, Some, None}
+use Rattle.std.specs.List.Sorted.{IsNonDecreasing}
 use Rattle.std.specs.Option.{ForSome}
 use Rattle.lot_simulation.specs.declared.input.InputRefusal.{InputRefusal}
 use Rattle.lot_simulation.specs.declared.input.InputRefusal.TheVariants.{TooLong}
@@ -33,12 +34,15 @@ pub record IsReading (r : Reading) : Type 0 where
   pub command_count : length r.commands ≤ 100000
   pub actors : All (λ actor. actor ≤ r.processors) r.schedule
   pub schedule_length : length r.schedule ≤ 1000000
+  pub time_count : length r.times ≡ length r.commands
+  pub rising : IsNonDecreasing r.times
+  pub past : All (λ time. time ≤ r.time) r.times
   pub unseeded : r.place ≡ 0 → r.seeds ≡ None
   pub unscheduled : r.place ≡ 0 → r.schedule ≡ []
 
 -- what is read of a line of the body, with which the header ends
 abbrev pub after_header : Result Reading InputRefusal → Result Reading InputRefusal
-after_header read = read >>= λ after. Ok (record after { place = 6 })
+after_header read = read >>= λ after. Ok (record after { place = 7 })
 
 -- what was read, with this script open
 abbrev pub within_script : Reading → OpenScript → Reading

@@ -7,7 +7,7 @@ ghost use Rattle.lot_text.specs.Readings.{after_header, pairs_added};
 
 use crate::fault::LineFault;
 use crate::name::{any_name, new_name};
-use crate::number::{actor_below, any_number};
+use crate::number::{actor_below, any_number, number_between};
 use crate::reading::{BODY, MOST_ENTRIES, OpenScript, Reading};
 use crate::runs::read_runs;
 use crate::tokens::Tokens;
@@ -43,6 +43,7 @@ pub(crate) fn body_line(
         BodyWord::ListThreads => list_threads(reading, tokens),
         BodyWord::Schedule => schedule(alloc, reading, tokens),
         BodyWord::Runs => runs(alloc, reading, tokens),
+        BodyWord::At => at(reading, tokens),
     }
 }
 
@@ -223,11 +224,21 @@ fn script_named(reading: &Reading, token: &[u8]) -> Result<u32, InputRefusal>
     Ok(reading.script_number(token))
 }
 
+/// `at TICK`: the commands to come are made then
+fn at(reading: &mut Reading, tokens: Tokens<'_>) -> Result<(), LineFault>
+    ensures { (n : ℕ) → Gives reading.new result (body_after_header n reading.old BodyWord.At tokens.entry) }
+{
+    let tick = tokens.only()?;
+    reading.time = number_between(reading.time, u32::MAX, tick)?;
+    reading.place = BODY;
+    Ok(())
+}
+
 /// `schedule A1 A2 ..`
 fn schedule(alloc: Global, reading: &mut Reading, tokens: Tokens<'_>) -> Result<(), LineFault>
     ensures { (n : ℕ) → Gives reading.new result (body_after_header n reading.old BodyWord.Schedule tokens.entry) }
 {
-    if tokens.has_len(0) {
+    if tokens.has_len(0) || reading.is_timed {
         return Err(LineFault::Refused(InputRefusal::BadLine));
     }
     let actors = read_actors(alloc, reading.processors, tokens)?;
@@ -256,7 +267,7 @@ fn read_actors(alloc: Global, processors: u32, mut tokens: Tokens<'_>) -> Result
 fn runs(alloc: Global, reading: &mut Reading, tokens: Tokens<'_>) -> Result<(), LineFault>
     ensures { (n : ℕ) → Gives reading.new result (body_after_header n reading.old BodyWord.Runs tokens.entry) }
 {
-    if tokens.has_len(0) || reading.unit == 1 || !tokens.are_pairs() {
+    if tokens.has_len(0) || reading.unit == 1 || reading.is_timed || !tokens.are_pairs() {
         return Err(LineFault::Refused(InputRefusal::BadLine));
     }
     add_pairs(alloc, reading, tokens)

@@ -14,7 +14,8 @@ use lot_machine::Sizes;
 use lot_simulation::{HeaderWord, InputRefusal};
 use std::alloc::Global;
 
-/// What the first line says that isn't ignored: `lottery 1` means unit 1, and `lottery 2` unit 256.
+/// What the first line says that isn't ignored: `lottery 1` means unit 1, and `lottery 2` unit 256; in `lottery 3` turns come in the
+/// order of time, with unit 256.
 pub(crate) fn first_line(
     alloc: Global,
     word: &[u8],
@@ -27,10 +28,13 @@ pub(crate) fn first_line(
     };
     let is_lottery = word == b"lottery".as_slice();
     if is_lottery && version == b"1".as_slice() {
-        return Ok(Reading::new(alloc, 1));
+        return Ok(Reading::new(alloc, false, 1));
     }
     if is_lottery && version == b"2".as_slice() {
-        return Ok(Reading::new(alloc, 256));
+        return Ok(Reading::new(alloc, false, 256));
+    }
+    if is_lottery && version == b"3".as_slice() {
+        return Ok(Reading::new(alloc, true, 256));
     }
     Err(LineFault::Refused(InputRefusal::BadHeader))
 }
@@ -44,8 +48,9 @@ fn header_place(word: HeaderWord) -> u32
         HeaderWord::Processors => 1,
         HeaderWord::Quantum => 2,
         HeaderWord::Turns => 3,
-        HeaderWord::Seed => 4,
-        HeaderWord::Limits => 5,
+        HeaderWord::For => 4,
+        HeaderWord::Seed => 5,
+        HeaderWord::Limits => 6,
     }
 }
 
@@ -66,6 +71,7 @@ pub(crate) fn header_line(
         HeaderWord::Processors => read_processors(reading, tokens),
         HeaderWord::Quantum => read_quantum(reading, tokens),
         HeaderWord::Turns => read_turns(reading, tokens),
+        HeaderWord::For => read_duration(reading, tokens),
         HeaderWord::Seed => read_seed(alloc, reading, tokens),
         HeaderWord::Limits => read_limits(reading, tokens),
     }
@@ -104,9 +110,20 @@ fn read_turns(reading: &mut Reading, tokens: Tokens<'_>) -> Result<(), LineFault
     Ok(())
 }
 
+/// `for TICKS`
+fn read_duration(reading: &mut Reading, tokens: Tokens<'_>) -> Result<(), LineFault>
+    requires { reading.old.place < 4 }
+    ensures { Gives reading.new result (header_in_order reading.old HeaderWord.For tokens.entry) }
+{
+    let duration = tokens.only()?;
+    reading.duration = Some(number_between(1, u32::MAX, duration)?);
+    reading.place = header_place(HeaderWord::For);
+    Ok(())
+}
+
 /// `seed S1 .. SP`, one for each processor
 fn read_seed(alloc: Global, reading: &mut Reading, tokens: Tokens<'_>) -> Result<(), LineFault>
-    requires { reading.old.place < 4 }
+    requires { reading.old.place < 5 }
     ensures { Gives reading.new result (header_in_order reading.old HeaderWord.Seed tokens.entry) }
 {
     if !tokens.has_len(reading.processors as usize) {
@@ -131,7 +148,7 @@ fn read_seeds(alloc: Global, mut tokens: Tokens<'_>) -> Result<Vec<u32>, LineFau
 
 /// `limits T C H`
 fn read_limits(reading: &mut Reading, mut tokens: Tokens<'_>) -> Result<(), LineFault>
-    requires { reading.old.place < 5 }
+    requires { reading.old.place < 6 }
     ensures { Gives reading.new result (header_in_order reading.old HeaderWord.Limits tokens.entry) }
 {
     let tickets = tokens.expected()?;

@@ -1,7 +1,7 @@
 //! What the bytes of an input say.
 ghost use Rattle.std.specs.Prelude.{◌≡◌, ◌≤◌, OnOk, IfErr, IfOk, Ok};
-ghost use Rattle.lot_simulation.specs.Grammar.{program_in, later_line as later_line_read, line_outside as line_outside_read, read_line as read_line_read};
-ghost use Rattle.lot_simulation.specs.Words.{word_in, header_words, body_words};
+ghost use Rattle.lot_simulation.specs.Grammar.{program_in, header_words_of, body_words_of, script_words_of, later_line as later_line_read, line_outside as line_outside_read, read_line as read_line_read};
+ghost use Rattle.lot_simulation.specs.Words.{word_in};
 ghost use Rattle.lot_text.specs.Faults.{Gives, IsFaultOf};
 
 use crate::body::body_line;
@@ -10,9 +10,11 @@ use crate::header::{first_line, header_line};
 use crate::reading::Reading;
 use crate::script_lines::script_line;
 use crate::tokens::{Tokens, begins_comment, is_printable, len_before};
-use crate::words::{body_word, header_word, script_word};
+use crate::words::{
+    body_word, header_word, script_word, timed_body_word, timed_header_word, timed_script_word,
+};
 use crate::{ParseFault, Program};
-use lot_simulation::{InputFault, InputRefusal};
+use lot_simulation::{BodyWord, HeaderWord, InputFault, InputRefusal, ScriptWord};
 use std::alloc::Global;
 
 /// What the bytes of an input say, exactly. Else the first line that has a fault, and the first of its faults; or
@@ -36,7 +38,7 @@ pub fn parse(alloc: Global, bytes: &[u8]) -> Result<Program, ParseFault>
         }
     }
     match reading {
-        Some(reading) => reading.into_program(alloc),
+        Some(reading) => reading.into_program(alloc, number.max(1)),
         None => Err(ParseFault::Input(InputFault {
             line: number.max(1),
             refusal: InputRefusal::BadHeader,
@@ -86,11 +88,44 @@ fn later_line(
     ensures { Gives reading.new result (later_line_read number reading.old reading.old.unclosed word.now tokens.entry) }
 {
     match reading.unclosed.take() {
-        Some(script) => match script_word(word) {
+        Some(script) => match script_word_in(reading, word) {
             Some(word) => script_line(reading, script, word, tokens),
             None => Err(LineFault::Refused(InputRefusal::BadLine)),
         },
         None => line_outside(alloc, number, reading, word, tokens),
+    }
+}
+
+/// The word of a script that the token is in this input, if it is one.
+fn script_word_in(reading: &Reading, token: &[u8]) -> Option<ScriptWord>
+    ensures { result ≡ word_in (script_words_of reading.now) token.now }
+{
+    if reading.is_timed {
+        timed_script_word(token)
+    } else {
+        script_word(token)
+    }
+}
+
+/// The word of the header that the token is in this input, if it is one.
+fn header_word_in(reading: &Reading, token: &[u8]) -> Option<HeaderWord>
+    ensures { result ≡ word_in (header_words_of reading.now) token.now }
+{
+    if reading.is_timed {
+        timed_header_word(token)
+    } else {
+        header_word(token)
+    }
+}
+
+/// The word of the body that the token is in this input, if it is one.
+fn body_word_in(reading: &Reading, token: &[u8]) -> Option<BodyWord>
+    ensures { result ≡ word_in (body_words_of reading.now) token.now }
+{
+    if reading.is_timed {
+        timed_body_word(token)
+    } else {
+        body_word(token)
     }
 }
 
@@ -102,12 +137,13 @@ fn line_outside(
     word: &[u8],
     tokens: Tokens<'_>,
 ) -> Result<(), LineFault>
-    ensures { Gives reading.new result (line_outside_read number reading.old (word_in header_words word.now) (word_in body_words word.now) tokens.entry) }
+    ensures { Gives reading.new result (line_outside_read number reading.old (word_in (header_words_of reading.old) word.now) (word_in (body_words_of reading.old) word.now) tokens.entry) }
 {
-    if let Some(word) = header_word(word) {
+    if let Some(word) = header_word_in(reading, word) {
         return header_line(alloc, reading, word, tokens);
     }
-    match body_word(word) {
+    match body_word_in(reading, word) {
+        Some(_) if reading.lacks_duration() => Err(LineFault::Refused(InputRefusal::BadHeader)),
         Some(word) => body_line(alloc, number, reading, word, tokens),
         None => Err(LineFault::Refused(InputRefusal::BadLine)),
     }

@@ -8,7 +8,8 @@ use lot_script::Script;
 use std::alloc::{AllocError, Global};
 use std::marker::Model;
 
-/// A system, its commands, how many turns each processor has in a free run, and whose turns come in a scheduled one.
+/// A system, its commands, how many turns each processor has in a free run, and whose turns come in a scheduled one; or how long it runs,
+/// if its turns come in the order of time.
 #[derive(Debug, Drop)]
 pub struct Program {
     pub(crate) limits: Limits,
@@ -17,6 +18,8 @@ pub struct Program {
     pub(crate) scripts: Vec<Script>,
     pub(crate) commands: Vec<Command>,
     pub(crate) schedule: Vec<u8>,
+    pub(crate) duration: Option<u32>,
+    pub(crate) times: Vec<u32>,
 }
 
 impl Model for Program {
@@ -26,9 +29,9 @@ impl Model for Program {
 
     ghost Value = { ProgramRecord };
 
-    ghost view = { λ p. record { limits = sizes_of p.limits; seeds = p.seeds.items; turns = p.turns; scripts = p.scripts.items; commands = p.commands.items; schedule = p.schedule.items } };
+    ghost view = { λ p. record { limits = sizes_of p.limits; seeds = p.seeds.items; turns = p.turns; scripts = p.scripts.items; commands = p.commands.items; schedule = p.schedule.items; duration = p.duration; times = p.times.items } };
 
-    ghost invariant = { λ p. IsProgram (record { limits = sizes_of p.limits; seeds = p.seeds.items; turns = p.turns; scripts = p.scripts.items; commands = p.commands.items; schedule = p.schedule.items }) };
+    ghost invariant = { λ p. IsProgram (record { limits = sizes_of p.limits; seeds = p.seeds.items; turns = p.turns; scripts = p.scripts.items; commands = p.commands.items; schedule = p.schedule.items; duration = p.duration; times = p.times.items }) };
 }
 
 impl Program {
@@ -80,6 +83,22 @@ impl Program {
         self.schedule.as_slice()
     }
 
+    /// How many ticks the input runs for, at least 1, if its turns come in the order of time (`lottery 3`).
+    pub fn duration(&self) -> Option<u32>
+        ensures duration { result ≡ self.now.duration }
+        ensures legal { IsProgram self.now }
+    {
+        self.duration
+    }
+
+    /// The tick at which each command is made, as many as there are commands. They don't fall.
+    pub fn times(&self) -> &[u32]
+        ensures times { result.now ≡ self.now.times }
+        ensures legal { IsProgram self.now }
+    {
+        self.times.as_slice()
+    }
+
     /// The same program again, in memory of its own. It fails only for want of memory.
     pub fn copied(&self, alloc: Global) -> Result<Program, AllocError>
         ensures { IfOk result (λ program. program ≡ self.now) }
@@ -91,6 +110,8 @@ impl Program {
             scripts: copied_scripts(alloc, self.scripts())?,
             commands: copied_commands(alloc, self.commands())?,
             schedule: Vec::from_slice(alloc, self.schedule())?,
+            duration: self.duration,
+            times: Vec::from_slice(alloc, self.times())?,
         })
     }
 }

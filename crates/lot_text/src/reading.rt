@@ -1,10 +1,11 @@
 //! What has been read of an input so far.
-ghost use Rattle.std.specs.Prelude.{◌≡◌, ◌<◌, ◌≤◌, All, length, map, option_map, position, unwrap_or, IfErr, IfOk, IfSome, Ok};
+ghost use Rattle.std.specs.Prelude.{◌≡◌, ℕ, ◌<◌, ◌≤◌, max, All, length, map, option_map, position, unwrap_or, IfErr, IfOk, IfSome, Ok, Some, if◌then◌else◌};
 ghost use Rattle.std.specs.List.{range_with_len};
 ghost use Rattle.std.specs.Option.{ForSome};
 ghost use Rattle.std.specs.Str.{bytes_eq};
 ghost use Rattle.lot_machine.specs.Bounds.{IsBetween, IsUnit};
-ghost use Rattle.lot_simulation.specs.Grammar.{add_command as add_command_read, add_runs as add_runs_read, closed_program, limits_of, script_names};
+ghost use Rattle.lot_machine.specs.Lottery.{mixed_seed};
+ghost use Rattle.lot_simulation.specs.Grammar.{add_command as add_command_read, add_runs as add_runs_read, closed_program, lacks_duration as lacks_duration_read, limits_of, script_names, whole_program};
 ghost use Rattle.lot_simulation.specs.Reading.{number_named, opening_reading};
 ghost use Rattle.lot_machine.specs.State.{sizes_of};
 ghost use Rattle.lot_text.specs.Faults.{Gives, IsFaultOf};
@@ -51,7 +52,7 @@ impl Model for OpenScript {
 }
 
 /// The place of the body, after those of the header's lines.
-pub(crate) const BODY: u32 = 6;
+pub(crate) const BODY: u32 = 7;
 
 /// How many entries a schedule may have.
 pub(crate) const MOST_ENTRIES: usize = 1000000;
@@ -60,10 +61,13 @@ pub(crate) const MOST_ENTRIES: usize = 1000000;
 #[derive(Debug, Drop)]
 pub(crate) struct Reading {
     pub(crate) place: u32,
+    /// Whether turns come in the order of time.
+    pub(crate) is_timed: bool,
     pub(crate) unit: u32,
     pub(crate) processors: u32,
     pub(crate) quantum: u32,
     pub(crate) turns: u32,
+    pub(crate) duration: Option<u32>,
     pub(crate) seeds: Option<Vec<u32>>,
     pub(crate) tickets: u32,
     pub(crate) currencies: u32,
@@ -73,6 +77,10 @@ pub(crate) struct Reading {
     pub(crate) scripts: Vec<NamedScript>,
     pub(crate) unclosed: Option<OpenScript>,
     pub(crate) commands: Vec<Command>,
+    /// When the commands to come are made.
+    pub(crate) time: u32,
+    /// When those so far are made.
+    pub(crate) times: Vec<u32>,
     pub(crate) schedule: Vec<u8>,
 }
 
@@ -83,23 +91,25 @@ impl Model for Reading {
 
     ghost Value = { ReadingRecord };
 
-    ghost view = { λ r. record { place = r.place; unit = r.unit; processors = r.processors; quantum = r.quantum; turns = r.turns; seeds = option_map (λ s. s.items) r.seeds; tickets = r.tickets; currencies = r.currencies; threads = r.threads; ports = r.ports.items; mutexes = r.mutexes.items; scripts = r.scripts.items; unclosed = r.unclosed; commands = r.commands.items; schedule = r.schedule.items } };
+    ghost view = { λ r. record { place = r.place; is_timed = r.is_timed; unit = r.unit; processors = r.processors; quantum = r.quantum; turns = r.turns; duration = r.duration; seeds = option_map (λ s. s.items) r.seeds; tickets = r.tickets; currencies = r.currencies; threads = r.threads; ports = r.ports.items; mutexes = r.mutexes.items; scripts = r.scripts.items; unclosed = r.unclosed; commands = r.commands.items; time = r.time; times = r.times.items; schedule = r.schedule.items } };
 
-    ghost invariant = { λ r. IsReading (record { place = r.place; unit = r.unit; processors = r.processors; quantum = r.quantum; turns = r.turns; seeds = option_map (λ s. s.items) r.seeds; tickets = r.tickets; currencies = r.currencies; threads = r.threads; ports = r.ports.items; mutexes = r.mutexes.items; scripts = r.scripts.items; unclosed = r.unclosed; commands = r.commands.items; schedule = r.schedule.items }) };
+    ghost invariant = { λ r. IsReading (record { place = r.place; is_timed = r.is_timed; unit = r.unit; processors = r.processors; quantum = r.quantum; turns = r.turns; duration = r.duration; seeds = option_map (λ s. s.items) r.seeds; tickets = r.tickets; currencies = r.currencies; threads = r.threads; ports = r.ports.items; mutexes = r.mutexes.items; scripts = r.scripts.items; unclosed = r.unclosed; commands = r.commands.items; time = r.time; times = r.times.items; schedule = r.schedule.items }) };
 }
 
 impl Reading {
-    /// What is known after the first line, which says the unit.
-    pub(crate) fn new(alloc: Global, unit: u32) -> Self
+    /// What is known after the first line, which says whether turns come in the order of time, and the unit.
+    pub(crate) fn new(alloc: Global, is_timed: bool, unit: u32) -> Self
         requires { IsUnit unit }
-        ensures { result ≡ opening_reading unit }
+        ensures { result ≡ opening_reading is_timed unit }
     {
         Reading {
             place: 0,
+            is_timed,
             unit,
             processors: 1,
             quantum: 100,
             turns: 0,
+            duration: None,
             seeds: None,
             tickets: Sizes::LARGEST.tickets,
             currencies: Sizes::LARGEST.currencies,
@@ -109,8 +119,17 @@ impl Reading {
             scripts: Vec::new(alloc),
             unclosed: None,
             commands: Vec::new(alloc),
+            time: 0,
+            times: Vec::new(alloc),
             schedule: Vec::new(alloc),
         }
+    }
+
+    /// Whether the header doesn't say yet how long the input runs, though it must.
+    pub(crate) fn lacks_duration(&self) -> bool
+        ensures { result ≡ lacks_duration_read self.now }
+    {
+        self.is_timed && self.duration.is_none()
     }
 
     /// One more command, which ends the header.
@@ -120,7 +139,9 @@ impl Reading {
         if 100000 <= self.commands.len() {
             return Err(LineFault::Refused(InputRefusal::TooLong));
         }
+        self.times.reserve(1)?;
         self.commands.push(command)?;
+        self.times.push_reserved(self.time);
         self.place = BODY;
         Ok(())
     }
@@ -167,18 +188,34 @@ impl Reading {
         Limits::new(sizes).unwrap()
     }
 
+    /// What was read, if no script is open, and the header says how long the input runs if it must. The last line has this number.
+    pub(crate) fn into_program(self, alloc: Global, last: u32) -> Result<Program, ParseFault>
+        ensures program { (count : ℕ) → last ≡ max 1 count → IfOk result (λ program. whole_program count (Some self) ≡ Ok program) }
+        ensures fault { (count : ℕ) → last ≡ max 1 count → IfErr result (IsFaultOf (whole_program count (Some self))) }
+    {
+        if self.lacks_duration() {
+            return Err(ParseFault::Input(InputFault {
+                line: last,
+                refusal: InputRefusal::BadHeader,
+            }));
+        }
+        self.into_closed(alloc)
+    }
+
     /// What was read, if no script is open.
-    pub(crate) fn into_program(self, alloc: Global) -> Result<Program, ParseFault>
+    fn into_closed(self, alloc: Global) -> Result<Program, ParseFault>
         ensures program { IfOk result (λ program. closed_program self self.unclosed ≡ Ok program) }
         ensures fault { IfErr result (IsFaultOf (closed_program self self.unclosed)) }
     {
         let limits = self.limits();
         let Reading {
             place: _,
+            is_timed,
             unit: _,
             processors,
             quantum: _,
             turns,
+            duration,
             seeds,
             tickets: _,
             currencies: _,
@@ -188,6 +225,8 @@ impl Reading {
             scripts,
             unclosed,
             commands,
+            time: _,
+            times,
             schedule,
         } = self;
         if let Some(script) = unclosed {
@@ -196,7 +235,7 @@ impl Reading {
                 refusal: InputRefusal::OpenScript,
             }));
         }
-        let seeds = seeds_or_own(alloc, seeds, processors)?;
+        let seeds = seeds_or_own(alloc, seeds, processors, is_timed)?;
         let scripts = without_names(alloc, scripts)?;
         Ok(Program {
             limits,
@@ -205,6 +244,8 @@ impl Reading {
             scripts,
             commands,
             schedule,
+            duration,
+            times,
         })
     }
 }
@@ -217,21 +258,38 @@ fn place_named(scripts: &[NamedScript], name: &[u8]) -> Option<usize>
     scripts.iter().position(|s| name == s.name.as_bytes())
 }
 
-/// The seeds that were given; if they are left out, processor p has seed p.
+/// The seeds that were given; if they are left out, processor p has seed p, or a mixed one if turns come in the order of time.
 fn seeds_or_own(
     alloc: Global,
     given: Option<Vec<u32>>,
     processors: u32,
+    is_timed: bool,
 ) -> Result<Vec<u32>, AllocError>
     requires given { ForSome given (λ s. AreSeeds processors s.items) }
     requires processors { IsBetween 1 64 processors }
     ensures seeds { IfOk result (λ s. AreSeeds processors s.items) }
-    ensures read { IfOk result (λ s. s.items ≡ unwrap_or (option_map (λ g. g.items) given) (range_with_len 1 processors)) }
+    ensures read { IfOk result (λ s. s.items ≡ unwrap_or (option_map (λ g. g.items) given) (if is_timed then map mixed_seed (range_with_len 1 processors) else range_with_len 1 processors)) }
 {
     match given {
         Some(seeds) => Ok(seeds),
+        None if is_timed => mixed_seeds(alloc, processors),
         None => own_seeds(alloc, processors),
     }
+}
+
+/// For each processor a seed of its own, so that they don't draw in lock step.
+fn mixed_seeds(alloc: Global, processors: u32) -> Result<Vec<u32>, AllocError>
+    requires { IsBetween 1 64 processors }
+    ensures seeds { IfOk result (λ s. AreSeeds processors s.items) }
+    ensures mixed { IfOk result (λ s. s.items ≡ map mixed_seed (range_with_len 1 processors)) }
+{
+    let mut seeds = Vec::new(alloc);
+    let mut seed = 1u32;
+    for _ in 0..processors {
+        seed = (u64::from(seed) * 48271 % 2147483647) as u32;
+        seeds.push(seed)?;
+    }
+    Ok(seeds)
 }
 
 /// For each processor its number as its seed.

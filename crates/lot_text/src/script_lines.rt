@@ -31,6 +31,7 @@ pub(crate) fn script_line(
         ScriptWord::End => end_loop(reading, script, tokens),
         ScriptWord::Yield => give_way(reading, script, tokens),
         ScriptWord::Reply => reply(reading, script, tokens),
+        ScriptWord::Serve => serve(reading, script, tokens),
         ScriptWord::Call => call(reading, script, tokens),
         ScriptWord::Receive => receive(reading, script, tokens),
         ScriptWord::Lock => lock(reading, script, tokens),
@@ -114,6 +115,16 @@ fn reply(reading: &mut Reading, script: OpenScript, tokens: Tokens<'_>) -> Resul
 {
     tokens.none()?;
     add_line(reading, script, Line::Reply)
+}
+
+/// `serve PORT`
+fn serve(reading: &mut Reading, script: OpenScript, tokens: Tokens<'_>) -> Result<(), LineFault>
+    requires { length reading.old.scripts < 256 }
+    ensures { Gives reading.new result (script_line_read (within_script reading.old script) script ScriptWord.Serve tokens.entry) }
+{
+    let port = tokens.only()?;
+    let port = known_name(reading.ports.as_slice(), port)?;
+    add_line(reading, script, Line::Serve(port))
 }
 
 /// `call PORT`

@@ -1,8 +1,38 @@
 //! The words that begin lines.
 ghost use Rattle.std.specs.Prelude.{◌≡◌, take, drop};
-ghost use Rattle.lot_simulation.specs.Words.{word_in, header_words, body_words, script_words};
+ghost use Rattle.lot_simulation.specs.Words.{word_in, header_words, timed_header_words, body_words, timed_body_words, script_words, timed_script_words};
 
 use lot_simulation::{BodyWord, HeaderWord, ScriptWord};
+
+/// The same as `header_word`, of an input whose turns come in the order of time.
+pub(crate) fn timed_header_word(token: &[u8]) -> Option<HeaderWord>
+    ensures { result ≡ word_in timed_header_words token.now }
+{
+    match token {
+        b"for" => Some(HeaderWord::For),
+        _ => header_word(token),
+    }
+}
+
+/// The same as `body_word`, of an input whose turns come in the order of time.
+pub(crate) fn timed_body_word(token: &[u8]) -> Option<BodyWord>
+    ensures { result ≡ word_in timed_body_words token.now }
+{
+    match token {
+        b"at" => Some(BodyWord::At),
+        _ => body_word(token),
+    }
+}
+
+/// The same as `script_word`, of an input whose turns come in the order of time.
+pub(crate) fn timed_script_word(token: &[u8]) -> Option<ScriptWord>
+    ensures { result ≡ word_in timed_script_words token.now }
+{
+    match token {
+        b"serve" => Some(ScriptWord::Serve),
+        _ => script_word(token),
+    }
+}
 
 /// The word of the header that the token is, if it is one.
 pub(crate) fn header_word(token: &[u8]) -> Option<HeaderWord>

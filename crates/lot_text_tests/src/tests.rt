@@ -33,6 +33,8 @@ struct Said<'a> {
     scripts: &'a [&'a [Line]],
     commands: &'a [Asked<'a>],
     schedule: &'a [u8],
+    duration: Option<u32>,
+    times: &'a [u32],
 }
 
 fn name(rt: &impl Abort, text: &str) -> Name {
@@ -105,6 +107,12 @@ fn check_numbers(rt: &impl Abort, program: &Program, said: &Said<'_>) {
     assert_eq!(rt; program.turns(), said.turns);
 }
 
+/// Compares how long it runs, and when its commands are made.
+fn check_times(rt: &impl Abort, program: &Program, said: &Said<'_>) {
+    check_items(rt, program.times(), said.times);
+    assert_eq!(rt; program.duration(), said.duration);
+}
+
 fn check_scripts(rt: &impl Abort, scripts: &[Script], wanted: &[&[Line]]) {
     assert_eq!(rt; scripts.len(), wanted.len());
     for (script, lines) in scripts.iter().zip(wanted) {
@@ -126,6 +134,7 @@ fn check_commands(rt: &impl Abort, commands: &[Command], wanted: &[Asked<'_>]) {
 
 fn check_program(rt: &impl Abort, program: &Program, said: &Said<'_>) {
     check_numbers(rt, program, said);
+    check_times(rt, program, said);
     check_scripts(rt, program.scripts(), said.scripts);
     check_commands(rt, program.commands(), said.commands);
 }
@@ -165,6 +174,8 @@ const FIRST_RUN_SAYS: Said<'_> = Said {
         Asked::Fund(2, "b"),
     ],
     schedule: &[0, 0, 0, 1, 1, 0],
+    duration: None,
+    times: &[0; 6],
 };
 
 #[test]
@@ -192,6 +203,8 @@ const HEADERS_SAY: Said<'_> = Said {
     scripts: &[&[]],
     commands: &[],
     schedule: &[],
+    duration: None,
+    times: &[],
 };
 
 #[test]
@@ -199,7 +212,7 @@ fn reads_headers(rt: HostRuntime) -> Result<(), Fail> {
     check_said(&rt, rt.alloc(), HEADERS, &HEADERS_SAY)
 }
 
-/// Every kind of line.
+/// Every kind of line of inputs whose turns follow a schedule.
 const WHOLE_GRAMMAR: &str =
     "lottery 2\nprocessors 2\nquantum 7\nturns 10000\nseed 5 6\nlimits 9 8 7\n# ports\nport p\nport q\n\n\
     mutex m\nmutex n\nscript s\nset 1\nloop 2\nadd 3\n# inner\ncompute 4\ncall p\nend\nreceive q\nreply\nlock m\nunlock n\n\
@@ -250,6 +263,8 @@ const WHOLE_GRAMMAR_SAYS: Said<'_> = Said {
         Asked::List(Kind::Threads),
     ],
     schedule: &[0, 0, 2, 1, 0],
+    duration: None,
+    times: &[0; 11],
 };
 
 #[test]
@@ -257,11 +272,50 @@ fn reads_the_whole_grammar(rt: HostRuntime) -> Result<(), Fail> {
     check_said(&rt, rt.alloc(), WHOLE_GRAMMAR, &WHOLE_GRAMMAR_SAYS)
 }
 
-// For runs in which one allocation is refused: the test above fails in those that refuse one of these.
+/// What only inputs have whose turns come in the order of time.
+const TIMED: &str =
+    "lottery 3\nprocessors 2\nturns 5\nfor 4294967295\nport p\nscript s\nserve p\nendscript\nmkthr a s\n\
+    at 10\nat 20\nlstkt\nlscur\nat 20\nlsthr\nat 4294967295";
+
+/// The seeds are those after 1 of the generator that multiplies by 48271 modulo 2147483647.
+const TIMED_SAYS: Said<'_> = Said {
+    sizes: Sizes {
+        tickets: 65535,
+        currencies: 4096,
+        threads: 4096,
+        ports: 1,
+        mutexes: 0,
+        processors: 2,
+        scripts: 1,
+        quantum: 100,
+        unit: 256,
+    },
+    seeds: &[48271, 182605794],
+    turns: 5,
+    scripts: &[&[Line::Serve(1)]],
+    commands: &[
+        Asked::MakeThread("a", 1),
+        Asked::List(Kind::Tickets),
+        Asked::List(Kind::Currencies),
+        Asked::List(Kind::Threads),
+    ],
+    schedule: &[],
+    duration: Some(4294967295),
+    times: &[0, 20, 20, 20],
+};
+
+#[test]
+fn reads_turns_in_the_order_of_time(rt: HostRuntime) -> Result<(), Fail> {
+    check_said(&rt, rt.alloc(), TIMED, &TIMED_SAYS)
+}
+
+// For runs in which one allocation is refused: the tests above fail in those that refuse one of these.
 #[test]
 fn reads_or_lacks_memory(rt: HostRuntime) {
-    let result = parse(rt.alloc(), WHOLE_GRAMMAR.as_bytes());
-    assert!(rt; matches!(&result, Ok(_) | Err(ParseFault::Memory)));
+    for text in [WHOLE_GRAMMAR, TIMED] {
+        let result = parse(rt.alloc(), text.as_bytes());
+        assert!(rt; matches!(&result, Ok(_) | Err(ParseFault::Memory)));
+    }
 }
 
 /// The ends of inputs that are refused on one line, for one reason.
@@ -319,6 +373,7 @@ const FIRST_LINES: [Refusals<'_>; 3] = [
             "lottery 01",
             "lottery 1 1",
             "lottery 3",
+            "lottery 4",
             "quantum 5",
         ],
     },
@@ -405,6 +460,8 @@ const REFUSED_BODIES: [Refusals<'_>; 8] = [
             "schedule",
             "script S",
             "runs 0 1",
+            "for 5",
+            "at 5",
         ],
     },
     Refusals {
@@ -481,7 +538,7 @@ const REFUSED_SCRIPTS: [Refusals<'_>; 7] = [
     Refusals {
         line: 5,
         refusal: InputRefusal::BadLine,
-        ends: &["recei", "receive", "end", "port q"],
+        ends: &["recei", "receive", "end", "port q", "serve p"],
     },
     Refusals {
         line: 5,
@@ -541,6 +598,59 @@ const REFUSED_RUNS: [Refusals<'_>; 4] = [
 #[test]
 fn refuses_runs(rt: HostRuntime) -> Result<(), Fail> {
     check_table(&rt, rt.alloc(), "lottery 2\n", &REFUSED_RUNS)
+}
+
+/// Header lines of an input whose turns come in the order of time.
+const REFUSED_DURATIONS: [Refusals<'_>; 3] = [
+    Refusals {
+        line: 2,
+        refusal: InputRefusal::BadHeader,
+        ends: &["quantum 5", "port p", "seed 1\n", "at 0"],
+    },
+    Refusals {
+        line: 3,
+        refusal: InputRefusal::BadHeader,
+        ends: &["seed 1\nfor 5", "for 5\nfor 5", "for 5\nturns 1"],
+    },
+    Refusals {
+        line: 2,
+        refusal: InputRefusal::BadNumber,
+        ends: &["for 0", "for 4294967296"],
+    },
+];
+
+/// Lines after its header.
+const REFUSED_TIMES: [Refusals<'_>; 4] = [
+    Refusals {
+        line: 3,
+        refusal: InputRefusal::BadLine,
+        ends: &["schedule 0", "schedule 2", "runs 0 1", "at", "at 1 2"],
+    },
+    Refusals {
+        line: 3,
+        refusal: InputRefusal::BadNumber,
+        ends: &["at 4294967296", "at x"],
+    },
+    Refusals {
+        line: 4,
+        refusal: InputRefusal::BadNumber,
+        ends: &["at 7\nat 6"],
+    },
+    Refusals {
+        line: 4,
+        refusal: InputRefusal::UnknownName,
+        ends: &["script s\nserve p"],
+    },
+];
+
+#[test]
+fn refuses_durations(rt: HostRuntime) -> Result<(), Fail> {
+    check_table(&rt, rt.alloc(), "lottery 3\n", &REFUSED_DURATIONS)
+}
+
+#[test]
+fn refuses_times(rt: HostRuntime) -> Result<(), Fail> {
+    check_table(&rt, rt.alloc(), "lottery 3\nfor 5\n", &REFUSED_TIMES)
 }
 
 /// A first line, and then a line of this many bytes.

@@ -32,11 +32,11 @@ enum Step {
     /// A mutex moves from one thread to another.
     Move(u32, u32, u32),
     /// A drawn number, and who wins.
-    Wins(u64, Won),
+    Wins(u128, Won),
     /// The same, with how many edges the draw reads.
-    Reads(u64, Won, u64),
+    Reads(u128, Won, u64),
     /// A drawn number that nobody wins.
-    Idles(u64),
+    Idles(u128),
     /// Who runs on a processor, and the ticks used there.
     Runs(u32, Option<(u32, u32)>),
     /// What a node is worth after settling.
@@ -151,7 +151,7 @@ fn is_won(winner: Option<Winner>, (thread, number, total): Won) -> bool {
 }
 
 /// A draw, and how many edges it read.
-fn draw(threads: &mut Threads, d: u64) -> (Option<Winner>, u64) {
+fn draw(threads: &mut Threads, d: u128) -> (Option<Winner>, u64) {
     let mut meter = Meter::default();
     let winner = threads.draw(d, &mut meter);
     (winner, meter.ticket_reads)

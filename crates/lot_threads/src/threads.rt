@@ -297,7 +297,7 @@ impl Threads {
 
     /// Holds a draw with the number `d` among the Ready threads (2, 4.2): `None` if their weights sum to 0. Settles what is stale,
     /// and visits the tree of weights once.
-    pub fn draw(&mut self, d: u64, meter: &mut Meter) -> Option<Winner>
+    pub fn draw(&mut self, d: u128, meter: &mut Meter) -> Option<Winner>
         ensures winner { result ≡ drawn_in self.old d }
         ensures settled { self.new ≡ record self.old { stale = [] } }
         ensures ready { IfSome result (λ w. status_of self.old.records w.thread ≡ Some Ready) }

@@ -1,8 +1,8 @@
 //! What is wrong with the refused line, as the reader finds it: first its bytes, then its first word, then how many words
 //! it has, then each of them, and then what there is too much of.
 
-use crate::forms::{BODY_WORDS, Form, SCRIPT_WORDS, form_inside, form_outside};
-use crate::input::{OpenScript, Refused, words_of};
+use crate::forms::{BODY_WORDS, Form, SCRIPT_WORDS, form_inside, form_outside, header_place};
+use crate::input::{OpenScript, Refused, Version, words_of};
 use crate::nearest::nearest_word;
 use crate::problem::Problem;
 use crate::word::word_problem;
@@ -19,10 +19,32 @@ pub(crate) fn problem_of<'a>(
     match refusal {
         InputRefusal::OpenScript => Problem::Unclosed,
         InputRefusal::TooDeep => Problem::DeepLoop,
-        InputRefusal::BadHeader if refused.has_start => Problem::LateHeader(word),
+        InputRefusal::BadHeader if refused.has_start => header_problem(refused, word),
+        InputRefusal::BadHeader if is_timed_start(refused.line) => Problem::NoDuration,
         InputRefusal::BadHeader => Problem::NoStart,
         _ => line_problem(alloc, refused, word).unwrap_or(too_many(refused, word, refusal)),
     }
+}
+
+/// Whether the line is the first of an input whose turns come in the order of time. If that line is refused, it is the last one too.
+fn is_timed_start(line: &[u8]) -> bool {
+    let mut words = words_of(line);
+    words.next() == Some("lottery") && words.next() == Some("3") && words.next().is_none()
+}
+
+/// What is wrong with a line that the header makes wrong. It begins with this word.
+fn header_problem<'a>(refused: &Refused<'a>, word: &'a str) -> Problem<'a> {
+    if refused.version != Version::Timed {
+        return Problem::LateHeader(word);
+    }
+    let is_late = match header_place(word) {
+        Some(place) => place <= refused.place,
+        None => false,
+    };
+    if is_late || refused.has_duration {
+        return Problem::LateTimedHeader(word);
+    }
+    Problem::NoDuration
 }
 
 /// The first byte that is no printable character of ASCII.
@@ -61,8 +83,11 @@ fn script_problem<'a>(
     word: &'a str,
 ) -> Option<Problem<'a>> {
     let Some(form) = form_inside(word) else {
-        return Some(no_script_line(alloc, script, word));
+        return Some(no_script_line(alloc, refused.version, script, word));
     };
+    if word == "serve" && refused.version != Version::Timed {
+        return Some(Problem::OnlyTimed(word));
+    }
     let problem = form_problem(alloc, refused, form);
     if problem.is_some() {
         return problem;
@@ -75,7 +100,7 @@ fn script_problem<'a>(
 }
 
 /// What to say of a word inside a script that begins none of its lines.
-fn no_script_line(alloc: Global, script: OpenScript, word: &str) -> Problem<'_> {
+fn no_script_line(alloc: Global, version: Version, script: OpenScript, word: &str) -> Problem<'_> {
     if word == "lottery" || form_outside(word).is_some() {
         return Problem::InsideScript {
             word,
@@ -84,14 +109,15 @@ fn no_script_line(alloc: Global, script: OpenScript, word: &str) -> Problem<'_> 
     }
     Problem::NoScriptLine {
         word,
-        nearest: nearest_word(alloc, &SCRIPT_WORDS, word),
+        nearest: nearest_word(alloc, version.words_of(&SCRIPT_WORDS), word),
     }
 }
 
 /// What is wrong with a line outside scripts.
 fn body_problem<'a>(alloc: Global, refused: &Refused<'a>, word: &'a str) -> Option<Problem<'a>> {
-    if word == "runs" && refused.is_first_version {
-        return Some(Problem::RunsOfFirst);
+    let problem = version_problem(refused.version, word);
+    if problem.is_some() {
+        return problem;
     }
     if let Some(form) = form_outside(word) {
         return form_problem(alloc, refused, form);
@@ -101,8 +127,19 @@ fn body_problem<'a>(alloc: Global, refused: &Refused<'a>, word: &'a str) -> Opti
     }
     Some(Problem::NoBodyLine {
         word,
-        nearest: nearest_word(alloc, &BODY_WORDS, word),
+        nearest: nearest_word(alloc, refused.version.words_of(&BODY_WORDS), word),
     })
+}
+
+/// What is wrong with a line outside scripts that begins with this word, in an input of this version.
+fn version_problem(version: Version, word: &str) -> Option<Problem<'_>> {
+    match (version, word) {
+        (Version::First, "runs") => Some(Problem::RunsOfFirst),
+        (Version::Timed, "schedule" | "runs") => Some(Problem::ScheduleOfTimed(word)),
+        (Version::Timed, _) => None,
+        (_, "for" | "at") => Some(Problem::OnlyTimed(word)),
+        _ => None,
+    }
 }
 
 /// What is wrong with a line that is to be of this form.

@@ -17,6 +17,8 @@ pub(crate) enum Expected {
     Known(Kind),
     /// The console or a processor.
     Actor,
+    /// A time that isn't before that of an earlier line.
+    Later,
 }
 
 /// How often the words after the first come.
@@ -68,14 +70,14 @@ fn once(shape: &'static str, expected: &'static [Expected]) -> Option<Form> {
     })
 }
 
-/// The words that begin lines of the body.
-pub(crate) const BODY_WORDS: [&str; 16] = [
+/// The words that begin lines of the body, the last of which is for `lottery 3` alone.
+pub(crate) const BODY_WORDS: [&str; 17] = [
     "port", "mutex", "script", "mktkt", "rmtkt", "mkcur", "rmcur", "fund", "unfund", "mkthr",
-    "fundx", "lstkt", "lscur", "lsthr", "schedule", "runs",
+    "fundx", "lstkt", "lscur", "lsthr", "schedule", "runs", "at",
 ];
 
-/// The words that begin lines of a script.
-pub(crate) const SCRIPT_WORDS: [&str; 12] = [
+/// The words that begin lines of a script, the last of which is for `lottery 3` alone.
+pub(crate) const SCRIPT_WORDS: [&str; 13] = [
     "compute",
     "set",
     "add",
@@ -88,6 +90,7 @@ pub(crate) const SCRIPT_WORDS: [&str; 12] = [
     "lock",
     "unlock",
     "endscript",
+    "serve",
 ];
 
 /// The form of a line outside scripts that begins with this word.
@@ -98,12 +101,29 @@ pub(crate) fn form_outside(word: &str) -> Option<Form> {
         .or_else(|| schedule_form(word))
 }
 
+/// The words that begin lines of the header, in their order. `for` is for `lottery 3` alone.
+const HEADER_WORDS: [&str; 7] = [
+    "lottery",
+    "processors",
+    "quantum",
+    "turns",
+    "for",
+    "seed",
+    "limits",
+];
+
+/// Where the word's line comes in the header, from 0 on, if it is one of the header.
+pub(crate) fn header_place(word: &str) -> Option<usize> {
+    HEADER_WORDS.iter().position(|header| *header == word)
+}
+
 /// The form of a line of the header after the first.
 fn header_form(word: &str) -> Option<Form> {
     match word {
         "processors" => once("processors P", &[Expected::Between(1, 64)]),
         "quantum" => once("quantum Q", &[Expected::Between(1, 1000)]),
         "turns" => once("turns T", &[Expected::Between(0, 10000)]),
+        "for" => once("for TICKS", &[Expected::Between(1, 4294967295)]),
         "seed" => Some(Form {
             shape: "seed S1 .. SP, with a number for each processor",
             expected: &[Expected::Between(1, 2147483646)],
@@ -167,6 +187,7 @@ fn schedule_form(word: &str) -> Option<Form> {
             expected: &[Expected::Actor, Expected::Between(1, 1000000)],
             times: Times::Repeated,
         }),
+        "at" => once("at TICK", &[Expected::Later]),
         _ => None,
     }
 }
@@ -183,6 +204,7 @@ pub(crate) fn form_inside(word: &str) -> Option<Form> {
         "reply" => once("reply", &[]),
         "call" => once("call PORT", &[Expected::Known(Kind::Port)]),
         "receive" => once("receive PORT", &[Expected::Known(Kind::Port)]),
+        "serve" => once("serve PORT", &[Expected::Known(Kind::Port)]),
         "lock" => once("lock MUTEX", &[Expected::Known(Kind::Mutex)]),
         "unlock" => once("unlock MUTEX", &[Expected::Known(Kind::Mutex)]),
         "endscript" => once("endscript", &[]),

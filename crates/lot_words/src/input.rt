@@ -1,7 +1,37 @@
 //! The refused line, and what the lines before it say.
 
+use crate::forms::header_place;
 use std::str;
 use std::str::SplitAsciiWhitespace;
+
+/// Which inputs there are.
+#[derive(Clone, Copy, Debug, PartialEq, Eq)]
+pub(crate) enum Version {
+    /// `lottery 1`
+    First,
+    /// `lottery 3`
+    Timed,
+    Other,
+}
+
+impl Version {
+    /// The one that this word says.
+    fn of(word: &str) -> Version {
+        match word {
+            "1" => Version::First,
+            "3" => Version::Timed,
+            _ => Version::Other,
+        }
+    }
+
+    /// Those of these words that it has: the last of them is for `lottery 3` alone.
+    pub(crate) fn words_of(self, words: &'static [&'static str]) -> &'static [&'static str] {
+        if self == Version::Timed {
+            return words;
+        }
+        &words[..words.len().saturating_sub(1)]
+    }
+}
 
 /// A script that is open.
 #[derive(Clone, Copy, Debug)]
@@ -21,8 +51,14 @@ pub(crate) struct Refused<'a> {
     pub(crate) line: &'a [u8],
     /// Whether one of the lines before it isn't ignored.
     pub(crate) has_start: bool,
-    /// Whether the first of these is `lottery 1`.
-    pub(crate) is_first_version: bool,
+    /// What follows `lottery` on the first of these.
+    pub(crate) version: Version,
+    /// Where the last line of the header comes in it, from 0 on.
+    pub(crate) place: usize,
+    /// Whether the header says how long the input runs.
+    pub(crate) has_duration: bool,
+    /// The time that was said last.
+    pub(crate) now: u32,
     pub(crate) processors: u32,
     pub(crate) script: Option<OpenScript>,
 }
@@ -34,7 +70,10 @@ impl<'a> Refused<'a> {
             before: input,
             line: &[],
             has_start: false,
-            is_first_version: false,
+            version: Version::Other,
+            place: 0,
+            has_duration: false,
+            now: 0,
             processors: 1,
             script: None,
         };
@@ -71,8 +110,11 @@ impl<'a> Refused<'a> {
 
     /// The same of a line outside scripts that begins with these two words.
     fn pass_outside(&mut self, number: u32, word: &str, next: &str) {
+        self.place = header_place(word).unwrap_or(usize::MAX);
         match word {
-            "lottery" => self.is_first_version = next == "1",
+            "lottery" => self.version = Version::of(next),
+            "for" => self.has_duration = true,
+            "at" => self.now = next.parse::<u32>().unwrap_or(0),
             "processors" => self.processors = next.parse::<u32>().unwrap_or(1),
             "script" => {
                 self.script = Some(OpenScript {

@@ -49,11 +49,11 @@ fn write_unmade<W: Write>(writer: &mut W, leftovers: &Leftovers, lines: &[u32]) 
         0 => Ok(()),
         1 => writeln!(
             writer,
-            "{line}this command was never made: each 0 in the schedule makes one"
+            "{line}this command was never made: each 0 in a schedule makes one, and lottery 3 makes those up to its end"
         ),
         count => writeln!(
             writer,
-            "{line}this command and those after it, {count} in all, were never made: each 0 in the schedule makes one"
+            "{line}this command and those after it, {count} in all, were never made: each 0 in a schedule makes one, and lottery 3 makes those up to its end"
         ),
     }
 }

@@ -21,10 +21,14 @@ pub(crate) enum Problem<'a> {
         byte: u8,
         column: usize,
     },
-    #[error("an input begins with 'lottery 1' or 'lottery 2'")]
+    #[error("an input begins with 'lottery 1', 'lottery 2' or 'lottery 3'")]
     NoStart,
     #[error("'{0}' comes too late: the header has 'lottery', 'processors', 'quantum', 'turns', 'seed' and 'limits', each at most once, in this order and before all else")]
     LateHeader(&'a str),
+    #[error("'{0}' comes too late: the header has 'lottery', 'processors', 'quantum', 'turns', 'for', 'seed' and 'limits', each at most once, in this order and before all else")]
+    LateTimedHeader(&'a str),
+    #[error("the header doesn't say how long the input runs: 'for TICKS' comes before 'seed', 'limits' and all else")]
+    NoDuration,
     #[error("'{word}' is no body line{nearest}")]
     NoBodyLine {
         word: &'a str,
@@ -44,6 +48,10 @@ pub(crate) enum Problem<'a> {
     },
     #[error("'runs' is for 'lottery 2': in 'lottery 1' write 'schedule ACTOR ..'")]
     RunsOfFirst,
+    #[error("'{0}' is not for 'lottery 3', whose turns come in the order of time: 'at TICK' says when commands are made")]
+    ScheduleOfTimed(&'a str),
+    #[error("'{0}' is for 'lottery 3', whose turns come in the order of time")]
+    OnlyTimed(&'a str),
     #[error("a comment has a line of its own; '{0}' has no room for one")]
     TrailingComment(&'a str),
     #[error("this line is written '{shape}', and here are {count} words")]

@@ -18,7 +18,7 @@ fn check<H: Abort>(rt: &H, alloc: Global, input: &[u8], expected: &str) {
 #[test]
 fn first_lines(rt: HostRuntime) {
     let (rt, alloc) = (&rt, rt.alloc());
-    let start = "line 1: an input begins with 'lottery 1' or 'lottery 2'\n";
+    let start = "line 1: an input begins with 'lottery 1', 'lottery 2' or 'lottery 3'\n";
     check(rt, alloc, b"", start);
     check(rt, alloc, b"lottery 9\n", start);
     check(rt, alloc, b"script s\n", start);
@@ -50,6 +50,18 @@ fn misspelt_words(rt: HostRuntime) {
         alloc,
         b"lottery 1\nscript s\ncomptue 4\n",
         "line 3: 'comptue' is no line of a script; did you mean 'compute'?\n",
+    );
+    check(
+        rt,
+        alloc,
+        b"lottery 1\nscript s\nserve_\n",
+        "line 3: 'serve_' is no line of a script\n",
+    );
+    check(
+        rt,
+        alloc,
+        b"lottery 3\nfor 5\nscript s\nserve_\n",
+        "line 4: 'serve_' is no line of a script; did you mean 'serve'?\n",
     );
     check(
         rt,
@@ -231,4 +243,49 @@ fn too_many(rt: HostRuntime) -> Result<(), Fail> {
         "line 1027: one line of a script too many, at most 1024\n",
     );
     Ok(())
+}
+
+#[test]
+fn turns_in_time(rt: HostRuntime) {
+    let (rt, alloc) = (&rt, rt.alloc());
+    let lacks =
+        "line 2: the header doesn't say how long the input runs: 'for TICKS' comes before 'seed', 'limits' and all else\n";
+    check(rt, alloc, b"lottery 3\nmkcur a\n", lacks);
+    check(rt, alloc, b"lottery 3\nquantum 5\n", lacks);
+    check(
+        rt,
+        alloc,
+        b"lottery 3\n",
+        "line 1: the header doesn't say how long the input runs: 'for TICKS' comes before 'seed', 'limits' and all else\n",
+    );
+    check(
+        rt,
+        alloc,
+        b"lottery 3\nfor 5\nquantum 5\n",
+        "line 3: 'quantum' comes too late: the header has 'lottery', 'processors', 'quantum', 'turns', 'for', 'seed' and 'limits', each at most once, in this order and before all else\n",
+    );
+    check(
+        rt,
+        alloc,
+        b"lottery 3\nfor 5\nschedule 0\n",
+        "line 3: 'schedule' is not for 'lottery 3', whose turns come in the order of time: 'at TICK' says when commands are made\n",
+    );
+    check(
+        rt,
+        alloc,
+        b"lottery 3\nfor 5\nat 3\nat 2\n",
+        "line 4: '2' is no number from 3 to 4294967295\n",
+    );
+    check(
+        rt,
+        alloc,
+        b"lottery 2\nat 5\n",
+        "line 2: 'at' is for 'lottery 3', whose turns come in the order of time\n",
+    );
+    check(
+        rt,
+        alloc,
+        b"lottery 1\nport p\nscript s\nserve p\n",
+        "line 4: 'serve' is for 'lottery 3', whose turns come in the order of time\n",
+    );
 }

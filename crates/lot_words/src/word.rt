@@ -22,6 +22,7 @@ pub(crate) fn word_problem<'a>(
         Expected::New(kind) => new_problem(refused, word, kind),
         Expected::Known(kind) => known_problem(alloc, refused, word, kind),
         Expected::Actor => actor_problem(refused, word),
+        Expected::Later => between_problem(word, refused.now, u32::MAX),
     }
 }
 

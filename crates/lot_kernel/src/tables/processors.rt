@@ -41,7 +41,7 @@ impl Tables {
     }
 
     /// A draw by a processor.
-    pub(super) fn draw(&mut self, processor: u32, d: u64) -> Reply
+    pub(super) fn draw(&mut self, processor: u32, d: u128) -> Reply
         ensures reply { result ≡ (step self.old.state (event.Draw processor d)).reply }
         ensures state { self.new.state ≡ (step self.old.state (event.Draw processor d)).state }
         ensures stale { MakesStale self.old self.new }

@@ -1,4 +1,4 @@
-//! What traps do: yields, calls, receipts, replies, locks, unlocks and exits (3.4, 4.5, 4.6, 6.1).
+//! What traps do: yields, calls, receipts, replies, servings, locks, unlocks and exits (3.4, 4.5, 4.6, 6.1).
 ghost use Rattle.std.specs.Prelude.{◌≡◌, ◌≢◌};
 ghost use Rattle.lot_machine.specs.declared.action.Action.TheVariants as action;
 ghost use Rattle.lot_machine.specs.declared.after.After.TheVariants.{GoesOn};
@@ -34,6 +34,7 @@ impl Tables {
             Action::Call(port, number) => self.call(thread, port, number),
             Action::Receive(port) => self.receive(thread, port),
             Action::Reply(number) => self.reply(thread, number),
+            Action::Serve(port, number) => self.serve(thread, port, number),
             Action::Lock(mutex) => self.lock(thread, mutex),
             Action::Unlock(mutex, d) => self.unlock(thread, mutex, d),
             Action::Exit => Effect {
@@ -90,6 +91,32 @@ impl Tables {
         lot_ports::reply(&mut self.threads, &mut self.queues, thread, client, number)
     }
 
+    fn serve(&mut self, thread: u32, port: u32, number: u32) -> Effect
+        requires order { IsInOrder self.old.state }
+        requires runs { IsRunning self.old.state.records thread }
+        ensures outcome { result.outcome ≡ (effect_of self.old.state thread (action.Serve port number)).outcome }
+        ensures after { result.after ≡ (effect_of self.old.state thread (action.Serve port number)).after }
+        ensures state { self.new.state ≡ (effect_of self.old.state thread (action.Serve port number)).state }
+        ensures stale { MakesStale self.old self.new }
+        ensures kept { KeepsStale self.old self.new }
+        ensures meter { self.new.meter ≡ self.old.meter }
+    {
+        if port == 0 || port > self.queues.ports() {
+            return refused(TrapRefusal::NoPort);
+        }
+        let Some(client) = self.queues.first_client(thread) else {
+            return refused(TrapRefusal::NothingToReply);
+        };
+        lot_ports::serve(
+            &mut self.threads,
+            &mut self.queues,
+            thread,
+            client,
+            port,
+            number,
+        )
+    }
+
     fn lock(&mut self, thread: u32, mutex: u32) -> Effect
         requires order { IsInOrder self.old.state }
         requires runs { IsRunning self.old.state.records thread }
@@ -141,7 +168,7 @@ impl Tables {
             .reaches(Node::Thread(lender), Node::Thread(thread))
     }
 
-    fn unlock(&mut self, thread: u32, mutex: u32, d: u64) -> Effect
+    fn unlock(&mut self, thread: u32, mutex: u32, d: u128) -> Effect
         requires order { IsInOrder self.old.state }
         requires runs { IsRunning self.old.state.records thread }
         ensures outcome { result.outcome ≡ (effect_of self.old.state thread (action.Unlock mutex d)).outcome }

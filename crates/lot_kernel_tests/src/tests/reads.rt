@@ -8,7 +8,7 @@ enum Count<'a> {
     /// A command that is done and reads nothing.
     Does(Line<'a>),
     /// A draw by processor 1 that this thread wins, the number, the total, and how many edges it reads.
-    Draws(u64, Winner, u64),
+    Draws(u128, Winner, u64),
     /// The end of the quantum on processor 1, which reads nothing.
     Expires,
     /// A trap on processor 1, what comes of it, and how many edges it reads.
@@ -135,7 +135,7 @@ fn make_threads(kernel: &mut Kernel, alloc: Global, count: u32) -> Result<(), Fa
 }
 
 /// A draw visits places of the tree of weights, 1 to 10.
-fn check_visits(rt: &impl Abort, kernel: &mut Kernel, d: u64) {
+fn check_visits(rt: &impl Abort, kernel: &mut Kernel, d: u128) {
     let before = kernel.meter().tree_visits;
     let reply = kernel.event(&Event::Draw(1, d));
     assert!(rt; matches!(reply, Reply::Winner { .. }));

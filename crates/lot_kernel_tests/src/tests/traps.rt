@@ -61,7 +61,7 @@ fn check_compensation(
         &[
             Event::Draw(1, 0),
             Event::Trap(1, ran, Action::Yield),
-            Event::Draw(1, last),
+            Event::Draw(1, u128::from(last)),
         ],
         &[
             won(1, 0, u128::from(amount)),
@@ -445,6 +445,58 @@ const QUANTUM_REPLIES: [Reply; 6] = [
 fn the_end_of_a_quantum(rt: HostRuntime) -> Result<(), Fail> {
     run_funded(&rt, rt.alloc(), 10, &QUANTUM, &QUANTUM_REPLIES)?;
     Ok(())
+}
+
+const SERVINGS: [Step<'_>; 19] = [
+    Step::Wins(1, 0, (1, 0, 60), None),
+    Step::Traps(1, Action::Receive(1), 1, Outcome::Waits),
+    Step::Wins(1, 0, (2, 0, 50), None),
+    Step::Traps(1, Action::Call(1, 5), 2, Outcome::ServedBy(1)),
+    Step::Wins(1, 0, (1, 0, 3030), Some(5)),
+    Step::Wins(2, 0, (3, 0, 30), None),
+    Step::Traps(2, Action::Call(1, 6), 3, Outcome::Queued),
+    Step::Traps(
+        1,
+        Action::Serve(1, 8),
+        1,
+        Outcome::RepliedThenReceived {
+            to: 2,
+            client: 3,
+            number: 6,
+        },
+    ),
+    Step::Value(1, 40),
+    Step::Value(2, 20),
+    Step::Wins(2, 0, (2, 0, 2000), Some(8)),
+    Step::Traps(1, Action::Serve(1, 9), 1, Outcome::RepliedThenWaits(3)),
+    Step::Thread((1, "v", Status::Receiving(1), 0, 0, 2, 3)),
+    Step::Traps(
+        2,
+        Action::Serve(1, 7),
+        2,
+        Outcome::Refused(TrapRefusal::NothingToReply),
+    ),
+    Step::Traps(
+        2,
+        Action::Serve(3, 7),
+        2,
+        Outcome::Refused(TrapRefusal::NoPort),
+    ),
+    Step::Traps(2, Action::Call(1, 4), 2, Outcome::ServedBy(1)),
+    Step::Value(1, 30),
+    Step::Wins(1, 1499, (1, 1499, 4500), Some(4)),
+    Step::Wins(2, 0, (3, 0, 3000), Some(9)),
+];
+
+// A server replies and takes the next call in one trap, or waits for it; with no client it is refused.
+#[test]
+fn a_server_that_serves(rt: HostRuntime) -> Result<(), Fail> {
+    play_funded(
+        &rt,
+        rt.alloc(),
+        &[(10, "v"), (20, "c"), (30, "d")],
+        &SERVINGS,
+    )
 }
 
 const REFUSED_TRAPS: [Step<'_>; 4] = [

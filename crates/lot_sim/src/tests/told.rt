@@ -98,7 +98,7 @@ schedule 0 0
         0,
         "line 7: the command was refused: an amount is a number from 1 to 4294967295
 line 11: the command was refused: no script of an earlier line has this name
-line 12: this command and those after it, 2 in all, were never made: each 0 in the schedule makes one
+line 12: this command and those after it, 2 in all, were never made: each 0 in a schedule makes one, and lottery 3 makes those up to its end
 ",
     );
 }
@@ -112,7 +112,7 @@ fn one_command_never_made(rt: HostRuntime) {
         ["lot_sim", "play"],
         input,
         0,
-        "line 3: this command was never made: each 0 in the schedule makes one\n",
+        "line 3: this command was never made: each 0 in a schedule makes one, and lottery 3 makes those up to its end\n",
     );
 }
 

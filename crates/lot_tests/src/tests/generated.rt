@@ -85,9 +85,10 @@ fn next_action(numbers: &mut ParkMiller) -> Action {
         0 | 1 => Action::Yield,
         2..=5 => Action::Call(number, number),
         6..=9 => Action::Receive(number),
-        10 | 11 => Action::Reply(number),
+        10 => Action::Reply(number),
+        11 => Action::Serve(number, number),
         12 | 13 => Action::Lock(number),
-        14 => Action::Unlock(number, numbers.number()),
+        14 => Action::Unlock(number, u128::from(numbers.number())),
         _ => Action::Exit,
     }
 }
@@ -96,7 +97,7 @@ fn next_event(alloc: Global, numbers: &mut ParkMiller) -> Result<Event, Fail> {
     let processor = numbers.next() % 16;
     Ok(match numbers.next() % 8 {
         0 | 1 => Event::Command(next_command(alloc, numbers)?),
-        2..=4 => Event::Draw(processor, numbers.number()),
+        2..=4 => Event::Draw(processor, numbers.wide_number()),
         5 => Event::Expire(processor),
         _ => Event::Trap(processor, numbers.next() % 64, next_action(numbers)),
     })

@@ -1,6 +1,6 @@
 use Rattle.std.proofs.Common.{◌≡◌, ◌++◌, codes, Err, rules}
 use Rattle.std.specs.Fmt.{decimal}
-use Rattle.lot_simulation.specs.Texts.{newline, refused}
+use Rattle.lot_simulation.specs.Texts.{front, newline, refused}
 use Rattle.lot_print.proofs.PageFacts.{put-stop}
 use Rattle.lot_print.proofs.replies.write_ended.Goals as goal
 
@@ -10,5 +10,5 @@ returns-in_err-make_room g c =
     let told = c.in_err-make_room.ensures.text in
     rw is (
       told.0,
-      put-stop (g.W.Write.contents c.args.writer.now.inner) (g.W.Write.contents c.make_room.new.writer.inner) c.args.page.now (decimal c.args.actor ++ (codes " " ++ (refused 41 (codes "Ended") ++ newline))) told.1,
+      put-stop (g.W.Write.contents c.args.writer.now.inner) (g.W.Write.contents c.make_room.new.writer.inner) c.args.page.now (front c.args.heading.manner ++ (decimal c.args.heading.actor ++ (codes " " ++ (refused 41 (codes "Ended") ++ newline)))) told.1,
     )

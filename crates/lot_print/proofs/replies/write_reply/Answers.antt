@@ -1,6 +1,6 @@
 use Rattle.std.proofs.Common.{◌≡◌, ◌++◌, codes, Err, rules}
 use Rattle.std.specs.Fmt.{decimal}
-use Rattle.lot_simulation.specs.Texts.{plain_text}
+use Rattle.lot_simulation.specs.Texts.{front, plain_text}
 use Rattle.lot_print.proofs.PageFacts.{put-stop}
 use Rattle.lot_print.proofs.replies.write_reply.Goals as goal
 
@@ -10,5 +10,5 @@ returns-in_err-make_room g c =
     let told = c.in_err-make_room.ensures.text in
     rw is (
       told.0,
-      put-stop (g.W.Write.contents c.args.writer.now.inner) (g.W.Write.contents c.make_room.new.writer.inner) c.args.page.now (decimal c.args.actor ++ (codes " " ++ plain_text c.args.event.now c.args.reply)) told.1,
+      put-stop (g.W.Write.contents c.args.writer.now.inner) (g.W.Write.contents c.make_room.new.writer.inner) c.args.page.now (front c.args.heading.manner ++ (decimal c.args.heading.actor ++ (codes " " ++ plain_text c.args.heading.manner c.args.heading.unit c.args.event.now c.args.reply))) told.1,
     )

@@ -31,7 +31,7 @@ returns-in_err-write_history-clause-text g c =
     let told = c.in_err-write_history.ensures in
     let mid = g.W.Write.contents c.write_report.new.writer.inner in
     let new = g.W.Write.contents c.write_history.new.writer.inner in
-    let lines = lines-are s c.write_report.new.system c.unit.result c.history.result.now c.in_ok-write_report.ensures.same c.unit.ensures c.history.ensures.items in
+    let lines = lines-are s c.write_report.new.system c.unit.result c.history.result.now c.in_ok-write_report.ensures.same c.unit.ensures.program c.history.ensures.items in
     rw is (
       refl,
       told.0,
@@ -46,5 +46,5 @@ returns-clause-text g c =
     let mid = g.W.Write.contents c.write_report.new.writer.inner in
     let new = g.W.Write.contents c.write_history.new.writer.inner in
     let told = c.in_ok-write_history.ensures in
-    let lines = lines-are s c.write_report.new.system c.unit.result c.history.result.now c.in_ok-write_report.ensures.same c.unit.ensures c.history.ensures.items in
+    let lines = lines-are s c.write_report.new.system c.unit.result c.history.result.now c.in_ok-write_report.ensures.same c.unit.ensures.program c.history.ensures.items in
     (told.0, appends-both old mid new (report s.setting.program s.history) (history_lines s.setting.program.limits.unit s.history) c.in_ok-write_report.ensures.text.1 (subst (Appends mid new) lines told.1))

@@ -2,6 +2,7 @@
 use Rattle.std.proofs.Common.{◌≡◌, ◌++◌, codes, Err, refl, rules, subst}
 use Rattle.std.specs.Fmt.{decimal}
 use Rattle.std.specs.List.{flat_map, range_with_len}
+use Rattle.lot_simulation.specs.Texts.{front}
 use Rattle.lot_print.specs.Listings.{listing_line}
 use Rattle.lot_print.specs.Writing.{Begins}
 use Rattle.lot_print.proofs.WritingFacts.{begins-front}
@@ -18,25 +19,27 @@ returns-in_err-write_listing_line-clause-text g c =
     let is : c.from_residual.result ≡ Err Write = search rules in
     let told = c.in_err-write_listing_line.ensures in
     let s = (world_of c.args.system.now).state in
+    let manner = c.args.manner in
     let kind = c.args.kind in
     let old = g.W.Write.contents c.args.writer.now.inner in
     let new = g.W.Write.contents c.write_listing_line.new.writer.inner in
     let rows = c.count_rows-rows.result in
-    let first = decimal c.args.actor ++ (codes " " ++ listing_line kind rows) in
-    let lines = flat_map (row_line s kind) (range_with_len (first_number kind) (given_count s kind)) in
-    let following = listed-after s kind c.args.actor rows c.count_rows-rows.ensures.count in
+    let first = front manner ++ (decimal c.args.actor ++ (codes " " ++ listing_line kind rows)) in
+    let lines = flat_map (row_line manner s kind) (range_with_len (first_number kind) (given_count s kind)) in
+    let following = listed-after manner s kind c.args.actor rows c.count_rows-rows.ensures.count in
     rw is (refl, told.0, subst (Begins old new) following (begins-front old new first lines told.1))
 
 pub returns-clause-text : goal.returns-clause-text
 returns-clause-text g c =
     let s = (world_of c.args.system.now).state in
+    let manner = c.args.manner in
     let kind = c.args.kind in
     let told = rw c.count_rows-rows.ensures.same at c.write_rows.ensures.text in
     let old = g.W.Write.contents c.args.writer.now.inner in
     let mid = g.W.Write.contents c.write_listing_line.new.writer.inner in
     let new = g.W.Write.contents c.write_rows.new.writer.inner in
     let rows = c.count_rows-rows.result in
-    let first = decimal c.args.actor ++ (codes " " ++ listing_line kind rows) in
-    let lines = flat_map (row_line s kind) (range_with_len (first_number kind) (given_count s kind)) in
-    let following = listed-after s kind c.args.actor rows c.count_rows-rows.ensures.count in
+    let first = front manner ++ (decimal c.args.actor ++ (codes " " ++ listing_line kind rows)) in
+    let lines = flat_map (row_line manner s kind) (range_with_len (first_number kind) (given_count s kind)) in
+    let following = listed-after manner s kind c.args.actor rows c.count_rows-rows.ensures.count in
     subst (Written old new c.write_rows.new.writer.failed c.write_rows.result) following (writes-after old mid new c.write_rows.new.writer.failed c.write_rows.result first lines c.in_ok-write_listing_line.ensures.1 told)

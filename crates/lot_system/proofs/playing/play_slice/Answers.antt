@@ -1,8 +1,10 @@
 -- A turn that goes is one turn more, and its text is that of its answer in the world after it.
-use Rattle.std.proofs.Common.{◌≡◌, ◌++◌, codes, Err, refl, rules, sym, ◌∙◌, ap, subst}
+use Rattle.std.proofs.Common.{◌≡◌, ℕ, ◌++◌, codes, Err, refl, rules, sym, ◌∙◌, ap, subst}
 use Rattle.std.specs.Fmt.{decimal}
+use Rattle.lot_simulation.specs.declared.manner.Manner.{Manner}
+use Rattle.lot_simulation.specs.declared.manner.Manner.TheVariants.{Whole}
 use Rattle.lot_simulation.specs.Output.{turn_text}
-use Rattle.lot_simulation.specs.Texts.{newline, refused, reply_text}
+use Rattle.lot_simulation.specs.Texts.{newline, front, refused, reply_text}
 use Rattle.lot_print.specs.Writing.{Begins}
 use Rattle.lot_system.specs.declared.fault.PlayFault.TheVariants.{Write}
 use Rattle.lot_system.specs.Playing.{IsPlayed, turn_in}
@@ -24,12 +26,18 @@ returns-in-Ok-clause-text g c =
     let old = c.args.system.now in
     let actor = c.args.actor in
     let told = c.in-Ok.ensures.ok in
-    let text = ap (λ (x : Seen). decimal actor ++ (codes " " ++ reply_text (world_of x).state c.try_turn.new.event c.in-Ok.reply)) told.1 ∙ text-after old actor c.try_turn.new.event c.in-Ok.reply told.2 in
+    let text = ap (λ (x : Seen). decimal actor ++ (codes " " ++ reply_text Whole (world_of x).state c.try_turn.new.event c.in-Ok.reply)) told.1 ∙ text-after old actor c.try_turn.new.event c.in-Ok.reply told.2 Whole in
     subst (Put (g.W.Write.contents c.args.writer.now.inner) (g.W.Write.contents c.put_answer.new.writer.inner) c.args.page.now c.put_answer.new.page c.put_answer.new.writer.failed c.put_answer.result) text c.put_answer.ensures.text
+
+-- the text of a turn without a command, with this heading
+headed : (m : Manner) (actor a : ℕ) → m ≡ Whole → a ≡ actor
+    → front m ++ (decimal a ++ (codes " " ++ (refused 41 (codes "Ended") ++ newline))) ≡ decimal actor ++ (codes " " ++ (refused 41 (codes "Ended") ++ newline))
+headed m actor a of_manner of_actor = rw (of_manner, of_actor) refl
 
 pub returns-in_err-write_ended-in-Err-Ended-clause-text : goal.returns-in_err-write_ended-in-Err-Ended-clause-text
 returns-in_err-write_ended-in-Err-Ended-clause-text g c =
     let is : c.from_residual.result ≡ Err Write = search rules in
     let told = c.in_err-write_ended-in-Err-Ended.ensures in
-    let text : decimal c.args.actor ++ (codes " " ++ (refused 41 (codes "Ended") ++ newline)) ≡ turn_text c.args.actor (turn_in c.args.system.now c.args.actor) = search rules in
+    let ended : decimal c.args.actor ++ (codes " " ++ (refused 41 (codes "Ended") ++ newline)) ≡ turn_text Whole c.args.actor (turn_in c.args.system.now c.args.actor) = search rules in
+    let text = headed c.heading.result.manner c.args.actor c.heading.result.actor c.heading.ensures.manner c.heading.ensures.actor ∙ ended in
     rw is (refl, told.0, subst (λ t. Begins (g.W.Write.contents c.args.writer.now.inner) (g.W.Write.contents c.write_ended.new.writer.inner) (c.args.page.now ++ t)) text told.1)

@@ -19,7 +19,7 @@ returns-in_err-write_thread-clause-text g c =
       told.0,
       told.1,
       range-stops (g.W.Write.contents c.args.writer.now.inner) (g.W.Write.contents c.loop-place.writer.inner) (g.W.Write.contents c.write_thread.new.writer.inner) (line c.args.system.now) 1 c.loop-place.place
-          (length (world_of c.args.system.now).state.records) (c.loop-place.place + 1) (omega (arith, c.loop-place-test.true, c.thread_count-place-end.ensures)) (omega arith) i.bytes told.2,
+          (length (world_of c.args.system.now).state.records) (c.loop-place.place + 1) (omega (arith, c.loop-place-test.true, c.thread_count-place-end.ensures.count)) (omega arith) i.bytes told.2,
     )
 
 pub loop-place-preserved : goal.loop-place-preserved

@@ -44,3 +44,6 @@ returns-in-Schedule c = rw c.in-Schedule.is (c.schedule.ensures c.args.number)
 
 pub returns-in-Runs : goal.returns-in-Runs
 returns-in-Runs c = rw c.in-Runs.is (c.runs.ensures c.args.number)
+
+pub returns-in-At : goal.returns-in-At
+returns-in-At c = rw c.in-At.is (c.at.ensures c.args.number)

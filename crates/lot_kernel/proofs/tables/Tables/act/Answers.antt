@@ -16,6 +16,9 @@ returns-in-Receive-clause-counts c = rw c.in-Receive.is (record { kept = c.recei
 pub returns-in-Reply-clause-counts : goal.returns-in-Reply-clause-counts
 returns-in-Reply-clause-counts c = rw c.in-Reply.is (record { kept = c.reply.ensures.kept; meter = c.reply.ensures.meter })
 
+pub returns-in-Serve-clause-counts : goal.returns-in-Serve-clause-counts
+returns-in-Serve-clause-counts c = rw c.in-Serve.is (record { kept = c.serve.ensures.kept; meter = c.serve.ensures.meter })
+
 pub returns-in-Lock-clause-counts : goal.returns-in-Lock-clause-counts
 returns-in-Lock-clause-counts c = rw c.in-Lock.is (record { kept = c.lock.ensures.kept; meter = c.lock.ensures.meter })
 

@@ -7,10 +7,13 @@ use Rattle.lot_machine.specs.declared.record.Record.{Record}
 use Rattle.lot_machine.specs.declared.record.Status.TheVariants.{Running}
 use Rattle.lot_machine.proofs.RecordsKept.{RunsAlone, StopsIfLeaves}
 use Rattle.lot_kernel.specs.Trapped.{RunsOn, effect_of}
+use Rattle.lot_kernel.specs.Snapshots.{Snapshot}
+use Rattle.lot_machine.specs.declared.sizes.Sizes.{Sizes}
+use Rattle.lot_machine.specs.Step.{ends_quantum}
 use Rattle.lot_machine.specs.State.{State, funding_of, lend_of, status_of}
 use Rattle.lot_machine.specs.Numbered.{at_number}
 use Rattle.lot_kernel.proofs.Leaving.{effect-leaves}
-use Rattle.lot_kernel.proofs.TrapEnds.{effect-limits, effect-runs, finished-state, lends-there, makes-trap}
+use Rattle.lot_kernel.proofs.TrapEnds.{effect-limits, effect-runs, finished-reply, finished-state, lends-there, makes-trap}
 use Rattle.lot_kernel.proofs.Finishing.{may-leave}
 use Rattle.lot_machine.proofs.Queues.{record-of}
 use Rattle.lot_kernel.proofs.tables.Tables.make_trap.Goals as goal
@@ -52,6 +55,15 @@ finish-requires-clause-lend c status leaves =
     subst (λ (x : State). CanLend (funding_of x) t (lend_of status)) (sym c.act-effect.ensures.state)
     (may-leave s (effect_of s t c.args.action).state t p used c.args.trap.ticks c.args.trap.used c.args.action c.requires.order runs c.requires.ticks.0 c.requires.ticks.1 refl
     (ap (option_map (λ (r : Record). r.status)) left ∙ runs) status leaving (lends-there s t p used c.requires.order runs c.args.action status leaving))
+
+pub returns-clause-reply : goal.returns-clause-reply
+returns-clause-reply c =
+    let s = c.args.self.now.state in
+    let trap = c.args.trap in
+    let limits = ap (λ (x : State). x.limits) c.finish.ensures.state ∙ ap (λ (x : State). x.limits) c.act-effect.ensures.state ∙ effect-limits s trap.thread c.args.action in
+    let quantum : c.self.inside.limits.quantum ≡ s.limits.quantum = ap (λ (v : Snapshot). v.state.limits.quantum) c.self.view_is ∙ ap (λ (l : Sizes). l.quantum) limits in
+    finished-reply s trap.processor trap.thread trap.ticks trap.used (effect_of s trap.thread c.args.action) c.act-effect.result.outcome c.act-effect.result.after c.ends_quantum.result
+    c.act-effect.ensures.outcome c.act-effect.ensures.after (c.ends_quantum.ensures ∙ ap (ends_quantum c.act-effect.result.after trap.used) quantum)
 
 pub returns-clause-state : goal.returns-clause-state
 returns-clause-state c =

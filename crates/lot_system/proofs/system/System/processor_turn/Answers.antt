@@ -1,8 +1,8 @@
 -- The event is the one of the slice of the work, and what is held then is what the world comes to.
-use Rattle.std.proofs.Common.{◌≡◌, ◌<◌, ◌++◌, [], ◌∷◌, length, ap, ◌∙◌, subst, unwrap_or, arith}
-use Rattle.lot_machine.specs.Lottery.{drawn_number}
-use Rattle.lot_machine.specs.Numbered.{at_number}
-use Rattle.lot_simulation.specs.World.{IsLegal, system_turn, system_run}
+use Rattle.std.proofs.Common.{◌≡◌, ℕ, ◌<◌, ◌++◌, [], ◌∷◌, length, ap, ◌∙◌, subst, unwrap_or, is_some, arith}
+use Rattle.std.specs.Prelude.{if◌then◌else◌}
+use Rattle.lot_machine.specs.Numbered.{at_number, set_number}
+use Rattle.lot_simulation.specs.World.{IsLegal, number_from, seed_from, system_turn, system_run, takes_number}
 use Rattle.lot_simulation.specs.World.Answer.{Answered}
 use Rattle.lot_system.specs.Seen.{Seen, world_of}
 use Rattle.lot_system.proofs.Runs.{system_run-one_more, past-more}
@@ -16,7 +16,7 @@ follow_turn-requires c =
     let s = c.self.inside in
     let requires = rw (← c.self.view_is) at c.requires in
     let fresh = requires.fresh in
-    let number = c.next_number-next.ensures.number ∙ ap (λ ns. drawn_number (unwrap_or (at_number ns c.args.actor) 0)) c.deref.ensures.value in
+    let number = c.next_number-next.ensures.number ∙ ap (λ ns. number_from s.is_wide (unwrap_or (at_number ns c.args.actor) 0)) c.deref.ensures.value ∙ ap (λ wide. number_from wide (unwrap_or (at_number s.generators.items c.args.actor) 0)) c.self.invariant.wide in
     turn-names s.program (system_run s.program s.history.items) s.kernel.state s.places.items s.generators.items s.spent c.self.invariant.held c.args.actor (omega (arith, requires.actor.0)) c.next_number-next.result.number fresh.0 c.args.slice.now fresh.1 fresh.2 c.event_of.ensures.exact number
     c.event_of.result c.event_of.ensures.event c.event-reply.new.self.state c.event-reply.result c.event-reply.ensures.state c.event-reply.ensures.reply
 
@@ -33,11 +33,13 @@ invariant_of-self c =
     let requires = rw (← c.self.view_is) at c.requires in
     let fresh = requires.fresh in
     let some : 0 < c.args.actor = omega (arith, requires.actor.0) in
-    let number = c.next_number-next.ensures.number ∙ ap (λ ns. drawn_number (unwrap_or (at_number ns c.args.actor) 0)) c.deref.ensures.value in
+    let number = c.next_number-next.ensures.number ∙ ap (λ ns. number_from s.is_wide (unwrap_or (at_number ns c.args.actor) 0)) c.deref.ensures.value ∙ ap (λ wide. number_from wide (unwrap_or (at_number s.generators.items c.args.actor) 0)) c.self.invariant.wide in
+    let after : c.next_number-next.result.after ≡ seed_from (is_some s.program.duration) (unwrap_or (at_number s.generators.items c.args.actor) 0) =
+    c.next_number-next.ensures.after ∙ ap (λ ns. seed_from s.is_wide (unwrap_or (at_number ns c.args.actor) 0)) c.deref.ensures.value ∙ ap (λ wide. seed_from wide (unwrap_or (at_number s.generators.items c.args.actor) 0)) i.wide in
     let held =
     turn-held s.program (system_run s.program s.history.items) s.kernel.state s.places.items s.generators.items s.spent i.held c.args.actor some c.next_number-next.result.number fresh.0 c.args.slice.now fresh.1 fresh.2 c.event_of.ensures.exact number
     c.event_of.result c.event_of.ensures.event c.event-reply.new.self.state c.event-reply.result c.event-reply.ensures.state c.event-reply.ensures.reply
-    c.follow_turn.new.places.items c.pass_number.new.generators.items c.follow_turn.ensures.follows c.pass_number.ensures.values in
+    c.follow_turn.new.places.items c.pass_number.new.generators.items c.follow_turn.ensures.follows (c.pass_number.ensures.values ∙ ap (λ (seed : ℕ). if takes_number c.event_of.result then set_number s.generators.items c.args.actor seed else s.generators.items) after) in
     let answer =
     turn-answer s.program (system_run s.program s.history.items) s.kernel.state s.places.items s.generators.items s.spent i.held c.args.actor some c.next_number-next.result.number fresh.0 c.args.slice.now fresh.1 fresh.2 c.event_of.ensures.exact number
     c.event_of.result c.event_of.ensures.event c.event-reply.new.self.state c.event-reply.result c.event-reply.ensures.state c.event-reply.ensures.reply in
@@ -48,6 +50,7 @@ invariant_of-self c =
       legal = legal;
       held = rw (system_run-one_more s.program s.history.items c.args.actor) held;
       generators = c.pass_number.ensures.count ∙ i.generators;
+      wide = i.wide;
       past = past-more s.program s.history.items c.args.actor c.event_of.result c.event-reply.result i.past answer;
       spent = omega (arith, count, i.spent);
       counts = c.count_turn.ensures.count ∙ i.counts;
@@ -62,7 +65,7 @@ returns-clause-answer c =
     let s = c.self.inside in
     let requires = rw (← c.self.view_is) at c.requires in
     let fresh = requires.fresh in
-    let number = c.next_number-next.ensures.number ∙ ap (λ ns. drawn_number (unwrap_or (at_number ns c.args.actor) 0)) c.deref.ensures.value in
+    let number = c.next_number-next.ensures.number ∙ ap (λ ns. number_from s.is_wide (unwrap_or (at_number ns c.args.actor) 0)) c.deref.ensures.value ∙ ap (λ wide. number_from wide (unwrap_or (at_number s.generators.items c.args.actor) 0)) c.self.invariant.wide in
     subst (λ (x : Seen). (system_turn x.setting.program (world_of x) c.args.actor).answer ≡ Answered c.event_of.result c.event-reply.result) c.self.view_is
     (turn-answer s.program (system_run s.program s.history.items) s.kernel.state s.places.items s.generators.items s.spent c.self.invariant.held c.args.actor (omega (arith, requires.actor.0)) c.next_number-next.result.number fresh.0 c.args.slice.now fresh.1 fresh.2
     c.event_of.ensures.exact number c.event_of.result c.event_of.ensures.event c.event-reply.new.self.state c.event-reply.result c.event-reply.ensures.state c.event-reply.ensures.reply)

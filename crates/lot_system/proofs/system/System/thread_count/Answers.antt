@@ -20,4 +20,8 @@ returns c =
     let lengths = at-lengths s.program s.kernel.state.threads s.places.items w.contexts i.held.places_at in
     let records : length s.kernel.state.records ≡ length w.state.records = ap (λ (x : State). length x.records) i.held.state in
     let seen : length w.state.records ≡ length (world_of c.args.self.now).state.records = ap (λ (x : Seen). length (world_of x).state.records) c.self.view_is in
-    omega (arith, c.len.ensures, lengths.0, i.held.kept.records, records, seen)
+    let limits : s.program.limits.threads ≡ c.args.self.now.setting.program.limits.threads = ap (λ (x : Seen). x.setting.program.limits.threads) c.self.view_is in
+    record {
+      count = omega (arith, c.len.ensures, lengths.0, i.held.kept.records, records, seen);
+      within = omega (arith, c.len.ensures, lengths.0, i.held.kept.count, ap (λ l. l.threads) i.held.kept.limits, limits);
+    }

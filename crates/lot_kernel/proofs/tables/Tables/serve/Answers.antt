@@ -1,0 +1,51 @@
+use Rattle.std.proofs.Common.{ap, arith, rules, sym, ◌∙◌}
+use Rattle.lot_machine.specs.Step.{Effect}
+use Rattle.lot_queues.specs.QueueLists.{IsThere}
+use Rattle.lot_kernel.proofs.Holding.{makes-held}
+use Rattle.lot_kernel.proofs.Trapping.{ports-held, ports-state, running-nowhere, serve-done, serve-keeps}
+use Rattle.lot_machine.specs.Ports.{serve}
+use Rattle.lot_machine.specs.State.{sizes_of}
+use Rattle.lot_kernel.specs.contracts.tables.Tables.{the_view}
+use Rattle.lot_kernel.proofs.tables.Tables.serve.Goals as goal
+
+pub serve-requires-clause-nowhere : goal.serve-requires-clause-nowhere
+serve-requires-clause-nowhere c =
+    let i = c.self.inside in
+    let order = rw (← c.self.view_is) at c.requires.order in
+    let runs = rw (← c.self.view_is) at c.requires.runs in
+    running-nowhere (sizes_of i.limits) i.currencies.items i.threads i.queues c.args.thread order runs
+
+pub invariant_of-self : goal.invariant_of-self
+invariant_of-self c =
+    let i = c.self.inside in
+    let left = serve i.threads.records i.queues.clients i.queues.ports c.args.thread c.args.port c.args.number in
+    let keeps = serve-keeps i.threads.records i.queues.clients i.queues.ports c.args.thread c.args.port c.args.number in
+    let threads = ports-held (sizes_of i.limits) i.currencies.items i.threads c.serve.new.threads i.queues c.serve.new.queues c.self.invariant.threads left c.serve.ensures.threads c.serve.ensures.queues in
+    search (rules, threads, keeps.records, keeps.clients)
+
+pub returns-clause-outcome : goal.returns-clause-outcome
+returns-clause-outcome c =
+    let there : IsThere c.self.inside.queues.ports c.args.port = (omega (arith, c.if-port-eq0.false), omega (arith, c.if-port-ports.false, c.ports.ensures)) in
+    rw (← c.self.view_is)
+    (c.serve.ensures.outcome ∙ sym (ap (λ (e : Effect). e.outcome) (serve-done (the_view c.self.inside).state c.args.thread c.args.port c.in-Some.client c.args.number there (sym c.in-Some.ensures))))
+
+pub returns-clause-after : goal.returns-clause-after
+returns-clause-after c =
+    let there : IsThere c.self.inside.queues.ports c.args.port = (omega (arith, c.if-port-eq0.false), omega (arith, c.if-port-ports.false, c.ports.ensures)) in
+    rw (← c.self.view_is)
+    (c.serve.ensures.after ∙ sym (ap (λ (e : Effect). e.after) (serve-done (the_view c.self.inside).state c.args.thread c.args.port c.in-Some.client c.args.number there (sym c.in-Some.ensures))))
+
+pub returns-clause-state : goal.returns-clause-state
+returns-clause-state c =
+    let i = c.self.inside in
+    let left = serve i.threads.records i.queues.clients i.queues.ports c.args.thread c.args.port c.args.number in
+    let there : IsThere i.queues.ports c.args.port = (omega (arith, c.if-port-eq0.false), omega (arith, c.if-port-ports.false, c.ports.ensures)) in
+    rw (← c.self.view_is) (ports-state (sizes_of i.limits) i.currencies.items i.threads c.serve.new.threads i.queues c.serve.new.queues c.self.invariant.threads left c.serve.ensures.threads c.serve.ensures.queues
+    ∙ sym (ap (λ (e : Effect). e.state) (serve-done (the_view i).state c.args.thread c.args.port c.in-Some.client c.args.number there (sym c.in-Some.ensures))))
+
+pub returns-clause-stale : goal.returns-clause-stale
+returns-clause-stale c =
+    let i = c.self.inside in
+    let left = serve i.threads.records i.queues.clients i.queues.ports c.args.thread c.args.port c.args.number in
+    let threads = ports-held (sizes_of i.limits) i.currencies.items i.threads c.serve.new.threads i.queues c.serve.new.queues c.self.invariant.threads left c.serve.ensures.threads c.serve.ensures.queues in
+    rw (← c.self.view_is) (makes-held (sizes_of i.limits) i.currencies.items i.currencies.items i.threads c.serve.new.threads i.queues c.serve.new.queues i.meter i.meter c.self.invariant.threads threads c.serve.ensures.stale)

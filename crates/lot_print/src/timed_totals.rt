@@ -1,0 +1,158 @@
+//! What is printed for totals of turns in the order of time.
+ghost use Rattle.std.specs.Prelude.{◌≡◌, ◌<◌, ◌≤◌, ◌+◌, ◌^◌, ◌++◌, false, length};
+ghost use Rattle.lot_simulation.specs.TimedReport.{percent_text, waits_text};
+ghost use Rattle.lot_print.specs.Totals.{timed_processor_line, timed_thread_line, timed_total_line};
+ghost use Rattle.lot_print.specs.Writing.{Writes};
+
+use crate::WriteFault;
+use crate::line::Line;
+use crate::rows::{push_counts, push_named};
+use lot_machine::ThreadRow;
+use lot_simulation::Waits;
+use lot_text::Watched;
+use std::io::Write;
+
+/// The line of a report of turns in the order of time.
+type TimedLine = Line<512>;
+
+/// What the report of turns in the order of time says of a thread, besides its row.
+#[derive(Clone, Copy, Debug)]
+pub struct ThreadShares {
+    /// The ticks that all threads have used.
+    pub all_ticks: u64,
+    /// The thread's value, if it is live, and else 0.
+    pub live_value: u64,
+    /// The value of all live threads, below 2^96.
+    pub all_values: u128,
+    /// How it has waited for mutexes, and for replies.
+    pub mutexes: Waits,
+    pub replies: Waits,
+}
+
+/// What it says of a processor: the draws that somebody won there, the others, the ticks used there, and those in which it was idle.
+#[derive(Clone, Copy, Debug)]
+pub struct TimedProcessorTotal {
+    pub processor: u32,
+    pub quanta: u64,
+    pub idles: u64,
+    pub ticks: u64,
+    pub unused: u64,
+}
+
+/// What it says at its end: how many turns were made, what was counted in all of them, and how many commands were refused or never made.
+#[derive(Clone, Copy, Debug)]
+pub struct TimedWholeTotal {
+    pub turns: u64,
+    pub quanta: u64,
+    pub ticks: u64,
+    pub refused: u64,
+    pub left: u64,
+}
+
+/// Writes a thread's line.
+pub fn write_timed_thread_total<W: Write>(
+    writer: &mut Watched<W>,
+    number: u32,
+    row: &ThreadRow,
+    shares: ThreadShares,
+) -> Result<(), WriteFault>
+    requires working { writer.old.failed ≡ false }
+    requires values { shares.all_values < 2 ^ 96 }
+    ensures { Writes W.contents writer.old writer.new result (timed_thread_line number row.now shares.all_ticks shares.live_value shares.all_values shares.mutexes shares.replies) }
+{
+    thread_line(number, row, shares).write_to(writer)
+}
+
+/// A thread's line.
+fn thread_line(number: u32, row: &ThreadRow, shares: ThreadShares) -> TimedLine
+    requires { shares.all_values < 2 ^ 96 }
+    ensures { result ≡ timed_thread_line number row.now shares.all_ticks shares.live_value shares.all_values shares.mutexes shares.replies }
+{
+    let mut line = TimedLine::new();
+    push_named(&mut line, "thread ", number, &row.name);
+    push_counts(&mut line, row.quanta, row.ticks);
+    push_percent(
+        &mut line,
+        " share ",
+        row.ticks,
+        u128::from(shares.all_ticks),
+    );
+    push_percent(&mut line, " value ", shares.live_value, shares.all_values);
+    push_waits(&mut line, " mutex", shares.mutexes);
+    push_waits(&mut line, " reply", shares.replies);
+    line.push_text("\n");
+    line
+}
+
+/// Puts the text and then a part of a whole in percent; 0 if there is nothing.
+fn push_percent(line: &mut TimedLine, text: &str, part: u64, whole: u128)
+    requires room { (length line.old ≤ 256) × (length text.now ≤ 7) }
+    requires whole { whole < 2 ^ 96 }
+    ensures text { line.new ≡ line.old ++ (text.now ++ percent_text part whole) }
+    ensures len { length line.new ≤ length line.old + 51 }
+{
+    if whole == 0 {
+        line.push_text(text);
+        line.push_text("0");
+    } else {
+        line.push_quotient(text, u128::from(part) * 100, whole);
+    }
+    line.push_text("%");
+}
+
+/// Puts how often and how long a thread has waited for this, if it has.
+fn push_waits(line: &mut TimedLine, what: &str, waits: Waits)
+    requires { (length line.old ≤ 400) × (length what.now ≤ 6) }
+    ensures text { line.new ≡ line.old ++ waits_text what.now waits }
+    ensures len { length line.new ≤ length line.old + 91 }
+{
+    if waits.count == 0 {
+        return;
+    }
+    line.push_text(what);
+    line.push_field(" waits ", waits.count);
+    line.push_quotient(" mean ", u128::from(waits.total), u128::from(waits.count));
+    line.push_field(" longest ", waits.longest);
+}
+
+/// Writes a processor's line.
+pub fn write_timed_processor_total<W: Write>(
+    writer: &mut Watched<W>,
+    total: TimedProcessorTotal,
+) -> Result<(), WriteFault>
+    requires { writer.old.failed ≡ false }
+    ensures { Writes W.contents writer.old writer.new result (timed_processor_line total.processor total.quanta total.idles total.ticks total.unused) }
+{
+    let mut line = TimedLine::new();
+    line.push_field("processor ", total.processor);
+    line.push_field(" quanta ", total.quanta);
+    line.push_field(" idle ", total.idles);
+    line.push_field(" ticks ", total.ticks);
+    line.push_field(" unused ", total.unused);
+    line.push_text("\n");
+    line.write_to(writer)
+}
+
+/// Writes the last line.
+pub fn write_timed_whole_total<W: Write>(
+    writer: &mut Watched<W>,
+    total: TimedWholeTotal,
+) -> Result<(), WriteFault>
+    requires { writer.old.failed ≡ false }
+    ensures { Writes W.contents writer.old writer.new result (timed_total_line total.turns total.quanta total.ticks total.refused total.left) }
+{
+    total_line(total).write_to(writer)
+}
+
+/// The last line.
+fn total_line(total: TimedWholeTotal) -> TimedLine
+    ensures { result ≡ timed_total_line total.turns total.quanta total.ticks total.refused total.left }
+{
+    let mut line = TimedLine::new();
+    line.push_field("total turns ", total.turns);
+    push_counts(&mut line, total.quanta, total.ticks);
+    line.push_field(" refused ", total.refused);
+    line.push_field(" left ", total.left);
+    line.push_text("\n");
+    line
+}

@@ -1,0 +1,395 @@
+//! Turns in the order of time.
+
+use super::check_play;
+
+/// Nothing to do.
+const IDLE: (&str, &str) = (
+    "lottery 3
+for 10
+",
+    "0 1 idle
+report
+processor 1 quanta 0 idle 1 ticks 0 unused 10
+total turns 1 quanta 0 ticks 0 refused 0 left 0
+",
+);
+
+/// Two threads that compute.
+const SPINNERS: (&str, &str) = (
+    "lottery 3
+for 300
+script spin
+compute 1000
+endscript
+fundx 10 base a spin
+fundx 5 base b spin
+",
+    "0 0 funded 1 1
+0 0 funded 2 2
+0 1 draw 12.992 of 15 thread 2
+100 1 thread 2 ticks 100 expire
+100 1 draw 13.281 of 15 thread 2
+200 1 thread 2 ticks 100 expire
+200 1 draw 13.921 of 15 thread 2
+300 1 thread 2 ticks 100 expire
+300 1 draw 1.363 of 15 thread 1
+report
+thread 1 a quanta 1 ticks 0 share 0% value 66.666%
+thread 2 b quanta 3 ticks 300 share 100% value 33.333%
+processor 1 quanta 4 idle 0 ticks 300 unused 0
+total turns 9 quanta 4 ticks 300 refused 0 left 0
+",
+);
+
+/// A command in the middle of a quantum, and one after the end.
+const LATER: (&str, &str) = (
+    "lottery 3
+for 250
+script spin
+compute 1000
+endscript
+fundx 10 base a spin
+at 150
+fundx 30 base b spin
+at 251
+unfund 1
+",
+    "0 0 funded 1 1
+0 1 draw 7.992 of 10 thread 1
+100 1 thread 1 ticks 100 expire
+100 1 draw 3.281 of 10 thread 1
+150 0 funded 2 2
+200 1 thread 1 ticks 100 expire
+200 1 draw 23.921 of 40 thread 2
+report
+thread 1 a quanta 2 ticks 200 share 100% value 25%
+thread 2 b quanta 1 ticks 0 share 0% value 75%
+processor 1 quanta 3 idle 0 ticks 200 unused 0
+total turns 7 quanta 3 ticks 200 refused 0 left 1
+",
+);
+
+/// A command at the time of an expiry.
+const TIES: (&str, &str) = (
+    "lottery 3
+for 100
+seed 1
+script spin
+compute 1000
+endscript
+fundx 10 base a spin
+at 100
+lsthr
+",
+    "0 0 funded 1 1
+0 1 draw 9.035 of 10 thread 1
+100 0 lsthr 1
+100 thread 1 a running 1 used 0 value 10 weight 10 quanta 1 ticks 0
+100 1 thread 1 ticks 100 expire
+100 1 draw 1.386 of 10 thread 1
+report
+thread 1 a quanta 2 ticks 100 share 100% value 100%
+processor 1 quanta 2 idle 0 ticks 100 unused 0
+total turns 5 quanta 2 ticks 100 refused 0 left 0
+",
+);
+
+/// Two processors and one thread.
+const TWO_PROCESSORS: (&str, &str) = (
+    "lottery 3
+processors 2
+quantum 10
+for 25
+script spin
+compute 12
+endscript
+fundx 10 base a spin
+",
+    "0 0 funded 1 1
+0 1 draw 7.992 of 10 thread 1
+0 2 idle
+10 1 thread 1 ticks 10 expire
+10 1 draw 3.281 of 10 thread 1
+10 2 idle
+13 1 thread 1 ticks 3 exit
+13 1 idle
+13 2 idle
+report
+thread 1 a quanta 2 ticks 13 share 100% value 0%
+processor 1 quanta 2 idle 1 ticks 13 unused 12
+processor 2 quanta 0 idle 3 ticks 0 unused 25
+total turns 9 quanta 2 ticks 13 refused 0 left 0
+",
+);
+
+/// A call and its reply.
+const CALLS: (&str, &str) = (
+    "lottery 3
+quantum 10
+for 40
+port p
+script srv
+receive p
+compute 3
+reply
+endscript
+script cli
+set 41
+call p
+endscript
+fundx 5 base s srv
+fundx 3 base c cli
+",
+    "0 0 funded 1 1
+0 0 funded 2 2
+0 1 draw 5.992 of 8 thread 2
+2 1 thread 2 ticks 2 call 1 queued
+2 1 draw 3.281 of 5 thread 1
+3 1 thread 1 ticks 1 receive 1 client 2 got 41
+7 1 thread 1 ticks 4 reply client 2
+8 1 thread 1 ticks 1 exit
+8 1 draw 13.921 of 15 thread 2 got 41
+9 1 thread 2 ticks 1 exit
+9 1 idle
+report
+thread 1 s quanta 1 ticks 6 share 66.666% value 0%
+thread 2 c quanta 2 ticks 3 share 33.333% value 0% reply waits 1 mean 5 longest 5
+processor 1 quanta 3 idle 1 ticks 9 unused 31
+total turns 11 quanta 3 ticks 9 refused 0 left 0
+",
+);
+
+/// A server without tickets that replies and receives in one trap.
+const SERVING: (&str, &str) = (
+    "lottery 3
+quantum 10
+for 60
+port p
+script srv
+receive p
+loop 2
+serve p
+end
+endscript
+script cli
+call p
+endscript
+fundx 1 base s srv
+at 2
+unfund 1
+fundx 3 base a cli
+fundx 2 base b cli
+",
+    "0 0 funded 1 1
+0 1 draw 0.992 of 1 thread 1
+1 1 thread 1 ticks 1 receive 1 waits
+1 1 idle
+2 0 done
+2 0 funded 2 2
+2 0 funded 3 3
+2 1 draw 3.921 of 5 thread 3
+3 1 thread 3 ticks 1 call 1 served by 1
+3 1 draw 4.363 of 23 thread 1 got 0
+5 1 thread 1 ticks 2 reply client 3 receive 1 waits
+5 1 draw 18.738 of 23 thread 3 got 0
+6 1 thread 3 ticks 1 exit
+6 1 draw 1.058 of 3 thread 2
+7 1 thread 2 ticks 1 call 1 served by 1
+7 1 draw 1.828 of 15 thread 1 got 0
+9 1 thread 1 ticks 2 reply client 2 receive 1 waits
+9 1 draw 22.316 of 30 thread 2 got 0
+10 1 thread 2 ticks 1 exit
+10 1 idle
+report
+thread 1 s quanta 3 ticks 5 share 55.555% value 0%
+thread 2 a quanta 2 ticks 2 share 22.222% value 0% reply waits 1 mean 2 longest 2
+thread 3 b quanta 2 ticks 2 share 22.222% value 0% reply waits 1 mean 2 longest 2
+processor 1 quanta 7 idle 2 ticks 9 unused 51
+total turns 20 quanta 7 ticks 9 refused 0 left 0
+",
+);
+
+/// A mutex and its lottery.
+const MUTEXES: (&str, &str) = (
+    "lottery 3
+quantum 10
+for 60
+mutex m
+script one
+lock m
+compute 2
+yield
+unlock m
+endscript
+fundx 3 base a one
+fundx 2 base b one
+fundx 1 base c one
+",
+    "0 0 funded 1 1
+0 0 funded 2 2
+0 0 funded 3 3
+0 1 draw 3.992 of 6 thread 2
+1 1 thread 2 ticks 1 lock 1 taken
+4 1 thread 2 ticks 3 yield
+4 1 draw 1.281 of 9 thread 1
+5 1 thread 1 ticks 1 lock 1 waits
+5 1 draw 6.421 of 13.5 thread 2
+6 1 thread 2 ticks 1 unlock 1 to 1 draw 1.363 of 3
+6 1 draw 32.738 of 51 thread 2
+7 1 thread 2 ticks 1 exit
+7 1 draw 22.058 of 31 thread 1
+10 1 thread 1 ticks 3 yield
+10 1 draw 9.828 of 11 thread 1
+11 1 thread 1 ticks 1 unlock 1 free
+12 1 thread 1 ticks 1 exit
+12 1 draw 0.273 of 1 thread 3
+13 1 thread 3 ticks 1 lock 1 taken
+16 1 thread 3 ticks 3 yield
+16 1 draw 2.316 of 2.5 thread 3
+17 1 thread 3 ticks 1 unlock 1 free
+18 1 thread 3 ticks 1 exit
+18 1 idle
+report
+thread 1 a quanta 3 ticks 6 share 33.333% value 0% mutex waits 1 mean 1 longest 1
+thread 2 b quanta 3 ticks 6 share 33.333% value 0%
+thread 3 c quanta 2 ticks 6 share 33.333% value 0%
+processor 1 quanta 8 idle 1 ticks 18 unused 42
+total turns 24 quanta 8 ticks 18 refused 0 left 0
+",
+);
+
+/// Values with what is behind the point.
+const THIRDS: (&str, &str) = (
+    "lottery 3
+for 1
+script s
+compute 5
+endscript
+mkcur g
+mktkt 100 base
+fund 1 g
+fundx 1 g a s
+fundx 1 g b s
+fundx 1 g c s
+lscur
+lsthr
+",
+    "0 0 currency 1
+0 0 ticket 1
+0 0 done
+0 0 funded 2 1
+0 0 funded 3 2
+0 0 funded 4 3
+0 0 lscur 2
+0 currency 0 base backing 0 issued 1 active 100 value 100
+0 currency 1 g backing 1 issued 3 active 3 value 100
+0 0 lsthr 3
+0 thread 1 a ready value 33.332 weight 33.332 quanta 0 ticks 0
+0 thread 2 b ready value 33.332 weight 33.332 quanta 0 ticks 0
+0 thread 3 c ready value 33.332 weight 33.332 quanta 0 ticks 0
+0 1 draw 5.503 of 99.996 thread 1
+report
+thread 1 a quanta 1 ticks 0 share 0% value 33.333%
+thread 2 b quanta 0 ticks 0 share 0% value 33.333%
+thread 3 c quanta 0 ticks 0 share 0% value 33.333%
+processor 1 quanta 1 idle 0 ticks 0 unused 0
+total turns 9 quanta 1 ticks 0 refused 0 left 0
+",
+);
+
+/// Refused commands.
+const REFUSED: (&str, &str) = (
+    "lottery 3
+for 1
+mktkt 0 base
+mkthr a none
+fund 9 a
+",
+    "0 0 refused 6 BadAmount
+0 0 refused 14 NoScript
+0 0 refused 4 NoTicket
+0 1 idle
+report
+processor 1 quanta 0 idle 1 ticks 0 unused 1
+total turns 4 quanta 0 ticks 0 refused 3 left 0
+",
+);
+
+/// A thread that waits for good.
+const STUCK: (&str, &str) = (
+    "lottery 3
+quantum 10
+for 50
+port p
+script cli
+call p
+endscript
+fundx 1 base c cli
+",
+    "0 0 funded 1 1
+0 1 draw 0.992 of 1 thread 1
+1 1 thread 1 ticks 1 call 1 queued
+1 1 idle
+report
+thread 1 c quanta 1 ticks 1 share 100% value 0%
+processor 1 quanta 1 idle 1 ticks 1 unused 49
+total turns 4 quanta 1 ticks 1 refused 0 left 0
+",
+);
+
+/// A compensated thread.
+const COMPENSATED: (&str, &str) = (
+    "lottery 3
+quantum 9
+for 12
+seed 5
+script short
+compute 2
+yield
+endscript
+script long
+compute 9
+endscript
+fundx 1 base a short
+fundx 1 base b long
+at 12
+lsthr
+",
+    "0 0 funded 1 1
+0 0 funded 2 2
+0 1 draw 1.082 of 2 thread 2
+9 1 thread 2 ticks 9 expire
+9 1 draw 0.82 of 2 thread 1
+12 0 lsthr 2
+12 thread 1 a running 1 used 0 value 1 weight 1 quanta 1 ticks 0
+12 thread 2 b ready value 1 weight 1 quanta 1 ticks 9
+12 1 thread 1 ticks 3 yield
+12 1 draw 3.257 of 4 thread 2
+report
+thread 1 a quanta 1 ticks 3 share 25% value 50%
+thread 2 b quanta 2 ticks 9 share 75% value 50%
+processor 1 quanta 3 idle 0 ticks 12 unused 0
+total turns 8 quanta 3 ticks 12 refused 0 left 0
+",
+);
+
+#[test]
+fn turns_in_time(rt: HostRuntime) {
+    let rows = [
+        IDLE,
+        SPINNERS,
+        LATER,
+        TIES,
+        TWO_PROCESSORS,
+        CALLS,
+        SERVING,
+        MUTEXES,
+        THIRDS,
+        REFUSED,
+        STUCK,
+        COMPENSATED,
+    ];
+    for (input, output) in rows {
+        check_play(&rt, rt.alloc(), input, 0, output);
+    }
+}

@@ -1,0 +1,140 @@
+-- What is printed of turns in the order of time.
+use Rattle.std.specs.Prelude.{ℕ, ◌+◌, ◌-◌, ◌*◌, max, ◌==◌, Bool, true, false, ◌&&◌, Option, Some, None, List, [], ◌∷◌, ◌++◌, length, map, sum_by, fold, count_by, codes, if◌then◌else◌}
+use Rattle.std.specs.List.{flat_map, range_with_len}
+use Rattle.std.specs.Option.{option_map_or}
+use Rattle.std.specs.Fmt.{decimal}
+use Rattle.lot_machine.specs.declared.action.Action.TheVariants as action
+use Rattle.lot_machine.specs.declared.event.Event.TheVariants as event
+use Rattle.lot_machine.specs.declared.reply.Reply.{Reply}
+use Rattle.lot_machine.specs.declared.reply.Reply.TheVariants as reply
+use Rattle.lot_machine.specs.declared.reply.Outcome.{Outcome}
+use Rattle.lot_machine.specs.declared.reply.Outcome.TheVariants as outcome
+use Rattle.lot_machine.specs.declared.row.ThreadRow.{ThreadRow}
+use Rattle.lot_machine.specs.Facts.{live_value}
+use Rattle.lot_machine.specs.Lends.{is_live}
+use Rattle.lot_machine.specs.Numbered.{numbers}
+use Rattle.lot_machine.specs.Rows.{thread_row}
+use Rattle.lot_machine.specs.State.{State, live_of}
+use Rattle.lot_simulation.specs.declared.manner.Manner.TheVariants.{Timed}
+use Rattle.lot_simulation.specs.Texts.{newline, quotient_text}
+use Rattle.lot_simulation.specs.Report.{ActorTurn, quanta_in, idles_in, ticks_in, total_of, turns_of}
+use Rattle.lot_simulation.specs.declared.timed.Clock.{Clock}
+use Rattle.lot_simulation.specs.declared.timed.WaitChange.{WaitChange}
+use Rattle.lot_simulation.specs.declared.timed.WaitChange.TheVariants.{Nobody, Begins, Ends}
+use Rattle.lot_simulation.specs.declared.timed.Waits.{Waits}
+use Rattle.lot_simulation.specs.Timed.{Moment, TimedTurn, timed_turns, last_moment, ended_at, clock_of}
+use Rattle.lot_simulation.specs.World.{Program, Answer}
+use Rattle.lot_simulation.specs.World.Answer.{Answered, Ended}
+
+-- ---- waits
+
+-- never
+abbrev pub no_waits : Waits
+no_waits = record { count = 0; total = 0; longest = 0; since = None }
+
+-- it waits from this time on
+abbrev pub wait_begun : ℕ → Waits → Waits
+wait_begun time waits = record waits { since = Some time }
+
+-- it has waited until this time
+abbrev pub wait_ended : ℕ → Waits → Waits
+wait_ended time waits = made waits.since
+  where
+    made : Option ℕ → Waits
+    made None = waits
+    made (Some since) = record { count = waits.count + 1; total = waits.total + (time - since); longest = max waits.longest (time - since); since = None }
+
+-- Who waits for a mutex: a thread whose lock finds it taken, until an unlock passes it on (6.1).
+abbrev pub mutex_change : Answer → WaitChange
+mutex_change (Answered (event.Trap p ran (action.Lock mutex)) (reply.Trapped thread ticks outcome.Waits ends)) = Begins thread
+mutex_change (Answered e (reply.Trapped thread ticks (outcome.Passed to drawn) ends)) = Ends to
+mutex_change other = Nobody
+
+-- Who waits for a reply: a thread that has called, until it is replied to (4.6).
+abbrev pub reply_change : Answer → WaitChange
+reply_change (Answered e (reply.Trapped thread ticks (outcome.ServedBy server) ends)) = Begins thread
+reply_change (Answered e (reply.Trapped thread ticks outcome.Queued ends)) = Begins thread
+reply_change (Answered e (reply.Trapped thread ticks (outcome.Replied client) ends)) = Ends client
+reply_change (Answered e (reply.Trapped thread ticks (outcome.RepliedThenReceived to client number) ends)) = Ends to
+reply_change (Answered e (reply.Trapped thread ticks (outcome.RepliedThenWaits to) ends)) = Ends to
+reply_change other = Nobody
+
+-- the thread's waits after a change at this time
+abbrev pub waits_after : ℕ → ℕ → Waits → WaitChange → Waits
+waits_after t time waits Nobody = waits
+waits_after t time waits (Begins u) = if u == t then wait_begun time waits else waits
+waits_after t time waits (Ends u) = if u == t then wait_ended time waits else waits
+
+-- the thread's waits after these turns
+abbrev pub waits_in : (Answer → WaitChange) → List TimedTurn → ℕ → Waits
+waits_in change turns t = fold (λ waits done. waits_after t done.time waits (change done.turn.answer)) no_waits turns
+
+-- ---- the report
+
+-- a part of a whole in percent, with at most three digits behind the point; 0 if there is nothing
+abbrev pub percent_text : ℕ → ℕ → List ℕ
+percent_text part whole = (if whole == 0 then codes "0" else quotient_text (part * 100) whole) ++ codes "%"
+
+-- how often and how long a thread has waited for this, if it has
+abbrev pub waits_text : List ℕ → Waits → List ℕ
+waits_text what waits =
+    if waits.count == 0 then []
+    else what ++ (codes " waits " ++ (decimal waits.count ++ (codes " mean " ++ (quotient_text waits.total waits.count ++ (codes " longest " ++ decimal waits.longest)))))
+
+-- what the thread's value counts for among the live ones
+abbrev pub live_part : State → ℕ → ℕ → ℕ
+live_part s t value = if is_live (live_of s) t then value else 0
+
+-- A thread's line: its name, the draws it has won, the ticks it has used and their share of all ticks, its share of the live values, and
+-- how it has waited for mutexes and for replies.
+abbrev pub timed_thread_total : State → List TimedTurn → ℕ → ℕ → ThreadRow → List ℕ
+timed_thread_total s turns all t row =
+    codes "thread " ++ (decimal t ++ (codes " " ++ (row.name ++ (codes " quanta " ++ (decimal row.quanta
+    ++ (codes " ticks " ++ (decimal row.ticks ++ (codes " share " ++ (percent_text row.ticks all
+    ++ (codes " value " ++ (percent_text (live_part s t row.value) (live_value s)
+    ++ (waits_text (codes " mutex") (waits_in mutex_change turns t)
+    ++ (waits_text (codes " reply") (waits_in reply_change turns t) ++ newline)))))))))))))
+
+-- each actor beside its answer
+abbrev pub actor_turns : List TimedTurn → List ActorTurn
+actor_turns turns = map (λ done. record { actor = done.actor; answer = done.turn.answer }) turns
+
+-- how long a processor was idle, up to this time
+abbrev pub idle_until : ℕ → Clock → ℕ
+idle_until end clock = if clock.waits then clock.idle + (end - clock.time) else clock.idle
+
+-- a processor's line: the draws that somebody won there, the others, the ticks used there, and how long it was idle
+abbrev pub timed_processor_total : Moment → ℕ → List ActorTurn → ℕ → List ℕ
+timed_processor_total m end turns p =
+    codes "processor " ++ (decimal p ++ (codes " quanta " ++ (decimal (total_of quanta_in (turns_of p turns))
+    ++ (codes " idle " ++ (decimal (total_of idles_in (turns_of p turns))
+    ++ (codes " ticks " ++ (decimal (total_of ticks_in (turns_of p turns))
+    ++ (codes " unused " ++ (decimal (idle_until end (clock_of m.clocks p)) ++ newline)))))))))
+
+-- 1 if a command was refused
+abbrev pub refusals_in : Reply → ℕ
+refusals_in (reply.Refused why) = 1
+refusals_in other = 0
+
+-- what was counted in all turns, and how many commands were refused or never made
+abbrev pub timed_whole_total : Moment → List ActorTurn → List ℕ
+timed_whole_total m turns =
+    codes "total turns " ++ (decimal (length turns) ++ (codes " quanta " ++ (decimal (total_of quanta_in turns)
+    ++ (codes " ticks " ++ (decimal (total_of ticks_in turns)
+    ++ (codes " refused " ++ (decimal (total_of refusals_in turns)
+    ++ (codes " left " ++ (decimal (length m.world.commands) ++ newline)))))))))
+
+-- a line for each thread
+abbrev pub timed_thread_lines : State → List TimedTurn → ℕ → List ℕ
+timed_thread_lines s turns all = flat_map (λ t. option_map_or (timed_thread_total s turns all t) (thread_row s t) []) (numbers s.records)
+
+-- the report of the moment to which these turns led
+abbrev pub timed_report_of : Moment → ℕ → List TimedTurn → List ℕ
+timed_report_of m end turns =
+    codes "report" ++ (newline ++ (timed_thread_lines m.world.state turns (total_of ticks_in (actor_turns turns))
+    ++ (flat_map (timed_processor_total m end (actor_turns turns)) (range_with_len 1 m.world.state.limits.processors)
+    ++ timed_whole_total m (actor_turns turns))))
+
+-- the report of the program's turns in the order of time
+abbrev pub timed_report : Program → List ℕ
+timed_report program = timed_report_of (last_moment program) (ended_at program (last_moment program)) (timed_turns program)
