@@ -11,14 +11,13 @@ use Rattle.lot_print.proofs.WritingFacts.{begins-front}
 use Rattle.lot_machine.specs.declared.command.Command.{Command}
 use Rattle.lot_machine.specs.declared.event.Event.{Event}
 use Rattle.lot_machine.specs.declared.reply.Reply.{Reply}
-use Rattle.lot_simulation.specs.declared.timed.Clock.{Clock}
 use Rattle.lot_simulation.specs.declared.timed.Due.{Due}
 use Rattle.std.proofs.lemmas.List.Sums.{sum_by_push}
 use Rattle.lot_simulation.specs.Report.{ActorTurn, beside, count_in, total_of}
 use Rattle.lot_simulation.specs.Output.{timed_text}
 use Rattle.lot_simulation.specs.Timed.{Moment, TimedTurn, turns_from, timed_schedule, timed_turns, timed_room, next_due, due_first, turn_due, moment_after, moment_after_all, opening_moment, clocks_after, is_idle_draw}
 use Rattle.lot_simulation.specs.TimedReport.{actor_turns, refusals_in}
-use Rattle.lot_simulation.specs.World.{Program, World, Answer, Turn, console_turn, system_turn, system_answers}
+use Rattle.lot_simulation.specs.World.{Program, World, Answer, console_turn, system_turn, system_answers}
 use Rattle.lot_simulation.specs.World.Answer.{Answered}
 use Rattle.lot_system.specs.declared.fault.PlayFault.{PlayFault}
 use Rattle.lot_system.specs.declared.in_time.Watch.{Watch}

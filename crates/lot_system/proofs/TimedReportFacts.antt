@@ -22,12 +22,7 @@ use Rattle.lot_system.specs.declared.in_time.Watch.{Watch}
 use Rattle.lot_system.specs.Counted.{counted}
 use Rattle.lot_system.specs.InTime.{AreWaits, IsAtEnd, moment_in}
 use Rattle.lot_system.specs.Seen.{Seen, world_of}
-use Rattle.lot_system.proofs.FollowFacts.{actors-made, within-room}
-
--- there is room for fewer turns than a count can hold
-room-small : timed_room < 2 ^ 31
-unfolding timed_room
-room-small = omega arith
+use Rattle.lot_system.proofs.FollowFacts.{actors-made, room-small, within-room}
 
 -- ---- all of the program's turns
 

@@ -1,5 +1,5 @@
 -- What an answer changes of who waits for a mutex.
-use Rattle.std.proofs.Common.{◌≡◌, ℕ, refl}
+use Rattle.std.proofs.Common.{◌≡◌, refl}
 use Rattle.lot_machine.specs.declared.action.Action.TheVariants as action
 use Rattle.lot_machine.specs.declared.event.Event.{Event}
 use Rattle.lot_machine.specs.declared.event.Event.TheVariants as event

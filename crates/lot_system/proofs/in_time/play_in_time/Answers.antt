@@ -1,5 +1,5 @@
 -- The report is written after the turns' texts.
-use Rattle.std.proofs.Common.{◌≡◌, Err, rules, subst}
+use Rattle.std.proofs.Common.{◌≡◌, Err, rules}
 use Rattle.std.specs.List.{flat_map}
 use Rattle.lot_simulation.specs.Output.{timed_text}
 use Rattle.lot_simulation.specs.Timed.{timed_turns}

@@ -1,4 +1,4 @@
-use Rattle.std.proofs.Common.{◌≡◌, ◌<◌, ◌≤◌, [], ◌++◌, Err, length, sym, ap, subst, ◌∙◌, arith, append-nil, rules}
+use Rattle.std.proofs.Common.{◌≡◌, ◌<◌, ◌≤◌, [], ◌++◌, Err, length, sym, subst, arith, append-nil, rules}
 use Rattle.std.specs.List.{flat_map}
 use Rattle.lot_simulation.specs.Output.{timed_text}
 use Rattle.lot_print.specs.Writing.{Begins, IsPut}

@@ -1,7 +1,7 @@
-use Rattle.std.proofs.Common.{◌≡◌, [], ◌++◌, Err, refl, ◌∙◌, sym, ap, subst, rules, arith}
+use Rattle.std.proofs.Common.{◌≡◌, [], Err, refl, subst, rules}
 use Rattle.std.specs.List.{flat_map}
 use Rattle.lot_print.specs.Writing.{IsPut}
-use Rattle.lot_print.proofs.PageFacts.{put-all, put-begun, put-waits}
+use Rattle.lot_print.proofs.PageFacts.{put-all, put-begun}
 use Rattle.lot_simulation.specs.Output.{timed_text}
 use Rattle.lot_system.specs.declared.fault.PlayFault.TheVariants.{Write}
 use Rattle.lot_system.proofs.FollowFacts.{all-then, end-then, schedule-then, texts-next, texts-stopped}

@@ -1,6 +1,5 @@
-use Rattle.std.proofs.Common.{◌≡◌, sym, subst}
+use Rattle.std.proofs.Common.{sym, subst}
 use Rattle.lot_system.specs.InTime.{IsFollowed}
-use Rattle.lot_system.specs.Seen.{Seen}
 use Rattle.lot_system.proofs.FollowFacts.{opened-followed}
 use Rattle.lot_system.proofs.playing.play_timed.Goals as goal
 

@@ -1,4 +1,4 @@
-use Rattle.std.proofs.Common.{◌≡◌, sym, subst}
+use Rattle.std.proofs.Common.{sym, subst}
 use Rattle.lot_system.specs.Playing.{IsPlayed}
 use Rattle.lot_system.proofs.PlayingFacts.{played-after}
 use Rattle.lot_system.proofs.stepping.next_turn.Goals as goal

@@ -1,8 +1,5 @@
-use Rattle.std.proofs.Common.{◌≡◌, ◌∙◌, ◌+◌, ap, sym, arith}
-use Rattle.std.specs.Prelude.{length}
+use Rattle.std.proofs.Common.{◌∙◌, ap, sym, arith}
 use Rattle.lot_simulation.specs.TimedReport.{mutex_change, reply_change}
-use Rattle.lot_simulation.specs.World.Answer.{Answered}
-use Rattle.lot_system.specs.InTime.{HasFollowed}
 use Rattle.lot_system.proofs.FollowFacts.{refusals-more}
 use Rattle.lot_system.proofs.in_time.Watch.follow.Goals as goal
 

@@ -1,4 +1,4 @@
-use Rattle.std.proofs.Common.{◌≡◌, ◌≤◌, refl, sym, ap, subst, arith}
+use Rattle.std.proofs.Common.{refl, sym, subst, arith}
 use Rattle.lot_simulation.specs.TimedReport.{mutex_change, reply_change}
 use Rattle.lot_system.specs.InTime.{HaveIdled}
 use Rattle.lot_system.proofs.TimeFacts.{none-idled}

@@ -1,4 +1,4 @@
-use Rattle.std.proofs.Common.{◌≡◌, ◌+◌, ◌≤◌, ◌*◌, ap, subst, sym, length, arith}
+use Rattle.std.proofs.Common.{◌≡◌, ◌+◌, ap, subst, sym, arith}
 use Rattle.lot_simulation.specs.declared.timed.Clock.{Clock}
 use Rattle.lot_simulation.specs.Timed.{clock_of}
 use Rattle.lot_system.specs.InTime.{HaveIdled}

@@ -1,4 +1,4 @@
-use Rattle.std.proofs.Common.{◌≡◌, ◌∙◌, Some, ap}
+use Rattle.std.proofs.Common.{◌∙◌, Some, ap}
 use Rattle.lot_system.specs.InTime.{moment_of}
 use Rattle.lot_system.proofs.TimeFacts.{processor-first}
 use Rattle.lot_system.proofs.timeline.Timeline.processor_due.Goals as goal
