@@ -4,7 +4,7 @@ ghost use Rattle.std.specs.Prelude.{◌≡◌};
 use lot_simulation::InputFault;
 use lot_system::Leftovers;
 use lot_text::{ParseFault, Watched, parse};
-use lot_words::{command_lines, write_leftovers, write_words};
+use lot_words::{CommandLines, write_leftovers, write_words};
 use std::alloc::Global;
 use std::io;
 use std::io::Write;
@@ -15,7 +15,7 @@ pub(crate) struct Told {
     /// The input, if it was refused.
     pub(crate) input: Vec<u8>,
     /// The lines of its commands, if there was memory for them.
-    lines: Vec<u32>,
+    lines: CommandLines,
     /// What a run of it leaves to tell.
     pub(crate) leftovers: Leftovers,
 }
@@ -25,7 +25,7 @@ impl Told {
     pub(crate) fn nothing(alloc: Global) -> Self {
         Told {
             input: Vec::new(alloc),
-            lines: Vec::new(alloc),
+            lines: CommandLines::none(alloc),
             leftovers: Leftovers::none(alloc),
         }
     }
@@ -34,9 +34,9 @@ impl Told {
     pub(crate) fn take_up(&mut self, alloc: Global, input: Vec<u8>)
         ensures { self.new.input ≡ input }
     {
-        self.lines = match command_lines(alloc, input.as_slice()) {
+        self.lines = match CommandLines::of(alloc, input.as_slice()) {
             Ok(lines) => lines,
-            Err(_) => Vec::new(alloc),
+            Err(_) => CommandLines::none(alloc),
         };
         self.input = input;
     }
@@ -53,7 +53,7 @@ impl Told {
     /// Writes what the run leaves to tell. Without memory, or if the errors fail, nothing comes of it.
     pub(crate) fn say_leftovers<E: Write>(&self, alloc: Global, errors: &mut Watched<E>) {
         let mut words = Vec::new(alloc);
-        let made = write_leftovers(&mut words, &self.leftovers, self.lines.as_slice());
+        let made = write_leftovers(&mut words, &self.leftovers, &self.lines);
         say(errors, made, &words);
     }
 }

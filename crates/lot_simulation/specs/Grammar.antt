@@ -1,5 +1,5 @@
 -- What an input says, or on which line it is refused.
-use Rattle.std.specs.Prelude.{ℕ, ◌+◌, ◌-◌, ◌%◌, max, ◌==◌, nat_lt, nat_le, Bool, true, false, not, ◌&&◌, ◌||◌, Option, Some, None, is_none, Result, Ok, Err, List, [], ◌∷◌, ◌++◌, length, map, sum_by, replicate, codes, unwrap_or, if◌then◌else◌}
+use Rattle.std.specs.Prelude.{ℕ, ◌+◌, ◌-◌, ◌%◌, max, ◌==◌, nat_lt, nat_le, Bool, true, false, not, ◌&&◌, ◌||◌, Option, Some, None, is_none, Result, Ok, Err, List, [], ◌∷◌, ◌++◌, length, map, sum_by, replicate, codes, unwrap_or, option_map, if◌then◌else◌}
 use Rattle.std.specs.List.{flat_map, range_with_len}
 use Rattle.std.specs.Str.{bytes_eq}
 use Rattle.lot_simulation.specs.declared.script.Line.{Line}
@@ -51,7 +51,8 @@ header_line r header.Turns (t ∷ []) = do
   turns ← number_between 0 10000 t
   Ok (record r { turns = turns })
 header_line r header.For (t ∷ []) = do
-  duration ← number_between 1 4294967295 t
+  given ← checked ((not r.is_timed, BadLine) ∷ []) t
+  duration ← number_between 1 4294967295 given
   Ok (record r { duration = Some duration })
 header_line r header.Seed tokens = do
   given ← checked ((not (length tokens == r.processors), BadLine) ∷ []) tokens
@@ -122,15 +123,45 @@ script_line r s script.EndScript [] =
     checked ((nat_lt 0 s.loops, BadLine) ∷ []) (record r { unclosed = None; scripts = r.scripts ++ record { name = s.name; lines = s.lines } ∷ [] })
 script_line r s word tokens = Err BadLine
 
+-- ---- several words on a line of a script, if turns come in the order of time
+
+-- a word of a script, and the tokens that belong to it
+pub record Phrase : Type 0 where
+  pub word : List ℕ
+  pub tokens : List (List ℕ)
+
+-- the words to which no token belongs; to each other word belongs the token after it
+abbrev pub stands_alone : ScriptWord → Bool
+stands_alone script.End = true
+stands_alone script.Yield = true
+stands_alone script.Reply = true
+stands_alone script.EndScript = true
+stands_alone word = false
+
+-- whether the token is such a word
+abbrev pub is_alone : List ℕ → Bool
+is_alone token = unwrap_or (option_map stands_alone (word_in timed_script_words token)) false
+
+-- the words of a line, each with what belongs to it
+abbrev pub phrases_of : List (List ℕ) → List Phrase
+phrases_of [] = []
+phrases_of (word ∷ []) = record { word = word; tokens = [] } ∷ []
+phrases_of (word ∷ next ∷ tokens) =
+    if is_alone word then record { word = word; tokens = [] } ∷ phrases_of (next ∷ tokens) else record { word = word; tokens = next ∷ [] } ∷ phrases_of tokens
+
 -- ---- lines of the body
 
 -- the names of the scripts so far
 abbrev pub script_names : Reading → List (List ℕ)
 script_names r = map (λ s. s.name) r.scripts
 
--- one command more, which is made at the time that was said last
+-- when a command is made that comes now: at the time that was said last, if turns come in the order of time
+abbrev pub time_of_next : Reading → List ℕ
+time_of_next r = if r.is_timed then r.time ∷ [] else []
+
+-- one command more
 abbrev pub add_command : Reading → Command → Result Reading InputRefusal
-add_command r c = checked ((nat_le 100000 (length r.commands), TooLong) ∷ []) (record r { commands = r.commands ++ c ∷ []; times = r.times ++ r.time ∷ [] })
+add_command r c = checked ((nat_le 100000 (length r.commands), TooLong) ∷ []) (record r { commands = r.commands ++ c ∷ []; times = r.times ++ time_of_next r })
 
 -- turns of one actor in a row
 pub record ActorRun : Type 0 where
@@ -220,10 +251,22 @@ body_after_header n r word tokens = do
 
 -- ---- a line
 
--- a line within a script
+-- a line within a script, or a part of it
 abbrev pub line_inside : Reading → OpenScript → Option ScriptWord → List (List ℕ) → Result Reading InputRefusal
 line_inside r s None tokens = Err BadLine
 line_inside r s (Some word) tokens = script_line r s word tokens
+
+-- a word of a line within a script, with what belongs to it; nothing stands behind `endscript`
+abbrev pub phrase_inside : Reading → Option OpenScript → Phrase → Result Reading InputRefusal
+phrase_inside r None phrase = Err BadLine
+phrase_inside r (Some s) phrase = line_inside r s (word_in timed_script_words phrase.word) phrase.tokens
+
+-- the words of a line within a script, from left to right
+abbrev pub phrases_inside : Reading → List Phrase → Result Reading InputRefusal
+phrases_inside r [] = Ok r
+phrases_inside r (phrase ∷ phrases) = do
+  after ← phrase_inside r r.unclosed phrase
+  phrases_inside after phrases
 
 -- A line outside scripts. Before the first of the body the header has said how long the input runs, if it must.
 abbrev pub line_outside : ℕ → Reading → Option HeaderWord → Option BodyWord → List (List ℕ) → Result Reading InputRefusal
@@ -240,12 +283,9 @@ header_words_of r = if r.is_timed then timed_header_words else header_words
 abbrev pub body_words_of : Reading → List (List ℕ × BodyWord)
 body_words_of r = if r.is_timed then timed_body_words else body_words
 
-abbrev pub script_words_of : Reading → List (List ℕ × ScriptWord)
-script_words_of r = if r.is_timed then timed_script_words else script_words
-
--- a line after the first, by its first token
+-- A line after the first, by its first token. A line within a script has one word, and several if turns come in the order of time.
 abbrev pub later_line : ℕ → Reading → Option OpenScript → List ℕ → List (List ℕ) → Result Reading InputRefusal
-later_line n r (Some s) word tokens = line_inside r s (word_in (script_words_of r) word) tokens
+later_line n r (Some s) word tokens = if r.is_timed then phrases_inside r (phrases_of (word ∷ tokens)) else line_inside r s (word_in script_words word) tokens
 later_line n r None word tokens = line_outside n r (word_in (header_words_of r) word) (word_in (body_words_of r) word) tokens
 
 -- a line that isn't ignored, by its tokens; nothing has been read before the first

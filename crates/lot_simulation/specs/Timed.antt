@@ -9,7 +9,7 @@ use Rattle.lot_machine.specs.Step.{used_there}
 use Rattle.lot_simulation.specs.declared.timed.Clock.{Clock}
 use Rattle.lot_simulation.specs.declared.timed.Due.{Due}
 use Rattle.lot_simulation.specs.World.{Program, World, Answer, Turn, opening_world, processor_event, system_turn}
-use Rattle.lot_simulation.specs.World.Answer.{Answered, Ended}
+use Rattle.lot_simulation.specs.World.Answer.{Answered}
 
 -- a world at a time: each processor's clock, and when the commands that are left are made
 pub record Moment : Type 0 where

@@ -1,5 +1,6 @@
 //! Small inputs whose turns come in the order of time, and what is printed of them.
 ghost use Rattle.std.specs.Prelude.{◌≡◌, [], ◌∷◌, ◌++◌, codes};
+ghost use Rattle.lot_simulation.specs.Grammar.{program_in};
 ghost use Rattle.lot_simulation.specs.Output.{output};
 ghost use Rattle.lot_simulation.specs.Samples.{text, refused_on_line};
 
@@ -103,4 +104,19 @@ pub fn refused_inputs()
     ensures at_in_first { output (text (codes "lottery 1" ∷ codes "at 5" ∷ [])) ≡ refused_on_line (codes "2 51 BadLine") }
     ensures serve_in_first { output (text (codes "lottery 1" ∷ codes "port p" ∷ codes "script s" ∷ codes "serve p" ∷ [])) ≡ refused_on_line (codes "4 51 BadLine") }
     ensures other { output (text (codes "lottery 4" ∷ [])) ≡ refused_on_line (codes "1 50 BadHeader") }
+{}
+
+/// A line of a script may have several words, each with what belongs to it; in other inputs it has one. A port may have the name of a
+/// word, and nothing stands behind `endscript`.
+#[tactic(auto, unfolding(crate::specs::OnLiterals::texts_on_literals, crate::specs::Timed::timed_room))]
+pub fn several_words()
+    ensures same { program_in (text (codes "lottery 3" ∷ codes "for 9" ∷ codes "port end" ∷ codes "script s" ∷ codes "receive end loop 2 compute 5 serve end end yield" ∷ codes "set 7 endscript" ∷ []))
+        ≡ program_in (text (codes "lottery 3" ∷ codes "for 9" ∷ codes "port end" ∷ codes "script s" ∷ codes "receive end" ∷ codes "loop 2" ∷ codes "compute 5" ∷ codes "serve end" ∷ codes "end" ∷ codes "yield" ∷ codes "set 7" ∷ codes "endscript" ∷ [])) }
+    ensures accepted { output (text (codes "lottery 3" ∷ codes "for 1" ∷ codes "script s" ∷ codes "loop 2 compute 5 end endscript" ∷ []))
+        ≡ text (codes "0 1 idle" ∷ codes "report" ∷ codes "processor 1 quanta 0 idle 1 ticks 0 unused 1" ∷ codes "total turns 1 quanta 0 ticks 0 refused 0 left 0" ∷ []) }
+    ensures behind { output (text (codes "lottery 3" ∷ codes "for 9" ∷ codes "script s" ∷ codes "endscript yield" ∷ [])) ≡ refused_on_line (codes "4 51 BadLine") }
+    ensures missing { output (text (codes "lottery 3" ∷ codes "for 9" ∷ codes "script s" ∷ codes "yield compute" ∷ [])) ≡ refused_on_line (codes "4 51 BadLine") }
+    ensures no_word { output (text (codes "lottery 3" ∷ codes "for 9" ∷ codes "script s" ∷ codes "compute 5 7" ∷ [])) ≡ refused_on_line (codes "4 51 BadLine") }
+    ensures first_fault { output (text (codes "lottery 3" ∷ codes "for 9" ∷ codes "script s" ∷ codes "compute 0 nonsense" ∷ [])) ≡ refused_on_line (codes "4 52 BadNumber") }
+    ensures others { output (text (codes "lottery 2" ∷ codes "script s" ∷ codes "yield yield" ∷ [])) ≡ refused_on_line (codes "3 51 BadLine") }
 {}

@@ -1,5 +1,5 @@
 //! Playing a schedule.
-ghost use Rattle.std.specs.Prelude.{◌≡◌, ℕ, ◌<◌, ◌≤◌, List, ◌++◌, codes, false, true, length, IfErr, IfOk, OnOk};
+ghost use Rattle.std.specs.Prelude.{◌≡◌, ℕ, ◌<◌, ◌≤◌, List, ◌++◌, codes, false, true, length, IfErr, IfOk, IsSome, OnOk};
 ghost use Rattle.std.specs.Fmt.{decimal};
 ghost use Rattle.std.specs.Io.KnownBytes.{Appends};
 ghost use Rattle.lot_machine.specs.Bounds.{IsBetween};
@@ -148,6 +148,7 @@ fn play_timed<W: Write>(
     writer: &mut Watched<W>,
 ) -> Result<Played, PlayFault>
     requires legal { IsProgram program.now }
+    requires timed { IsSome program.now.duration }
     requires working { writer.old.failed ≡ false }
     ensures flushed { OnOk result (writer.new.flushed ≡ true) }
     ensures played { Plays W.contents writer.old writer.new result Done (timed_output program.now) }

@@ -2,7 +2,7 @@
 use Rattle.std.proofs.Common.{◌≡◌, ◌<◌, ◌+◌, ◌-◌, ℕ, suc, ◌==◌, Bool, true, false, not, cond, List, [], ◌∷◌, length, take, drop, filter, refl, ap, ◌∙◌, arith, lt-ltb}
 use Rattle.std.specs.Prelude.{nat_lt}
 use Rattle.std.specs.List.{prefix_len, slice_split, onto_first}
-use Rattle.std.proofs.lemmas.List.{take_rest}
+use Rattle.std.proofs.lemmas.List.{take_rest, take_all, drop_all}
 use Rattle.std.proofs.lemmas.List.Folds.{length-prefix_len}
 use Rattle.lot_simulation.specs.Lines.{tokens_of}
 
@@ -87,3 +87,28 @@ tokens_of-next xs word more start len spaces is some before following =
     let left : more ≡ drop len word = following ∙ take_rest word len in
     let begins : 0 < word_len word = rw rest (word-begins xs (rw rest at some)) in
     tokens_of-spaces xs ∙ rw (← rest, left, before) (tokens_of-word word begins)
+
+-- a word that is cut out ends where it ended
+word_len-cut : (xs : List ℕ) → word_len (take (word_len xs) xs) ≡ word_len xs
+word_len-cut [] = refl
+word_len-cut (x ∷ xs) = at (x == 32) refl (word_len-cut xs)
+  where
+    at : (e : Bool) → (x == 32) ≡ e → word_len (take (word_len xs) xs) ≡ word_len xs
+        → word_len (take (cond (not e) (1 + word_len xs) 0) (x ∷ xs)) ≡ cond (not e) (1 + word_len xs) 0
+    at true is others = refl
+    at false is others = let more : 1 + word_len xs ≡ suc (word_len xs) = omega arith in rw (more, is, others) more
+
+-- so it is the only token of itself
+cut-alone : (xs : List ℕ) → 0 < word_len xs → tokens_of (take (word_len xs) xs) ≡ take (word_len xs) xs ∷ []
+cut-alone xs some =
+    let same : take (word_len xs) (take (word_len xs) xs) ≡ take (word_len xs) xs = take_all (word_len xs) (take (word_len xs) xs) (omega (arith, length-prefix_len (λ b. not (b == 32)) xs)) in
+    let none : drop (word_len xs) (take (word_len xs) xs) ≡ [] = drop_all (word_len xs) (take (word_len xs) xs) (omega (arith, length-prefix_len (λ b. not (b == 32)) xs)) in
+    tokens_of-word (take (word_len xs) xs) (rw word_len-cut some) ∙ rw (word_len-cut, same, none) refl
+
+-- the word after the spaces at the front is the only token of itself
+pub tokens_of-alone : (xs word : List ℕ) (start len : ℕ) → start ≡ prefix_len (λ b. b == 32) xs → word ≡ take (length xs - start) (drop start xs) → 0 < length word
+    → len ≡ prefix_len (λ b. not (b == 32)) word → tokens_of (take len word) ≡ take len word ∷ []
+tokens_of-alone xs word start len spaces is some before =
+    let rest : word ≡ drop (prefix_len (λ b. b == 32) xs) xs = is ∙ take_rest xs start ∙ ap (λ n. drop n xs) spaces in
+    let begins : 0 < word_len word = rw rest (word-begins xs (rw rest at some)) in
+    rw before (cut-alone word begins)

@@ -1,5 +1,5 @@
 -- What is true of every program that an input says.
-use Rattle.std.specs.Prelude.{◌≡◌, ℕ, ◌≤◌, length, All}
+use Rattle.std.specs.Prelude.{◌≡◌, ℕ, ◌≤◌, length, All, IsSome}
 use Rattle.std.specs.List.Sorted.{IsNonDecreasing}
 use Rattle.lot_machine.specs.Bounds.{IsBetween, IsWithinBounds}
 use Rattle.lot_simulation.specs.World.{Program}
@@ -9,8 +9,8 @@ abbrev pub IsSeed : ℕ → Type 0
 IsSeed seed = IsBetween 1 2147483646 seed
 
 -- Its sizes are within their bounds. There is a seed for each processor, and a size says how many scripts there are. The
--- schedule's actors are the console and the processors. Turns, commands and schedule are no more than an input may have. Each command
--- has a time, and times don't fall.
+-- schedule's actors are the console and the processors. Turns, commands and schedule are no more than an input may have. If its turns
+-- come in the order of time, each command has a time. Times don't fall.
 pub record IsProgram (program : Program) : Type 0 where
   pub limits : IsWithinBounds program.limits
   pub seed_count : length program.seeds ≡ program.limits.processors
@@ -20,5 +20,5 @@ pub record IsProgram (program : Program) : Type 0 where
   pub command_count : length program.commands ≤ 100000
   pub actors : All (λ actor. actor ≤ program.limits.processors) program.schedule
   pub schedule_length : length program.schedule ≤ 1000000
-  pub time_count : length program.times ≡ length program.commands
+  pub time_count : IsSome program.duration → length program.times ≡ length program.commands
   pub rising : IsNonDecreasing program.times

@@ -1,12 +1,12 @@
 -- What is true of everything that is read of an input.
-use Rattle.std.specs.Prelude.{◌≡◌, ℕ, ◌<◌, ◌≤◌, Result, Ok, List, [], ◌∷◌, length, All, IsSome, Some, None}
+use Rattle.std.specs.Prelude.{◌≡◌, ℕ, ◌<◌, ◌≤◌, Result, Ok, List, [], ◌∷◌, length, take, All, IsSome, IsTrue, Some, None, if◌then◌else◌}
 use Rattle.std.specs.List.Sorted.{IsNonDecreasing}
 use Rattle.std.specs.Option.{ForSome}
 use Rattle.lot_simulation.specs.declared.input.InputRefusal.{InputRefusal}
 use Rattle.lot_simulation.specs.declared.input.InputRefusal.TheVariants.{TooLong}
 use Rattle.lot_simulation.specs.declared.script.Line.{Line}
 use Rattle.lot_machine.specs.Bounds.{IsBetween, IsUnit}
-use Rattle.lot_simulation.specs.Grammar.{add_runs, is_full, run_of, with_line}
+use Rattle.lot_simulation.specs.Grammar.{Phrase, add_runs, is_alone, is_full, run_of, with_line}
 use Rattle.lot_simulation.specs.Reading.{Reading, OpenScript, ◌>>=◌, checked, each_pair}
 use Rattle.lot_script.specs.Drafts.{loops_after}
 use Rattle.lot_text.specs.Programs.{IsSeed}
@@ -34,7 +34,8 @@ pub record IsReading (r : Reading) : Type 0 where
   pub command_count : length r.commands ≤ 100000
   pub actors : All (λ actor. actor ≤ r.processors) r.schedule
   pub schedule_length : length r.schedule ≤ 1000000
-  pub time_count : length r.times ≡ length r.commands
+  pub time_count : IsTrue r.is_timed → length r.times ≡ length r.commands
+  pub running : IsSome r.duration → IsTrue r.is_timed
   pub rising : IsNonDecreasing r.times
   pub past : All (λ time. time ≤ r.time) r.times
   pub unseeded : r.place ≡ 0 → r.seeds ≡ None
@@ -47,6 +48,14 @@ after_header read = read >>= λ after. Ok (record after { place = 7 })
 -- what was read, with this script open
 abbrev pub within_script : Reading → OpenScript → Reading
 within_script r s = record r { unclosed = Some s }
+
+-- how many of the tokens after a word of a script belong to it
+abbrev pub argument_count : List ℕ → ℕ
+argument_count word = if is_alone word then 0 else 1
+
+-- a word of a script that stands before these tokens, with what belongs to it
+abbrev pub phrase_at : List ℕ → List (List ℕ) → Phrase
+phrase_at word tokens = record { word = word; tokens = take (argument_count word) tokens }
 
 -- the script goes on with this line, which may open or end a loop
 abbrev pub line_added : Reading → OpenScript → Line → Result Reading InputRefusal

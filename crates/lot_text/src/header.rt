@@ -110,12 +110,15 @@ fn read_turns(reading: &mut Reading, tokens: Tokens<'_>) -> Result<(), LineFault
     Ok(())
 }
 
-/// `for TICKS`
+/// `for TICKS`, in an input whose turns come in the order of time
 fn read_duration(reading: &mut Reading, tokens: Tokens<'_>) -> Result<(), LineFault>
     requires { reading.old.place < 4 }
     ensures { Gives reading.new result (header_in_order reading.old HeaderWord.For tokens.entry) }
 {
     let duration = tokens.only()?;
+    if !reading.is_timed {
+        return Err(LineFault::Refused(InputRefusal::BadLine));
+    }
     reading.duration = Some(number_between(1, u32::MAX, duration)?);
     reading.place = header_place(HeaderWord::For);
     Ok(())

@@ -1,20 +1,22 @@
 //! What the bytes of an input say.
-ghost use Rattle.std.specs.Prelude.{◌≡◌, ◌≤◌, OnOk, IfErr, IfOk, Ok};
-ghost use Rattle.lot_simulation.specs.Grammar.{program_in, header_words_of, body_words_of, script_words_of, later_line as later_line_read, line_outside as line_outside_read, read_line as read_line_read};
-ghost use Rattle.lot_simulation.specs.Words.{word_in};
+ghost use Rattle.std.specs.Prelude.{◌≡◌, ◌<◌, ◌≤◌, ◌∷◌, drop, length, OnOk, IfErr, IfOk, Ok};
+ghost use Rattle.lot_simulation.specs.Grammar.{program_in, header_words_of, body_words_of, phrases_of, later_line as later_line_read, line_inside as line_inside_read, line_outside as line_outside_read, phrase_inside as phrase_inside_read, phrases_inside as phrases_inside_read, read_line as read_line_read};
+ghost use Rattle.lot_simulation.specs.Words.{word_in, script_words};
 ghost use Rattle.lot_text.specs.Faults.{Gives, IsFaultOf};
+ghost use Rattle.lot_text.specs.Readings.{argument_count, phrase_at, within_script};
 
 use crate::body::body_line;
 use crate::fault::LineFault;
 use crate::header::{first_line, header_line};
-use crate::reading::Reading;
+use crate::reading::{OpenScript, Reading};
 use crate::script_lines::script_line;
 use crate::tokens::{Tokens, begins_comment, is_printable, len_before};
 use crate::words::{
-    body_word, header_word, script_word, timed_body_word, timed_header_word, timed_script_word,
+    body_word, header_word, script_word, stands_alone, timed_body_word, timed_header_word,
+    timed_script_word,
 };
 use crate::{ParseFault, Program};
-use lot_simulation::{BodyWord, HeaderWord, InputFault, InputRefusal, ScriptWord};
+use lot_simulation::{BodyWord, HeaderWord, InputFault, InputRefusal};
 use std::alloc::Global;
 
 /// What the bytes of an input say, exactly. Else the first line that has a fault, and the first of its faults; or
@@ -87,24 +89,68 @@ fn later_line(
 ) -> Result<(), LineFault>
     ensures { Gives reading.new result (later_line_read number reading.old reading.old.unclosed word.now tokens.entry) }
 {
+    if reading.is_timed && reading.unclosed.is_some() {
+        return phrases_inside(reading, word, tokens);
+    }
     match reading.unclosed.take() {
-        Some(script) => match script_word_in(reading, word) {
-            Some(word) => script_line(reading, script, word, tokens),
-            None => Err(LineFault::Refused(InputRefusal::BadLine)),
-        },
+        Some(script) => line_inside(reading, script, word, tokens),
         None => line_outside(alloc, number, reading, word, tokens),
     }
 }
 
-/// The word of a script that the token is in this input, if it is one.
-fn script_word_in(reading: &Reading, token: &[u8]) -> Option<ScriptWord>
-    ensures { result ≡ word_in (script_words_of reading.now) token.now }
+/// A line inside a script that has one word.
+fn line_inside(
+    reading: &mut Reading,
+    script: OpenScript,
+    word: &[u8],
+    tokens: Tokens<'_>,
+) -> Result<(), LineFault>
+    requires { length reading.old.scripts < 256 }
+    ensures { Gives reading.new result (line_inside_read (within_script reading.old script) script (word_in script_words word.now) tokens.entry) }
 {
-    if reading.is_timed {
-        timed_script_word(token)
-    } else {
-        script_word(token)
+    match script_word(word) {
+        Some(word) => script_line(reading, script, word, tokens),
+        None => Err(LineFault::Refused(InputRefusal::BadLine)),
     }
+}
+
+/// The words of a line inside a script, from left to right, each with what belongs to it.
+fn phrases_inside(
+    reading: &mut Reading,
+    first: &[u8],
+    mut tokens: Tokens<'_>,
+) -> Result<(), LineFault>
+    ensures { Gives reading.new result (phrases_inside_read reading.old (phrases_of (first.now ∷ tokens.entry))) }
+{
+    let mut word = first;
+    loop {
+        phrase_inside(reading, word, &mut tokens)?;
+        match tokens.next_token() {
+            Some(next) => word = next,
+            None => return Ok(()),
+        }
+    }
+}
+
+/// A word of a line inside a script, with the token after it if that belongs to it.
+fn phrase_inside(
+    reading: &mut Reading,
+    word: &[u8],
+    tokens: &mut Tokens<'_>,
+) -> Result<(), LineFault>
+    ensures read { Gives reading.new result (phrase_inside_read reading.old reading.old.unclosed (phrase_at word.now tokens.old)) }
+    ensures left { OnOk result (tokens.new ≡ drop (argument_count word.now) tokens.old) }
+{
+    let Some(script) = reading.unclosed.take() else {
+        return Err(LineFault::Refused(InputRefusal::BadLine));
+    };
+    let Some(word) = timed_script_word(word) else {
+        return Err(LineFault::Refused(InputRefusal::BadLine));
+    };
+    if stands_alone(word) {
+        return script_line(reading, script, word, Tokens::of_line(&[]));
+    }
+    script_line(reading, script, word, tokens.next_alone())
 }
 
 /// The word of the header that the token is in this input, if it is one.

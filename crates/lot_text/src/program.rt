@@ -91,7 +91,7 @@ impl Program {
         self.duration
     }
 
-    /// The tick at which each command is made, as many as there are commands. They don't fall.
+    /// The tick at which each command is made, if turns come in the order of time; else none. They don't fall.
     pub fn times(&self) -> &[u32]
         ensures times { result.now ≡ self.now.times }
         ensures legal { IsProgram self.now }

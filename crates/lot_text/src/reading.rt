@@ -1,5 +1,5 @@
 //! What has been read of an input so far.
-ghost use Rattle.std.specs.Prelude.{◌≡◌, ℕ, ◌<◌, ◌≤◌, max, All, length, map, option_map, position, unwrap_or, IfErr, IfOk, IfSome, Ok, Some, if◌then◌else◌};
+ghost use Rattle.std.specs.Prelude.{◌≡◌, ℕ, ◌<◌, ◌≤◌, max, All, length, map, option_map, position, unwrap_or, IfErr, IfOk, IfSome, IsTrue, Ok, Some, if◌then◌else◌};
 ghost use Rattle.std.specs.List.{range_with_len};
 ghost use Rattle.std.specs.Option.{ForSome};
 ghost use Rattle.std.specs.Str.{bytes_eq};
@@ -79,7 +79,7 @@ pub(crate) struct Reading {
     pub(crate) commands: Vec<Command>,
     /// When the commands to come are made.
     pub(crate) time: u32,
-    /// When those so far are made.
+    /// When those so far are made, if turns come in the order of time.
     pub(crate) times: Vec<u32>,
     pub(crate) schedule: Vec<u8>,
 }
@@ -139,6 +139,20 @@ impl Reading {
         if 100000 <= self.commands.len() {
             return Err(LineFault::Refused(InputRefusal::TooLong));
         }
+        if self.is_timed {
+            return self.add_timed_command(command);
+        }
+        self.commands.push(command)?;
+        self.place = BODY;
+        Ok(())
+    }
+
+    /// The same, of an input whose turns come in the order of time.
+    fn add_timed_command(&mut self, command: Command) -> Result<(), LineFault>
+        requires timed { IsTrue self.old.is_timed }
+        requires room { length self.old.commands < 100000 }
+        ensures { Gives self.new result (after_header (add_command_read self.old command)) }
+    {
         self.times.reserve(1)?;
         self.commands.push(command)?;
         self.times.push_reserved(self.time);

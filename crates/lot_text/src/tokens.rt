@@ -1,5 +1,5 @@
 //! The tokens of a line.
-ghost use Rattle.std.specs.Prelude.{◌≡◌, ◌≢◌, ◌==◌, ◌≤◌, ◌%◌, not, length, [], ◌∷◌, ◌↔◌, IsTrue, MatchOption, MatchResult};
+ghost use Rattle.std.specs.Prelude.{◌≡◌, ◌≢◌, ◌==◌, ◌≤◌, ◌%◌, not, drop, length, take, [], ◌∷◌, ◌↔◌, IsTrue, IfSome, MatchOption, MatchResult};
 ghost use Rattle.std.specs.List.{prefix_len};
 ghost use Rattle.lot_simulation.specs.Lines.{tokens_of, is_comment, is_printable as is_printable_line};
 
@@ -31,7 +31,8 @@ impl<'a> Tokens<'a> {
 
     /// The next token, or `None` at the end.
     pub(crate) fn next_token(&mut self) -> Option<&'a [u8]>
-        ensures { MatchOption result ((self.old ≡ []) × (self.new ≡ [])) (λ token. self.old ≡ token.now ∷ self.new) }
+        ensures next { MatchOption result ((self.old ≡ []) × (self.new ≡ [])) (λ token. self.old ≡ token.now ∷ self.new) }
+        ensures alone { IfSome result (λ token. tokens_of token.now ≡ token.now ∷ []) }
     {
         let word = &self.rest[spaces_in_front(self.rest)..];
         if word.is_empty() {
@@ -40,6 +41,17 @@ impl<'a> Tokens<'a> {
         let len = len_before(b' ', word);
         self.rest = &word[len..];
         Some(&word[..len])
+    }
+
+    /// The next token alone, as tokens of which it is the only one; none at the end.
+    pub(crate) fn next_alone(&mut self) -> Tokens<'a>
+        ensures alone { result ≡ take 1 self.old }
+        ensures rest { self.new ≡ drop 1 self.old }
+    {
+        match self.next_token() {
+            Some(token) => Tokens { rest: token },
+            None => Tokens { rest: &[] },
+        }
     }
 
     /// The next token. There has to be one.

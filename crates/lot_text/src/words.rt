@@ -1,5 +1,6 @@
 //! The words that begin lines.
 ghost use Rattle.std.specs.Prelude.{◌≡◌, take, drop};
+ghost use Rattle.lot_simulation.specs.Grammar as grammar;
 ghost use Rattle.lot_simulation.specs.Words.{word_in, header_words, timed_header_words, body_words, timed_body_words, script_words, timed_script_words};
 
 use lot_simulation::{BodyWord, HeaderWord, ScriptWord};
@@ -31,6 +32,16 @@ pub(crate) fn timed_script_word(token: &[u8]) -> Option<ScriptWord>
     match token {
         b"serve" => Some(ScriptWord::Serve),
         _ => script_word(token),
+    }
+}
+
+/// Whether no token belongs to the word.
+pub(crate) fn stands_alone(word: ScriptWord) -> bool
+    ensures { result ≡ grammar.stands_alone word }
+{
+    match word {
+        ScriptWord::End | ScriptWord::Yield | ScriptWord::Reply | ScriptWord::EndScript => true,
+        _ => false,
     }
 }
 

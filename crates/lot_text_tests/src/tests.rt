@@ -175,7 +175,7 @@ const FIRST_RUN_SAYS: Said<'_> = Said {
     ],
     schedule: &[0, 0, 0, 1, 1, 0],
     duration: None,
-    times: &[0; 6],
+    times: &[],
 };
 
 #[test]
@@ -264,7 +264,7 @@ const WHOLE_GRAMMAR_SAYS: Said<'_> = Said {
     ],
     schedule: &[0, 0, 2, 1, 0],
     duration: None,
-    times: &[0; 11],
+    times: &[],
 };
 
 #[test]
@@ -274,7 +274,7 @@ fn reads_the_whole_grammar(rt: HostRuntime) -> Result<(), Fail> {
 
 /// What only inputs have whose turns come in the order of time.
 const TIMED: &str =
-    "lottery 3\nprocessors 2\nturns 5\nfor 4294967295\nport p\nscript s\nserve p\nendscript\nmkthr a s\n\
+    "lottery 3\nprocessors 2\nturns 5\nfor 4294967295\nport p\nscript s\nloop 2 serve p yield\nend endscript\nmkthr a s\n\
     at 10\nat 20\nlstkt\nlscur\nat 20\nlsthr\nat 4294967295";
 
 /// The seeds are those after 1 of the generator that multiplies by 48271 modulo 2147483647.
@@ -292,7 +292,7 @@ const TIMED_SAYS: Said<'_> = Said {
     },
     seeds: &[48271, 182605794],
     turns: 5,
-    scripts: &[&[Line::Serve(1)]],
+    scripts: &[&[Line::Loop(2), Line::Serve(1), Line::Yield, Line::End]],
     commands: &[
         Asked::MakeThread("a", 1),
         Asked::List(Kind::Tickets),
@@ -538,7 +538,14 @@ const REFUSED_SCRIPTS: [Refusals<'_>; 7] = [
     Refusals {
         line: 5,
         refusal: InputRefusal::BadLine,
-        ends: &["recei", "receive", "end", "port q", "serve p"],
+        ends: &[
+            "recei",
+            "receive",
+            "end",
+            "port q",
+            "serve p",
+            "yield yield",
+        ],
     },
     Refusals {
         line: 5,
@@ -643,6 +650,42 @@ const REFUSED_TIMES: [Refusals<'_>; 4] = [
     },
 ];
 
+/// Lines of a script, which may have several words.
+const REFUSED_PHRASES: [Refusals<'_>; 4] = [
+    Refusals {
+        line: 5,
+        refusal: InputRefusal::BadLine,
+        ends: &[
+            "yield compute",
+            "compute 5 7",
+            "yield end",
+            "loop 2 endscript",
+            "endscript yield",
+        ],
+    },
+    Refusals {
+        line: 5,
+        refusal: InputRefusal::BadNumber,
+        ends: &["yield compute 0 nonsense"],
+    },
+    Refusals {
+        line: 5,
+        refusal: InputRefusal::UnknownName,
+        ends: &["yield lock yield"],
+    },
+    Refusals {
+        line: 5,
+        refusal: InputRefusal::TooDeep,
+        ends: &["loop 1 loop 1 loop 1 loop 1 loop 1 loop 1 loop 1 loop 1 loop 1"],
+    },
+];
+
+#[test]
+fn refuses_phrases(rt: HostRuntime) -> Result<(), Fail> {
+    let opened = "lottery 3\nfor 5\nmutex m\nscript s\n";
+    check_table(&rt, rt.alloc(), opened, &REFUSED_PHRASES)
+}
+
 #[test]
 fn refuses_durations(rt: HostRuntime) -> Result<(), Fail> {
     check_table(&rt, rt.alloc(), "lottery 3\n", &REFUSED_DURATIONS)
@@ -673,6 +716,20 @@ fn long_script(alloc: Global, count: u32) -> Result<String, AllocError> {
     Ok(text)
 }
 
+/// A script of this many words, with 500 on a line.
+fn long_phrases(alloc: Global, count: u32) -> Result<String, AllocError> {
+    let mut text = String::from_str(alloc, "lottery 3\nfor 5\nscript s\n")?;
+    for number in 1..count.saturating_add(1) {
+        text.push_str(if number % 500 == 0 {
+            "yield\n"
+        } else {
+            "yield "
+        })?;
+    }
+    text.push_str("endscript\n")?;
+    Ok(text)
+}
+
 /// Compares the line and the refusal of a long input, if it is refused.
 fn check_long(rt: &impl Abort, alloc: Global, text: &str, wanted: Option<(u32, InputRefusal)>) {
     assert_eq!(rt; refused(alloc, text), wanted, "of {} bytes", text.len());
@@ -696,6 +753,15 @@ fn meets_limits_of_lines(rt: HostRuntime) -> Result<(), Fail> {
 fn meets_limits_of_scripts(rt: HostRuntime) -> Result<(), Fail> {
     for (count, wanted) in [(1024, None), (1025, Some((1027, InputRefusal::TooLong)))] {
         let text = long_script(rt.alloc(), count)?;
+        check_long(&rt, rt.alloc(), text.as_str(), wanted);
+    }
+    Ok(())
+}
+
+#[test]
+fn meets_limits_of_phrases(rt: HostRuntime) -> Result<(), Fail> {
+    for (count, wanted) in [(1024, None), (1025, Some((6, InputRefusal::TooLong)))] {
+        let text = long_phrases(rt.alloc(), count)?;
         check_long(&rt, rt.alloc(), text.as_str(), wanted);
     }
     Ok(())

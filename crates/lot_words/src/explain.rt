@@ -4,6 +4,7 @@
 use crate::forms::{BODY_WORDS, Form, SCRIPT_WORDS, form_inside, form_outside, header_place};
 use crate::input::{OpenScript, Refused, Version, words_of};
 use crate::nearest::nearest_word;
+use crate::phrases::phrases_problem;
 use crate::problem::Problem;
 use crate::word::word_problem;
 use lot_simulation::InputRefusal;
@@ -75,23 +76,31 @@ fn line_problem<'a>(alloc: Global, refused: &Refused<'a>, word: &'a str) -> Opti
     }
 }
 
-/// The same of a line inside a script.
+/// The same of a line inside a script, which has one word, or several in an input whose turns come in the order of time.
 fn script_problem<'a>(
     alloc: Global,
     refused: &Refused<'a>,
     script: OpenScript,
     word: &'a str,
 ) -> Option<Problem<'a>> {
+    if refused.version == Version::Timed {
+        return phrases_problem(alloc, refused, script);
+    }
     let Some(form) = form_inside(word) else {
-        return Some(no_script_line(alloc, refused.version, script, word));
+        return Some(no_script_word(alloc, refused.version, script, word));
     };
-    if word == "serve" && refused.version != Version::Timed {
+    if word == "serve" {
         return Some(Problem::OnlyTimed(word));
     }
     let problem = form_problem(alloc, refused, form);
     if problem.is_some() {
         return problem;
     }
+    loop_problem(script, word)
+}
+
+/// What is wrong with the end of a loop or of the script, if the word is one.
+pub(crate) fn loop_problem(script: OpenScript, word: &str) -> Option<Problem<'_>> {
     match word {
         "end" if script.loops == 0 => Some(Problem::NoLoop),
         "endscript" if script.loops > 0 => Some(Problem::OpenLoop),
@@ -99,15 +108,20 @@ fn script_problem<'a>(
     }
 }
 
-/// What to say of a word inside a script that begins none of its lines.
-fn no_script_line(alloc: Global, version: Version, script: OpenScript, word: &str) -> Problem<'_> {
+/// What to say of a word inside a script that is none of a script's.
+pub(crate) fn no_script_word(
+    alloc: Global,
+    version: Version,
+    script: OpenScript,
+    word: &str,
+) -> Problem<'_> {
     if word == "lottery" || form_outside(word).is_some() {
         return Problem::InsideScript {
             word,
             opened: script.line,
         };
     }
-    Problem::NoScriptLine {
+    Problem::NoScriptWord {
         word,
         nearest: nearest_word(alloc, version.words_of(&SCRIPT_WORDS), word),
     }
@@ -184,7 +198,7 @@ fn too_many<'a>(refused: &Refused<'a>, word: &str, refusal: InputRefusal) -> Pro
     }
     if refused.script.is_some() {
         return Problem::TooMany {
-            what: "line of a script",
+            what: "word of a script",
             most: 1024,
         };
     }

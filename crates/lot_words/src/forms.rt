@@ -192,7 +192,7 @@ fn schedule_form(word: &str) -> Option<Form> {
     }
 }
 
-/// The form of a line of a script that begins with this word.
+/// The form of this word of a script.
 pub(crate) fn form_inside(word: &str) -> Option<Form> {
     match word {
         "compute" => once("compute TICKS", &[Expected::Between(1, 4294967295)]),

@@ -1,6 +1,7 @@
 //! The refused line, and what the lines before it say.
 
 use crate::forms::header_place;
+use crate::phrases::after_line;
 use std::str;
 use std::str::SplitAsciiWhitespace;
 
@@ -102,7 +103,7 @@ impl<'a> Refused<'a> {
             return;
         }
         match self.script {
-            Some(script) => self.script = script.after(word),
+            Some(script) => self.script = after_line(script, line),
             None => self.pass_outside(number, word, words.next().unwrap_or("")),
         }
         self.has_start = true;
@@ -116,20 +117,23 @@ impl<'a> Refused<'a> {
             "for" => self.has_duration = true,
             "at" => self.now = next.parse::<u32>().unwrap_or(0),
             "processors" => self.processors = next.parse::<u32>().unwrap_or(1),
-            "script" => {
-                self.script = Some(OpenScript {
-                    line: number,
-                    loops: 0,
-                });
-            }
+            "script" => self.script = Some(OpenScript::opened(number)),
             _ => {}
         }
     }
 }
 
 impl OpenScript {
-    /// What is open after a line that begins with this word.
-    fn after(self, word: &str) -> Option<OpenScript> {
+    /// A script that the line with this number opens.
+    pub(crate) fn opened(number: u32) -> OpenScript {
+        OpenScript {
+            line: number,
+            loops: 0,
+        }
+    }
+
+    /// What is open after this word of it.
+    pub(crate) fn after(self, word: &str) -> Option<OpenScript> {
         let OpenScript { line, loops } = self;
         match word {
             "endscript" => None,

@@ -1,5 +1,6 @@
 //! What a run leaves to tell, in words.
 
+use crate::CommandLines;
 use lot_machine::{Refusal, Status};
 use lot_system::{Few, Leftovers, RefusedCommand, StuckThread};
 use std::io::Write;
@@ -10,7 +11,7 @@ use std::{fmt, io, str};
 pub fn write_leftovers<W: Write>(
     writer: &mut W,
     leftovers: &Leftovers,
-    lines: &[u32],
+    lines: &CommandLines,
 ) -> io::Result<()> {
     write_refused(writer, &leftovers.refused, lines)?;
     write_unmade(writer, leftovers, lines)?;
@@ -32,10 +33,10 @@ pub fn write_leftovers<W: Write>(
 fn write_refused<W: Write>(
     writer: &mut W,
     refused: &Few<RefusedCommand>,
-    lines: &[u32],
+    lines: &CommandLines,
 ) -> io::Result<()> {
     for command in refused.first() {
-        let line = Line(lines.get(command.place).copied());
+        let line = Line(lines.line_of(command.place));
         let reason = reason(command.refusal);
         writeln!(writer, "{line}the command was refused: {reason}")?;
     }
@@ -43,8 +44,12 @@ fn write_refused<W: Write>(
 }
 
 /// Writes how many commands were never made, if any.
-fn write_unmade<W: Write>(writer: &mut W, leftovers: &Leftovers, lines: &[u32]) -> io::Result<()> {
-    let line = Line(lines.get(leftovers.made()).copied());
+fn write_unmade<W: Write>(
+    writer: &mut W,
+    leftovers: &Leftovers,
+    lines: &CommandLines,
+) -> io::Result<()> {
+    let line = Line(lines.line_of(leftovers.made()));
     match leftovers.unmade {
         0 => Ok(()),
         1 => writeln!(

@@ -12,6 +12,7 @@ mod input;
 mod leftovers;
 mod names;
 mod nearest;
+mod phrases;
 mod problem;
 #[cfg(test)]
 mod tests;
@@ -19,7 +20,7 @@ mod word;
 
 use crate::explain::problem_of;
 use crate::input::Refused;
-pub use commands::command_lines;
+pub use commands::CommandLines;
 pub use leftovers::write_leftovers;
 use lot_simulation::InputFault;
 use std::alloc::Global;

@@ -34,14 +34,14 @@ pub(crate) enum Problem<'a> {
         word: &'a str,
         nearest: Nearest<'a>,
     },
-    #[error("'{word}' is no line of a script{nearest}")]
-    NoScriptLine {
+    #[error("'{word}' is no word of a script{nearest}")]
+    NoScriptWord {
         word: &'a str,
         nearest: Nearest<'a>,
     },
-    #[error("'{0}' is a line of a script, and no script is open: 'script NAME' opens one")]
+    #[error("'{0}' is a word of a script, and no script is open: 'script NAME' opens one")]
     OutsideScript(&'a str),
-    #[error("'{word}' is no line of a script, and the one that line {opened} opens isn't closed: 'endscript' closes it")]
+    #[error("'{word}' is no word of a script, and the one that line {opened} opens isn't closed: 'endscript' closes it")]
     InsideScript {
         word: &'a str,
         opened: u32,
@@ -54,6 +54,12 @@ pub(crate) enum Problem<'a> {
     OnlyTimed(&'a str),
     #[error("a comment has a line of its own; '{0}' has no room for one")]
     TrailingComment(&'a str),
+    #[error("a comment has a line of its own")]
+    LateComment,
+    #[error("a word is missing at the end: '{0}'")]
+    Unfinished(&'a str),
+    #[error("'{0}' stands behind 'endscript', which ends its line")]
+    BehindEnd(&'a str),
     #[error("this line is written '{shape}', and here are {count} words")]
     WrongCount {
         shape: &'a str,

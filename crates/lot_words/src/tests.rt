@@ -1,4 +1,4 @@
-use crate::write_words;
+use crate::{CommandLines, write_words};
 use lot_text::{ParseFault, parse};
 use std::alloc::Global;
 use std::process::Abort;
@@ -49,19 +49,19 @@ fn misspelt_words(rt: HostRuntime) {
         rt,
         alloc,
         b"lottery 1\nscript s\ncomptue 4\n",
-        "line 3: 'comptue' is no line of a script; did you mean 'compute'?\n",
+        "line 3: 'comptue' is no word of a script; did you mean 'compute'?\n",
     );
     check(
         rt,
         alloc,
         b"lottery 1\nscript s\nserve_\n",
-        "line 3: 'serve_' is no line of a script\n",
+        "line 3: 'serve_' is no word of a script\n",
     );
     check(
         rt,
         alloc,
         b"lottery 3\nfor 5\nscript s\nserve_\n",
-        "line 4: 'serve_' is no line of a script; did you mean 'serve'?\n",
+        "line 4: 'serve_' is no word of a script; did you mean 'serve'?\n",
     );
     check(
         rt,
@@ -78,13 +78,13 @@ fn places_of_lines(rt: HostRuntime) {
         rt,
         alloc,
         b"lottery 1\ncompute 4\n",
-        "line 2: 'compute' is a line of a script, and no script is open: 'script NAME' opens one\n",
+        "line 2: 'compute' is a word of a script, and no script is open: 'script NAME' opens one\n",
     );
     check(
         rt,
         alloc,
         b"lottery 1\nscript s\nmktkt 5 base\n",
-        "line 3: 'mktkt' is no line of a script, and the one that line 2 opens isn't closed: 'endscript' closes it\n",
+        "line 3: 'mktkt' is no word of a script, and the one that line 2 opens isn't closed: 'endscript' closes it\n",
     );
     check(
         rt,
@@ -240,7 +240,7 @@ fn too_many(rt: HostRuntime) -> Result<(), Fail> {
         rt,
         alloc,
         input.as_bytes(),
-        "line 1027: one line of a script too many, at most 1024\n",
+        "line 1027: one word of a script too many, at most 1024\n",
     );
     Ok(())
 }
@@ -288,4 +288,87 @@ fn turns_in_time(rt: HostRuntime) {
         b"lottery 1\nport p\nscript s\nserve p\n",
         "line 4: 'serve' is for 'lottery 3', whose turns come in the order of time\n",
     );
+}
+
+#[test]
+fn several_words(rt: HostRuntime) {
+    let (rt, alloc) = (&rt, rt.alloc());
+    for (line, expected) in [
+        (
+            "yield compute",
+            "line 5: a word is missing at the end: 'compute TICKS'\n",
+        ),
+        ("compute 5 7", "line 5: '7' is no word of a script\n"),
+        (
+            "loop 2 comptue 5 end",
+            "line 5: 'comptue' is no word of a script; did you mean 'compute'?\n",
+        ),
+        (
+            "loop 2 compute 0 end",
+            "line 5: '0' is no number from 1 to 4294967295\n",
+        ),
+        (
+            "yield lock n",
+            "line 5: 'n' is no mutex of an earlier line\n",
+        ),
+        (
+            "yield end",
+            "line 5: 'end' closes a loop, and none is open\n",
+        ),
+        (
+            "loop 2 yield endscript",
+            "line 5: 'endscript' stands inside a loop: 'end' closes it\n",
+        ),
+        (
+            "yield endscript yield",
+            "line 5: 'yield' stands behind 'endscript', which ends its line\n",
+        ),
+        (
+            "yield # gives way",
+            "line 5: a comment has a line of its own\n",
+        ),
+        (
+            "yield\nmktkt 5 base",
+            "line 6: 'mktkt' is no word of a script, and the one that line 4 opens isn't closed: 'endscript' closes it\n",
+        ),
+        (
+            "yield endscript\nmktk 5 base",
+            "line 6: 'mktk' is no body line; did you mean 'mktkt'?\n",
+        ),
+        (
+            "# endscript\nnonsense",
+            "line 6: 'nonsense' is no word of a script\n",
+        ),
+    ] {
+        check_script(rt, alloc, line, expected);
+    }
+}
+
+/// The same as `check`, of an input that ends with this line of a script, or with these lines.
+fn check_script<H: Abort>(rt: &H, alloc: Global, line: &str, expected: &str) {
+    let mut input = String::new(alloc);
+    assert!(rt;
+        input
+            .push_str("lottery 3\nfor 5\nmutex m\nscript s\n")
+            .is_ok()
+    );
+    assert!(rt; input.push_str(line).is_ok());
+    check(rt, alloc, input.as_bytes(), expected);
+}
+
+#[test]
+fn lines_of_commands(rt: HostRuntime) -> Result<(), Fail> {
+    let (rt, alloc) = (&rt, rt.alloc());
+    let input =
+        b"lottery 3\nfor 5\nport endscript\nscript s\n# endscript\nyield call endscript\nyield endscript\nlstkt\n\nlscur\nlsthr\n";
+    let lines = CommandLines::of(alloc, input)?;
+    for (place, line) in [
+        (0usize, Some(8u32)),
+        (1, Some(10)),
+        (2, Some(11)),
+        (3, None),
+    ] {
+        assert_eq!(rt; lines.line_of(place), line, "of {place}");
+    }
+    Ok(())
 }

@@ -2,4 +2,4 @@ use Rattle.std.proofs.Common.{◌∙◌, [], Ok, ap, append-nil}
 use Rattle.lot_text.proofs.body.read_actors.Goals as goal
 
 pub returns-clause-read : goal.returns-clause-read
-returns-clause-read c = c.loop-token.invariant.read [] (rw c.in_default.ensures.0) ∙ ap Ok (append-nil c.loop-token.actors.items)
+returns-clause-read c = c.loop-token.invariant.read [] (rw c.in_default.ensures.next.0) ∙ ap Ok (append-nil c.loop-token.actors.items)
