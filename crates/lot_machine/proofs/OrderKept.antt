@@ -140,7 +140,7 @@ command-order s c order =
 -- ---- draws and expiries
 
 -- what a filter keeps passes
-filter-passes : (test : ℕ → Bool) (xs : List ℕ) (i x : ℕ) → slice_get (filter test xs) i ≡ Some x → test x ≡ true
+pub filter-passes : (test : ℕ → Bool) (xs : List ℕ) (i x : ℕ) → slice_get (filter test xs) i ≡ Some x → test x ≡ true
 filter-passes test [] i x e = cc
 filter-passes test (y ∷ ys) i x e = at (λ j. filter-passes test ys j x) (test y) refl
   where
@@ -152,7 +152,7 @@ filter-passes test (y ∷ ys) i x e = at (λ j. filter-passes test ys j x) (test
         from zero here = ap test (sym (some-injective y x here)) ∙ is
         from (suc j) here = more j here
 
-is-ready : (o : Option Status) → option_any is_ready o ≡ true → o ≡ Some status.Ready
+pub is-ready : (o : Option Status) → option_any is_ready o ≡ true → o ≡ Some status.Ready
 is-ready None e = cc
 is-ready (Some status.Ready) e = refl
 is-ready (Some (status.Running p used)) e = cc
@@ -198,7 +198,7 @@ draw-order s p d free order = at (winner (map (weight_of s) (ready_threads s.rec
     at (Some w) is runs = rw is (won w (rw is at runs))
 
 -- the thread that is found on a processor runs there
-there-runs : (s : State) (p : ℕ) → is_none (thread_on s.records p) ≡ false → (used : ℕ) × (status_of s.records (thread_there s p) ≡ Some (status.Running p used))
+pub there-runs : (s : State) (p : ℕ) → is_none (thread_on s.records p) ≡ false → (used : ℕ) × (status_of s.records (thread_there s p) ≡ Some (status.Running p used))
 there-runs s p some = from (some-of (thread_on s.records p) some)
   where
     from : ((t : ℕ) × (thread_on s.records p ≡ Some t)) → (used : ℕ) × (status_of s.records (thread_there s p) ≡ Some (status.Running p used))

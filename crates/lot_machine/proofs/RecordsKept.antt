@@ -106,7 +106,7 @@ find-some test (x ∷ xs) t e = at (find-some test xs t) (test x) refl
     at rest false is = let same : find test (x ∷ xs) ≡ find test xs = rw is refl in rest (sym same ∙ e)
 
 -- a thread that has a status is one of the numbered
-numbered : (records : List Record) (t : ℕ) (status : Status) → status_of records t ≡ Some status → (1 ≤ t) × (t < 1 + length records)
+pub numbered : (records : List Record) (t : ℕ) (status : Status) → status_of records t ≡ Some status → (1 ≤ t) × (t < 1 + length records)
 numbered records zero status e = cc
 numbered records (suc i) status e = from (slice_get records i) refl (sym (ap (option_map (λ (r : Record). r.status)) (at_number-suc records i)) ∙ e)
   where

@@ -13,6 +13,7 @@ ghost use Rattle.lot_machine.specs.declared.funding.Lend.TheVariants.{Nobody};
 ghost use Rattle.lot_machine.specs.State.{State, opening, funding_of, change_record, thread_on, used_by};
 ghost use Rattle.lot_machine.specs.Commands.{command_step};
 ghost use Rattle.lot_machine.specs.Step.{step, state_after};
+ghost use Rattle.lot_machine.specs.Named.{processor_of, thread_in};
 ghost use Rattle.lot_machine.specs.Bounds.{IsWithinBounds};
 ghost use Rattle.lot_machine.specs.declared.sizes.Sizes.{Sizes};
 ghost use Rattle.lot_machine.specs.declared.event.Event.{Event};
@@ -109,6 +110,23 @@ pub fn one_thread_more_keeps()
 /// Each processor still has its own thread after any event.
 pub fn events_keep_apart()
     ensures { (s : State) (e : Event) → RunsApart s.records → RunsApart (step s e).state.records }
+{}
+
+/// In a state that is in order an event leaves who runs on a processor that isn't the event's, and the ticks that each
+/// thread has used there.
+pub fn other_processors_run_on()
+    ensures thread { (s : State) (e : Event) (p : ℕ) → IsInOrder s → ¬ (processor_of e ≡ Some p) → thread_on (step s e).state.records p ≡ thread_on s.records p }
+    ensures used { (s : State) (e : Event) (p t : ℕ) → IsInOrder s → ¬ (processor_of e ≡ Some p) → used_by (step s e).state.records p t ≡ used_by s.records p t }
+{}
+
+/// The thread that the reply to an event of a processor names doesn't run on another processor.
+pub fn replies_name_their_own()
+    ensures { (s : State) (e : Event) (p q t : ℕ) → processor_of e ≡ Some q → ¬ (q ≡ p) → thread_in (step s e).reply ≡ Some t → ¬ (thread_on s.records p ≡ Some t) }
+{}
+
+/// No event changes the limits.
+pub fn limits_stay()
+    ensures { (s : State) (e : Event) → (step s e).state.limits ≡ s.limits }
 {}
 
 /// Base's active tickets are worth less than 2 ^ 56 if amounts have 32 bits, no more tickets were made than may be, and

@@ -1,18 +1,29 @@
 //! The words that the program is called with.
 
-use clap::{Command, Error};
-use std::alloc::Global;
+use clap::{Arg, ArgAction, ArgMatches, Command, Error};
+use lot_curves::Measure;
+use std::alloc::{AllocError, Global};
 use std::convert::AsStr;
 
-/// What the program is asked for: exactly one subcommand, without options.
+/// What a picture is called if no title is given.
+const TITLE: &str = "What each thread has run";
+
+/// What the program is asked for: exactly one subcommand.
 #[derive(Clone, Copy, Debug)]
-pub(crate) enum Request {
+pub(crate) enum Request<'a> {
     Play,
     Run,
+    /// What is measured of each thread.
+    Shares(Measure),
+    /// The title of the picture.
+    Chart(&'a str),
 }
 
 /// Reads the words, the program's own name first.
-pub(crate) fn request_of<S: AsStr>(alloc: Global, words: &[S]) -> Result<Request, Error> {
+pub(crate) fn request_of<'a, S: AsStr>(
+    alloc: Global,
+    words: &'a [S],
+) -> Result<Request<'a>, Error> {
     let play = Command::new(alloc, "play").about(
         "Reads an input from standard input, makes the turns of its schedule and writes a line for each, and a report",
     );
@@ -23,10 +34,49 @@ pub(crate) fn request_of<S: AsStr>(alloc: Global, words: &[S]) -> Result<Request
         .about("A lottery scheduler with ticket currencies, simulated")
         .subcommand_required(true)
         .subcommand(play)?
-        .subcommand(run)?;
+        .subcommand(run)?
+        .subcommand(shares_command(alloc)?)?
+        .subcommand(chart_command(alloc)?)?;
     let matches = command.try_get_matches_from(words)?;
-    match matches.subcommand_name() {
-        Some("run") => Ok(Request::Run),
+    match matches.subcommand() {
+        Some(("run", _)) => Ok(Request::Run),
+        Some(("shares", given)) => Ok(Request::Shares(measure_of(given))),
+        Some(("chart", given)) => Ok(Request::Chart(given.get_str("title").unwrap_or(TITLE))),
         _ => Ok(Request::Play),
+    }
+}
+
+/// The command that writes a table.
+fn shares_command<'a>(alloc: Global) -> Result<Command<'a>, AllocError> {
+    let quanta = Arg::new(alloc, "quanta")
+        .long("quanta")
+        .action(ArgAction::SetTrue)
+        .help("The draws that each thread has won, and not its ticks");
+    Command::new(alloc, "shares")
+        .about(
+            "Reads an input from standard input, makes the turns of its schedule and writes a table of the ticks that each thread has run over time",
+        )
+        .arg(quanta)
+}
+
+/// The command that writes a picture.
+fn chart_command<'a>(alloc: Global) -> Result<Command<'a>, AllocError> {
+    let title = Arg::new(alloc, "title")
+        .long("title")
+        .action(ArgAction::Set)
+        .help("What the picture is called");
+    Command::new(alloc, "chart")
+        .about(
+            "Reads an input from standard input, makes the turns of its schedule and writes a picture of the ticks that each thread has run over time, an SVG",
+        )
+        .arg(title)
+}
+
+/// What is measured.
+fn measure_of(given: &ArgMatches<'_>) -> Measure {
+    if given.get_flag("quanta") {
+        Measure::Draws
+    } else {
+        Measure::Ticks
     }
 }

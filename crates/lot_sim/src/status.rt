@@ -6,6 +6,7 @@ use crate::run::run;
 use crate::told::Told;
 use clap::Error;
 use clap::error::ErrorKind;
+use lot_pictures::{chart, shares};
 use lot_system::Played;
 use lot_text::Watched;
 use std::alloc::Global;
@@ -49,7 +50,7 @@ pub(crate) fn status<
 fn request_status<H: Threads + Wait + Sync, R: Read + Drop, W: Write + Drop, E: Write + Drop>(
     rt: &H,
     alloc: Global,
-    request: Request,
+    request: Request<'_>,
     reader: R,
     output: Watched<W>,
     mut errors: Watched<E>,
@@ -63,6 +64,12 @@ fn request_status<H: Threads + Wait + Sync, R: Read + Drop, W: Write + Drop, E: 
     let played = match request {
         Request::Play => play(alloc, &mut told, &mut reader, &mut writer).ok(),
         Request::Run => run(rt, alloc, &mut told, &mut reader, &mut writer).ok(),
+        Request::Shares(measure) => {
+            shares(alloc, measure, &mut told.input, &mut reader, &mut writer).ok()
+        }
+        Request::Chart(title) => {
+            chart(alloc, title, &mut told.input, &mut reader, &mut writer).ok()
+        }
     };
     match played {
         Some(Played::Done) => {

@@ -1,5 +1,6 @@
 mod outputs;
 mod runs;
+mod shown;
 mod timed;
 mod told;
 

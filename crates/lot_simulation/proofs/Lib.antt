@@ -1,2 +1,4 @@
 pub mod ActorRuns
 pub mod ActorCounts
+pub mod OtherTurns
+pub mod TimesRise

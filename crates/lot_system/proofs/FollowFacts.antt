@@ -1,6 +1,6 @@
 -- One more of a program's turns in time.
-use Rattle.std.proofs.Common.{◌≡◌, ℕ, zero, suc, ◌+◌, ◌-◌, ◌<◌, ◌≤◌, ◌==◌, Bool, true, false, Option, Some, None, Result, Ok, Err, List, [], ◌∷◌, ◌++◌, length, take, drop, refl, sym, ◌∙◌, ap, subst, arith, append_assoc, append-nil, length-append, length-drop, ne_eqb, lit<}
-use Rattle.std.specs.Prelude.{OnOk, map, count_by, replicate, if◌then◌else◌}
+use Rattle.std.proofs.Common.{◌≡◌, ℕ, zero, suc, ◌+◌, ◌-◌, ◌<◌, ◌≤◌, ◌==◌, Bool, true, false, Option, Some, None, List, [], ◌∷◌, ◌++◌, length, take, drop, codes, refl, sym, ◌∙◌, ap, subst, arith, append_assoc, append-nil, length-append, length-drop, ne_eqb, lit<}
+use Rattle.std.specs.Prelude.{map, count_by, replicate, if◌then◌else◌}
 use Rattle.std.specs.List.{flat_map}
 use Rattle.std.proofs.lemmas.Grind.{flat_map-append}
 use Rattle.std.proofs.lemmas.List.{length-map, map-append, take-append-drop}
@@ -14,15 +14,20 @@ use Rattle.lot_machine.specs.declared.reply.Reply.{Reply}
 use Rattle.lot_simulation.specs.declared.timed.Due.{Due}
 use Rattle.std.proofs.lemmas.List.Sums.{sum_by_push}
 use Rattle.lot_simulation.specs.Report.{ActorTurn, beside, count_in, total_of}
+use Rattle.lot_simulation.specs.declared.manner.Manner.TheVariants.{Timed}
 use Rattle.lot_simulation.specs.Output.{timed_text}
+use Rattle.lot_simulation.specs.Texts.{front, reply_text}
+use Rattle.std.specs.Fmt.{decimal}
 use Rattle.lot_simulation.specs.Timed.{Moment, TimedTurn, turns_from, timed_schedule, timed_turns, timed_room, next_due, due_first, turn_due, moment_after, moment_after_all, opening_moment, clocks_after, is_idle_draw}
 use Rattle.lot_simulation.specs.TimedReport.{actor_turns, refusals_in}
 use Rattle.lot_simulation.specs.World.{Program, World, Answer, console_turn, system_turn, system_answers}
 use Rattle.lot_simulation.specs.World.Answer.{Answered}
-use Rattle.lot_system.specs.declared.fault.PlayFault.{PlayFault}
-use Rattle.lot_system.specs.declared.in_time.Watch.{Watch}
-use Rattle.lot_system.specs.InTime.{HasFollowed, HasRoomFor, IsAtEnd, IsFollowed, MadeNext, commands_made, moment_in, next_turns, turns_done}
+use Rattle.lot_system.specs.declared.following.Following.{Following}
+use Rattle.lot_system.specs.declared.following.TimedReply.{TimedReply}
+use Rattle.lot_system.specs.InTime.{HasFollowed, HasRoomFor, IsAtEnd, IsFollowed, MadeNext, commands_made, moment_in, next_turns, turn_told, turns_done}
+use Rattle.lot_system.specs.Playing.{turn_in}
 use Rattle.lot_system.specs.Seen.{Seen, after_turn, world_of}
+use Rattle.lot_system.proofs.PlayingFacts.{text-after}
 use Rattle.lot_system.proofs.Runs.{system_run-one_more}
 use Rattle.lot_system.proofs.TurnFacts.{count-console, count-processor}
 
@@ -50,7 +55,7 @@ actors-made program (suc room) m = from (next_due program m) (λ done. actors-ma
     from None more = refl
     from (Some due) more = ap (λ (ts : List ActorTurn). record { actor = due.actor; answer = (system_turn program m.world due.actor).answer } ∷ ts) (more (turn_due program m due))
 
-turns-few : (program : Program) (room : ℕ) (m : Moment) → length (turns_from program room m) ≤ room
+pub turns-few : (program : Program) (room : ℕ) (m : Moment) → length (turns_from program room m) ≤ room
 turns-few program zero m = omega arith
 turns-few program (suc room) m = from (next_due program m) (λ done. turns-few program room (moment_after m done))
   where
@@ -92,19 +97,14 @@ refusals-more done turn e r answered =
     ∙ sum_by_push counted (actor_turns done) (beside turn)
     ∙ ap (λ (a : Answer). total_of refusals_in (actor_turns done) + count_in refusals_in a) answered
 
--- what holds anyway holds if the result is Ok
-pub on-ok : {U : Type 0} (r : Result U PlayFault) (P : Type 0) → P → OnOk r P
-on-ok (Ok u) P p = p
-on-ok (Err fault) P p = tt
-
 -- ---- a system that is followed
 
-module _ (program : Program) (seen : Seen) (watch : Watch) (is : IsFollowed program seen watch) where
+module _ (program : Program) (seen : Seen) (following : Following) (is : IsFollowed program seen following) where
   abbrev done : List TimedTurn
   done = turns_done program seen
 
   abbrev now : Moment
-  now = moment_in seen watch
+  now = moment_in seen following
 
   done-length : length done ≡ length seen.history
   done-length = sym (ap length is.history ∙ length-map done (λ (turn : TimedTurn). turn.actor))
@@ -189,14 +189,14 @@ module _ (program : Program) (seen : Seen) (watch : Watch) (is : IsFollowed prog
         from true = omega (arith, is.left, length-drop 1 now.times)
         from false = is.left
 
-    module _ (e : Event) (r : Reply) (answer : (system_turn seen.setting.program (world_of seen) due.actor).answer ≡ Answered e r) (next : Watch) (time : next.timeline.time ≡ due.time) (clocks : next.timeline.clocks.items ≡ clocks_after watch.timeline.clocks.items (record { time = due.time; actor = due.actor }) (is_idle_draw (Answered e r))) where
+    module _ (e : Event) (r : Reply) (answer : (system_turn seen.setting.program (world_of seen) due.actor).answer ≡ Answered e r) (next : Following) (time : next.timeline.time ≡ due.time) (clocks : next.timeline.clocks.items ≡ clocks_after following.timeline.clocks.items (record { time = due.time; actor = due.actor }) (is_idle_draw (Answered e r))) where
       pub answer-is : turn.turn.answer ≡ Answered e r
       answer-is = sym (ap (λ (p : Program). (system_turn p (world_of seen) due.actor).answer) is.program_is) ∙ answer
 
       moment-more : moment_in after next ≡ moment_after now turn
       moment-more =
-          let clocks-are : next.timeline.clocks.items ≡ clocks_after watch.timeline.clocks.items (record { time = due.time; actor = due.actor }) (is_idle_draw turn.turn.answer) =
-          clocks ∙ ap (λ (a : Answer). clocks_after watch.timeline.clocks.items (record { time = due.time; actor = due.actor }) (is_idle_draw a)) (sym answer-is) in
+          let clocks-are : next.timeline.clocks.items ≡ clocks_after following.timeline.clocks.items (record { time = due.time; actor = due.actor }) (is_idle_draw turn.turn.answer) =
+          clocks ∙ ap (λ (a : Answer). clocks_after following.timeline.clocks.items (record { time = due.time; actor = due.actor }) (is_idle_draw a)) (sym answer-is) in
           λ i. record { world = world-more i; time = time i; clocks = clocks-are i; times = times-more i }
 
       -- the system with this turn is followed
@@ -214,19 +214,14 @@ module _ (program : Program) (seen : Seen) (watch : Watch) (is : IsFollowed prog
 
 -- ---- what the next turn leaves
 
-module _ (program : Program) (seen : Seen) (watch : Watch) (is : IsFollowed program seen watch) where
-  -- nothing, if there is none
-  pub no-next : next_turns program seen ≡ [] → MadeNext program seen seen watch false
-  no-next none = record { followed = is; length_is = omega arith; more_is = ap length none }
-
-  -- the turn that was due
-  pub some-next : (due : Due) → next_due program (moment_in seen watch) ≡ Some due → length seen.history < timed_room → (then_seen : Seen) (then_watch : Watch) → IsFollowed program then_seen then_watch → length then_seen.history ≡ length seen.history + 1 → MadeNext program seen then_seen then_watch true
-  some-next due first room then_seen then_watch followed longer = record { followed = followed; length_is = longer; more_is = ap length (one-next program seen watch is due first room) }
-
-  pub text-next : (due : Due) → next_due program (moment_in seen watch) ≡ Some due → length seen.history < timed_room → timed_text (turn_due program (moment_in seen watch) due) ≡ flat_map timed_text (next_turns program seen)
-  text-next due first room =
-      let turn = turn_due program (moment_in seen watch) due in
-      sym (append-nil (timed_text turn)) ∙ ap (flat_map timed_text) (sym (one-next program seen watch is due first room))
+-- the line that says what it answered is its text
+pub text-told : (program : Program) (seen after : Seen) (e : Event) (told : TimedReply) → next_turns program seen ≡ turn_told seen told ∷ [] → (turn_in seen told.actor).answer ≡ Answered e told.reply → after ≡ after_turn seen told.actor
+    → front (Timed told.time) ++ (decimal told.actor ++ (codes " " ++ reply_text (Timed told.time) (world_of after).state e told.reply)) ≡ flat_map timed_text (next_turns program seen)
+text-told program seen after e told next answer is =
+    ap (λ (s : Seen). front (Timed told.time) ++ (decimal told.actor ++ (codes " " ++ reply_text (Timed told.time) (world_of s).state e told.reply))) is
+    ∙ text-after seen told.actor e told.reply answer (Timed told.time)
+    ∙ sym (append-nil (timed_text (turn_told seen told)))
+    ∙ ap (flat_map timed_text) (sym next)
 
 take-own : {A : Type 0} (xs : List A) → take (length (take 1 xs)) xs ≡ take 1 xs
 take-own [] = refl
@@ -247,7 +242,7 @@ texts-stopped program seen old mid new waits one two =
     ap (flat_map timed_text) parts ∙ flat_map-append timed_text (front ++ take 1 left) (drop 1 left) ∙ ap (λ ts. ts ++ flat_map timed_text (drop 1 left)) (flat_map-append timed_text front (take 1 left)) in
     subst (Begins old new) (sym texts) (begins-front old new (flat_map timed_text front ++ flat_map timed_text (take 1 left)) (flat_map timed_text (drop 1 left)) (puts-stop old mid new [] waits [] (flat_map timed_text front) (flat_map timed_text (take 1 left)) one two))
 
-module _ (program : Program) (seen : Seen) (watch : Watch) (is : IsFollowed program seen watch) (then_seen : Seen) (then_watch : Watch) (more : Bool) (made : MadeNext program seen then_seen then_watch more) where
+module _ (program : Program) (seen : Seen) (following : Following) (is : IsFollowed program seen following) (then_seen : Seen) (then_following : Following) (more : Bool) (made : MadeNext program seen then_seen then_following more) where
   done-next : turns_done program then_seen ≡ turns_done program seen ++ next_turns program seen
   done-next =
       let longer : length then_seen.history ≡ length seen.history + length (next_turns program seen) = made.length_is ∙ ap (λ k. length seen.history + k) (sym made.more_is) in
@@ -263,16 +258,16 @@ module _ (program : Program) (seen : Seen) (watch : Watch) (is : IsFollowed prog
   pub all-then : more ≡ false → turns_done program then_seen ≡ timed_turns program
   all-then stopped =
       let none : next_turns program seen ≡ [] = empty (next_turns program seen) (made.more_is ∙ ap (λ b. if b then 1 else 0) stopped) in
-      done-next ∙ ap (λ ts. turns_done program seen ++ ts) none ∙ append-nil (turns_done program seen) ∙ all-done program seen watch is none
+      done-next ∙ ap (λ ts. turns_done program seen ++ ts) none ∙ append-nil (turns_done program seen) ∙ all-done program seen following is none
 
   -- and the history is the program's schedule in time
   pub schedule-then : more ≡ false → then_seen.history ≡ timed_schedule program
   schedule-then stopped = made.followed.history ∙ ap (map (λ (t : TimedTurn). t.actor)) (all-then stopped)
 
-  pub end-then : more ≡ false → IsAtEnd then_seen then_watch
+  pub end-then : more ≡ false → IsAtEnd then_seen then_following
   end-then stopped =
       let same = sym made.followed.program_is in
-      record { followed = subst (λ p. IsFollowed p then_seen then_watch) same made.followed; all = subst (λ p. turns_done p then_seen ≡ timed_turns p) same (all-then stopped) }
+      record { followed = subst (λ p. IsFollowed p then_seen then_following) same made.followed; all = subst (λ p. turns_done p then_seen ≡ timed_turns p) same (all-then stopped) }
 
 -- ---- before the first turn
 
@@ -281,11 +276,11 @@ unfolding timed_room
 room-is = refl
 
 -- a system that was opened has made none of the program's turns
-pub opened-followed : (program : Program) (watch : Watch) → length program.times ≡ length program.commands → watch.timeline.time ≡ 0 → watch.timeline.clocks.items ≡ replicate program.limits.processors (record { time = 0; waits = false; idle = 0 }) → HasRoomFor program watch → HasFollowed [] 0 watch
-    → IsFollowed program (record { setting = record { program = program; room = 1000000 }; history = [] }) watch
-opened-followed program watch as_many time clocks fits followed =
+pub opened-followed : (program : Program) (following : Following) → length program.times ≡ length program.commands → following.timeline.time ≡ 0 → following.timeline.clocks.items ≡ replicate program.limits.processors (record { time = 0; waits = false; idle = 0 }) → HasRoomFor program following → HasFollowed [] 0 following
+    → IsFollowed program (record { setting = record { program = program; room = 1000000 }; history = [] }) following
+opened-followed program following as_many time clocks fits followed =
     let seen : Seen = record { setting = record { program = program; room = 1000000 }; history = [] } in
-    let moment : moment_in seen watch ≡ opening_moment program = λ i. record { world = world_of seen; time = time i; clocks = clocks i; times = program.times } in
+    let moment : moment_in seen following ≡ opening_moment program = λ i. record { world = world_of seen; time = time i; clocks = clocks i; times = program.times } in
     let none : timed_room - 0 ≡ timed_room = omega arith in
     record {
       program_is = refl;

@@ -18,7 +18,7 @@ use Rattle.lot_simulation.specs.Timed.{Moment, TimedTurn, clock_of, ended_at, la
 use Rattle.lot_simulation.specs.TimedReport.{actor_turns, idle_until, live_part, mutex_change, refusals_in, reply_change, timed_processor_total, timed_report, timed_report_of, timed_thread_total, timed_whole_total, waits_in}
 use Rattle.lot_simulation.specs.World.{Program}
 use Rattle.lot_system.specs.declared.counts.Counts.{Counts}
-use Rattle.lot_system.specs.declared.in_time.Watch.{Watch}
+use Rattle.lot_system.specs.declared.following.Following.{Following}
 use Rattle.lot_system.specs.Counted.{counted}
 use Rattle.lot_system.specs.InTime.{AreWaits, IsAtEnd, moment_in}
 use Rattle.lot_system.specs.Seen.{Seen, world_of}
@@ -26,12 +26,12 @@ use Rattle.lot_system.proofs.FollowFacts.{actors-made, room-small, within-room}
 
 -- ---- all of the program's turns
 
-module _ (seen : Seen) (watch : Watch) (end : IsAtEnd seen watch) where
+module _ (seen : Seen) (following : Following) (end : IsAtEnd seen following) where
   abbrev all : List TimedTurn
   all = timed_turns seen.setting.program
 
   pub history-short : length seen.history < 2 ^ 31
-  history-short = omega (arith, room-small, within-room seen.setting.program seen watch end.followed)
+  history-short = omega (arith, room-small, within-room seen.setting.program seen following end.followed)
 
   history-is : seen.history ≡ map (λ (turn : TimedTurn). turn.actor) all
   history-is = end.followed.history ∙ ap (map (λ (turn : TimedTurn). turn.actor)) end.all
@@ -41,24 +41,24 @@ module _ (seen : Seen) (watch : Watch) (end : IsAtEnd seen watch) where
   turns-are = ap (turns_made seen.setting.program) history-is ∙ sym (actors-made seen.setting.program timed_room (opening_moment seen.setting.program))
 
   -- so many commands were refused
-  pub refused-are : watch.refused ≡ total_of refusals_in (actor_turns all)
+  pub refused-are : following.refused ≡ total_of refusals_in (actor_turns all)
   refused-are = end.followed.followed.refused ∙ ap (λ ts. total_of refusals_in (actor_turns ts)) end.all
 
   -- how the threads have waited
-  pub mutexes-are : AreWaits mutex_change all (length seen.history) watch.mutexes.threads.items
-  mutexes-are = subst (λ ts. AreWaits mutex_change ts (length seen.history) watch.mutexes.threads.items) end.all end.followed.followed.mutexes
+  pub mutexes-are : AreWaits mutex_change all (length seen.history) following.mutexes.threads.items
+  mutexes-are = subst (λ ts. AreWaits mutex_change ts (length seen.history) following.mutexes.threads.items) end.all end.followed.followed.mutexes
 
-  pub replies-are : AreWaits reply_change all (length seen.history) watch.replies.threads.items
-  replies-are = subst (λ ts. AreWaits reply_change ts (length seen.history) watch.replies.threads.items) end.all end.followed.followed.replies
+  pub replies-are : AreWaits reply_change all (length seen.history) following.replies.threads.items
+  replies-are = subst (λ ts. AreWaits reply_change ts (length seen.history) following.replies.threads.items) end.all end.followed.followed.replies
 
   -- the moment after the last turn
-  pub last-is : moment_in seen watch ≡ last_moment seen.setting.program
+  pub last-is : moment_in seen following ≡ last_moment seen.setting.program
   last-is = end.followed.moment ∙ ap (moment_after_all (opening_moment seen.setting.program)) end.all
 
   -- the report of what the system has come to is the program's
-  pub report-is : (program : Program) (ended : ℕ) → seen.setting.program ≡ program → ended ≡ ended_at program (moment_in seen watch) → timed_report_of (moment_in seen watch) ended all ≡ timed_report program
+  pub report-is : (program : Program) (ended : ℕ) → seen.setting.program ≡ program → ended ≡ ended_at program (moment_in seen following) → timed_report_of (moment_in seen following) ended all ≡ timed_report program
   report-is program ended same is =
-      ap (λ n. timed_report_of (moment_in seen watch) n all) is ∙ ap (λ (m : Moment). timed_report_of m (ended_at program m) all) last-is
+      ap (λ n. timed_report_of (moment_in seen following) n all) is ∙ ap (λ (m : Moment). timed_report_of m (ended_at program m) all) last-is
       ∙ ap (λ (p : Program). timed_report_of (last_moment p) (ended_at program (last_moment p)) (timed_turns p)) same
 
 -- ---- lines by the numbers that they show
@@ -85,14 +85,14 @@ thread-line s turns t row all live values mutexes replies is ticks own whole for
     rw (is, ticks, part, whole, for_mutex, for_reply) (refl {a = timed_thread_total s turns (total_of ticks_in (actor_turns turns)) t row})
 
 -- a thread's line by what was asked of the system, which stays as it is
-pub asked-line : (seen mid last : Seen) (watch : Watch) (t : ℕ) (row : ThreadRow) (c : Counts) (live values : ℕ) (mutexes replies : Waits) → IsAtEnd seen watch → mid ≡ seen → last ≡ mid
+pub asked-line : (seen mid last : Seen) (following : Following) (t : ℕ) (row : ThreadRow) (c : Counts) (live values : ℕ) (mutexes replies : Waits) → IsAtEnd seen following → mid ≡ seen → last ≡ mid
     → Some row ≡ thread_row (world_of mid).state t → c ≡ counted (turns_made last.setting.program last.history) → live ≡ live_part (world_of seen).state t (value_of (world_of seen).state t) → values ≡ live_value (world_of seen).state
     → mutexes ≡ waits_in mutex_change (timed_turns seen.setting.program) t → replies ≡ waits_in reply_change (timed_turns seen.setting.program) t
     → timed_thread_line t row c.ticks live values mutexes replies ≡ option_map_or (timed_thread_total (world_of seen).state (timed_turns seen.setting.program) (total_of ticks_in (actor_turns (timed_turns seen.setting.program))) t) (thread_row (world_of seen).state t) []
-asked-line seen mid last watch t row c live values mutexes replies end same still is counts own whole for_mutex for_reply =
+asked-line seen mid last following t row c live values mutexes replies end same still is counts own whole for_mutex for_reply =
     let there : thread_row (world_of seen).state t ≡ Some row = ap (λ (x : Seen). thread_row (world_of x).state t) (sym same) ∙ sym is in
     let ticks : c.ticks ≡ total_of ticks_in (actor_turns (timed_turns seen.setting.program)) =
-    ap (λ (x : Counts). x.ticks) counts ∙ ap (λ (x : Seen). total_of ticks_in (turns_made x.setting.program x.history)) (still ∙ same) ∙ ap (total_of ticks_in) (turns-are seen watch end) in
+    ap (λ (x : Counts). x.ticks) counts ∙ ap (λ (x : Seen). total_of ticks_in (turns_made x.setting.program x.history)) (still ∙ same) ∙ ap (total_of ticks_in) (turns-are seen following end) in
     thread-line (world_of seen).state (timed_turns seen.setting.program) t row c.ticks live values mutexes replies there ticks own whole for_mutex for_reply
 
 -- ---- the value of live threads

@@ -16,8 +16,10 @@ use Rattle.lot_simulation.specs.Report.{total_of}
 use Rattle.lot_simulation.specs.Timed.{Moment, TimedTurn, moment_after_all, opening_moment, timed_room, timed_turns, turns_from}
 use Rattle.lot_simulation.specs.TimedReport.{actor_turns, mutex_change, refusals_in, reply_change, waits_after, waits_in}
 use Rattle.lot_simulation.specs.World.{Program, Answer}
-use Rattle.lot_system.specs.declared.in_time.Watch.{Watch}
+use Rattle.lot_system.specs.declared.following.Following.{Following}
+use Rattle.lot_system.specs.declared.following.TimedReply.{TimedReply}
 use Rattle.lot_script.specs.Slices.{Parts}
+use Rattle.lot_system.specs.Playing.{turn_in}
 use Rattle.lot_system.specs.Seen.{Seen, world_of}
 
 -- how many commands a system has made
@@ -79,24 +81,24 @@ abbrev pub AreFew : List Waits → Type 0
 AreFew waits = (place : ℕ) (d : Waits) → place < length waits → ((slice_index_or waits place d).count < 2 ^ 31) × ((slice_index_or waits place d).total < 2 ^ 63)
 
 -- what is followed beside a system is what these turns have come to, and no more than n turns can come to
-pub record HasFollowed (done : List TimedTurn) (n : ℕ) (watch : Watch) : Type 0 where
-  pub idled : HaveIdled n watch.timeline.clocks.items
-  pub mutexes : AreWaits mutex_change done n watch.mutexes.threads.items
-  pub replies : AreWaits reply_change done n watch.replies.threads.items
-  pub refused : watch.refused ≡ total_of refusals_in (actor_turns done)
-  pub few : watch.refused ≤ n
+pub record HasFollowed (done : List TimedTurn) (n : ℕ) (following : Following) : Type 0 where
+  pub idled : HaveIdled n following.timeline.clocks.items
+  pub mutexes : AreWaits mutex_change done n following.mutexes.threads.items
+  pub replies : AreWaits reply_change done n following.replies.threads.items
+  pub refused : following.refused ≡ total_of refusals_in (actor_turns done)
+  pub few : following.refused ≤ n
 
 -- it has room for the program's processors and threads
-pub record HasRoomFor (program : Program) (watch : Watch) : Type 0 where
-  pub clocks : length watch.timeline.clocks.items ≡ program.limits.processors
-  pub mutexes : length watch.mutexes.threads.items ≡ program.limits.threads
-  pub replies : length watch.replies.threads.items ≡ program.limits.threads
+pub record HasRoomFor (program : Program) (following : Following) : Type 0 where
+  pub clocks : length following.timeline.clocks.items ≡ program.limits.processors
+  pub mutexes : length following.mutexes.threads.items ≡ program.limits.threads
+  pub replies : length following.replies.threads.items ≡ program.limits.threads
 
 -- ---- turns that a system has made
 
 -- the moment of a system that is followed
-abbrev pub moment_in : Seen → Watch → Moment
-moment_in seen watch = moment_of seen watch.timeline.time watch.timeline.clocks.items
+abbrev pub moment_in : Seen → Following → Moment
+moment_in seen following = moment_of seen following.timeline.time following.timeline.clocks.items
 
 -- the program's turns in time that a system has made: as many as its history has entries
 abbrev pub turns_done : Program → Seen → List TimedTurn
@@ -106,24 +108,28 @@ turns_done program seen = take (length seen.history) (timed_turns program)
 abbrev pub next_turns : Program → Seen → List TimedTurn
 next_turns program seen = take 1 (drop (length seen.history) (timed_turns program))
 
+-- a turn of a system by what was told of it
+abbrev pub turn_told : Seen → TimedReply → TimedTurn
+turn_told seen told = record { time = told.time; actor = told.actor; turn = turn_in seen told.actor }
+
 -- The system has made turns of the program in time and no others, and what is followed beside it is what they have come to.
-pub record IsFollowed (program : Program) (seen : Seen) (watch : Watch) : Type 0 where
+pub record IsFollowed (program : Program) (seen : Seen) (following : Following) : Type 0 where
   pub program_is : seen.setting.program ≡ program
   pub room_is : seen.setting.room ≡ timed_room
   pub history : seen.history ≡ map (λ turn. turn.actor) (turns_done program seen)
-  pub moment : moment_in seen watch ≡ moment_after_all (opening_moment program) (turns_done program seen)
-  pub rest : timed_turns program ≡ turns_done program seen ++ turns_from program (timed_room - length seen.history) (moment_in seen watch)
-  pub left : length (world_of seen).commands ≡ length (moment_in seen watch).times
-  pub room : HasRoomFor program watch
-  pub followed : HasFollowed (turns_done program seen) (length seen.history) watch
+  pub moment : moment_in seen following ≡ moment_after_all (opening_moment program) (turns_done program seen)
+  pub rest : timed_turns program ≡ turns_done program seen ++ turns_from program (timed_room - length seen.history) (moment_in seen following)
+  pub left : length (world_of seen).commands ≡ length (moment_in seen following).times
+  pub room : HasRoomFor program following
+  pub followed : HasFollowed (turns_done program seen) (length seen.history) following
 
 -- the next turn was made, if there is one, and the answer says whether
-pub record MadeNext (program : Program) (old new : Seen) (watch : Watch) (more : Bool) : Type 0 where
-  pub followed : IsFollowed program new watch
+pub record MadeNext (program : Program) (old new : Seen) (following : Following) (more : Bool) : Type 0 where
+  pub followed : IsFollowed program new following
   pub length_is : length new.history ≡ length old.history + (if more then 1 else 0)
   pub more_is : length (next_turns program old) ≡ (if more then 1 else 0)
 
 -- the system has made all of its program's turns in time
-pub record IsAtEnd (seen : Seen) (watch : Watch) : Type 0 where
-  pub followed : IsFollowed seen.setting.program seen watch
+pub record IsAtEnd (seen : Seen) (following : Following) : Type 0 where
+  pub followed : IsFollowed seen.setting.program seen following
   pub all : turns_done seen.setting.program seen ≡ timed_turns seen.setting.program

@@ -18,15 +18,14 @@ ghost use Rattle.lot_system.specs.Seen.{world_of};
 ghost use Rattle.lot_system.specs.Turns.{IsFresh};
 ghost use Rattle.lot_system.specs.Writing.{IsFaultOf, Puts, Writes};
 ghost use Rattle.lot_text.specs.Faults.{IsFaultOf as IsParseFaultOf};
-ghost use Rattle.lot_text.specs.Programs.{IsProgram};
 
-use crate::in_time::{MOST_TURNS, Watch, play_in_time};
+use crate::in_time::play_in_time;
 use crate::listing::write_listing;
 use crate::report::write_report;
 use crate::slices::slice_of_kept;
 use crate::turn::Unmade;
 use crate::writing::flush;
-use crate::{Leftovers, PlayFault, System, read_input};
+use crate::{Leftovers, PlayFault, System, TimedRun, read_input};
 use lot_machine::{Event, Reply};
 use lot_print::{Heading, Page, write_ended, write_fault, write_reply};
 use lot_script::Slice;
@@ -147,19 +146,19 @@ fn play_timed<W: Write>(
     leftovers: &mut Leftovers,
     writer: &mut Watched<W>,
 ) -> Result<Played, PlayFault>
-    requires legal { IsProgram program.now }
     requires timed { IsSome program.now.duration }
     requires working { writer.old.failed ≡ false }
     ensures flushed { OnOk result (writer.new.flushed ≡ true) }
     ensures played { Plays W.contents writer.old writer.new result Done (timed_output program.now) }
 {
-    let Ok(mut system) = System::open(alloc, program, MOST_TURNS) else {
+    let Ok(run) = TimedRun::open(alloc, program) else {
         return Err(PlayFault::Memory);
     };
-    let Ok(mut watch) = Watch::open(alloc, program) else {
-        return Err(PlayFault::Memory);
-    };
-    play_in_time(program, &mut system, &mut watch, leftovers, writer)?;
+    let TimedRun {
+        mut system,
+        mut following,
+    } = run;
+    play_in_time(program, &mut system, &mut following, leftovers, writer)?;
     leftovers.note_end(&mut system);
     Ok(Played::Done)
 }

@@ -15,7 +15,7 @@ ghost use Rattle.lot_system.specs.InTime.{IsAtEnd, moment_in};
 ghost use Rattle.lot_system.specs.Seen.{world_of};
 ghost use Rattle.lot_system.specs.Writing.{Writes};
 
-use crate::in_time::Watch;
+use crate::following::Following;
 use crate::{PlayFault, System};
 use lot_machine::Status;
 use lot_print::{
@@ -29,30 +29,30 @@ use std::io::Write;
 pub(crate) fn write_timed_report<W: Write>(
     program: &Program,
     system: &mut System,
-    watch: &Watch,
+    following: &Following,
     writer: &mut Watched<W>,
 ) -> Result<(), PlayFault>
     requires program { system.old.setting.program ≡ program.now }
-    requires end { IsAtEnd system.old watch.now }
+    requires end { IsAtEnd system.old following.now }
     requires working { writer.old.failed ≡ false }
     ensures same { system.new ≡ system.old }
     ensures text { Writes W.contents writer.old writer.new result (reports.timed_report program.now) }
 {
     write_report_line(writer)?;
-    let end = ended_at(program, system, watch);
-    write_threads(system, watch, writer)?;
-    write_processors(system, watch, end, writer)?;
-    write_total(system, watch, writer)
+    let end = ended_at(program, system, following);
+    write_threads(system, following, writer)?;
+    write_processors(system, following, end, writer)?;
+    write_total(system, following, writer)
 }
 
 /// When the play ended: at the end that the input says, or, if there is no more room, with the last turn.
-fn ended_at(program: &Program, system: &System, watch: &Watch) -> u32
+fn ended_at(program: &Program, system: &System, following: &Following) -> u32
     requires program { system.now.setting.program ≡ program.now }
-    requires end { IsAtEnd system.now watch.now }
-    ensures { result ≡ timed.ended_at program.now (moment_in system.now watch.now) }
+    requires end { IsAtEnd system.now following.now }
+    ensures { result ≡ timed.ended_at program.now (moment_in system.now following.now) }
 {
-    match watch.timeline.next_due(program, system) {
-        Some(_) => watch.timeline.time,
+    match following.timeline.next_due(program, system) {
+        Some(_) => following.timeline.time,
         None => program.duration().unwrap_or(0),
     }
 }
@@ -60,17 +60,17 @@ fn ended_at(program: &Program, system: &System, watch: &Watch) -> u32
 /// Writes each thread's line.
 fn write_threads<W: Write>(
     system: &mut System,
-    watch: &Watch,
+    following: &Following,
     writer: &mut Watched<W>,
 ) -> Result<(), PlayFault>
-    requires end { IsAtEnd system.old watch.now }
+    requires end { IsAtEnd system.old following.now }
     requires working { writer.old.failed ≡ false }
     ensures same { system.new ≡ system.old }
     ensures text { Writes W.contents writer.old writer.new result (reports.timed_thread_lines (world_of system.old).state (timed_turns system.old.setting.program) (total_of ticks_in (actor_turns (timed_turns system.old.setting.program)))) }
 {
     let all_values = live_value(system);
     for place in 0..system.thread_count() {
-        write_thread(system, watch, place + 1, all_values, writer)?;
+        write_thread(system, following, place + 1, all_values, writer)?;
     }
     Ok(())
 }
@@ -113,12 +113,12 @@ fn is_live(status: Status) -> bool
 /// Writes the thread's line.
 fn write_thread<W: Write>(
     system: &mut System,
-    watch: &Watch,
+    following: &Following,
     thread: u32,
     all_values: u128,
     writer: &mut Watched<W>,
 ) -> Result<(), PlayFault>
-    requires end { IsAtEnd system.old watch.now }
+    requires end { IsAtEnd system.old following.now }
     requires there { IsBetween 1 system.old.setting.program.limits.threads thread }
     requires values { all_values ≡ facts.live_value (world_of system.old).state }
     requires small { all_values < 2 ^ 96 }
@@ -132,8 +132,8 @@ fn write_thread<W: Write>(
             all_ticks: system.total().ticks,
             live_value,
             all_values,
-            mutexes: watch.mutexes.of(thread),
-            replies: watch.replies.of(thread),
+            mutexes: following.mutexes.of(thread),
+            replies: following.replies.of(thread),
         };
         write_timed_thread_total(writer, thread, &row, shares)?;
     }
@@ -143,16 +143,16 @@ fn write_thread<W: Write>(
 /// Writes each processor's line.
 fn write_processors<W: Write>(
     system: &System,
-    watch: &Watch,
+    following: &Following,
     end: u32,
     writer: &mut Watched<W>,
 ) -> Result<(), PlayFault>
-    requires end { IsAtEnd system.now watch.now }
+    requires end { IsAtEnd system.now following.now }
     requires working { writer.old.failed ≡ false }
-    ensures { Writes W.contents writer.old writer.new result (flat_map (reports.timed_processor_total (moment_in system.now watch.now) end (actor_turns (timed_turns system.now.setting.program))) (range_with_len 1 (world_of system.now).state.limits.processors)) }
+    ensures { Writes W.contents writer.old writer.new result (flat_map (reports.timed_processor_total (moment_in system.now following.now) end (actor_turns (timed_turns system.now.setting.program))) (range_with_len 1 (world_of system.now).state.limits.processors)) }
 {
     for place in 0..system.processors() {
-        write_processor(system, watch, end, place + 1, writer)?;
+        write_processor(system, following, end, place + 1, writer)?;
     }
     Ok(())
 }
@@ -160,15 +160,15 @@ fn write_processors<W: Write>(
 /// Writes the processor's line.
 fn write_processor<W: Write>(
     system: &System,
-    watch: &Watch,
+    following: &Following,
     end: u32,
     processor: u32,
     writer: &mut Watched<W>,
 ) -> Result<(), PlayFault>
-    requires end { IsAtEnd system.now watch.now }
+    requires end { IsAtEnd system.now following.now }
     requires there { IsBetween 1 system.now.setting.program.limits.processors processor }
     requires working { writer.old.failed ≡ false }
-    ensures { Writes W.contents writer.old writer.new result (reports.timed_processor_total (moment_in system.now watch.now) end (actor_turns (timed_turns system.now.setting.program)) processor) }
+    ensures { Writes W.contents writer.old writer.new result (reports.timed_processor_total (moment_in system.now following.now) end (actor_turns (timed_turns system.now.setting.program)) processor) }
 {
     let counts = system.counts(processor);
     let total = TimedProcessorTotal {
@@ -176,7 +176,7 @@ fn write_processor<W: Write>(
         quanta: counts.quanta,
         idles: counts.idles,
         ticks: counts.ticks,
-        unused: watch.timeline.idle_until(end, processor),
+        unused: following.timeline.idle_until(end, processor),
     };
     Ok(write_timed_processor_total(writer, total)?)
 }
@@ -184,19 +184,19 @@ fn write_processor<W: Write>(
 /// Writes the totals of all actors.
 fn write_total<W: Write>(
     system: &System,
-    watch: &Watch,
+    following: &Following,
     writer: &mut Watched<W>,
 ) -> Result<(), PlayFault>
-    requires end { IsAtEnd system.now watch.now }
+    requires end { IsAtEnd system.now following.now }
     requires working { writer.old.failed ≡ false }
-    ensures { Writes W.contents writer.old writer.new result (reports.timed_whole_total (moment_in system.now watch.now) (actor_turns (timed_turns system.now.setting.program))) }
+    ensures { Writes W.contents writer.old writer.new result (reports.timed_whole_total (moment_in system.now following.now) (actor_turns (timed_turns system.now.setting.program))) }
 {
     let counts = system.total();
     let total = TimedWholeTotal {
         turns: counts.turns,
         quanta: counts.quanta,
         ticks: counts.ticks,
-        refused: watch.refused,
+        refused: following.refused,
         left: system.commands_left() as u64,
     };
     Ok(write_timed_whole_total(writer, total)?)

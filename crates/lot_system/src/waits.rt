@@ -6,6 +6,7 @@ ghost use Rattle.lot_simulation.specs.TimedReport as timed;
 ghost use Rattle.lot_simulation.specs.World.{Answer as WorldAnswer};
 ghost use Rattle.lot_simulation.specs.World.Answer.{Answered};
 ghost use Rattle.lot_simulation.specs.declared.timed.WaitChange.{WaitChange as WaitChangeRecord};
+ghost use Rattle.lot_machine.specs.declared.event.Event.{Event as EventRecord};
 ghost use Rattle.lot_machine.specs.declared.event.Event.TheVariants as event;
 ghost use Rattle.lot_simulation.specs.declared.timed.WaitChange.TheVariants.{Begins, Ends};
 ghost use Rattle.lot_system.specs.InTime as in_time;
@@ -155,11 +156,10 @@ fn is_lock(action: Action) -> bool
     matches!(action, Action::Lock(_))
 }
 
-/// What a turn with this event and reply changes of who waits for a reply.
-pub(crate) fn reply_change(event: &Event, reply: Reply) -> WaitChange
-    ensures { result ≡ timed.reply_change (Answered event.now reply) }
+/// What a turn with this reply changes of who waits for a reply.
+pub(crate) fn reply_change(reply: Reply) -> WaitChange
+    ensures { (e : EventRecord) → result ≡ timed.reply_change (Answered e reply) }
 {
-    let _ = event;
     let Reply::Trapped {
         thread,
         outcome,

@@ -3,6 +3,7 @@
 mod faults;
 mod memory;
 mod reports;
+mod timed;
 mod turns;
 
 use lot_system::System;

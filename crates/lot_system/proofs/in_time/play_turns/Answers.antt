@@ -27,7 +27,7 @@ loop-preserved g c =
     record {
       working = told.0;
       followed = made.followed;
-      bytes = texts-next c.args.program.now c.loop.system c.loop.watch i.followed c.play_next.new.system c.play_next.new.watch c.in_ok-play_next.field-0 made old mid new c.loop.page c.play_next.new.page i.bytes told.1;
+      bytes = texts-next c.args.program.now c.loop.system c.loop.following i.followed c.play_next.new.system c.play_next.new.following c.in_ok-play_next.field-0 made old mid new c.loop.page c.play_next.new.page i.bytes told.1;
     }
 
 pub returns-in_err-write_out-clause-text : goal.returns-in_err-write_out-clause-text
@@ -43,15 +43,15 @@ returns-in_err-write_out-clause-text g c =
     let then_there = g.W.Write.contents c.play_next.new.writer.inner in
     let new = g.W.Write.contents c.write_out.new.writer.inner in
     let page = c.play_next.new.page in
-    let all = all-then program c.loop.system c.loop.watch i.followed c.play_next.new.system c.play_next.new.watch c.in_ok-play_next.field-0 made c.if-branch.false in
-    let texts = subst (λ ts. IsPut old then_there [] page (flat_map timed_text ts)) all (texts-next program c.loop.system c.loop.watch i.followed c.play_next.new.system c.play_next.new.watch c.in_ok-play_next.field-0 made old mid then_there c.loop.page page i.bytes put.1) in
+    let all = all-then program c.loop.system c.loop.following i.followed c.play_next.new.system c.play_next.new.following c.in_ok-play_next.field-0 made c.if-branch.false in
+    let texts = subst (λ ts. IsPut old then_there [] page (flat_map timed_text ts)) all (texts-next program c.loop.system c.loop.following i.followed c.play_next.new.system c.play_next.new.following c.in_ok-play_next.field-0 made old mid then_there c.loop.page page i.bytes put.1) in
     rw failed (refl, told.0, put-begun old then_there new page _ texts told.1)
 
 pub returns-clause-schedule : goal.returns-clause-schedule
-returns-clause-schedule g c = schedule-then c.args.program.now c.loop.system c.loop.watch c.loop.invariant.followed c.play_next.new.system c.play_next.new.watch c.in_ok-play_next.field-0 c.in_ok-play_next.ensures.made c.if-branch.false
+returns-clause-schedule g c = schedule-then c.args.program.now c.loop.system c.loop.following c.loop.invariant.followed c.play_next.new.system c.play_next.new.following c.in_ok-play_next.field-0 c.in_ok-play_next.ensures.made c.if-branch.false
 
 pub returns-clause-end : goal.returns-clause-end
-returns-clause-end g c = end-then c.args.program.now c.loop.system c.loop.watch c.loop.invariant.followed c.play_next.new.system c.play_next.new.watch c.in_ok-play_next.field-0 c.in_ok-play_next.ensures.made c.if-branch.false
+returns-clause-end g c = end-then c.args.program.now c.loop.system c.loop.following c.loop.invariant.followed c.play_next.new.system c.play_next.new.following c.in_ok-play_next.field-0 c.in_ok-play_next.ensures.made c.if-branch.false
 
 pub returns-clause-text : goal.returns-clause-text
 returns-clause-text g c =
@@ -65,6 +65,6 @@ returns-clause-text g c =
     let then_there = g.W.Write.contents c.play_next.new.writer.inner in
     let new = g.W.Write.contents c.write_out.new.writer.inner in
     let page = c.play_next.new.page in
-    let all = all-then program c.loop.system c.loop.watch i.followed c.play_next.new.system c.play_next.new.watch c.in_ok-play_next.field-0 made c.if-branch.false in
-    let texts = subst (λ ts. IsPut old then_there [] page (flat_map timed_text ts)) all (texts-next program c.loop.system c.loop.watch i.followed c.play_next.new.system c.play_next.new.watch c.in_ok-play_next.field-0 made old mid then_there c.loop.page page i.bytes put.1) in
+    let all = all-then program c.loop.system c.loop.following i.followed c.play_next.new.system c.play_next.new.following c.in_ok-play_next.field-0 made c.if-branch.false in
+    let texts = subst (λ ts. IsPut old then_there [] page (flat_map timed_text ts)) all (texts-next program c.loop.system c.loop.following i.followed c.play_next.new.system c.play_next.new.following c.in_ok-play_next.field-0 made old mid then_there c.loop.page page i.bytes put.1) in
     (told.0, put-all old then_there new page _ texts told.1)

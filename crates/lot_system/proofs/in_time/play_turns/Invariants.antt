@@ -10,7 +10,7 @@ use Rattle.lot_system.proofs.in_time.play_turns.Given as goal
 abbrev pub invariant-loop : goal.invariant-loop
 invariant-loop g l = record {
   working : l.writer.failed ≡ false;
-  followed : IsFollowed l.program l.system l.watch;
+  followed : IsFollowed l.program l.system l.following;
   bytes : IsPut (g.W.Write.contents l.initial.writer.inner) (g.W.Write.contents l.writer.inner) [] l.page (flat_map timed_text (turns_done l.program l.system));
 }
 

@@ -13,13 +13,13 @@ use Rattle.lot_system.proofs.timed_report.write_processor.Goals as goal
 pub idle_until-requires-clause-idled : goal.idle_until-requires-clause-idled
 idle_until-requires-clause-idled g c =
     let s = c.args.system.now in
-    (length s.history, history-short s c.args.watch.now c.requires.end, c.requires.end.followed.followed.idled)
+    (length s.history, history-short s c.args.following.now c.requires.end, c.requires.end.followed.followed.idled)
 
 pub returns-in_err-write_timed_processor_total : goal.returns-in_err-write_timed_processor_total
 returns-in_err-write_timed_processor_total g c =
     let is : c.from_residual.result ≡ Err Write = search rules in
     let s = c.args.system.now in
-    let w = c.args.watch.now in
+    let w = c.args.following.now in
     let p = c.args.processor in
     let line = processor-line c.counts-counts.result (actor_turns (timed_turns s.setting.program)) p c.args.end c.idle_until.result (moment_in s w) (c.counts-counts.ensures ∙ ap (λ ts. counted (turns_of p ts)) (turns-are s w c.requires.end)) c.idle_until.ensures in
     let told = c.in_err-write_timed_processor_total.ensures in
@@ -28,7 +28,7 @@ returns-in_err-write_timed_processor_total g c =
 pub returns : goal.returns
 returns g c =
     let s = c.args.system.now in
-    let w = c.args.watch.now in
+    let w = c.args.following.now in
     let p = c.args.processor in
     let line = processor-line c.counts-counts.result (actor_turns (timed_turns s.setting.program)) p c.args.end c.idle_until.result (moment_in s w) (c.counts-counts.ensures ∙ ap (λ ts. counted (turns_of p ts)) (turns-are s w c.requires.end)) c.idle_until.ensures in
     let told = c.in_ok-write_timed_processor_total.ensures in

@@ -1,15 +1,15 @@
 use Rattle.std.proofs.Common.{◌≡◌, ◌+◌, ℕ, List, Err, rules, arith}
 use Rattle.lot_simulation.specs.Timed.{timed_turns}
 use Rattle.lot_simulation.specs.TimedReport.{actor_turns, timed_processor_total}
-use Rattle.lot_system.specs.declared.in_time.Watch.{Watch}
+use Rattle.lot_system.specs.declared.following.Following.{Following}
 use Rattle.lot_system.specs.InTime.{moment_in}
 use Rattle.lot_system.specs.Seen.{Seen, world_of}
 use Rattle.lot_system.proofs.WritingFacts.{range-more, range-stops}
 use Rattle.lot_system.proofs.timed_report.write_processors.Goals as goal
 
 -- the line of the processor with a number
-abbrev line : Seen → Watch → ℕ → ℕ → List ℕ
-line seen watch end p = timed_processor_total (moment_in seen watch) end (actor_turns (timed_turns seen.setting.program)) p
+abbrev line : Seen → Following → ℕ → ℕ → List ℕ
+line seen following end p = timed_processor_total (moment_in seen following) end (actor_turns (timed_turns seen.setting.program)) p
 
 pub returns-in_err-write_processor : goal.returns-in_err-write_processor
 returns-in_err-write_processor g c =
@@ -20,7 +20,7 @@ returns-in_err-write_processor g c =
     rw is (
       told.0,
       told.1,
-      range-stops (g.W.Write.contents c.args.writer.now.inner) (g.W.Write.contents c.loop-place.writer.inner) (g.W.Write.contents c.write_processor.new.writer.inner) (line s c.args.watch.now c.args.end) 1 c.loop-place.place
+      range-stops (g.W.Write.contents c.args.writer.now.inner) (g.W.Write.contents c.loop-place.writer.inner) (g.W.Write.contents c.write_processor.new.writer.inner) (line s c.args.following.now c.args.end) 1 c.loop-place.place
           (world_of s).state.limits.processors (c.loop-place.place + 1) (omega (arith, c.loop-place-test.true, c.processors-place-end.ensures.world)) (omega arith) i.bytes told.2,
     )
 
@@ -30,6 +30,6 @@ loop-place-preserved g c =
     let told = c.in_ok-write_processor.ensures in
     record {
       working = told.0;
-      bytes = range-more (g.W.Write.contents c.args.writer.now.inner) (g.W.Write.contents c.loop-place.writer.inner) (g.W.Write.contents c.write_processor.new.writer.inner) (line c.args.system.now c.args.watch.now c.args.end) 1 c.loop-place.place
+      bytes = range-more (g.W.Write.contents c.args.writer.now.inner) (g.W.Write.contents c.loop-place.writer.inner) (g.W.Write.contents c.write_processor.new.writer.inner) (line c.args.system.now c.args.following.now c.args.end) 1 c.loop-place.place
           (c.loop-place.place + 1) (omega arith) i.bytes told.1;
     }

@@ -11,5 +11,5 @@ abbrev pub invariant-loop-place : goal.invariant-loop-place
 invariant-loop-place g l = record {
   working : l.writer.failed ≡ false;
   bytes : Appends (g.W.Write.contents l.initial.writer.inner) (g.W.Write.contents l.writer.inner)
-      (flat_map (timed_processor_total (moment_in l.system l.watch) l.end (actor_turns (timed_turns l.system.setting.program))) (range_with_len 1 l.place));
+      (flat_map (timed_processor_total (moment_in l.system l.following) l.end (actor_turns (timed_turns l.system.setting.program))) (range_with_len 1 l.place));
 }

@@ -11,7 +11,7 @@ pub returns-in_err-write_timed_thread_total-clause-text : goal.returns-in_err-wr
 returns-in_err-write_timed_thread_total-clause-text g c =
     let is : c.from_residual.result ≡ Err Write = search rules in
     let s = c.args.system.now in
-    let w = c.args.watch.now in
+    let w = c.args.following.now in
     let end = c.requires.end in
     let mutexes = c.of.ensures mutex_change (timed_turns s.setting.program) (length s.history) (mutexes-are s w end) in
     let replies = c.of-in-Some.ensures reply_change (timed_turns s.setting.program) (length s.history) (replies-are s w end) in
@@ -23,7 +23,7 @@ returns-in_err-write_timed_thread_total-clause-text g c =
 pub returns-in_ok-write_timed_thread_total-clause-text : goal.returns-in_ok-write_timed_thread_total-clause-text
 returns-in_ok-write_timed_thread_total-clause-text g c =
     let s = c.args.system.now in
-    let w = c.args.watch.now in
+    let w = c.args.following.now in
     let end = c.requires.end in
     let mutexes = c.of.ensures mutex_change (timed_turns s.setting.program) (length s.history) (mutexes-are s w end) in
     let replies = c.of-in-Some.ensures reply_change (timed_turns s.setting.program) (length s.history) (replies-are s w end) in

@@ -8,7 +8,7 @@ use Rattle.lot_simulation.specs.World.{Program}
 use Rattle.lot_print.proofs.WritingFacts.{begins-front, begins-after}
 use Rattle.lot_print.specs.Writing.{Begins}
 use Rattle.lot_system.specs.declared.fault.PlayFault.TheVariants.{Write}
-use Rattle.lot_system.specs.declared.in_time.Watch.{Watch}
+use Rattle.lot_system.specs.declared.following.Following.{Following}
 use Rattle.lot_system.specs.InTime.{moment_in}
 use Rattle.lot_system.specs.Seen.{Seen, world_of}
 use Rattle.lot_system.specs.Writing.{Written}
@@ -20,10 +20,10 @@ use Rattle.lot_system.proofs.timed_report.write_timed_report.Goals as goal
 abbrev threads : Seen → List ℕ
 threads s = timed_thread_lines (world_of s).state (timed_turns s.setting.program) (total_of ticks_in (actor_turns (timed_turns s.setting.program)))
 
-abbrev processors : Seen → Watch → ℕ → List ℕ
+abbrev processors : Seen → Following → ℕ → List ℕ
 processors s w end = flat_map (timed_processor_total (moment_in s w) end (actor_turns (timed_turns s.setting.program))) (range_with_len 1 (world_of s).state.limits.processors)
 
-abbrev totals : Seen → Watch → List ℕ
+abbrev totals : Seen → Following → List ℕ
 totals s w = timed_whole_total (moment_in s w) (actor_turns (timed_turns s.setting.program))
 
 -- all lines of a program's report but its first
@@ -42,7 +42,7 @@ returns-in_err-write_report_line-clause-text g c =
 pub returns-in_err-write_threads-clause-text : goal.returns-in_err-write_threads-clause-text
 returns-in_err-write_threads-clause-text g c =
     let s = c.args.system.now in
-    let w = c.args.watch.now in
+    let w = c.args.following.now in
     let end = c.ended_at-end.result in
     let is : c.from_residual-in_err-write_threads.result ≡ Err c.in_err-write_threads.field-0.0 = search rules in
     let told = c.in_err-write_threads.ensures.text in
@@ -57,7 +57,7 @@ returns-in_err-write_threads-clause-text g c =
 pub returns-in_err-write_processors-clause-text : goal.returns-in_err-write_processors-clause-text
 returns-in_err-write_processors-clause-text g c =
     let s = c.args.system.now in
-    let w = c.args.watch.now in
+    let w = c.args.following.now in
     let end = c.ended_at-end.result in
     let is : c.from_residual-in_err-write_processors.result ≡ Err c.in_err-write_processors.field-0.0 = search rules in
     let told = rw c.in_ok-write_threads.ensures.same at c.in_err-write_processors.ensures in
@@ -74,7 +74,7 @@ returns-in_err-write_processors-clause-text g c =
 pub returns-clause-text : goal.returns-clause-text
 returns-clause-text g c =
     let s = c.args.system.now in
-    let w = c.args.watch.now in
+    let w = c.args.following.now in
     let end = c.ended_at-end.result in
     let same = c.in_ok-write_threads.ensures.same in
     let third = rw same at c.in_ok-write_processors.ensures in

@@ -1,0 +1,5 @@
+pub mod Parts
+pub mod Places
+pub mod Sizes
+pub mod Steps
+pub mod Whole

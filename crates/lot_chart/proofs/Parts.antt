@@ -1,0 +1,25 @@
+-- Texts that are put part by part.
+use Rattle.std.proofs.Common.{◌≡◌, ℕ, ◌+◌, List, [], ◌∷◌, ◌++◌, ◌<◌, length, map, get_or, take, sym, ap, ◌∙◌, arith, append_assoc}
+use Rattle.std.specs.List.{flat_map, range_with_len}
+use Rattle.std.proofs.lemmas.List.{flat_map_more, take_more}
+use Rattle.std.proofs.lemmas.List.FromFn.{map-range_with_len_more}
+
+-- the part of one number more
+pub parts-more : {X : Type 0} (part : X → List ℕ) (at : ℕ → X) (n : ℕ) (old now next : List ℕ) → now ≡ old ++ flat_map part (map at (range_with_len 0 n)) → next ≡ now ++ part (at n)
+    → next ≡ old ++ flat_map part (map at (range_with_len 0 (n + 1)))
+parts-more part at n old now next has is =
+    is ∙ ap (λ xs. xs ++ part (at n)) has ∙ flat_map_more part old (map at (range_with_len 0 n)) (at n) ∙ ap (λ xs. old ++ flat_map part xs) (sym (map-range_with_len_more at 0 n n (omega arith)))
+
+-- the part of one element more
+pub parts-next : {X : Type 0} (part : X → List ℕ) (xs : List X) (i : ℕ) (d x : X) (old now next : List ℕ) → i < length xs → x ≡ get_or xs i d → now ≡ old ++ flat_map part (take i xs) → next ≡ now ++ part x
+    → next ≡ old ++ flat_map part (take (i + 1) xs)
+parts-next part xs i d x old now next below at has is =
+    is ∙ ap (λ ys. ys ++ part x) has ∙ flat_map_more part old (take i xs) x ∙ ap (λ y. old ++ flat_map part (take i xs ++ y ∷ [])) at ∙ ap (λ ys. old ++ flat_map part ys) (sym (take_more xs i d below))
+
+-- seven parts, one after another
+pub parts-seven : (old a b c d e f g one two three four five six seven : List ℕ) → one ≡ old ++ a → two ≡ one ++ b → three ≡ two ++ c → four ≡ three ++ d → five ≡ four ++ e → six ≡ five ++ f → seven ≡ six ++ g
+    → seven ≡ old ++ (a ++ (b ++ (c ++ (d ++ (e ++ (f ++ g))))))
+parts-seven old a b c d e f g one two three four five six seven first second third fourth fifth sixth last =
+    last ∙ ap (λ xs. xs ++ g) sixth ∙ append_assoc five f g ∙ ap (λ xs. xs ++ (f ++ g)) fifth ∙ append_assoc four e (f ++ g) ∙ ap (λ xs. xs ++ (e ++ (f ++ g))) fourth ∙ append_assoc three d (e ++ (f ++ g))
+    ∙ ap (λ xs. xs ++ (d ++ (e ++ (f ++ g)))) third ∙ append_assoc two c (d ++ (e ++ (f ++ g))) ∙ ap (λ xs. xs ++ (c ++ (d ++ (e ++ (f ++ g))))) second ∙ append_assoc one b (c ++ (d ++ (e ++ (f ++ g))))
+    ∙ ap (λ xs. xs ++ (b ++ (c ++ (d ++ (e ++ (f ++ g)))))) first ∙ append_assoc old a (b ++ (c ++ (d ++ (e ++ (f ++ g)))))

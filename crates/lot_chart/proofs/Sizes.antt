@@ -1,0 +1,252 @@
+-- How long a picture is at most.
+use Rattle.std.proofs.Common.{◌≡◌, ℕ, zero, suc, ◌+◌, ◌*◌, ◌/◌, ◌%◌, ◌^◌, ◌<◌, ◌≤◌, ◌==◌, ◌&&◌, Bool, true, false, cond, nat_lt, nat_le, Option, Some, None, List, [], ◌∷◌, ◌++◌, codes, length, get_or, refl, sym, ◌∙◌, ap, subst, arith, length-append}
+use Rattle.std.specs.Prelude.{All, find, unwrap_or}
+use Rattle.std.specs.List.{flat_map, list_all}
+use Rattle.std.specs.Fmt.{decimal}
+use Rattle.std.proofs.Math.Nat.{mul-le-mul_left}
+use Rattle.std.proofs.lemmas.Bool.{leb-true}
+use Rattle.std.proofs.lemmas.Fmt.{length-decimal-le}
+use Rattle.std.proofs.lemmas.List.Concat.{length-flat_map}
+use Rattle.std.proofs.lemmas.List.FromFn.{get_or-map-range_with_len, length-map-range_with_len}
+use Rattle.std.proofs.lemmas.List.Sums.{sum_by-le}
+use Rattle.lot_machine.specs.Numbered.{at_number}
+use Rattle.lot_curves.specs.declared.stretch.Measure.TheVariants.{Ticks}
+use Rattle.lot_curves.specs.declared.stretch.Stretch.{Stretch}
+use Rattle.lot_curves.specs.Curves.{Curves, sample_ticks}
+use Rattle.lot_curves.specs.Stretches.{had_at, last_end}
+use Rattle.lot_curves.proofs.Ends.{samples-few}
+use Rattle.lot_chart.specs.declared.lines.Line.{Line}
+use Rattle.lot_chart.specs.Axes.{axis_step, mark_count, marks, steps}
+use Rattle.lot_chart.specs.Charts.{across, axes, chart, colour, curve, drawn_of, head, height_mark, label, leader, name_of, name_text, picture, point, points, share_of, strokes, tenths, time_mark, total}
+use Rattle.lot_chart.specs.Escapes.{escaped, escaped_byte}
+use Rattle.lot_chart.specs.Lines.{height_of, lines_after, lines_of, most_in, place_of}
+use Rattle.lot_chart.specs.Standings.{selection}
+use Rattle.lot_chart.specs.declared.standings.Standing.{Standing}
+use Rattle.lot_machine.proofs.Tickets.{at_number-suc}
+use Rattle.std.proofs.lemmas.List.Elements.{All-cons, All-nil}
+use Rattle.std.proofs.lemmas.Option.{slice_get_within, get_or_from_slice_get}
+use Rattle.lot_chart.proofs.Places.{names-within, shown-few}
+
+-- ---- parts
+
+both : (m n : ℕ) (xs ys : List ℕ) → length xs ≤ m → length ys ≤ n → length (xs ++ ys) ≤ m + n
+both m n xs ys one two = omega (arith, length-append xs ys, one, two)
+
+all-short : {X : Type 0} (f : X → List ℕ) (m : ℕ) (xs : List X) → All (λ x. length (f x) ≤ m) xs → length (flat_map f xs) ≤ length xs * m
+all-short f m xs all = subst (λ n. n ≤ length xs * m) (sym (length-flat_map f xs)) (sum_by-le (λ x. length (f x)) m xs all)
+
+tenths-short : (n : ℕ) → n ≤ 9999 → length (tenths n) ≤ 5
+tenths-short n small =
+    let whole = length-decimal-le 3 (n / 10) (omega arith) (omega (arith, small)) (omega (arith, small)) in
+    let part = length-decimal-le 1 (n % 10) (omega arith) (omega arith) (omega arith) in
+    both 3 2 (decimal (n / 10)) (46 ∷ decimal (n % 10)) whole (omega (arith, part))
+
+byte-short : (byte : ℕ) → length (escaped_byte byte) ≤ 5
+byte-short byte = at (byte == 38) (byte == 60) (byte == 62) (nat_lt byte 32)
+  where
+    at : (a b c d : Bool) → length (cond a (codes "&amp;") (cond b (codes "&lt;") (cond c (codes "&gt;") (cond d (codes " ") (byte ∷ []))))) ≤ 5
+    at true b c d = omega arith
+    at false true c d = omega arith
+    at false false true d = omega arith
+    at false false false true = omega arith
+    at false false false false = omega arith
+
+escaped-short : (text : List ℕ) → length (escaped text) ≤ length text * 5
+escaped-short text = all-short escaped_byte 5 text (λ k d below. byte-short (get_or text k d))
+
+-- ---- the axes
+
+and-left : (a b : Bool) → (a && b) ≡ true → a ≡ true
+and-left true b both = refl
+and-left false b both = both
+
+and-right : (a b : Bool) → (a && b) ≡ true → b ≡ true
+and-right true b both = both
+and-right false b both = cc
+
+step-small : (most : ℕ) → axis_step most ≤ 2000000000
+step-small most = within steps refl
+  where
+    within : (xs : List ℕ) → list_all (λ s. nat_le s 2000000000) xs ≡ true → unwrap_or (find (λ s. nat_lt most (6 * s)) xs) 2000000000 ≤ 2000000000
+    within [] all = omega arith
+    within (x ∷ xs) all = at (nat_lt most (6 * x)) (within xs (and-right (nat_le x 2000000000) (list_all (λ s. nat_le s 2000000000) xs) all))
+      where
+        at : (b : Bool) → unwrap_or (find (λ s. nat_lt most (6 * s)) xs) 2000000000 ≤ 2000000000 → unwrap_or (cond b (Some x) (find (λ s. nat_lt most (6 * s)) xs)) 2000000000 ≤ 2000000000
+        at true rest = leb-true x 2000000000 (and-left (nat_le x 2000000000) (list_all (λ s. nat_le s 2000000000) xs) all)
+        at false rest = rest
+
+height-mark-short : (most ticks : ℕ) → ticks < 10 ^ 11 → length (height_mark most ticks) ≤ 111
+height-mark-short most ticks small =
+    let height = tenths-short (height_of most ticks) (omega arith) in
+    let number = length-decimal-le 11 ticks (omega arith) small (omega (arith, small)) in
+    both 14 97 (codes "<path d='M100 ") (tenths (height_of most ticks) ++ (codes "H770' stroke='#dddddd'/>\n<text x='92' y='" ++ (tenths (height_of most ticks) ++ (codes "' dy='4' text-anchor='end'>" ++ (decimal ticks ++ codes "</text>\n"))))) (omega arith)
+    (both 5 92 (tenths (height_of most ticks)) (codes "H770' stroke='#dddddd'/>\n<text x='92' y='" ++ (tenths (height_of most ticks) ++ (codes "' dy='4' text-anchor='end'>" ++ (decimal ticks ++ codes "</text>\n")))) height
+    (both 41 51 (codes "H770' stroke='#dddddd'/>\n<text x='92' y='") (tenths (height_of most ticks) ++ (codes "' dy='4' text-anchor='end'>" ++ (decimal ticks ++ codes "</text>\n"))) (omega arith)
+    (both 5 46 (tenths (height_of most ticks)) (codes "' dy='4' text-anchor='end'>" ++ (decimal ticks ++ codes "</text>\n")) height
+    (both 27 19 (codes "' dy='4' text-anchor='end'>") (decimal ticks ++ codes "</text>\n") (omega arith) (both 11 8 (decimal ticks) (codes "</text>\n") number (omega arith))))))
+
+time-mark-short : (last tick : ℕ) → tick < 10 ^ 11 → length (time_mark last tick) ≤ 106
+time-mark-short last tick small =
+    let place = tenths-short (across last tick) (omega arith) in
+    let number = length-decimal-le 11 tick (omega arith) small (omega (arith, small)) in
+    both 10 96 (codes "<path d='M") (tenths (across last tick) ++ (codes " 460v5' stroke='#222222'/>\n<text x='" ++ (tenths (across last tick) ++ (codes "' y='480' text-anchor='middle'>" ++ (decimal tick ++ codes "</text>\n"))))) (omega arith)
+    (both 5 91 (tenths (across last tick)) (codes " 460v5' stroke='#222222'/>\n<text x='" ++ (tenths (across last tick) ++ (codes "' y='480' text-anchor='middle'>" ++ (decimal tick ++ codes "</text>\n")))) place
+    (both 36 55 (codes " 460v5' stroke='#222222'/>\n<text x='") (tenths (across last tick) ++ (codes "' y='480' text-anchor='middle'>" ++ (decimal tick ++ codes "</text>\n"))) (omega arith)
+    (both 5 50 (tenths (across last tick)) (codes "' y='480' text-anchor='middle'>" ++ (decimal tick ++ codes "</text>\n")) place
+    (both 31 19 (codes "' y='480' text-anchor='middle'>") (decimal tick ++ codes "</text>\n") (omega arith) (both 11 8 (decimal tick) (codes "</text>\n") number (omega arith))))))
+
+-- marks of an axis are few and small
+marks-short : (f : ℕ → List ℕ) (m most : ℕ) → ((tick : ℕ) → tick < 10 ^ 11 → length (f tick) ≤ m) → length (flat_map f (marks most)) ≤ length (marks most) * m
+marks-short f m most short = all-short f m (marks most) each
+  where
+    each : All (λ tick. length (f tick) ≤ m) (marks most)
+    each k d below =
+        let count = length-map-range_with_len (λ n. n * axis_step most) 0 (mark_count most + 1) in
+        let few : k ≤ 5 = omega (arith, count, below) in
+        let product = mul-le-mul_left (axis_step most) few in
+        subst (λ tick. length (f tick) ≤ m) (sym (get_or-map-range_with_len (λ n. n * axis_step most) 0 (mark_count most + 1) k k d (omega (arith, count, below)) (omega arith)))
+        (short (k * axis_step most) (omega (arith, product, step-small most)))
+
+marks-few : (most : ℕ) → length (marks most) ≤ 6
+marks-few most = omega (arith, length-map-range_with_len (λ n. n * axis_step most) 0 (mark_count most + 1))
+
+axes-short : (last most : ℕ) → length (axes last most) ≤ 1536
+axes-short last most =
+    let frame = codes "<path d='M100 60V460H770' fill='none' stroke='#222222'/>\n<text x='435' y='512' text-anchor='middle'>time, in ticks</text>\n<text transform='translate(14 260) rotate(-90)' text-anchor='middle'>what each thread has run, in ticks</text>\n" in
+    let heights = marks-short (height_mark most) 111 most (height-mark-short most) in
+    let times = marks-short (time_mark last) 106 last (time-mark-short last) in
+    let high : length (flat_map (height_mark most) (marks most)) ≤ 666 = omega (arith, heights, marks-few most) in
+    let wide : length (flat_map (time_mark last) (marks last)) ≤ 636 = omega (arith, times, marks-few last) in
+    both 666 870 (flat_map (height_mark most) (marks most)) (flat_map (time_mark last) (marks last) ++ frame) high (both 636 234 (flat_map (time_mark last) (marks last)) frame wide (omega arith))
+
+-- ---- the lines
+
+colour-short : (style : ℕ) → length (colour style) ≤ 7
+colour-short style = at (style % 8 == 0) (style % 8 == 1) (style % 8 == 2) (style % 8 == 3) (style % 8 == 4) (style % 8 == 5) (style % 8 == 6)
+  where
+    at : (a b c d e f g : Bool) → length (cond a (codes "#0072b2") (cond b (codes "#d55e00") (cond c (codes "#009e73") (cond d (codes "#cc79a7") (cond e (codes "#e69f00") (cond f (codes "#56b4e9") (cond g (codes "#000000") (codes "#f0e442")))))))) ≤ 7
+    at true b c d e f g = omega arith
+    at false true c d e f g = omega arith
+    at false false true d e f g = omega arith
+    at false false false true e f g = omega arith
+    at false false false false true f g = omega arith
+    at false false false false false true g = omega arith
+    at false false false false false false true = omega arith
+    at false false false false false false false = omega arith
+
+strokes-short : (style : ℕ) → length (strokes style) ≤ 23
+strokes-short style = at (nat_le 8 style)
+  where
+    at : (b : Bool) → length (cond b (codes " stroke-dasharray='7 4'") []) ≤ 23
+    at true = omega arith
+    at false = omega arith
+
+point-short : (last most : ℕ) (stretches : List Stretch) (tick : ℕ) → length (point last most stretches tick) ≤ 12
+point-short last most stretches tick =
+    let height = had_at Ticks tick stretches in
+    both 1 11 (codes " ") (tenths (across last tick) ++ (codes "," ++ tenths (height_of most height))) (omega arith)
+    (both 5 6 (tenths (across last tick)) (codes "," ++ tenths (height_of most height)) (tenths-short (across last tick) (omega arith))
+    (both 1 5 (codes ",") (tenths (height_of most height)) (omega arith) (tenths-short (height_of most height) (omega arith))))
+
+points-short : (curves : Curves) (most : ℕ) (stretches : List Stretch) → length (points curves most stretches) ≤ 2412
+points-short curves most stretches =
+    let last = last_end curves.stretches in
+    omega (arith, all-short (point last most stretches) 12 (sample_ticks last) (λ k d below. point-short last most stretches (get_or (sample_ticks last) k d)), samples-few last)
+
+curve-short : (curves : Curves) (others : List Stretch) (most : ℕ) (line : Line) → length (curve curves others most line) ≤ 2474
+curve-short curves others most line =
+    let own = points curves most (drawn_of curves others line.thread) in
+    both 18 2456 (codes "<polyline points='") (own ++ (codes "' stroke='" ++ (colour line.style ++ (codes "'" ++ (strokes line.style ++ codes "/>\n"))))) (omega arith)
+    (both 2412 44 own (codes "' stroke='" ++ (colour line.style ++ (codes "'" ++ (strokes line.style ++ codes "/>\n")))) (points-short curves most (drawn_of curves others line.thread))
+    (both 10 34 (codes "' stroke='") (colour line.style ++ (codes "'" ++ (strokes line.style ++ codes "/>\n"))) (omega arith)
+    (both 7 27 (colour line.style) (codes "'" ++ (strokes line.style ++ codes "/>\n")) (colour-short line.style)
+    (both 1 26 (codes "'") (strokes line.style ++ codes "/>\n") (omega arith) (both 23 3 (strokes line.style) (codes "/>\n") (strokes-short line.style) (omega arith))))))
+
+-- ---- their names
+
+-- a line of a picture, whose ends are in the plot
+record IsDrawn (line : Line) : Type 0 where
+  pub height : line.height ≤ 4600
+  pub place : line.place ≤ 4600
+
+leader-short : (line : Line) → IsDrawn line → length (leader line) ≤ 50
+leader-short line drawn =
+    both 14 36 (codes "<path d='M770 ") (tenths line.height ++ (codes "L784 " ++ (tenths line.place ++ (codes "' stroke='" ++ (colour line.style ++ codes "'/>\n"))))) (omega arith)
+    (both 5 31 (tenths line.height) (codes "L784 " ++ (tenths line.place ++ (codes "' stroke='" ++ (colour line.style ++ codes "'/>\n")))) (tenths-short line.height (omega (arith, drawn.height)))
+    (both 5 26 (codes "L784 ") (tenths line.place ++ (codes "' stroke='" ++ (colour line.style ++ codes "'/>\n"))) (omega arith)
+    (both 5 21 (tenths line.place) (codes "' stroke='" ++ (colour line.style ++ codes "'/>\n")) (tenths-short line.place (omega (arith, drawn.place)))
+    (both 10 11 (codes "' stroke='") (colour line.style ++ codes "'/>\n") (omega arith) (both 7 4 (colour line.style) (codes "'/>\n") (colour-short line.style) (omega arith))))))
+
+module _ (names : List (List ℕ)) (short : All (λ (name : List ℕ). length name ≤ 16) names) where
+  name-short : (thread : ℕ) → length (name_of names thread) ≤ 16
+  name-short thread = at (at_number names thread) refl
+    where
+      at : (o : Option (List ℕ)) → at_number names thread ≡ o → length (unwrap_or o (codes "others")) ≤ 16
+      at None is = omega arith
+      at (Some name) is = found thread is
+        where
+          found : (n : ℕ) → at_number names n ≡ Some name → length name ≤ 16
+          found zero there = cc
+          found (suc i) there =
+              let at_place = sym (at_number-suc names i) ∙ there in
+              subst (λ (xs : List ℕ). length xs ≤ 16) (get_or_from_slice_get names i name name at_place) (short i name (slice_get_within names i name at_place))
+
+  name_text-short : (all : ℕ) (line : Line) → IsDrawn line → length (name_text names all line) ≤ 126
+  name_text-short all line drawn =
+      let name = escaped (name_of names line.thread) in
+      let share = tenths (share_of all line.ticks) in
+      let named : length name ≤ 80 = omega (arith, escaped-short (name_of names line.thread), name-short line.thread) in
+      both 17 109 (codes "<text x='788' y='") (tenths line.place ++ (codes "' dy='4'>" ++ (name ++ (codes " " ++ (share ++ codes "%</text>\n"))))) (omega arith)
+      (both 5 104 (tenths line.place) (codes "' dy='4'>" ++ (name ++ (codes " " ++ (share ++ codes "%</text>\n")))) (tenths-short line.place (omega (arith, drawn.place)))
+      (both 9 95 (codes "' dy='4'>") (name ++ (codes " " ++ (share ++ codes "%</text>\n"))) (omega arith)
+      (both 80 15 name (codes " " ++ (share ++ codes "%</text>\n")) named
+      (both 1 14 (codes " ") (share ++ codes "%</text>\n") (omega arith) (both 5 9 share (codes "%</text>\n") (tenths-short (share_of all line.ticks) (omega arith)) (omega arith))))))
+
+  label-short : (all : ℕ) (line : Line) → IsDrawn line → length (label names all line) ≤ 176
+  label-short all line drawn = both 50 126 (leader line) (name_text names all line) (leader-short line drawn) (name_text-short all line drawn)
+
+-- ---- the lines of a selection
+
+lines-many : (most style least : ℕ) (shown : List Standing) → length (lines_after most style least shown) ≡ length shown
+lines-many most style least [] = refl
+lines-many most style least (s ∷ shown) = ap (λ n. suc n) (lines-many most (style + 1) (place_of least (height_of most s.ticks) (length shown) + 160) shown)
+
+lines-high : (most style least : ℕ) (shown : List Standing) → All (λ (line : Line). line.height ≤ 4600) (lines_after most style least shown)
+lines-high most style least [] = All-nil (λ (line : Line). line.height ≤ 4600)
+lines-high most style least (s ∷ shown) = All-cons (λ (line : Line). line.height ≤ 4600) _ _ (omega arith) (lines-high most (style + 1) (place_of least (height_of most s.ticks) (length shown) + 160) shown)
+
+-- ---- the picture
+
+head-short : (title : List ℕ) → length (head title) ≤ 300 + 10 * length title
+head-short title =
+    let t = length title in
+    let text : length (escaped title) ≤ 5 * t = omega (arith, escaped-short title) in
+    let first = codes "<svg xmlns='http://www.w3.org/2000/svg' width='1040' height='540' viewBox='0 0 1040 540' role='img' aria-labelledby='title' font-family='sans-serif' font-size='12' fill='#222222'>\n<title id='title'>" in
+    let second = codes "</title>\n<rect width='1040' height='540' fill='#ffffff'/>\n<text x='100' y='34' font-size='18'>" in
+    let third = codes "</text>\n" in
+    let end = both (5 * t) 8 (escaped title) third text (omega arith) in
+    let rest = both 94 (5 * t + 8) second (escaped title ++ third) (omega arith) end in
+    let middle = both (5 * t) (94 + (5 * t + 8)) (escaped title) (second ++ (escaped title ++ third)) text rest in
+    let whole = both 198 (5 * t + (94 + (5 * t + 8))) first (escaped title ++ (second ++ (escaped title ++ third))) (omega arith) middle in
+    omega (arith, whole)
+
+pub chart-short : (title : List ℕ) (curves : Curves) → All (λ (name : List ℕ). length name ≤ 16) curves.names → length (chart title curves) ≤ 34000 + 10 * length title
+unfolding picture
+chart-short title curves short =
+    let shown = (selection curves).shown in
+    let others = (selection curves).others in
+    let most = most_in shown in
+    let lines = lines_of shown in
+    let many = lines-many most 0 600 shown in
+    let few = shown-few curves in
+    let drawn : All (λ (line : Line). length (label curves.names (total curves) line) ≤ 176) lines =
+    λ k d below. label-short curves.names short (total curves) (get_or lines k d) (record { height = lines-high most 0 600 shown k d below; place = names-within shown few k d below }) in
+    let curved : length (flat_map (curve curves others most) lines) ≤ 29688 = omega (arith, all-short (curve curves others most) 2474 lines (λ k d below. curve-short curves others most (get_or lines k d)), many, few) in
+    let named : length (flat_map (label curves.names (total curves)) lines) ≤ 2112 = omega (arith, all-short (label curves.names (total curves)) 176 lines drawn, many, few) in
+    let end = both 2112 7 (flat_map (label curves.names (total curves)) lines) (codes "</svg>\n") named (omega arith) in
+    let four = both 5 2119 (codes "</g>\n") (flat_map (label curves.names (total curves)) lines ++ codes "</svg>\n") (omega arith) end in
+    let three = both 29688 2124 (flat_map (curve curves others most) lines) (codes "</g>\n" ++ (flat_map (label curves.names (total curves)) lines ++ codes "</svg>\n")) curved four in
+    let two = both 57 31812 (codes "<g fill='none' stroke-width='2' stroke-linejoin='round'>\n") (flat_map (curve curves others most) lines ++ (codes "</g>\n" ++ (flat_map (label curves.names (total curves)) lines ++ codes "</svg>\n"))) (omega arith) three in
+    let one = both 1536 31869 (axes (last_end curves.stretches) most) (codes "<g fill='none' stroke-width='2' stroke-linejoin='round'>\n" ++ (flat_map (curve curves others most) lines ++ (codes "</g>\n" ++ (flat_map (label curves.names (total curves)) lines ++ codes "</svg>\n")))) (axes-short (last_end curves.stretches) most) two in
+    let whole = both (300 + 10 * length title) 33405 (head title) (axes (last_end curves.stretches) most ++ (codes "<g fill='none' stroke-width='2' stroke-linejoin='round'>\n" ++ (flat_map (curve curves others most) lines ++ (codes "</g>\n" ++ (flat_map (label curves.names (total curves)) lines ++ codes "</svg>\n"))))) (head-short title) one in
+    omega (arith, whole)

@@ -1,0 +1,7 @@
+use Rattle.std.proofs.Common.{◌≡◌, ◌++◌, take}
+use Rattle.lot_chart.specs.Escapes.{escaped}
+use Rattle.lot_chart.proofs.escapes.push_escaped.Given as goal
+
+-- the bytes passed so far are put
+abbrev pub invariant-loop-byte : goal.invariant-loop-byte
+invariant-loop-byte l = l.text ≡ l.initial.text ++ escaped (take l.byte-index l.bytes)

@@ -1,0 +1,12 @@
+-- Curves as a table.
+pub mod Tables
+-- Which threads have lines of their own.
+pub mod Standings
+-- Where lines end, and where their names stand.
+pub mod Lines
+-- The marks of axes.
+pub mod Axes
+-- Text within XML.
+pub mod Escapes
+-- Curves as a picture.
+pub mod Charts

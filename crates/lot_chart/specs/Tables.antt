@@ -1,0 +1,28 @@
+-- Curves as a table whose fields are separated by commas.
+use Rattle.std.specs.Prelude.{ℕ, List, ◌++◌, codes}
+use Rattle.std.specs.List.{flat_map}
+use Rattle.std.specs.Fmt.{decimal}
+use Rattle.lot_simulation.specs.Texts.{newline}
+use Rattle.lot_curves.specs.declared.stretch.Measure.{Measure}
+use Rattle.lot_curves.specs.Curves.{Curves, row_at, sample_ticks}
+use Rattle.lot_curves.specs.Stretches.{last_end}
+
+-- a field after the first
+abbrev pub next_field : List ℕ → List ℕ
+next_field text = codes "," ++ text
+
+-- the first line: the word tick, and the threads' names
+abbrev pub header_line : List (List ℕ) → List ℕ
+header_line names = codes "tick" ++ (flat_map next_field names ++ newline)
+
+-- a line of a tick, and what each thread has had at it
+abbrev pub row_line : ℕ → List ℕ → List ℕ
+row_line tick row = decimal tick ++ (flat_map (λ figure. next_field (decimal figure)) row ++ newline)
+
+-- the line of the curves at a tick
+abbrev pub sampled_line : Measure → Curves → ℕ → List ℕ
+sampled_line measure curves tick = row_line tick (row_at measure curves tick)
+
+-- the names, and then a line for each sample
+abbrev pub table : Measure → Curves → List ℕ
+table measure curves = header_line curves.names ++ flat_map (sampled_line measure curves) (sample_ticks (last_end curves.stretches))

@@ -1,0 +1,32 @@
+//! The marks of axes.
+ghost use Rattle.std.specs.Prelude.{◌≡◌, ◌≤◌, ◌<◌, ◌^◌, ◌*◌};
+ghost use Rattle.lot_chart.specs.Axes as definitions;
+
+/// How far marks may be apart.
+const STEPS: [u32; 28] = [
+    1, 2, 5, 10, 20, 50, 100, 200, 500, 1000, 2000, 5000, 10000, 20000, 50000, 100000, 200000,
+    500000, 1000000, 2000000, 5000000, 10000000, 20000000, 50000000, 100000000, 200000000,
+    500000000, 1000000000,
+];
+
+/// How far the marks of an axis are apart that ends at the most.
+pub(crate) fn axis_step(most: u64) -> u64
+    ensures exact { result ≡ definitions.axis_step most }
+    ensures small { result < 2 ^ 32 }
+{
+    for step in STEPS {
+        let step = u64::from(step);
+        if most < 6 * step {
+            return step;
+        }
+    }
+    2000000000
+}
+
+/// How many marks there are besides 0.
+pub(crate) fn mark_count(most: u64) -> u64
+    ensures exact { result ≡ definitions.mark_count most }
+    ensures few { result ≤ 5 }
+{
+    (most / axis_step(most).max(1)).min(5)
+}

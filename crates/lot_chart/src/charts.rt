@@ -1,0 +1,367 @@
+//! Curves as a picture.
+ghost use Rattle.std.specs.Prelude.{◌≡◌, ◌<◌, ◌≤◌, ◌^◌, ◌++◌, codes, IfOk, OnOk, length};
+ghost use Rattle.std.specs.List.{flat_map};
+ghost use Rattle.lot_chart.specs.Charts as definitions;
+ghost use Rattle.lot_chart.specs.Charts.{axes, curve, drawn_of, head, height_mark, label, leader, name_text, picture, point, points, time_mark};
+ghost use Rattle.lot_chart.specs.Axes.{marks};
+
+use crate::axes::{axis_step, mark_count};
+use crate::escapes::push_escaped;
+use crate::lines::{height_of, lines_of, most_in, scaled};
+use crate::standings::{select, stretches_of_thread};
+use crate::text::Text;
+use crate::{Line, Standing};
+use lot_curves::{Curves, Measure, Stretch, had_at};
+use lot_machine::Name;
+use std::alloc::{AllocError, Global};
+
+/// How far across the plot begins.
+const LEFT: u32 = 1000;
+
+/// How wide it is.
+const WIDTH: u32 = 6700;
+
+/// What comes before the title.
+const BEGINNING: &str =
+    "<svg xmlns='http://www.w3.org/2000/svg' width='1040' height='540' viewBox='0 0 1040 540' role='img' aria-labelledby='title' font-family='sans-serif' font-size='12' fill='#222222'>\n<title id='title'>";
+
+/// What comes after the axes' marks.
+const FRAME: &str =
+    "<path d='M100 60V460H770' fill='none' stroke='#222222'/>\n<text x='435' y='512' text-anchor='middle'>time, in ticks</text>\n<text transform='translate(14 260) rotate(-90)' text-anchor='middle'>what each thread has run, in ticks</text>\n";
+
+/// The picture of the curves, an SVG with this title: a line for each thread, or for the eleven that have run longest and for the
+/// others together, and at its end its name and its part of all ticks.
+pub fn chart(alloc: Global, curves: &Curves, title: &str) -> Result<Vec<u8>, AllocError>
+    ensures { IfOk result (λ text. text.items ≡ definitions.chart title.now curves.now) }
+{
+    let selection = select(alloc, curves)?;
+    let lines = lines_of(alloc, selection.shown.as_slice())?;
+    let mut text = Text::new(alloc);
+    push_picture(
+        alloc,
+        &mut text,
+        title.as_bytes(),
+        curves,
+        selection.shown.as_slice(),
+        selection.others.as_slice(),
+        lines.as_slice(),
+    )?;
+    Ok(text.into_bytes())
+}
+
+/// Puts the picture with these lines.
+fn push_picture(
+    alloc: Global,
+    text: &mut Text,
+    title: &[u8],
+    curves: &Curves,
+    shown: &[Standing],
+    others: &[Stretch],
+    lines: &[Line],
+) -> Result<(), AllocError>
+    requires { length others.now < 2 ^ 32 }
+    ensures { OnOk result (text.new ≡ text.old ++ picture title.now curves.now (record { shown = shown.now; others = others.now }) lines.now) }
+{
+    let most = most_in(shown);
+    push_head(text, title)?;
+    push_axes(text, curves.last(), most)?;
+    text.push("<g fill='none' stroke-width='2' stroke-linejoin='round'>\n")?;
+    push_curves(alloc, text, curves, others, most, lines)?;
+    text.push("</g>\n")?;
+    push_labels(text, curves.names(), total_of(curves), lines)?;
+    text.push("</svg>\n")?;
+    Ok(())
+}
+
+/// Puts what comes before the axes.
+fn push_head(text: &mut Text, title: &[u8]) -> Result<(), AllocError>
+    ensures { OnOk result (text.new ≡ text.old ++ head title.now) }
+{
+    text.push(BEGINNING)?;
+    push_escaped(text, title)?;
+    text.push(
+        "</title>\n<rect width='1040' height='540' fill='#ffffff'/>\n<text x='100' y='34' font-size='18'>",
+    )?;
+    push_escaped(text, title)?;
+    text.push("</text>\n")?;
+    Ok(())
+}
+
+/// Puts the axes.
+fn push_axes(text: &mut Text, last: u64, most: u64) -> Result<(), AllocError>
+    ensures { OnOk result (text.new ≡ text.old ++ axes last most) }
+{
+    push_height_marks(text, most)?;
+    push_time_marks(text, last)?;
+    text.push(FRAME)?;
+    Ok(())
+}
+
+/// Puts the marks of the axis of heights.
+fn push_height_marks(text: &mut Text, most: u64) -> Result<(), AllocError>
+    ensures { OnOk result (text.new ≡ text.old ++ flat_map (height_mark most) (marks most)) }
+{
+    let step = axis_step(most);
+    for mark in 0..mark_count(most) + 1 {
+        push_height_mark(text, most, mark * step)?;
+    }
+    Ok(())
+}
+
+/// Puts one of them.
+fn push_height_mark(text: &mut Text, most: u64, ticks: u64) -> Result<(), AllocError>
+    ensures { OnOk result (text.new ≡ text.old ++ height_mark most ticks) }
+{
+    let height = height_of(most, ticks);
+    text.push("<path d='M100 ")?;
+    push_tenths(text, height)?;
+    text.push("H770' stroke='#dddddd'/>\n<text x='92' y='")?;
+    push_tenths(text, height)?;
+    text.push("' dy='4' text-anchor='end'>")?;
+    text.push_number(ticks)?;
+    text.push("</text>\n")?;
+    Ok(())
+}
+
+/// Puts the marks of the axis of time.
+fn push_time_marks(text: &mut Text, last: u64) -> Result<(), AllocError>
+    ensures { OnOk result (text.new ≡ text.old ++ flat_map (time_mark last) (marks last)) }
+{
+    let step = axis_step(last);
+    for mark in 0..mark_count(last) + 1 {
+        push_time_mark(text, last, mark * step)?;
+    }
+    Ok(())
+}
+
+/// Puts one of them.
+fn push_time_mark(text: &mut Text, last: u64, tick: u64) -> Result<(), AllocError>
+    ensures { OnOk result (text.new ≡ text.old ++ time_mark last tick) }
+{
+    let across = across(last, tick);
+    text.push("<path d='M")?;
+    push_tenths(text, across)?;
+    text.push(" 460v5' stroke='#222222'/>\n<text x='")?;
+    push_tenths(text, across)?;
+    text.push("' y='480' text-anchor='middle'>")?;
+    text.push_number(tick)?;
+    text.push("</text>\n")?;
+    Ok(())
+}
+
+/// How far across a tick is.
+fn across(last: u64, tick: u64) -> u32
+    ensures { result ≡ definitions.across last tick }
+{
+    LEFT + scaled(tick, last, WIDTH)
+}
+
+/// Puts a number of tenths, with a point.
+fn push_tenths(text: &mut Text, tenths: u32) -> Result<(), AllocError>
+    ensures { OnOk result (text.new ≡ text.old ++ definitions.tenths tenths) }
+{
+    text.push_number(u64::from(tenths / 10))?;
+    text.push(".")?;
+    text.push_number(u64::from(tenths % 10))?;
+    Ok(())
+}
+
+/// Puts the lines.
+fn push_curves(
+    alloc: Global,
+    text: &mut Text,
+    curves: &Curves,
+    others: &[Stretch],
+    most: u64,
+    lines: &[Line],
+) -> Result<(), AllocError>
+    requires { length others.now < 2 ^ 32 }
+    ensures { OnOk result (text.new ≡ text.old ++ flat_map (curve curves.now others.now most) lines.now) }
+{
+    for line in lines {
+        push_curve(alloc, text, curves, others, most, line)?;
+    }
+    Ok(())
+}
+
+/// Puts one of them.
+fn push_curve(
+    alloc: Global,
+    text: &mut Text,
+    curves: &Curves,
+    others: &[Stretch],
+    most: u64,
+    line: &Line,
+) -> Result<(), AllocError>
+    requires { length others.now < 2 ^ 32 }
+    ensures { OnOk result (text.new ≡ text.old ++ curve curves.now others.now most line.now) }
+{
+    text.push("<polyline points='")?;
+    push_points_of(alloc, text, curves, others, most, line.thread)?;
+    text.push("' stroke='")?;
+    text.push(colour(line.style))?;
+    text.push("'")?;
+    text.push(strokes(line.style))?;
+    text.push("/>\n")?;
+    Ok(())
+}
+
+/// Puts the points of a thread, or of the others.
+fn push_points_of(
+    alloc: Global,
+    text: &mut Text,
+    curves: &Curves,
+    others: &[Stretch],
+    most: u64,
+    thread: u32,
+) -> Result<(), AllocError>
+    requires { length others.now < 2 ^ 32 }
+    ensures { OnOk result (text.new ≡ text.old ++ points curves.now most (drawn_of curves.now others.now thread)) }
+{
+    if thread == 0 {
+        return push_points(text, curves, most, others);
+    }
+    let own = stretches_of_thread(alloc, curves.stretches(), thread)?;
+    push_points(text, curves, most, own.as_slice())
+}
+
+/// Puts a point for each sample, of what was had of these at its tick.
+fn push_points(
+    text: &mut Text,
+    curves: &Curves,
+    most: u64,
+    stretches: &[Stretch],
+) -> Result<(), AllocError>
+    requires { length stretches.now < 2 ^ 32 }
+    ensures { OnOk result (text.new ≡ text.old ++ points curves.now most stretches.now) }
+{
+    for sample in 0..curves.sample_count() + 1 {
+        let tick = curves.sample_tick(sample);
+        push_point(text, curves.last(), most, stretches, tick)?;
+    }
+    Ok(())
+}
+
+/// Puts one point.
+fn push_point(
+    text: &mut Text,
+    last: u64,
+    most: u64,
+    stretches: &[Stretch],
+    tick: u64,
+) -> Result<(), AllocError>
+    requires { length stretches.now < 2 ^ 32 }
+    ensures { OnOk result (text.new ≡ text.old ++ point last most stretches.now tick) }
+{
+    text.push(" ")?;
+    push_tenths(text, across(last, tick))?;
+    text.push(",")?;
+    push_tenths(
+        text,
+        height_of(most, had_at(Measure::Ticks, tick, stretches)),
+    )?;
+    Ok(())
+}
+
+/// The colour of a style.
+fn colour(style: u32) -> &'static str
+    ensures { result.now ≡ definitions.colour style }
+{
+    match style % 8 {
+        0 => "#0072b2",
+        1 => "#d55e00",
+        2 => "#009e73",
+        3 => "#cc79a7",
+        4 => "#e69f00",
+        5 => "#56b4e9",
+        6 => "#000000",
+        _ => "#f0e442",
+    }
+}
+
+/// What makes the later styles differ from the first ones.
+fn strokes(style: u32) -> &'static str
+    ensures { result.now ≡ definitions.strokes style }
+{
+    if style < 8 {
+        return "";
+    }
+    " stroke-dasharray='7 4'"
+}
+
+/// All ticks that threads have run.
+fn total_of(curves: &Curves) -> u64
+    ensures { result ≡ definitions.total curves.now }
+{
+    had_at(Measure::Ticks, curves.last(), curves.stretches())
+}
+
+/// Puts the lines' names.
+fn push_labels(
+    text: &mut Text,
+    names: &[Name],
+    total: u64,
+    lines: &[Line],
+) -> Result<(), AllocError>
+    ensures { OnOk result (text.new ≡ text.old ++ flat_map (label names.now total) lines.now) }
+{
+    for line in lines {
+        push_label(text, names, total, line)?;
+    }
+    Ok(())
+}
+
+/// Puts one of them, and what leads to it.
+fn push_label(text: &mut Text, names: &[Name], total: u64, line: &Line) -> Result<(), AllocError>
+    ensures { OnOk result (text.new ≡ text.old ++ label names.now total line.now) }
+{
+    push_leader(text, line)?;
+    push_name(text, names, total, line)?;
+    Ok(())
+}
+
+/// Puts what leads from the line's end to its name.
+fn push_leader(text: &mut Text, line: &Line) -> Result<(), AllocError>
+    ensures { OnOk result (text.new ≡ text.old ++ leader line.now) }
+{
+    text.push("<path d='M770 ")?;
+    push_tenths(text, line.height)?;
+    text.push("L784 ")?;
+    push_tenths(text, line.place)?;
+    text.push("' stroke='")?;
+    text.push(colour(line.style))?;
+    text.push("'/>\n")?;
+    Ok(())
+}
+
+/// Puts the line's name, and its part of all ticks.
+fn push_name(text: &mut Text, names: &[Name], total: u64, line: &Line) -> Result<(), AllocError>
+    ensures { OnOk result (text.new ≡ text.old ++ name_text names.now total line.now) }
+{
+    text.push("<text x='788' y='")?;
+    push_tenths(text, line.place)?;
+    text.push("' dy='4'>")?;
+    push_escaped(text, name_of(names, line.thread))?;
+    text.push(" ")?;
+    push_tenths(text, share_of(total, line.ticks))?;
+    text.push("%</text>\n")?;
+    Ok(())
+}
+
+/// The name of the thread; no thread is the others.
+fn name_of(names: &[Name], thread: u32) -> &[u8]
+    ensures { result.now ≡ definitions.name_of names.now thread }
+{
+    if thread == 0 || thread as usize > names.len() {
+        return b"others";
+    }
+    names[thread as usize - 1].as_bytes()
+}
+
+/// A part of the whole, in tenths of a percent.
+fn share_of(total: u64, ticks: u64) -> u32
+    ensures { result ≡ definitions.share_of total ticks }
+{
+    let share = (1000 * u128::from(ticks) + u128::from(total / 2)) / u128::from(total.max(1));
+    share.min(1000) as u32
+}

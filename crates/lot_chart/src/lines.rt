@@ -1,0 +1,91 @@
+//! Where lines end, and where their names stand.
+ghost use Rattle.std.specs.Prelude.{◌≡◌, ◌≤◌, IfOk, length};
+ghost use Rattle.lot_chart.specs.Lines as definitions;
+
+use crate::Standing;
+use std::alloc::{AllocError, Global};
+
+/// The height of a line at nothing: tenths of a unit from the top, as all of a picture's lengths are.
+const BOTTOM: u32 = 4600;
+
+/// How high the plot is.
+const HEIGHT: u32 = 4000;
+
+/// The height of the plot's top.
+const TOP: u32 = 600;
+
+/// How far the names of two lines are apart at least.
+const APART: u32 = 160;
+
+/// A line of the picture.
+#[derive(Clone, Copy, Debug, PartialEq, Eq)]
+pub struct Line {
+    /// The number of its thread, or 0 for the others together.
+    pub thread: u32,
+    /// What it ends at.
+    pub ticks: u64,
+    /// Which colour and strokes it has.
+    pub style: u32,
+    /// Where it ends.
+    pub height: u32,
+    /// Where its name stands.
+    pub place: u32,
+}
+
+/// The lines of these, with those that had most first.
+pub(crate) fn lines_of(alloc: Global, shown: &[Standing]) -> Result<Vec<Line>, AllocError>
+    requires { length shown.now ≤ 12 }
+    ensures { IfOk result (λ v. v.items ≡ definitions.lines_of shown.now) }
+{
+    let most = most_in(shown);
+    let mut lines = Vec::with_capacity(alloc, shown.len())?;
+    let mut least = TOP;
+    for (style, standing) in shown.iter().enumerate() {
+        let height = height_of(most, standing.ticks);
+        let place = place_of(least, height, (shown.len() - style - 1) as u32);
+        lines.push(Line {
+            thread: standing.thread,
+            ticks: standing.ticks,
+            style: style as u32,
+            height,
+            place,
+        })?;
+        least = place + APART;
+    }
+    Ok(lines)
+}
+
+/// What the first has had, which is the most.
+pub(crate) fn most_in(shown: &[Standing]) -> u64
+    ensures { result ≡ definitions.most_in shown.now }
+{
+    match shown {
+        [] => 0,
+        [first, ..] => first.ticks,
+    }
+}
+
+/// The height of this many ticks, if the top of the plot is at the most.
+pub(crate) fn height_of(most: u64, ticks: u64) -> u32
+    ensures exact { result ≡ definitions.height_of most ticks }
+    ensures within { result ≤ 4600 }
+{
+    BOTTOM - scaled(ticks, most, HEIGHT)
+}
+
+/// The place of a name: at its line's end, but not above the least place, and with room for more names below it.
+fn place_of(least: u32, height: u32, more: u32) -> u32
+    requires { more ≤ 12 }
+    ensures exact { result ≡ definitions.place_of least height more }
+{
+    height.min(BOTTOM - APART * more).max(least)
+}
+
+/// How far along a length this value is, if the most is at its end.
+pub(crate) fn scaled(value: u64, most: u64, length: u32) -> u32
+    ensures exact { result ≡ definitions.scaled value most length }
+    ensures within { result ≤ length }
+{
+    let at = u128::from(value) * u128::from(length) / u128::from(most.max(1));
+    at.min(u128::from(length)) as u32
+}

@@ -1,0 +1,65 @@
+//! Curves as a table whose fields are separated by commas.
+ghost use Rattle.std.specs.Prelude.{◌≡◌, ◌++◌, IfOk, OnOk, length, map};
+ghost use Rattle.std.specs.List.{flat_map};
+ghost use Rattle.lot_curves.specs.Curves.{sample_ticks};
+ghost use Rattle.lot_curves.specs.Stretches.{last_end};
+ghost use Rattle.lot_chart.specs.Tables as tables;
+ghost use Rattle.lot_chart.specs.Tables.{header_line, row_line, sampled_line};
+
+use crate::text::Text;
+use lot_curves::{Curves, Measure};
+use lot_machine::Name;
+use std::alloc::{AllocError, Global};
+
+/// The table of the curves: a line with the threads' names, and one for each sample with what each thread has had at its tick.
+pub fn table(alloc: Global, curves: &Curves, measure: Measure) -> Result<Vec<u8>, AllocError>
+    ensures { IfOk result (λ text. text.items ≡ tables.table measure curves.now) }
+{
+    let mut text = Text::new(alloc);
+    push_header(&mut text, curves.names())?;
+    let mut row = vec![in alloc; 0u64; curves.names().len()]?;
+    push_rows(&mut text, curves, measure, row.as_mut_slice())?;
+    Ok(text.into_bytes())
+}
+
+/// Puts the first line.
+fn push_header(text: &mut Text, names: &[Name]) -> Result<(), AllocError>
+    ensures { OnOk result (text.new ≡ text.old ++ header_line names.now) }
+{
+    text.push("tick")?;
+    for name in names {
+        text.push(",")?;
+        text.push_bytes(name.as_bytes())?;
+    }
+    text.push("\n")
+}
+
+/// Puts the lines of all samples. The row has a place for each thread.
+fn push_rows(
+    text: &mut Text,
+    curves: &Curves,
+    measure: Measure,
+    row: &mut [u64],
+) -> Result<(), AllocError>
+    requires { length row.old ≡ length curves.now.names }
+    ensures { OnOk result (text.new ≡ text.old ++ flat_map (sampled_line measure curves.now) (sample_ticks (last_end curves.now.stretches))) }
+{
+    for sample in 0..curves.sample_count() + 1 {
+        let tick = curves.sample_tick(sample);
+        curves.fill_row(measure, tick, row);
+        push_row(text, tick, row)?;
+    }
+    Ok(())
+}
+
+/// Puts the line of one sample.
+fn push_row(text: &mut Text, tick: u64, row: &[u64]) -> Result<(), AllocError>
+    ensures { OnOk result (text.new ≡ text.old ++ row_line tick row.now) }
+{
+    text.push_number(tick)?;
+    for figure in row {
+        text.push(",")?;
+        text.push_number(*figure)?;
+    }
+    text.push("\n")
+}

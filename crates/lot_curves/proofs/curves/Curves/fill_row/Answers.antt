@@ -1,0 +1,14 @@
+use Rattle.std.proofs.Common.{◌≡◌, ◌+◌, List, length, take, ap, ◌∙◌, arith}
+use Rattle.std.proofs.lemmas.List.{take_all}
+use Rattle.lot_curves.specs.declared.stretch.Stretch.{Stretch}
+use Rattle.lot_curves.specs.Stretches.{had_at, stretches_of}
+use Rattle.lot_curves.proofs.Rows.{row-is}
+use Rattle.lot_curves.proofs.curves.Curves.fill_row.Goals as goal
+
+pub returns : goal.returns
+returns c =
+    let i = c.loop-stretch.invariant in
+    let items = c.args.self.now.stretches in
+    let all : take c.loop-stretch.stretch-index items ≡ items = take_all c.loop-stretch.stretch-index items (omega (arith, c.loop-stretch-test.false, ap length c.stretches-stretch-items.ensures.stretches)) in
+    row-is c.args.measure c.args.self.now c.args.tick c.loop-stretch.row i.places
+    (λ k below. i.had k below ∙ ap (λ (xs : List Stretch). had_at c.args.measure c.args.tick (stretches_of (k + 1) xs)) all)

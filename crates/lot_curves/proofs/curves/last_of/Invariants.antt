@@ -1,0 +1,6 @@
+use Rattle.std.proofs.Common.{◌≡◌, take}
+use Rattle.lot_curves.specs.Stretches.{last_end}
+use Rattle.lot_curves.proofs.curves.last_of.Given as goal
+
+abbrev pub invariant-loop-stretch : goal.invariant-loop-stretch
+invariant-loop-stretch l = l.last ≡ last_end (take l.stretch-index l.stretches)

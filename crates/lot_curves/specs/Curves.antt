@@ -1,0 +1,75 @@
+-- What each thread has had at each sample.
+use Rattle.std.specs.Prelude.{ℕ, ◌+◌, ◌*◌, ◌/◌, min, max, Option, Some, None, List, [], map, unwrap_or}
+use Rattle.std.specs.List.{range_with_len}
+use Rattle.lot_machine.specs.Numbered.{numbers}
+use Rattle.lot_machine.specs.Rows.{thread_name}
+use Rattle.lot_machine.specs.State.{State}
+use Rattle.lot_simulation.specs.Timed.{timed_schedule, timed_turns}
+use Rattle.lot_simulation.specs.World.{Program, World, system_run}
+use Rattle.lot_curves.specs.declared.stretch.Measure.{Measure}
+use Rattle.lot_curves.specs.declared.stretch.Stretch.{Stretch}
+use Rattle.lot_curves.specs.OwnTimes.{own_turns}
+use Rattle.lot_curves.specs.Stretches.{had_at, stretch_of, stretches_of}
+
+-- the threads' names by rising number, and what turns were for them
+pub record Curves : Type 0 where
+  pub names : List (List ℕ)
+  pub stretches : List Stretch
+
+-- the thread's name
+abbrev pub name_in : State → ℕ → List ℕ
+name_in s thread = unwrap_or (thread_name s thread) []
+
+-- the names of a state's threads, by rising number
+abbrev pub names_in : State → List (List ℕ)
+names_in s = map (name_in s) (numbers s.records)
+
+-- what the turns of the program's run over this history were, each at its actor's own time
+abbrev pub stretches_made : Program → List ℕ → List Stretch
+stretches_made program history = map stretch_of (own_turns program history)
+
+-- what the program's turns in the order of time were
+abbrev pub timed_stretches : Program → List Stretch
+timed_stretches program = map (λ done. stretch_of (record { time = done.time; answer = done.turn.answer })) (timed_turns program)
+
+-- the curves of the threads in a world, if its history is that of the program's run
+abbrev pub curves_in : Program → World → Curves
+curves_in program w = record { names = names_in w.state; stretches = stretches_made program w.history }
+
+-- the curves of the program's schedule
+abbrev pub scheduled_curves : Program → Curves
+scheduled_curves program = curves_in program (system_run program program.schedule)
+
+-- the curves of the program's turns in the order of time
+abbrev pub timed_curves : Program → Curves
+timed_curves program = record { names = names_in (system_run program (timed_schedule program)).state; stretches = timed_stretches program }
+
+-- the curves of the program: those of its turns in the order of time if it has a duration, and else those of its schedule
+abbrev pub curves_of : Program → Curves
+curves_of program = by program.duration
+  where
+    by : Option ℕ → Curves
+    by None = scheduled_curves program
+    by (Some ticks) = timed_curves program
+
+-- what the thread has had at this tick
+abbrev pub share_at : Measure → Curves → ℕ → ℕ → ℕ
+share_at measure curves tick thread = had_at measure tick (stretches_of thread curves.stretches)
+
+-- what each thread has had at this tick, by rising number
+abbrev pub row_at : Measure → Curves → ℕ → List ℕ
+row_at measure curves tick = map (share_at measure curves tick) (numbers curves.names)
+
+-- ---- samples
+
+-- how many samples there are after tick 0: one for each tick up to the last, but at most 200
+abbrev pub sample_count : ℕ → ℕ
+sample_count last = min 200 last
+
+-- the tick of a sample, if they are equally spaced from tick 0 to the last tick
+abbrev pub sample_tick : ℕ → ℕ → ℕ
+sample_tick last sample = sample * last / max 1 (sample_count last)
+
+-- the ticks of all samples, tick 0 first
+abbrev pub sample_ticks : ℕ → List ℕ
+sample_ticks last = map (sample_tick last) (range_with_len 0 (sample_count last + 1))

@@ -1,0 +1,37 @@
+-- What turns were for threads.
+use Rattle.std.specs.Prelude.{ℕ, ◌-◌, max, ◌==◌, nat_le, List, filter, fold, sum_by, if◌then◌else◌}
+use Rattle.lot_machine.specs.declared.reply.Reply.{Reply}
+use Rattle.lot_machine.specs.declared.reply.Reply.TheVariants as reply
+use Rattle.lot_simulation.specs.Report.{count_in, quanta_in, ticks_in}
+use Rattle.lot_curves.specs.declared.stretch.Measure.{Measure}
+use Rattle.lot_curves.specs.declared.stretch.Measure.TheVariants.{Ticks, Draws}
+use Rattle.lot_curves.specs.declared.stretch.Stretch.{Stretch}
+use Rattle.lot_curves.specs.OwnTimes.{EndedTurn}
+
+-- the thread that won the draw, or that ran; 0 if there is none
+abbrev pub thread_in : Reply → ℕ
+thread_in (reply.Winner thread number total delivered) = thread
+thread_in (reply.Expired thread ticks) = thread
+thread_in (reply.Trapped thread ticks came ends) = thread
+thread_in other = 0
+
+-- what a turn was for its thread
+abbrev pub stretch_of : EndedTurn → Stretch
+stretch_of turn = record { thread = count_in thread_in turn.answer; end = turn.time; ticks = count_in ticks_in turn.answer; draws = count_in quanta_in turn.answer }
+
+-- what the thread has had of it at this tick: its ticks but for those after this one, or the draw if it was won by then
+abbrev pub part_at : Measure → ℕ → Stretch → ℕ
+part_at Ticks tick s = s.ticks - (s.end - tick)
+part_at Draws tick s = if nat_le s.end tick then s.draws else 0
+
+-- what was had of all of these at this tick
+abbrev pub had_at : Measure → ℕ → List Stretch → ℕ
+had_at measure tick stretches = sum_by (part_at measure tick) stretches
+
+-- those of one thread
+abbrev pub stretches_of : ℕ → List Stretch → List Stretch
+stretches_of thread stretches = filter (λ s. s.thread == thread) stretches
+
+-- when the last of them ends; 0 if there is none
+abbrev pub last_end : List Stretch → ℕ
+last_end stretches = fold (λ last s. max s.end last) 0 stretches

@@ -1,0 +1,131 @@
+//! What each thread has had over time.
+ghost use Rattle.std.specs.Prelude.{◌≡◌, ℕ, ◌+◌, ◌<◌, ◌≤◌, ◌^◌, ◌==◌, All, if◌then◌else◌, length, slice_index, vec_len};
+ghost use Rattle.lot_curves.specs.Curves as curves;
+ghost use Rattle.lot_curves.specs.Curves.{row_at};
+ghost use Rattle.lot_curves.specs.Stretches.{last_end};
+
+use crate::{Measure, Stretch};
+use lot_machine::Name;
+use std::marker::Model;
+
+/// At how many ticks, besides tick 0, curves are sampled at most.
+const SAMPLES: u64 = 200;
+
+/// The threads' names, and what turns were for them.
+#[derive(Debug, Drop)]
+pub struct Curves {
+    names: Vec<Name>,
+    stretches: Vec<Stretch>,
+    /// When the last of them ends.
+    last: u64,
+}
+
+impl Model for Curves {
+    ghost use Rattle.std.specs.Prelude.{◌≡◌, ◌<◌, ◌^◌, vec_len};
+    ghost use Rattle.lot_curves.specs.Curves.{Curves as CurvesRecord};
+    ghost use Rattle.lot_curves.specs.Stretches.{last_end};
+
+    ghost Value = { CurvesRecord };
+
+    ghost view = { λ c. record { names = c.names.items; stretches = c.stretches.items } };
+
+    ghost invariant = { λ c. record {
+      last : c.last ≡ last_end c.stretches.items;
+      early : c.last < 2 ^ 56;
+      threads : vec_len c.names < 2 ^ 32;
+      turns : vec_len c.stretches < 2 ^ 32;
+    } };
+}
+
+impl Curves {
+    /// The curves of threads with these names, of which these were the turns.
+    pub fn new(names: Vec<Name>, stretches: Vec<Stretch>) -> Curves
+        requires threads { vec_len names < 2 ^ 32 }
+        requires turns { vec_len stretches < 2 ^ 32 }
+        requires early { last_end stretches.items < 2 ^ 56 }
+        ensures { result ≡ record { names = names.items; stretches = stretches.items } }
+    {
+        let last = last_of(stretches.as_slice());
+        Curves {
+            names,
+            stretches,
+            last,
+        }
+    }
+
+    /// The threads' names, by rising number.
+    pub fn names(&self) -> &[Name]
+        ensures names { result.now ≡ self.now.names }
+        ensures few { length self.now.names < 2 ^ 32 }
+    {
+        let _last = self.last;
+        self.names.as_slice()
+    }
+
+    /// What turns were for the threads.
+    pub fn stretches(&self) -> &[Stretch]
+        ensures stretches { result.now ≡ self.now.stretches }
+        ensures few { length self.now.stretches < 2 ^ 32 }
+    {
+        let _last = self.last;
+        self.stretches.as_slice()
+    }
+
+    /// When the last turn ended.
+    pub fn last(&self) -> u64
+        ensures last { result ≡ last_end self.now.stretches }
+        ensures early { result < 2 ^ 56 }
+    {
+        self.last
+    }
+
+    /// At how many ticks, besides tick 0, the curves are sampled.
+    pub fn sample_count(&self) -> u64
+        ensures count { result ≡ curves.sample_count (last_end self.now.stretches) }
+        ensures most { result ≤ 200 }
+    {
+        self.last.min(SAMPLES)
+    }
+
+    /// The tick of this sample, of which number 0 is at tick 0.
+    pub fn sample_tick(&self, sample: u64) -> u64
+        requires { sample ≤ curves.sample_count (last_end self.now.stretches) }
+        ensures tick { result ≡ curves.sample_tick (last_end self.now.stretches) sample }
+        ensures within { result ≤ last_end self.now.stretches }
+    {
+        sample * self.last / self.sample_count().max(1)
+    }
+
+    /// Fills the row with what each thread has had at this tick, by rising number.
+    pub fn fill_row(&self, measure: Measure, tick: u64, row: &mut [u64])
+        requires { length row.old ≡ length self.now.names }
+        ensures { row.new ≡ row_at measure self.now tick }
+    {
+        row.fill(0);
+        for stretch in self.stretches() {
+            add_part(row, stretch.thread, stretch.part_at(measure, tick));
+        }
+    }
+}
+
+/// When the last of these ends.
+fn last_of(stretches: &[Stretch]) -> u64
+    ensures { result ≡ last_end stretches.now }
+{
+    let mut last = 0;
+    for stretch in stretches {
+        last = stretch.end.max(last);
+    }
+    last
+}
+
+/// Adds to what the thread has, if the row has a place for it.
+fn add_part(row: &mut [u64], thread: u32, part: u64)
+    requires { (k : ℕ) → k < length row.old → slice_index row.old k + part < 2 ^ 64 }
+    ensures { (k : ℕ) → k < length row.old → slice_index row.new k ≡ slice_index row.old k + (if thread == k + 1 then part else 0) }
+{
+    if thread == 0 || thread as usize > row.len() {
+        return;
+    }
+    row[thread as usize - 1] += part;
+}

@@ -1,0 +1,26 @@
+//! What curves come to: laws of the definitions, with nothing to run.
+ghost use Rattle.std.specs.Prelude.{◌≡◌, ◌≤◌, ℕ, List, length, sum_by};
+ghost use Rattle.lot_curves.specs.declared.stretch.Measure.{Measure as Measured};
+ghost use Rattle.lot_curves.specs.declared.stretch.Measure.TheVariants.{Draws, Ticks};
+ghost use Rattle.lot_curves.specs.declared.stretch.Stretch.{Stretch as StretchRecord};
+ghost use Rattle.lot_curves.specs.Curves as curves;
+ghost use Rattle.lot_curves.specs.Curves.{sample_count, sample_tick, sample_ticks, share_at};
+ghost use Rattle.lot_curves.specs.Stretches.{had_at, last_end, stretches_of};
+
+/// There are at most 201 samples. The first is at tick 0, and the last at the last tick.
+pub fn samples_reach_the_last()
+    ensures few { (last : ℕ) → length (sample_ticks last) ≤ 201 }
+    ensures first { (last : ℕ) → sample_tick last 0 ≡ 0 }
+    ensures last { (last : ℕ) → sample_tick last (sample_count last) ≡ last }
+{}
+
+/// At the last tick a thread has had all that is its own.
+pub fn curves_end_at_all()
+    ensures ticks { (curves : curves.Curves) (t : ℕ) → share_at Ticks curves (last_end curves.stretches) t ≡ sum_by (λ s. s.ticks) (stretches_of t curves.stretches) }
+    ensures draws { (curves : curves.Curves) (t : ℕ) → share_at Draws curves (last_end curves.stretches) t ≡ sum_by (λ s. s.draws) (stretches_of t curves.stretches) }
+{}
+
+/// A curve never falls.
+pub fn curves_rise()
+    ensures { (measure : Measured) (earlier later : ℕ) (stretches : List StretchRecord) → earlier ≤ later → had_at measure earlier stretches ≤ had_at measure later stretches }
+{}

@@ -1,0 +1,80 @@
+//! What a turn was for a thread.
+ghost use Rattle.std.specs.Prelude.{◌≡◌, ◌<◌, ◌≤◌, ◌^◌, length};
+ghost use Rattle.lot_machine.specs.declared.event.Event.{Event};
+ghost use Rattle.lot_simulation.specs.World.Answer.{Answered};
+ghost use Rattle.lot_curves.specs.Stretches as definitions;
+ghost use Rattle.lot_curves.specs.Stretches.{stretch_of};
+
+use lot_machine::Reply;
+
+/// What is measured of a thread.
+#[derive(Clone, Copy, Debug, PartialEq, Eq)]
+pub enum Measure {
+    /// The ticks that it has run.
+    Ticks,
+    /// The draws that it has won.
+    Draws,
+}
+
+/// What a turn was for the thread that ran in it, or that won its draw.
+#[derive(Clone, Copy, Debug, PartialEq, Eq)]
+pub struct Stretch {
+    /// The number of the thread, or 0 if the turn was no thread's.
+    pub thread: u32,
+    /// When the turn ended.
+    pub end: u64,
+    /// How long it ran, up to the end.
+    pub ticks: u32,
+    /// 1 if it won a draw.
+    pub draws: u32,
+}
+
+impl Stretch {
+    /// What a turn was that ended at this time and got this reply.
+    pub fn new(end: u64, reply: Reply) -> Stretch
+        ensures { (e : Event) → result ≡ stretch_of (record { time = end; answer = Answered e reply }) }
+    {
+        let (thread, ticks, draws) = match reply {
+            Reply::Winner { thread, .. } => (thread, 0, 1),
+            Reply::Expired { thread, ticks } | Reply::Trapped { thread, ticks, .. } => {
+                (thread, ticks, 0)
+            }
+            _ => (0, 0, 0),
+        };
+        Stretch {
+            thread,
+            end,
+            ticks,
+            draws,
+        }
+    }
+
+    /// What the thread has had of it at this tick.
+    pub fn part_at(self, measure: Measure, tick: u64) -> u64
+        ensures part { result ≡ definitions.part_at measure tick self }
+        ensures small { result < 2 ^ 32 }
+    {
+        match measure {
+            Measure::Ticks => u64::from(self.ticks).saturating_sub(self.end.saturating_sub(tick)),
+            Measure::Draws => {
+                if self.end <= tick {
+                    u64::from(self.draws)
+                } else {
+                    0
+                }
+            }
+        }
+    }
+}
+
+/// What was had of all of these at this tick.
+pub fn had_at(measure: Measure, tick: u64, stretches: &[Stretch]) -> u64
+    requires { length stretches.now < 2 ^ 32 }
+    ensures { result ≡ definitions.had_at measure tick stretches.now }
+{
+    let mut had = 0;
+    for stretch in stretches {
+        had += stretch.part_at(measure, tick);
+    }
+    had
+}

@@ -1,0 +1,20 @@
+-- On which processor an event happens, and which thread its reply names.
+use Rattle.std.specs.Prelude.{ℕ, Option, Some, None}
+use Rattle.lot_machine.specs.declared.event.Event.{Event}
+use Rattle.lot_machine.specs.declared.event.Event.TheVariants as event
+use Rattle.lot_machine.specs.declared.reply.Reply.{Reply}
+use Rattle.lot_machine.specs.declared.reply.Reply.TheVariants as reply
+
+-- the event's processor; a command of the console has none
+abbrev pub processor_of : Event → Option ℕ
+processor_of (event.Command command) = None
+processor_of (event.Draw p d) = Some p
+processor_of (event.Expire p) = Some p
+processor_of (event.Trap p ran action) = Some p
+
+-- the thread that runs now, or that ran until its quantum ended or its trap was made
+abbrev pub thread_in : Reply → Option ℕ
+thread_in (reply.Winner t number total delivered) = Some t
+thread_in (reply.Expired t ticks) = Some t
+thread_in (reply.Trapped t ticks outcome ends) = Some t
+thread_in other = None

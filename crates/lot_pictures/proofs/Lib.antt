@@ -1,0 +1,3 @@
+pub mod Notes
+pub mod OwnTicks
+pub mod Shows

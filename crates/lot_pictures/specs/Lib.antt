@@ -1,0 +1,2 @@
+-- What `shares` and `chart` come to.
+pub mod Shown

@@ -1,0 +1,12 @@
+//! What an input comes to, shown: `shares` writes a table of what each thread has had over time, and `chart` a picture of it.
+#![tactic(auto)]
+
+mod gathering;
+pub mod laws;
+mod showing;
+
+pub use gathering::gather;
+pub use showing::{chart, shares};
+
+#[cfg(test)]
+mod tests;

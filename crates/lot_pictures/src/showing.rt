@@ -1,0 +1,153 @@
+//! What is written of curves.
+ghost use Rattle.std.specs.Prelude.{◌≡◌, ℕ, List, [], false, true, IfErr, IfOk, OnOk};
+ghost use Rattle.std.specs.Io.KnownBytes.{Appends};
+ghost use Rattle.lot_simulation.specs.Grammar.{program_in};
+ghost use Rattle.lot_text.specs.Faults.{IsFaultOf as IsParseFaultOf};
+ghost use Rattle.lot_system.specs.Played.{Plays, came_of};
+ghost use Rattle.lot_system.specs.Reading.{Reads};
+ghost use Rattle.lot_system.specs.Writing.{IsFaultOf, Writes};
+ghost use Rattle.lot_pictures.specs.Shown.{Leaves, HasCurves, Shows, chart_output, shares_output};
+
+use crate::gather;
+use lot_chart::table;
+use lot_curves::{Curves, Measure};
+use lot_system::{PlayFault, Played, read_input, refuse};
+use lot_text::{ParseFault, Watched, parse};
+use std::alloc::{AllocError, Global};
+use std::io::{Read, Write};
+
+/// Reads an input, makes its turns, and writes a table of what each thread has had over time; or one line, if the
+/// input is refused: then `refused` has its bytes, and else none. For want of memory nothing is written.
+pub fn shares<R: Read, W: Write>(
+    alloc: Global,
+    measure: Measure,
+    refused: &mut Vec<u8>,
+    reader: &mut Watched<R>,
+    writer: &mut Watched<W>,
+) -> Result<Played, PlayFault>
+    requires { (reader.old.failed ≡ false) × (writer.old.failed ≡ false) }
+    ensures flushed { OnOk result (writer.new.flushed ≡ true) }
+    ensures err { IfErr result (λ fault. IsFaultOf fault reader.new.failed writer.new.failed) }
+    ensures output { IfOk result (λ played. (bytes : List ℕ) × Reads R.remaining reader.old reader.new bytes × (played ≡ came_of (program_in bytes)) × Appends (W.contents writer.old.inner) (W.contents writer.new.inner) (shares_output measure bytes)) }
+    ensures fault { IfErr result (λ fault. Leaves (shares_output measure) R.remaining reader.old reader.new W.contents writer.old writer.new fault) }
+{
+    *refused = read_input(alloc, reader)?;
+    write_shares(alloc, measure, refused, writer)
+}
+
+/// Writes the table of what these bytes say, or why they are refused.
+fn write_shares<W: Write>(
+    alloc: Global,
+    measure: Measure,
+    bytes: &mut Vec<u8>,
+    writer: &mut Watched<W>,
+) -> Result<Played, PlayFault>
+    requires { writer.old.failed ≡ false }
+    ensures flushed { OnOk result (writer.new.flushed ≡ true) }
+    ensures shown { Plays W.contents writer.old writer.new result (came_of (program_in bytes.old.items)) (shares_output measure bytes.old.items) }
+{
+    match curves_in(alloc, bytes) {
+        Ok(curves) => write_text(table(alloc, &curves, measure), writer),
+        Err(ParseFault::Memory) => Err(PlayFault::Memory),
+        Err(ParseFault::Input(fault)) => refuse(fault, writer),
+    }
+}
+
+/// Reads an input, makes its turns, and writes a picture with this title of what each thread has had over time; or
+/// one line, if the input is refused: then `refused` has its bytes, and else none. For want of memory nothing is written.
+pub fn chart<R: Read, W: Write>(
+    alloc: Global,
+    title: &str,
+    refused: &mut Vec<u8>,
+    reader: &mut Watched<R>,
+    writer: &mut Watched<W>,
+) -> Result<Played, PlayFault>
+    requires { (reader.old.failed ≡ false) × (writer.old.failed ≡ false) }
+    ensures flushed { OnOk result (writer.new.flushed ≡ true) }
+    ensures err { IfErr result (λ fault. IsFaultOf fault reader.new.failed writer.new.failed) }
+    ensures output { IfOk result (λ played. (bytes : List ℕ) × Reads R.remaining reader.old reader.new bytes × (played ≡ came_of (program_in bytes)) × Appends (W.contents writer.old.inner) (W.contents writer.new.inner) (chart_output title.now bytes)) }
+    ensures fault { IfErr result (λ fault. Leaves (chart_output title.now) R.remaining reader.old reader.new W.contents writer.old writer.new fault) }
+{
+    *refused = read_input(alloc, reader)?;
+    write_chart(alloc, title, refused, writer)
+}
+
+/// Writes the picture of what these bytes say, or why they are refused.
+fn write_chart<W: Write>(
+    alloc: Global,
+    title: &str,
+    bytes: &mut Vec<u8>,
+    writer: &mut Watched<W>,
+) -> Result<Played, PlayFault>
+    requires { writer.old.failed ≡ false }
+    ensures flushed { OnOk result (writer.new.flushed ≡ true) }
+    ensures shown { Plays W.contents writer.old writer.new result (came_of (program_in bytes.old.items)) (chart_output title.now bytes.old.items) }
+{
+    match curves_in(alloc, bytes) {
+        Ok(curves) => write_text(lot_chart::chart(alloc, &curves, title), writer),
+        Err(ParseFault::Memory) => Err(PlayFault::Memory),
+        Err(ParseFault::Input(fault)) => refuse(fault, writer),
+    }
+}
+
+/// The curves of what the bytes say. They stay if they are refused, and else go before the first turn.
+fn curves_in(alloc: Global, bytes: &mut Vec<u8>) -> Result<Curves, ParseFault>
+    ensures curves { IfOk result (HasCurves (program_in bytes.old.items)) }
+    ensures fault { IfErr result (IsParseFaultOf (program_in bytes.old.items)) }
+{
+    let program = parse(alloc, bytes.as_slice())?;
+    *bytes = Vec::new(alloc);
+    match gather(alloc, &program) {
+        Ok(curves) => Ok(curves),
+        Err(_) => Err(ParseFault::Memory),
+    }
+}
+
+/// Writes the text, if there was memory for it.
+fn write_text<W: Write>(
+    text: Result<Vec<u8>, AllocError>,
+    writer: &mut Watched<W>,
+) -> Result<Played, PlayFault>
+    requires { writer.old.failed ≡ false }
+    ensures flushed { OnOk result (writer.new.flushed ≡ true) }
+    ensures shown { Shows W.contents writer.old writer.new text (λ bytes. bytes.items) result }
+{
+    let Ok(text) = text else {
+        return Err(PlayFault::Memory);
+    };
+    write_bytes(text.as_slice(), writer)?;
+    Ok(Played::Done)
+}
+
+/// Writes the bytes, and flushes.
+fn write_bytes<W: Write>(bytes: &[u8], writer: &mut Watched<W>) -> Result<(), PlayFault>
+    requires { writer.old.failed ≡ false }
+    ensures flushed { OnOk result (writer.new.flushed ≡ true) }
+    ensures text { Writes W.contents writer.old writer.new result bytes.now }
+{
+    write_unflushed(bytes, writer)?;
+    flush(writer)
+}
+
+/// Writes the bytes. No failed write is tried again.
+fn write_unflushed<W: Write>(bytes: &[u8], writer: &mut Watched<W>) -> Result<(), PlayFault>
+    requires { writer.old.failed ≡ false }
+    ensures { Writes W.contents writer.old writer.new result bytes.now }
+{
+    match writer.write_all(bytes) {
+        Ok(()) => Ok(()),
+        Err(_) => Err(PlayFault::Write),
+    }
+}
+
+/// Flushes the writer.
+fn flush<W: Write>(writer: &mut Watched<W>) -> Result<(), PlayFault>
+    requires { writer.old.failed ≡ false }
+    ensures flushed { OnOk result (writer.new.flushed ≡ true) }
+    ensures text { Writes W.contents writer.old writer.new result [] }
+{
+    match writer.flush() {
+        Ok(()) => Ok(()),
+        Err(_) => Err(PlayFault::Write),
+    }
+}

@@ -1,0 +1,185 @@
+-- A turn of one actor leaves what the next turn of another processor costs.
+use Rattle.std.proofs.Common.{◌≡◌, ℕ, zero, suc, ◌+◌, ◌-◌, ◌<◌, ◌≤◌, ◌==◌, Bool, true, false, ◌⊎◌, inl, inr, Option, Some, None, List, [], ◌∷◌, ◌++◌, length, drop, refl, sym, ◌∙◌, ap, subst, arith, cond, unwrap_or, get_or, slice_get}
+use Rattle.std.proofs.lemmas.Bool.{eqb-true}
+use Rattle.std.proofs.Math.ListN.{length-set}
+use Rattle.std.proofs.lemmas.List.{length-append, length-map, length-drop}
+use Rattle.std.proofs.lemmas.Option.{slice_get_cases}
+use Rattle.lot_machine.specs.declared.command.Command.{Command}
+use Rattle.lot_machine.specs.declared.event.Event.{Event}
+use Rattle.lot_machine.specs.declared.event.Event.TheVariants as event
+use Rattle.lot_machine.specs.declared.reply.Reply.{Reply}
+use Rattle.lot_machine.specs.declared.reply.Reply.TheVariants as reply
+use Rattle.lot_machine.specs.declared.record.Status.TheVariants as status
+use Rattle.lot_machine.specs.Numbered.{at_number, set_number}
+use Rattle.lot_machine.specs.State.{thread_on}
+use Rattle.lot_machine.specs.Step.{step, used_there}
+use Rattle.lot_machine.specs.Order.{IsInOrder}
+use Rattle.lot_machine.specs.Named.{processor_of, thread_in}
+use Rattle.lot_machine.proofs.Changes.{number-set, place-after}
+use Rattle.lot_machine.proofs.Tickets.{at_number-suc}
+use Rattle.lot_machine.proofs.RecordsKept.{found-runs, numbered}
+use Rattle.lot_machine.proofs.OrderKept.{step-order}
+use Rattle.lot_machine.proofs.RunsElsewhere.{step-found, step-used_there}
+use Rattle.lot_machine.proofs.NamedThreads.{named-apart}
+use Rattle.lot_machine.proofs.StepSizes.{step-sizes, step-limits, command-grown}
+use Rattle.lot_simulation.specs.declared.script.ScriptTrap.{ScriptTrap}
+use Rattle.lot_simulation.specs.Script.{Slice, slice}
+use Rattle.lot_simulation.specs.World.{Program, World, Turn, number_of, context_of, slice_on, event_of_slice, processor_event, contexts_after, new_contexts, console_turn, processor_turn, system_turn}
+use Rattle.lot_simulation.specs.Timed.{cost_of}
+
+-- ---- what a turn costs
+
+-- what a processor does if this thread runs there, or nobody
+abbrev event_for : World → ℕ → Option ℕ → Event
+event_for w p None = event.Draw p (number_of w p)
+event_for w p (Some t) = event_of_slice p (number_of w p) (slice_on w p t)
+
+event-for : (w : World) (p : ℕ) → processor_event w p ≡ event_for w p (thread_on w.state.records p)
+event-for w p = at (thread_on w.state.records p) refl
+  where
+    at : (o : Option ℕ) → thread_on w.state.records p ≡ o → processor_event w p ≡ event_for w p (thread_on w.state.records p)
+    at None is = refl
+    at (Some t) is = refl
+
+-- a slice costs the same in two worlds with the same quantum and the same ticks used
+slice-cost : (v w : World) (p d e : ℕ) (s : Slice) → v.state.limits.quantum - used_there v.state p ≡ w.state.limits.quantum - used_there w.state p
+    → cost_of v (event_of_slice p d s) ≡ cost_of w (event_of_slice p e s)
+slice-cost v w p d e s budget = at s.trap refl
+  where
+    at : (o : Option ScriptTrap) → s.trap ≡ o → cost_of v (event_of_slice p d s) ≡ cost_of w (event_of_slice p e s)
+    at None is = rw is budget
+    at (Some trap) is = rw is refl
+
+-- so does a processor's next turn, if the same thread runs there and is at the same place of its script
+cost-same : (v w : World) (p : ℕ) → v.state.limits ≡ w.state.limits → used_there v.state p ≡ used_there w.state p → thread_on v.state.records p ≡ thread_on w.state.records p
+    → ((t : ℕ) → thread_on w.state.records p ≡ Some t → context_of v t ≡ context_of w t) → cost_of v (processor_event v p) ≡ cost_of w (processor_event w p)
+cost-same v w p limits used found contexts =
+    ap (cost_of v) (event-for v p) ∙ ap (λ o. cost_of v (event_for v p o)) found ∙ from (thread_on w.state.records p) refl ∙ sym (ap (cost_of w) (event-for w p))
+  where
+    budget : v.state.limits.quantum - used_there v.state p ≡ w.state.limits.quantum - used_there w.state p
+    budget = ap (λ l. l.quantum - used_there v.state p) limits ∙ ap (λ u. w.state.limits.quantum - u) used
+
+    from : (o : Option ℕ) → thread_on w.state.records p ≡ o → cost_of v (event_for v p o) ≡ cost_of w (event_for w p o)
+    from None is = refl
+    from (Some t) is =
+        let same : slice_on v p t ≡ slice_on w p t = ap (λ c. slice c (v.state.limits.quantum - used_there v.state p)) (contexts t is) ∙ ap (slice (context_of w t)) budget in
+        ap (λ s. cost_of v (event_of_slice p (number_of v p) s)) same ∙ slice-cost v w p (number_of v p) (number_of w p) (slice_on w p t) budget
+
+-- a processor's next turn is its own
+slice-on : (p d : ℕ) (s : Slice) → processor_of (event_of_slice p d s) ≡ Some p
+slice-on p d s = at s.trap refl
+  where
+    at : (o : Option ScriptTrap) → s.trap ≡ o → processor_of (event_of_slice p d s) ≡ Some p
+    at None is = rw is refl
+    at (Some trap) is = rw is refl
+
+event-on : (w : World) (p : ℕ) → processor_of (processor_event w p) ≡ Some p
+event-on w p = ap processor_of (event-for w p) ∙ from (thread_on w.state.records p)
+  where
+    from : (o : Option ℕ) → processor_of (event_for w p o) ≡ Some p
+    from None = refl
+    from (Some t) = slice-on p (number_of w p) (slice_on w p t)
+
+-- ---- contexts
+
+-- the world's state is in order, and each thread has a context
+pub record IsOrderly (w : World) : Type 0 where
+  pub order : IsInOrder w.state
+  pub contexts : length w.state.records ≤ length w.contexts
+
+-- what stands at another number stays
+set-kept : {A : Type 0} (xs : List A) (n k : ℕ) (x : A) → ¬ (k ≡ suc (n - 1)) → at_number (set_number xs n x) k ≡ at_number xs k
+set-kept xs n k x other = from (number-set xs n x k)
+  where
+    from : (at_number (set_number xs n x) k ≡ at_number xs k) ⊎ ((k ≡ suc (n - 1)) × (at_number (set_number xs n x) k ≡ Some x)) → at_number (set_number xs n x) k ≡ at_number xs k
+    from (inl same) = same
+    from (inr (at, _)) = absurd (other at)
+
+-- only the thread that a reply names changes its context
+contexts-kept : (w : World) (q u : ℕ) (r : Reply) → ((t : ℕ) → thread_in r ≡ Some t → ¬ (u ≡ suc (t - 1))) → at_number (contexts_after w q r) u ≡ at_number w.contexts u
+contexts-kept w q u (reply.Winner t number total delivered) other = set-kept w.contexts t u _ (other t refl)
+contexts-kept w q u (reply.Expired t ticks) other = set-kept w.contexts t u _ (other t refl)
+contexts-kept w q u (reply.Trapped t ticks outcome ends) other = set-kept w.contexts t u _ (other t refl)
+contexts-kept w q u (reply.Ticket n) other = refl
+contexts-kept w q u (reply.Currency n) other = refl
+contexts-kept w q u (reply.Thread n) other = refl
+contexts-kept w q u (reply.Funded n m) other = refl
+contexts-kept w q u reply.Done other = refl
+contexts-kept w q u (reply.List kind) other = refl
+contexts-kept w q u reply.Idle other = refl
+contexts-kept w q u (reply.Refused refusal) other = refl
+
+-- as many contexts
+contexts-length : (w : World) (q : ℕ) (r : Reply) → length (contexts_after w q r) ≡ length w.contexts
+contexts-length w q (reply.Winner t number total delivered) = length-set w.contexts (t - 1) _
+contexts-length w q (reply.Expired t ticks) = length-set w.contexts (t - 1) _
+contexts-length w q (reply.Trapped t ticks outcome ends) = length-set w.contexts (t - 1) _
+contexts-length w q (reply.Ticket n) = refl
+contexts-length w q (reply.Currency n) = refl
+contexts-length w q (reply.Thread n) = refl
+contexts-length w q (reply.Funded n m) = refl
+contexts-length w q reply.Done = refl
+contexts-length w q (reply.List kind) = refl
+contexts-length w q reply.Idle = refl
+contexts-length w q (reply.Refused refusal) = refl
+
+-- what stands at a number stays if more is put after it
+number-after : {A : Type 0} (xs more : List A) (n : ℕ) → 1 ≤ n → n < 1 + length xs → at_number (xs ++ more) n ≡ at_number xs n
+number-after {A} xs more zero low high = absurd (omega (arith, low))
+number-after {A} xs more (suc i) low high = from (slice_get_cases xs i).1
+  where
+    from : ((x : A) × (i < length xs) × (slice_get xs i ≡ Some x) × (get_or xs i x ≡ x)) ⊎ ((length xs ≤ i) × (slice_get xs i ≡ None)) → at_number (xs ++ more) (suc i) ≡ at_number xs (suc i)
+    from (inl (x, _, here, _)) = at_number-suc (xs ++ more) i ∙ place-after xs more i x here ∙ sym here ∙ sym (at_number-suc xs i)
+    from (inr (past, _)) = absurd (omega (arith, past, high))
+
+-- ---- turns
+
+-- the world stays orderly, and what the next turn of another processor costs stays
+abbrev pub TurnKeeps : World → ℕ → Turn → Type 0
+TurnKeeps w actor turn = IsOrderly turn.world × ((p : ℕ) → ¬ (p ≡ actor) → 1 ≤ p → cost_of turn.world (processor_event turn.world p) ≡ cost_of w (processor_event w p))
+
+processor-keeps : (w : World) (q : ℕ) (e : Event) → processor_of e ≡ Some q → IsOrderly w → TurnKeeps w q (processor_turn w q e)
+processor-keeps w q e on orderly =
+    let sizes = step-sizes w.state e q on in (
+      record {
+        order = step-order w.state e orderly.order;
+        contexts = omega (arith, orderly.contexts, sizes.1, contexts-length w q (step w.state e).reply);
+      },
+      λ p other positive.
+          let apart : ¬ (processor_of e ≡ Some p) = λ same. other (number p (sym same ∙ on)) in
+          cost-same (processor_turn w q e).world w p (step-limits w.state e) (step-used_there w.state e p orderly.order apart) (step-found w.state e p orderly.order apart)
+          (λ t found. ap (λ o. unwrap_or o (record { rest = []; accumulator = 0 }))
+          (contexts-kept w q t (step w.state e).reply (λ named is. named-apart w.state e p q named t on (λ same. other (sym same)) is found))),
+    )
+  where
+    number : (p : ℕ) → Some p ≡ Some q → p ≡ q
+    number p same = cc
+
+console-keeps : (program : Program) (w : World) (commands : List Command) → IsOrderly w → TurnKeeps w 0 (console_turn program w commands)
+console-keeps program w [] orderly = (orderly, λ p other positive. refl)
+console-keeps program w (c ∷ cs) orderly =
+    let after = (step w.state (event.Command c)).state in
+    let grown = command-grown w.state c in
+    let more = new_contexts program w.state after in
+    let count : length more ≡ length (drop (length w.state.threads) after.threads) = length-map (drop (length w.state.threads) after.threads) _ in (
+      record {
+        order = step-order w.state (event.Command c) orderly.order;
+        contexts = omega (arith, orderly.contexts, grown.1.1, grown.1.2, count, length-drop (length w.state.threads) after.threads, length-append w.contexts more);
+      },
+      λ p other positive.
+          cost-same (console_turn program w (c ∷ cs)).world w p grown.0 (step-used_there w.state (event.Command c) p orderly.order (nobody p)) (step-found w.state (event.Command c) p orderly.order (nobody p))
+          (λ t found.
+          let runs = found-runs w.state.records p t found in
+          let there = numbered w.state.records t (status.Running p runs.0) runs.1 in
+          ap (λ o. unwrap_or o (record { rest = []; accumulator = 0 })) (number-after w.contexts more t there.0 (omega (arith, there.1, orderly.contexts)))),
+    )
+  where
+    nobody : (p : ℕ) → ¬ (None ≡ Some p)
+    nobody p e = cc
+
+pub turn-keeps : (program : Program) (w : World) (actor : ℕ) → IsOrderly w → TurnKeeps w actor (system_turn program w actor)
+turn-keeps program w actor orderly = at (actor == 0) refl
+  where
+    at : (b : Bool) → (actor == 0) ≡ b → TurnKeeps w actor (cond b (console_turn program w w.commands) (processor_turn w actor (processor_event w actor)))
+    at true is = let console : actor ≡ 0 = eqb-true actor 0 is in subst (λ a. TurnKeeps w a (console_turn program w w.commands)) (sym console) (console-keeps program w w.commands orderly)
+    at false is = processor-keeps w actor (processor_event w actor) (event-on w actor) orderly

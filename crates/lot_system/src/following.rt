@@ -1,0 +1,143 @@
+//! Making a program's turns in the order of time, and following what their report needs beside the system.
+ghost use Rattle.std.specs.Prelude.{◌≡◌, ℕ, ◌<◌, ◌≤◌, ◌+◌, ◌^◌, ◌++◌, List, [], ◌∷◌, Some, false, length, replicate, vec_len, IfNone, IfOk, IfSome};
+ghost use Rattle.lot_simulation.specs.TimedReport as reports;
+ghost use Rattle.lot_simulation.specs.Timed.{TimedTurn, clocks_after, is_idle_draw, next_due, turn_due};
+ghost use Rattle.lot_simulation.specs.World.{Program as ProgramRecord};
+ghost use Rattle.lot_simulation.specs.World.Answer.{Answered};
+ghost use Rattle.lot_system.specs.InTime.{HasFollowed, HasRoomFor, IsFollowed, moment_in, next_turns, turn_told};
+ghost use Rattle.lot_system.specs.Playing.{turn_in};
+ghost use Rattle.lot_system.specs.Seen.{after_turn};
+ghost use Rattle.lot_text.specs.Programs.{IsProgram};
+
+use crate::System;
+use crate::playing::slice_in;
+use crate::timeline::Timeline;
+use crate::turn::Unmade;
+use crate::waits::{WaitTable, mutex_change, reply_change};
+use lot_machine::{Event, Reply};
+use lot_simulation::Due;
+use lot_text::Program;
+use std::alloc::{AllocError, Global};
+
+/// The most turns that are made.
+pub(crate) const MOST_TURNS: u32 = 1000000;
+
+/// What is followed beside a system, from turn to turn.
+#[derive(Debug, Drop)]
+pub(crate) struct Following {
+    pub(crate) timeline: Timeline,
+    pub(crate) mutexes: WaitTable,
+    pub(crate) replies: WaitTable,
+    /// How many commands were refused.
+    pub(crate) refused: u64,
+}
+
+impl Following {
+    /// Before the first turn.
+    pub(crate) fn open(alloc: Global, program: &Program) -> Result<Following, AllocError>
+        ensures time { IfOk result (λ following. following.timeline.time ≡ 0) }
+        ensures clocks { IfOk result (λ following. following.timeline.clocks.items ≡ replicate program.now.limits.processors (record { time = 0; waits = false; idle = 0 })) }
+        ensures room { IfOk result (HasRoomFor program.now) }
+        ensures followed { IfOk result (HasFollowed [] 0) }
+        ensures legal { IsProgram program.now }
+    {
+        let limits = program.limits();
+        Ok(Following {
+            timeline: Timeline::open(alloc, limits.processors)?,
+            mutexes: WaitTable::open(alloc, limits.threads)?,
+            replies: WaitTable::open(alloc, limits.threads)?,
+            refused: 0,
+        })
+    }
+
+    /// Takes up a turn of this actor that was made at this time, with what it was answered.
+    fn follow(&mut self, time: u32, actor: u32, event: &Event, reply: Reply)
+        requires there { actor ≤ vec_len self.old.timeline.clocks }
+        requires followed { (done : List TimedTurn) × (n : ℕ) × (n < 2 ^ 31) × HasFollowed done n self.old }
+        ensures time { self.new.timeline.time ≡ time }
+        ensures clocks { self.new.timeline.clocks.items ≡ clocks_after self.old.timeline.clocks.items (record { time = time; actor = actor }) (is_idle_draw (Answered event.now reply)) }
+        ensures followed { (done : List TimedTurn) (n : ℕ) (turn : TimedTurn) → turn.time ≡ time → turn.turn.answer ≡ Answered event.now reply → HasFollowed done n self.old → HasFollowed (done ++ turn ∷ []) (n + 1) self.new }
+        ensures room { (program : ProgramRecord) → HasRoomFor program self.old → HasRoomFor program self.new }
+    {
+        self.timeline.follow(time, actor, reply);
+        self.mutexes.follow(time, mutex_change(event, reply));
+        self.replies.follow(time, reply_change(reply));
+        self.refused += refusals_in(reply);
+    }
+}
+
+/// 1 if a command was refused, and else 0.
+fn refusals_in(reply: Reply) -> u64
+    ensures refusals { result ≡ reports.refusals_in reply }
+    ensures few { result ≤ 1 }
+{
+    match reply {
+        Reply::Refused(_) => 1,
+        _ => 0,
+    }
+}
+
+/// A turn that was made in the order of time: when, by which actor, and what the kernel replied.
+#[derive(Clone, Copy, Debug, PartialEq, Eq)]
+pub struct TimedReply {
+    pub time: u32,
+    /// 0 is the console, and the others are the processors.
+    pub actor: u32,
+    pub reply: Reply,
+}
+
+/// Makes the next turn, if there is one, and puts the event that it was where it is asked for. Without one nothing changes. It takes
+/// no memory.
+pub(crate) fn make_next(
+    program: &Program,
+    system: &mut System,
+    following: &mut Following,
+    event: &mut Event,
+) -> Option<TimedReply>
+    requires { IsFollowed program.now system.old following.old }
+    ensures followed { IsFollowed program.now system.new following.new }
+    ensures none { IfNone result ((next_turns program.now system.old ≡ []) × (system.new ≡ system.old)) }
+    ensures next { IfSome result (λ told. next_turns program.now system.old ≡ turn_told system.old told ∷ []) }
+    ensures answer { IfSome result (λ told. (turn_in system.old told.actor).answer ≡ Answered event.new told.reply) }
+    ensures after { IfSome result (λ told. system.new ≡ after_turn system.old told.actor) }
+{
+    if system.is_full() {
+        return None;
+    }
+    let due = following.timeline.next_due(program, system)?;
+    Some(make_due(program, system, following, due, event))
+}
+
+/// Makes the turn that is due, and puts the event that it was where it is asked for.
+fn make_due(
+    program: &Program,
+    system: &mut System,
+    following: &mut Following,
+    due: Due,
+    event: &mut Event,
+) -> TimedReply
+    requires followed { IsFollowed program.now system.old following.old }
+    requires room { length system.old.history < system.old.setting.room }
+    requires due { next_due program.now (moment_in system.old following.old) ≡ Some due }
+    requires within { due.time < 2 ^ 32 }
+    ensures followed { IsFollowed program.now system.new following.new }
+    ensures next { next_turns program.now system.old ≡ turn_told system.old result ∷ [] }
+    ensures answer { (turn_in system.old result.actor).answer ≡ Answered event.new result.reply }
+    ensures after { system.new ≡ after_turn system.old result.actor }
+{
+    let slice = slice_in(system, program, due.actor);
+    match system.try_turn(due.actor, &slice, event) {
+        Ok(reply) => {
+            let told = TimedReply {
+                time: due.time as u32,
+                actor: due.actor,
+                reply,
+            };
+            following.follow(told.time, told.actor, event, reply);
+            told
+        }
+        Err(Unmade::Ended) => unreachable!(),
+        Err(Unmade::Stale) => unreachable!(),
+        Err(Unmade::HistoryFull) => unreachable!(),
+    }
+}

@@ -1,0 +1,72 @@
+//! Turns in the order of time, one after another.
+ghost use Rattle.std.specs.Prelude.{◌≡◌};
+
+use super::program_of;
+use lot_machine::{Event, Reply};
+use lot_system::TimedRun;
+use lot_text::Program;
+use std::process::Abort;
+use std::test::Fail;
+
+/// A thread comes at tick 2. It runs for 4 ticks to the end of its quantum, and for 2 and the one of its end.
+const COMES_LATER: &str = "lottery 3
+quantum 4
+for 12
+script s
+compute 6
+endscript
+at 2
+fundx 1 base a s
+";
+
+/// When a turn was made and by which actor, and its thread and how many ticks that ran.
+type Row = (u32, u32, u32, u32);
+
+/// What the next turn was, if there is one.
+fn next_of(program: &Program, run: &mut TimedRun) -> Option<Row>
+    requires { run.old.setting.program ≡ program.now }
+    ensures { run.new.setting.program ≡ program.now }
+{
+    let mut event = Event::Expire(0);
+    let told = run.next_turn(program, &mut event)?;
+    let (thread, ticks) = match told.reply {
+        Reply::Funded { thread, .. } | Reply::Winner { thread, .. } => (thread, 0),
+        Reply::Expired { thread, ticks } | Reply::Trapped { thread, ticks, .. } => (thread, ticks),
+        _ => (0, 0),
+    };
+    Some((told.time, told.actor, thread, ticks))
+}
+
+/// Makes the turns, and compares what each was.
+fn check_turns(rt: &impl Abort, program: &Program, run: &mut TimedRun, rows: &[Option<Row>])
+    requires { run.old.setting.program ≡ program.now }
+{
+    for row in rows {
+        assert_eq!(rt; next_of(program, run), *row);
+    }
+}
+
+// An idle draw waits for the thread, and another for nothing that comes.
+#[test]
+fn turns_in_time(rt: HostRuntime) -> Result<(), Fail> {
+    let program = program_of(rt.alloc(), COMES_LATER)?;
+    if program.duration().is_none() {
+        return Err("a duration".into());
+    }
+    let mut run = TimedRun::open(rt.alloc(), &program)?;
+    let rows = [
+        Some((0, 1, 0, 0)),
+        Some((2, 0, 1, 0)),
+        Some((2, 1, 1, 0)),
+        Some((6, 1, 1, 4)),
+        Some((6, 1, 1, 0)),
+        Some((9, 1, 1, 3)),
+        Some((9, 1, 0, 0)),
+        None,
+        None,
+    ];
+    check_turns(&rt, &program, &mut run, &rows);
+    let system = run.into_system();
+    assert_eq!(rt; system.history(), [1, 0, 1, 1, 1, 1, 1].as_slice());
+    Ok(())
+}
