@@ -1,10 +1,13 @@
-//! What pictures come to: laws of the definitions, with nothing to run.
-ghost use Rattle.std.specs.Prelude.{◌≡◌, ◌≤◌, ◌<◌, ◌+◌, ◌*◌, ℕ, All, List, length, map, slice_index};
+//! What pictures and tables come to: laws of the definitions, with nothing to run.
+ghost use Rattle.std.specs.Prelude.{◌≡◌, ◌≤◌, ◌<◌, ◌+◌, ◌*◌, ◌^◌, ℕ, All, List, length, map, slice_index};
+ghost use Rattle.lot_curves.specs.declared.stretch.Measure.{Measure as Measured};
 ghost use Rattle.lot_curves.specs.Curves as curves;
+ghost use Rattle.lot_curves.specs.Stretches.{last_end};
 ghost use Rattle.lot_chart.specs.declared.standings.Standing.{Standing as StandingRecord};
 ghost use Rattle.lot_chart.specs.Charts.{chart};
 ghost use Rattle.lot_chart.specs.Lines.{lines_of};
 ghost use Rattle.lot_chart.specs.Standings.{selection};
+ghost use Rattle.lot_chart.specs.Tables.{table};
 
 /// A picture has at most twelve lines. Their names are at least 16 units apart, and none is below the plot.
 pub fn names_do_not_overlap()
@@ -17,4 +20,13 @@ pub fn names_do_not_overlap()
 /// title.
 pub fn pictures_are_short()
     ensures { (title : List ℕ) (curves : curves.Curves) → All (λ name. length name ≤ 16) curves.names → length (chart title curves) ≤ 34000 + 10 * length title }
+{}
+
+/// A table of threads whose names have at most 16 bytes, as all names have, has at most 4226 bytes, and 4238 for each thread. Any
+/// `Curves` meets the other premises too: it has fewer than 2 ^ 32 stretches, their ticks and draws are `u32`, and the last ends
+/// before 2 ^ 56.
+pub fn tables_are_short()
+    ensures { (measure : Measured) (curves : curves.Curves) → All (λ name. length name ≤ 16) curves.names → length curves.stretches < 2 ^ 32
+        → All (λ s. s.ticks < 2 ^ 32) curves.stretches → All (λ s. s.draws < 2 ^ 32) curves.stretches → last_end curves.stretches < 2 ^ 64
+        → length (table measure curves) ≤ 4226 + 4238 * length curves.names }
 {}

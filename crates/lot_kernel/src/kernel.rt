@@ -1,5 +1,7 @@
 //! The kernel and its events.
-ghost use Rattle.std.specs.Prelude.{◌≡◌, ◌<◌, ◌≤◌, ◌^◌, [], None, Some, IfNone, IfOk, IfSome, MatchOption, length, option_map};
+ghost use Rattle.std.specs.Prelude.{◌≡◌, ◌<◌, ◌≤◌, ◌^◌, [], All, None, Some, IfNone, IfOk, IfSome, MatchOption, length, option_map, vec_len, vec_capacity};
+ghost use Rattle.lot_machine.specs.Bounds.{IsBetween};
+ghost use Rattle.lot_machine.specs.Mutexes.{mutex_at};
 ghost use Rattle.lot_machine.specs.Numbered as numbered;
 ghost use Rattle.lot_machine.specs.State.{funding_of, opening, sizes_of, thread_on, used_by};
 ghost use Rattle.lot_machine.specs.Step.{replies, state_after, step};
@@ -162,5 +164,17 @@ impl Kernel {
         ensures { result ≡ option_map (λ t. t.script) (numbered.at_number self.now.state.threads thread) }
     {
         self.tables.script_of(thread)
+    }
+
+    /// Lists in `out` the threads that wait for the mutex, the one that has waited longest first; none if there is no such mutex. It
+    /// takes no memory, since `out` has room for all threads.
+    pub fn list_waiters(&self, mutex: u32, out: &mut Vec<u32>)
+        requires { self.now.state.limits.threads ≤ vec_capacity out.old }
+        ensures waiters { out.new.items ≡ (mutex_at self.now.state.mutexes mutex).waiters }
+        ensures there { All (IsBetween 1 (length self.now.state.records)) out.new.items }
+        ensures few { vec_len out.new ≤ self.now.state.limits.threads }
+        ensures room { vec_capacity out.new ≡ vec_capacity out.old }
+    {
+        self.tables.list_waiters(mutex, out);
     }
 }

@@ -1,5 +1,6 @@
 //! The kernel's tables: what the machine's state is kept in.
-ghost use Rattle.std.specs.Prelude.{◌≡◌, IfOk, length};
+ghost use Rattle.std.specs.Prelude.{◌≡◌, ◌≤◌, IfOk, length, vec_len, vec_capacity};
+ghost use Rattle.lot_machine.specs.Mutexes.{mutex_at};
 ghost use Rattle.lot_machine.specs.Order.{IsInOrder};
 ghost use Rattle.lot_machine.specs.State.{sizes_of};
 ghost use Rattle.lot_machine.specs.Step.{step};
@@ -95,6 +96,20 @@ impl Tables {
         ensures { result ≡ length self.now.state.currencies }
     {
         self.currencies.len() as u32
+    }
+
+    /// Lists in `out` the threads that wait for the mutex, the one that has waited longest first; none if there is no such mutex. It
+    /// takes no memory.
+    pub(crate) fn list_waiters(&self, mutex: u32, out: &mut Vec<u32>)
+        requires { self.now.state.limits.threads ≤ vec_capacity out.old }
+        ensures waiters { out.new.items ≡ (mutex_at self.now.state.mutexes mutex).waiters }
+        ensures few { vec_len out.new ≤ self.now.state.limits.threads }
+        ensures room { vec_capacity out.new ≡ vec_capacity out.old }
+    {
+        out.clear();
+        if 0 < mutex && mutex <= self.queues.mutexes() {
+            self.queues.list_waiters(mutex, out);
+        }
     }
 
     /// One event.

@@ -1,6 +1,5 @@
 -- What `shares` and `chart` come to.
 use Rattle.std.specs.Prelude.{◌≡◌, ℕ, Option, Ok, Err, Result, List}
-use Rattle.std.specs.Io.KnownBytes.{Keeps}
 use Rattle.std.specs.declared.alloc.AllocError.{AllocError}
 use Rattle.lot_simulation.specs.declared.input.InputFault.{InputFault}
 use Rattle.lot_simulation.specs.Grammar.{program_in}
@@ -11,13 +10,11 @@ use Rattle.lot_curves.specs.Curves.{Curves, curves_of}
 use Rattle.lot_chart.specs.Tables.{table}
 use Rattle.lot_chart.specs.Charts.{chart}
 use Rattle.lot_text.specs.Watching.{Watch}
-use Rattle.lot_print.specs.Writing.{Begins}
 use Rattle.lot_system.specs.Played.{Plays}
 use Rattle.lot_system.specs.declared.playing.Played.{Played}
 use Rattle.lot_system.specs.declared.playing.Played.TheVariants.{Done}
 use Rattle.lot_system.specs.declared.fault.PlayFault.{PlayFault}
-use Rattle.lot_system.specs.declared.fault.PlayFault.TheVariants.{Memory, Write}
-use Rattle.lot_system.specs.Reading.{HasRead}
+use Rattle.lot_system.specs.declared.fault.PlayFault.TheVariants.{Memory}
 
 -- the text of the program's curves, or why the input is refused
 abbrev pub shown_of : (Curves → List ℕ) → Result Program InputFault → List ℕ
@@ -40,12 +37,3 @@ HasCurves input curves = (program : Program) × (input ≡ Ok program) × (curve
 abbrev pub Shows : {T : Type 0} {V : Type 0} → (T → Option (List ℕ)) → Watch T → Watch T → Result V AllocError → (V → List ℕ) → Result Played PlayFault → Type 0
 Shows contents old new (Ok text) bytes result = Plays contents old new result Done (bytes text)
 Shows contents old new (Err fault) bytes result = (result ≡ Err Memory) × (new ≡ old)
-
--- What a fault leaves: with Write a beginning of the text of what was read was written, and else nothing was.
-abbrev pub HasLeft : (List ℕ → List ℕ) → Option (List ℕ) → Option (List ℕ) → Option (List ℕ) → Option (List ℕ) → PlayFault → Type 0
-HasLeft text left rest old new Write = (bytes : List ℕ) × HasRead left rest bytes × Begins old new (text bytes)
-HasLeft text left rest old new other = Keeps old new
-
--- the same of a watched reader and a watched writer
-abbrev pub Leaves : (List ℕ → List ℕ) → {S : Type 0} {T : Type 0} → (S → Option (List ℕ)) → Watch S → Watch S → (T → Option (List ℕ)) → Watch T → Watch T → PlayFault → Type 0
-Leaves text remaining reader after contents old new fault = HasLeft text (remaining reader.inner) (remaining after.inner) (contents old.inner) (contents new.inner) fault

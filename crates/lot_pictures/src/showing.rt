@@ -1,17 +1,17 @@
 //! What is written of curves.
-ghost use Rattle.std.specs.Prelude.{◌≡◌, ℕ, List, [], false, true, IfErr, IfOk, OnOk};
+ghost use Rattle.std.specs.Prelude.{◌≡◌, ℕ, List, false, true, IfErr, IfOk, OnOk};
 ghost use Rattle.std.specs.Io.KnownBytes.{Appends};
 ghost use Rattle.lot_simulation.specs.Grammar.{program_in};
 ghost use Rattle.lot_text.specs.Faults.{IsFaultOf as IsParseFaultOf};
-ghost use Rattle.lot_system.specs.Played.{Plays, came_of};
+ghost use Rattle.lot_system.specs.Played.{Leaves, Plays, came_of};
 ghost use Rattle.lot_system.specs.Reading.{Reads};
 ghost use Rattle.lot_system.specs.Writing.{IsFaultOf, Writes};
-ghost use Rattle.lot_pictures.specs.Shown.{Leaves, HasCurves, Shows, chart_output, shares_output};
+ghost use Rattle.lot_pictures.specs.Shown.{HasCurves, Shows, chart_output, shares_output};
 
 use crate::gather;
 use lot_chart::table;
 use lot_curves::{Curves, Measure};
-use lot_system::{PlayFault, Played, read_input, refuse};
+use lot_system::{PlayFault, Played, flush, read_input, refuse};
 use lot_text::{ParseFault, Watched, parse};
 use std::alloc::{AllocError, Global};
 use std::io::{Read, Write};
@@ -135,18 +135,6 @@ fn write_unflushed<W: Write>(bytes: &[u8], writer: &mut Watched<W>) -> Result<()
     ensures { Writes W.contents writer.old writer.new result bytes.now }
 {
     match writer.write_all(bytes) {
-        Ok(()) => Ok(()),
-        Err(_) => Err(PlayFault::Write),
-    }
-}
-
-/// Flushes the writer.
-fn flush<W: Write>(writer: &mut Watched<W>) -> Result<(), PlayFault>
-    requires { writer.old.failed ≡ false }
-    ensures flushed { OnOk result (writer.new.flushed ≡ true) }
-    ensures text { Writes W.contents writer.old writer.new result [] }
-{
-    match writer.flush() {
         Ok(()) => Ok(()),
         Err(_) => Err(PlayFault::Write),
     }

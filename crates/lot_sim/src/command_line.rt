@@ -12,6 +12,7 @@ const TITLE: &str = "What each thread has run";
 #[derive(Clone, Copy, Debug)]
 pub(crate) enum Request<'a> {
     Play,
+    Explain,
     Run,
     /// What is measured of each thread.
     Shares(Measure),
@@ -27,6 +28,9 @@ pub(crate) fn request_of<'a, S: AsStr>(
     let play = Command::new(alloc, "play").about(
         "Reads an input from standard input, makes the turns of its schedule and writes a line for each, and a report",
     );
+    let explain = Command::new(alloc, "explain").about(
+        "Plays an input from standard input, and before each lottery that was won writes a line for each that took part in it, with its weight and its numbers",
+    );
     let run = Command::new(alloc, "run").about(
         "Reads an input from standard input, has threads make its commands and its processors' turns, and writes a report and a schedule that gives it back",
     );
@@ -34,11 +38,13 @@ pub(crate) fn request_of<'a, S: AsStr>(
         .about("A lottery scheduler with ticket currencies, simulated")
         .subcommand_required(true)
         .subcommand(play)?
+        .subcommand(explain)?
         .subcommand(run)?
         .subcommand(shares_command(alloc)?)?
         .subcommand(chart_command(alloc)?)?;
     let matches = command.try_get_matches_from(words)?;
     match matches.subcommand() {
+        Some(("explain", _)) => Ok(Request::Explain),
         Some(("run", _)) => Ok(Request::Run),
         Some(("shares", given)) => Ok(Request::Shares(measure_of(given))),
         Some(("chart", given)) => Ok(Request::Chart(given.get_str("title").unwrap_or(TITLE))),

@@ -1,9 +1,10 @@
 //! `lot_sim play` reads an input from standard input and writes what playing its schedule gives; `lot_sim run` has workers
-//! make its turns, and writes the report and a schedule that gives it back; `lot_sim shares` and `lot_sim chart` play the schedule
-//! and write what each thread has had over time, as a table and as a picture.
+//! make its turns, and writes the report and a schedule that gives it back; `lot_sim explain` writes besides who took part in each
+//! lottery that was won; `lot_sim shares` and `lot_sim chart` write what each thread has had over time, as a table and as a picture.
 #![tactic(auto)]
 
 mod command_line;
+mod explain;
 mod play;
 mod run;
 mod status;

@@ -3,7 +3,7 @@ ghost use Rattle.std.specs.Prelude.{◌≡◌, ℕ, List, false, true, IfErr, If
 ghost use Rattle.std.specs.Io.KnownBytes.{Appends};
 ghost use Rattle.lot_simulation.specs.Grammar.{program_in};
 ghost use Rattle.lot_simulation.specs.Output.{output};
-ghost use Rattle.lot_system.specs.Played.{PlayLeaves, came_of};
+ghost use Rattle.lot_system.specs.Played.{Leaves, came_of};
 ghost use Rattle.lot_system.specs.Reading.{Reads};
 
 use crate::told::Told;
@@ -23,7 +23,7 @@ pub(crate) fn play<R: Read, W: Write>(
     requires { (reader.old.failed ≡ false) × (writer.old.failed ≡ false) }
     ensures flushed { OnOk result (writer.new.flushed ≡ true) }
     ensures output { IfOk result (λ played. (bytes : List ℕ) × Reads R.remaining reader.old reader.new bytes × (played ≡ came_of (program_in bytes)) × Appends (W.contents writer.old.inner) (W.contents writer.new.inner) (output bytes)) }
-    ensures fault { IfErr result (λ fault. PlayLeaves R.remaining reader.old reader.new W.contents writer.old writer.new fault) }
+    ensures fault { IfErr result (λ fault. Leaves output R.remaining reader.old reader.new W.contents writer.old writer.new fault) }
 {
     let input = read_input(alloc, reader)?;
     told.take_up(alloc, input);

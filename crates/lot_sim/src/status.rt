@@ -1,6 +1,7 @@
 //! What the program does, as a function of its words, its input and its outputs.
 
 use crate::command_line::{Request, request_of};
+use crate::explain::explain;
 use crate::play::play;
 use crate::run::run;
 use crate::told::Told;
@@ -63,6 +64,7 @@ fn request_status<H: Threads + Wait + Sync, R: Read + Drop, W: Write + Drop, E: 
     let mut told = Told::nothing(alloc);
     let played = match request {
         Request::Play => play(alloc, &mut told, &mut reader, &mut writer).ok(),
+        Request::Explain => explain(alloc, &mut told, &mut reader, &mut writer).ok(),
         Request::Run => run(rt, alloc, &mut told, &mut reader, &mut writer).ok(),
         Request::Shares(measure) => {
             shares(alloc, measure, &mut told.input, &mut reader, &mut writer).ok()

@@ -215,9 +215,9 @@ module _ (program : Program) (seen : Seen) (following : Following) (is : IsFollo
 -- ---- what the next turn leaves
 
 -- the line that says what it answered is its text
-pub text-told : (program : Program) (seen after : Seen) (e : Event) (told : TimedReply) → next_turns program seen ≡ turn_told seen told ∷ [] → (turn_in seen told.actor).answer ≡ Answered e told.reply → after ≡ after_turn seen told.actor
-    → front (Timed told.time) ++ (decimal told.actor ++ (codes " " ++ reply_text (Timed told.time) (world_of after).state e told.reply)) ≡ flat_map timed_text (next_turns program seen)
-text-told program seen after e told next answer is =
+pub text-told : (program : Program) (seen made : Seen) (e : Event) (told : TimedReply) → next_turns program seen ≡ turn_told seen told ∷ [] → (turn_in seen told.actor).answer ≡ Answered e told.reply → made ≡ after_turn seen told.actor
+    → front (Timed told.time) ++ (decimal told.actor ++ (codes " " ++ reply_text (Timed told.time) (world_of made).state e told.reply)) ≡ flat_map timed_text (next_turns program seen)
+text-told program seen made e told next answer is =
     ap (λ (s : Seen). front (Timed told.time) ++ (decimal told.actor ++ (codes " " ++ reply_text (Timed told.time) (world_of s).state e told.reply))) is
     ∙ text-after seen told.actor e told.reply answer (Timed told.time)
     ∙ sym (append-nil (timed_text (turn_told seen told)))
@@ -243,7 +243,8 @@ texts-stopped program seen old mid new waits one two =
     subst (Begins old new) (sym texts) (begins-front old new (flat_map timed_text front ++ flat_map timed_text (take 1 left)) (flat_map timed_text (drop 1 left)) (puts-stop old mid new [] waits [] (flat_map timed_text front) (flat_map timed_text (take 1 left)) one two))
 
 module _ (program : Program) (seen : Seen) (following : Following) (is : IsFollowed program seen following) (then_seen : Seen) (then_following : Following) (more : Bool) (made : MadeNext program seen then_seen then_following more) where
-  done-next : turns_done program then_seen ≡ turns_done program seen ++ next_turns program seen
+  -- the turns that are made then are those before it and the next
+  pub done-next : turns_done program then_seen ≡ turns_done program seen ++ next_turns program seen
   done-next =
       let longer : length then_seen.history ≡ length seen.history + length (next_turns program seen) = made.length_is ∙ ap (λ k. length seen.history + k) (sym made.more_is) in
       ap (λ n. take n (timed_turns program)) longer ∙ take-add (length seen.history) (length (next_turns program seen)) (timed_turns program) ∙ ap (λ ts. turns_done program seen ++ ts) (take-own (drop (length seen.history) (timed_turns program)))

@@ -13,7 +13,7 @@ use Rattle.lot_simulation.specs.declared.timed.WaitChange.{WaitChange}
 use Rattle.lot_simulation.specs.declared.timed.WaitChange.TheVariants.{Nobody, Begins, Ends}
 use Rattle.lot_simulation.specs.declared.timed.Waits.{Waits}
 use Rattle.lot_simulation.specs.Report.{total_of}
-use Rattle.lot_simulation.specs.Timed.{Moment, TimedTurn, moment_after_all, opening_moment, timed_room, timed_turns, turns_from}
+use Rattle.lot_simulation.specs.Timed.{Moment, TimedTurn, moment_after_all, next_due, opening_moment, timed_room, timed_turns, turns_from}
 use Rattle.lot_simulation.specs.TimedReport.{actor_turns, mutex_change, refusals_in, reply_change, waits_after, waits_in}
 use Rattle.lot_simulation.specs.World.{Program, Answer}
 use Rattle.lot_system.specs.declared.following.Following.{Following}
@@ -122,6 +122,12 @@ pub record IsFollowed (program : Program) (seen : Seen) (following : Following) 
   pub left : length (world_of seen).commands ≡ length (moment_in seen following).times
   pub room : HasRoomFor program following
   pub followed : HasFollowed (turns_done program seen) (length seen.history) following
+
+-- this turn comes next, no later than the program's end, and there is room for it
+pub record IsDue (program : Program) (seen : Seen) (following : Following) (due : Due) : Type 0 where
+  pub room : length seen.history < seen.setting.room
+  pub first : next_due program (moment_in seen following) ≡ Some due
+  pub within : due.time < 2 ^ 32
 
 -- the next turn was made, if there is one, and the answer says whether
 pub record MadeNext (program : Program) (old new : Seen) (following : Following) (more : Bool) : Type 0 where

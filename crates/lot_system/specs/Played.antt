@@ -1,8 +1,7 @@
--- What `play` comes to.
+-- What an input comes to that is played, or shown in another way.
 use Rattle.std.specs.Prelude.{◌≡◌, ℕ, Bool, true, false, Option, Ok, Err, Result, List}
 use Rattle.std.specs.Io.KnownBytes.{Appends, Keeps}
 use Rattle.lot_simulation.specs.declared.input.InputFault.{InputFault}
-use Rattle.lot_simulation.specs.Output.{output}
 use Rattle.lot_simulation.specs.World.{Program}
 use Rattle.lot_system.specs.declared.playing.Played.{Played}
 use Rattle.lot_system.specs.declared.playing.Played.TheVariants.{Done, Refused}
@@ -28,11 +27,11 @@ EndsPlay old new failed (Err Read) came text = ⊥
 abbrev pub Plays : {T : Type 0} → (T → Option (List ℕ)) → Watch T → Watch T → Result Played PlayFault → Played → List ℕ → Type 0
 Plays contents old new result came text = EndsPlay (contents old.inner) (contents new.inner) new.failed result came text
 
--- What a fault leaves: with Write a beginning of the output of what was read was written, and else nothing was.
-abbrev pub HasLeft : Option (List ℕ) → Option (List ℕ) → Option (List ℕ) → Option (List ℕ) → PlayFault → Type 0
-HasLeft left rest old new Write = (bytes : List ℕ) × HasRead left rest bytes × Begins old new (output bytes)
-HasLeft left rest old new other = Keeps old new
+-- What a fault leaves: with Write a beginning of the text of what was read was written, and else nothing was.
+abbrev pub HasLeft : (List ℕ → List ℕ) → Option (List ℕ) → Option (List ℕ) → Option (List ℕ) → Option (List ℕ) → PlayFault → Type 0
+HasLeft text left rest old new Write = (bytes : List ℕ) × HasRead left rest bytes × Begins old new (text bytes)
+HasLeft text left rest old new other = Keeps old new
 
 -- the same of a watched reader and a watched writer
-abbrev pub PlayLeaves : {S : Type 0} {T : Type 0} → (S → Option (List ℕ)) → Watch S → Watch S → (T → Option (List ℕ)) → Watch T → Watch T → PlayFault → Type 0
-PlayLeaves remaining reader after contents old new fault = HasLeft (remaining reader.inner) (remaining after.inner) (contents old.inner) (contents new.inner) fault
+abbrev pub Leaves : (List ℕ → List ℕ) → {S : Type 0} {T : Type 0} → (S → Option (List ℕ)) → Watch S → Watch S → (T → Option (List ℕ)) → Watch T → Watch T → PlayFault → Type 0
+Leaves text remaining reader after contents old new fault = HasLeft text (remaining reader.inner) (remaining after.inner) (contents old.inner) (contents new.inner) fault

@@ -1,10 +1,10 @@
 //! Making a program's turns in the order of time, and following what their report needs beside the system.
 ghost use Rattle.std.specs.Prelude.{◌≡◌, ℕ, ◌<◌, ◌≤◌, ◌+◌, ◌^◌, ◌++◌, List, [], ◌∷◌, Some, false, length, replicate, vec_len, IfNone, IfOk, IfSome};
 ghost use Rattle.lot_simulation.specs.TimedReport as reports;
-ghost use Rattle.lot_simulation.specs.Timed.{TimedTurn, clocks_after, is_idle_draw, next_due, turn_due};
+ghost use Rattle.lot_simulation.specs.Timed.{TimedTurn, clocks_after, is_idle_draw};
 ghost use Rattle.lot_simulation.specs.World.{Program as ProgramRecord};
 ghost use Rattle.lot_simulation.specs.World.Answer.{Answered};
-ghost use Rattle.lot_system.specs.InTime.{HasFollowed, HasRoomFor, IsFollowed, moment_in, next_turns, turn_told};
+ghost use Rattle.lot_system.specs.InTime.{HasFollowed, HasRoomFor, IsDue, IsFollowed, next_turns, turn_told};
 ghost use Rattle.lot_system.specs.Playing.{turn_in};
 ghost use Rattle.lot_system.specs.Seen.{after_turn};
 ghost use Rattle.lot_text.specs.Programs.{IsProgram};
@@ -22,14 +22,17 @@ use std::alloc::{AllocError, Global};
 /// The most turns that are made.
 pub(crate) const MOST_TURNS: u32 = 1000000;
 
-/// What is followed beside a system, from turn to turn.
+/// What is followed beside a system whose turns are made in the order of time, from turn to turn.
 #[derive(Debug, Drop)]
-pub(crate) struct Following {
-    pub(crate) timeline: Timeline,
-    pub(crate) mutexes: WaitTable,
-    pub(crate) replies: WaitTable,
+pub struct Following {
+    /// The processors' clocks.
+    pub timeline: Timeline,
+    /// How each thread has waited for mutexes.
+    pub mutexes: WaitTable,
+    /// How each thread has waited for replies.
+    pub replies: WaitTable,
     /// How many commands were refused.
-    pub(crate) refused: u64,
+    pub refused: u64,
 }
 
 impl Following {
@@ -48,6 +51,18 @@ impl Following {
             replies: WaitTable::open(alloc, limits.threads)?,
             refused: 0,
         })
+    }
+
+    /// The turn that comes next, if there is one: when it will be made, and by which actor.
+    pub fn next_due(&self, program: &Program, system: &System) -> Option<Due>
+        requires { IsFollowed program.now system.now self.now }
+        ensures none { IfNone result (next_turns program.now system.now ≡ []) }
+        ensures due { IfSome result (IsDue program.now system.now self.now) }
+    {
+        if system.is_full() {
+            return None;
+        }
+        self.timeline.next_due(program, system)
     }
 
     /// Takes up a turn of this actor that was made at this time, with what it was answered.
@@ -101,15 +116,12 @@ pub(crate) fn make_next(
     ensures answer { IfSome result (λ told. (turn_in system.old told.actor).answer ≡ Answered event.new told.reply) }
     ensures after { IfSome result (λ told. system.new ≡ after_turn system.old told.actor) }
 {
-    if system.is_full() {
-        return None;
-    }
-    let due = following.timeline.next_due(program, system)?;
+    let due = following.next_due(program, system)?;
     Some(make_due(program, system, following, due, event))
 }
 
-/// Makes the turn that is due, and puts the event that it was where it is asked for.
-fn make_due(
+/// Makes the turn that comes next, and puts the event that it was where it is asked for. It takes no memory.
+pub fn make_due(
     program: &Program,
     system: &mut System,
     following: &mut Following,
@@ -117,10 +129,9 @@ fn make_due(
     event: &mut Event,
 ) -> TimedReply
     requires followed { IsFollowed program.now system.old following.old }
-    requires room { length system.old.history < system.old.setting.room }
-    requires due { next_due program.now (moment_in system.old following.old) ≡ Some due }
-    requires within { due.time < 2 ^ 32 }
+    requires due { IsDue program.now system.old following.old due }
     ensures followed { IsFollowed program.now system.new following.new }
+    ensures due { (result.time ≡ due.time) × (result.actor ≡ due.actor) }
     ensures next { next_turns program.now system.old ≡ turn_told system.old result ∷ [] }
     ensures answer { (turn_in system.old result.actor).answer ≡ Answered event.new result.reply }
     ensures after { system.new ≡ after_turn system.old result.actor }

@@ -92,7 +92,7 @@ impl Leftovers {
 
     /// Takes up what the actor's turn answered.
     #[inline(always)]
-    pub(crate) fn note(&mut self, actor: u32, reply: Reply) {
+    pub fn note(&mut self, actor: u32, reply: Reply) {
         if actor == 0 {
             self.note_command(reply);
         }

@@ -11,7 +11,7 @@ ghost use Rattle.lot_simulation.specs.World.{opening_world};
 ghost use Rattle.lot_script.specs.Places.{Fits};
 ghost use Rattle.lot_system.specs.Held.{script_lines};
 ghost use Rattle.lot_system.specs.Playing.{HasPlayed, IsOpened, IsPlayed, turn_in};
-ghost use Rattle.lot_system.specs.Played.{PlayLeaves, Plays, came_of};
+ghost use Rattle.lot_system.specs.Played.{Leaves, Plays, came_of};
 ghost use Rattle.lot_system.specs.declared.playing.Played.TheVariants.{Done, Refused};
 ghost use Rattle.lot_system.specs.Reading.{Reads};
 ghost use Rattle.lot_system.specs.Seen.{world_of};
@@ -55,7 +55,7 @@ pub fn play<R: Read, W: Write>(
     ensures flushed { OnOk result (writer.new.flushed ≡ true) }
     ensures err { IfErr result (λ fault. IsFaultOf fault reader.new.failed writer.new.failed) }
     ensures output { IfOk result (λ played. (bytes : List ℕ) × Reads R.remaining reader.old reader.new bytes × (played ≡ came_of (program_in bytes)) × Appends (W.contents writer.old.inner) (W.contents writer.new.inner) (output bytes)) }
-    ensures fault { IfErr result (λ fault. PlayLeaves R.remaining reader.old reader.new W.contents writer.old writer.new fault) }
+    ensures fault { IfErr result (λ fault. Leaves output R.remaining reader.old reader.new W.contents writer.old writer.new fault) }
 {
     let mut bytes = read_input(alloc, reader)?;
     let mut leftovers = Leftovers::none(alloc);
@@ -82,7 +82,7 @@ pub fn play_bytes<W: Write>(
 }
 
 /// What the bytes say. If they aren't refused, their memory is free again.
-fn program_of(alloc: Global, bytes: &mut Vec<u8>) -> Result<Program, ParseFault>
+pub fn program_of(alloc: Global, bytes: &mut Vec<u8>) -> Result<Program, ParseFault>
     ensures program { IfOk result (λ program. program_in bytes.old.items ≡ Ok program) }
     ensures fault { IfErr result (IsParseFaultOf (program_in bytes.old.items)) }
 {
@@ -261,7 +261,7 @@ fn play_slice<W: Write>(
 
 /// The slice of the actor's work, if it has any.
 #[inline(always)]
-pub(crate) fn slice_in<'a>(system: &System, program: &'a Program, actor: u32) -> Option<Slice<'a>>
+pub fn slice_in<'a>(system: &System, program: &'a Program, actor: u32) -> Option<Slice<'a>>
     requires { system.now.setting.program ≡ program.now }
     ensures { IsFresh system.now actor result }
 {
@@ -273,7 +273,7 @@ pub(crate) fn slice_in<'a>(system: &System, program: &'a Program, actor: u32) ->
 
 /// Puts on the page what a turn answered. A listing that was asked for is written at once.
 #[inline(always)]
-pub(crate) fn put_answer<W: Write>(
+pub fn put_answer<W: Write>(
     system: &mut System,
     manner: Manner,
     actor: u32,

@@ -94,10 +94,7 @@ fn write_total<W: Write>(system: &System, writer: &mut Watched<W>) -> Result<(),
 }
 
 /// Writes the report: a line for each thread, a line for each processor, and the totals.
-pub(crate) fn write_report<W: Write>(
-    system: &mut System,
-    writer: &mut Watched<W>,
-) -> Result<(), PlayFault>
+pub fn write_report<W: Write>(system: &mut System, writer: &mut Watched<W>) -> Result<(), PlayFault>
     requires { writer.old.failed ≡ false }
     ensures same { system.new ≡ system.old }
     ensures text { Writes W.contents writer.old writer.new result (reports.report system.old.setting.program system.old.history) }

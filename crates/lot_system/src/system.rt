@@ -1,6 +1,7 @@
 //! The system.
 ghost use Rattle.std.specs.Prelude.{◌≡◌, ◌↔◌, ◌<◌, ◌≤◌, ◌*◌, ◌^◌, [], ◌∷◌, ◌++◌, All, IfOk, IfErr, IsTrue, length, vec_len, vec_capacity};
 ghost use Rattle.lot_machine.specs.Bounds.{IsBetween};
+ghost use Rattle.lot_machine.specs.Mutexes.{mutex_at};
 ghost use Rattle.lot_machine.specs.Rows as rows;
 ghost use Rattle.lot_machine.specs.State.{sizes_of};
 ghost use Rattle.lot_simulation.specs.World.Answer.{Answered};
@@ -313,8 +314,20 @@ impl System {
         self.kernel.thread_row(thread)
     }
 
+    /// Lists in `out` the threads that wait for the mutex, the one that has waited longest first; none if there is no such mutex. It
+    /// takes no memory, since `out` has room for all threads.
+    pub fn list_waiters(&self, mutex: u32, out: &mut Vec<u32>)
+        requires { self.now.setting.program.limits.threads ≤ vec_capacity out.old }
+        ensures waiters { out.new.items ≡ (mutex_at (world_of self.now).state.mutexes mutex).waiters }
+        ensures there { All (IsBetween 1 (length (world_of self.now).state.records)) out.new.items }
+        ensures few { vec_len out.new ≤ self.now.setting.program.limits.threads }
+        ensures room { vec_capacity out.new ≡ vec_capacity out.old }
+    {
+        self.kernel.list_waiters(mutex, out);
+    }
+
     /// The unit of the program.
-    pub(crate) fn unit(&self) -> u32
+    pub fn unit(&self) -> u32
         ensures program { result ≡ self.now.setting.program.limits.unit }
         ensures world { result ≡ (world_of self.now).state.limits.unit }
         ensures some { 0 < result }

@@ -25,8 +25,9 @@ use lot_print::{
 use lot_text::{Program, Watched};
 use std::io::Write;
 
-/// Writes the report: a line for each thread, a line for each processor, and the totals.
-pub(crate) fn write_timed_report<W: Write>(
+/// Writes the report of a system that has made all of its program's turns in the order of time: a line for each thread, a line for
+/// each processor, and the totals.
+pub fn write_timed_report<W: Write>(
     program: &Program,
     system: &mut System,
     following: &Following,

@@ -17,8 +17,10 @@ use std::marker::Model;
 /// Contracts see it as they see the system: its program, its room and its history.
 #[derive(Drop)]
 pub struct TimedRun {
-    pub(crate) system: System,
-    pub(crate) following: Following,
+    /// The system, with the turns that were made.
+    pub system: System,
+    /// What is followed beside it.
+    pub following: Following,
 }
 
 impl Model for TimedRun {

@@ -22,10 +22,11 @@ use std::alloc::{AllocError, Global};
 
 /// The processors' clocks.
 #[derive(Debug, Drop)]
-pub(crate) struct Timeline {
+pub struct Timeline {
     /// When the last turn was made.
-    pub(crate) time: u32,
-    pub(crate) clocks: Vec<Clock>,
+    pub time: u32,
+    /// Each processor's clock, the first with number 1.
+    pub clocks: Vec<Clock>,
 }
 
 impl Timeline {

@@ -26,8 +26,9 @@ const NO_WAITS: Waits = Waits {
 
 /// How each thread has waited, the first with number 1.
 #[derive(Debug, Drop)]
-pub(crate) struct WaitTable {
-    pub(crate) threads: Vec<Waits>,
+pub struct WaitTable {
+    /// What the waits of each thread come to.
+    pub threads: Vec<Waits>,
 }
 
 impl WaitTable {

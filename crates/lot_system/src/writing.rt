@@ -6,8 +6,8 @@ use crate::PlayFault;
 use lot_text::Watched;
 use std::io::Write;
 
-/// Flushes the writer.
-pub(crate) fn flush<W: Write>(writer: &mut Watched<W>) -> Result<(), PlayFault>
+/// Flushes the writer, and writes nothing.
+pub fn flush<W: Write>(writer: &mut Watched<W>) -> Result<(), PlayFault>
     requires { writer.old.failed ≡ false }
     ensures flushed { OnOk result (writer.new.flushed ≡ true) }
     ensures text { Writes W.contents writer.old writer.new result [] }

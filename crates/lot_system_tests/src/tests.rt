@@ -1,5 +1,7 @@
 //! Systems: turns and what each answers, reports, histories, the texts of faults, and runs in which memory is refused.
 
+ghost use Rattle.std.specs.Prelude.{◌≡◌};
+
 mod faults;
 mod memory;
 mod reports;
@@ -47,7 +49,9 @@ fn program_of(alloc: Global, input: &str) -> Result<Program, Fail> {
 }
 
 /// The actor's turn, with the slice of its work if it has any; whether it was made.
-fn make_turn(system: &mut System, program: &Program, actor: u32) -> Result<bool, Fail> {
+fn make_turn(system: &mut System, program: &Program, actor: u32) -> Result<bool, Fail>
+    ensures { system.new.setting ≡ system.old.setting }
+{
     if actor > system.processors() {
         return Err("an actor".into());
     }
@@ -66,7 +70,9 @@ fn make_turn(system: &mut System, program: &Program, actor: u32) -> Result<bool,
 }
 
 /// A turn of each of these actors, in order.
-fn make_turns(system: &mut System, program: &Program, actors: &[u8]) -> Result<(), Fail> {
+fn make_turns(system: &mut System, program: &Program, actors: &[u8]) -> Result<(), Fail>
+    ensures { system.new.setting ≡ system.old.setting }
+{
     for actor in actors {
         if !make_turn(system, program, u32::from(*actor))? {
             return Err("a turn".into());

@@ -3,7 +3,7 @@ use super::{
     Line, Step, answer, check_run, check_thread, largest, play, take_all, thread_row, won,
 };
 use lot_kernel::{Action, Event, Kernel, Outcome, Refusal, Reply, Status, TrapRefusal};
-use std::alloc::Global;
+use std::alloc::{AllocError, Global};
 use std::process::Abort;
 use std::test::Fail;
 
@@ -564,4 +564,37 @@ fn a_server_of_two_clients(rt: HostRuntime) -> Result<(), Fail> {
         &[(10, "v"), (20, "c"), (30, "d")],
         &TWO_CLIENTS,
     )
+}
+
+/// One thread locks a mutex, and the two others wait for it, the last first.
+const TWO_WAITERS: [Event; 7] = [
+    Event::Draw(1, 0),
+    Event::Trap(1, 0, Action::Lock(1)),
+    Event::Trap(1, 0, Action::Yield),
+    Event::Draw(1, 2800),
+    Event::Trap(1, 0, Action::Lock(1)),
+    Event::Draw(1, 7500),
+    Event::Trap(1, 0, Action::Lock(1)),
+];
+
+/// The threads that wait for the mutex.
+fn waiters_for(alloc: Global, kernel: &Kernel, mutex: u32) -> Result<Vec<u32>, AllocError> {
+    let mut waiters = Vec::with_capacity(alloc, kernel.limits().threads as usize)?;
+    kernel.list_waiters(mutex, &mut waiters);
+    Ok(waiters)
+}
+
+#[test]
+fn waiters_stand_in_order_of_waiting(rt: HostRuntime) -> Result<(), Fail> {
+    let mut kernel = largest(rt.alloc(), 1)?;
+    fund(&mut kernel, &[(50, "a"), (300, "b"), (100, "c")])?;
+    assert!(rt; waiters_for(rt.alloc(), &kernel, 1)?.is_empty());
+    for event in &TWO_WAITERS {
+        kernel.event(event);
+    }
+    let waiters = waiters_for(rt.alloc(), &kernel, 1)?;
+    assert_eq!(rt; waiters.as_slice(), [3, 2].as_slice());
+    assert!(rt; waiters_for(rt.alloc(), &kernel, 2)?.is_empty());
+    assert!(rt; waiters_for(rt.alloc(), &kernel, 300)?.is_empty());
+    Ok(())
 }

@@ -1,4 +1,4 @@
-//! Tables and pictures of what threads have run.
+//! Tables and pictures of what threads have run, and lotteries that are explained.
 use super::{check_words, check_words_on};
 use crate::status::status;
 use std::test::Fail;
@@ -83,4 +83,33 @@ fn draws_and_titles(rt: HostRuntime) -> Result<(), Fail> {
     );
     assert!(rt; text.as_str().ends_with("</svg>\n"));
     Ok(())
+}
+
+/// What is written to explain the input.
+const EXPLAINED: &str = "0 ticket 1
+0 thread 1
+0 done
+0 thread 2
+1 lot thread 1 a weight 1 from 0 below 1 wins
+1 lot thread 2 b weight 0 from 1 below 1
+1 draw 0 of 1 thread 1
+1 thread 1 ticks 2 expire
+1 lot thread 1 a weight 1 from 0 below 1 wins
+1 lot thread 2 b weight 0 from 1 below 1
+1 draw 0 of 1 thread 1
+1 thread 1 ticks 2 expire
+report
+thread 1 a quanta 2 ticks 4
+thread 2 b quanta 0 ticks 0
+processor 1 quanta 2 idle 0 ticks 4
+total turns 8 quanta 2 ticks 4
+";
+
+#[test]
+fn explained(rt: HostRuntime) {
+    let alloc = rt.alloc();
+    check_words_on(&rt, alloc, "explain", INPUT, 0, EXPLAINED);
+    let refused = "refused line 1 50 BadHeader\n";
+    check_words_on(&rt, alloc, "explain", "lottery 9\n", 1, refused);
+    check_words(&rt, alloc, &["lot_sim", "explain", "x"], 2, false);
 }

@@ -90,17 +90,12 @@ mkthr b t
 mkcur c
 schedule 0 0
 ";
-    check_told(
-        &rt,
-        rt.alloc(),
-        ["lot_sim", "play"],
-        input,
-        0,
-        "line 7: the command was refused: an amount is a number from 1 to 4294967295
+    let expected = "line 7: the command was refused: an amount is a number from 1 to 4294967295
 line 11: the command was refused: no script of an earlier line has this name
 line 12: this command and those after it, 2 in all, were never made: each 0 in a schedule makes one, and lottery 3 makes those up to its end
-",
-    );
+";
+    check_told(&rt, rt.alloc(), ["lot_sim", "play"], input, 0, expected);
+    check_told(&rt, rt.alloc(), ["lot_sim", "explain"], input, 0, expected);
 }
 
 #[test]

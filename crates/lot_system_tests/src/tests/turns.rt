@@ -1,6 +1,6 @@
 //! Turns of small systems, in order: what each answers, and the faults.
 
-use super::{SPINNER, program_of};
+use super::{SPINNER, make_turns, program_of};
 use lot_machine::{Outcome, Reply};
 use lot_script::Slice;
 use lot_system::{Answer, System, TurnFault};
@@ -287,5 +287,36 @@ fn last_entry(rt: HostRuntime) -> Result<(), Fail> {
     assert_eq!(rt; idle_draws(&mut system, 1_000_000), 1_000_000);
     assert_eq!(rt; idle_draws(&mut system, 1), 0);
     assert_eq!(rt; system.history().len(), 1_000_000);
+    Ok(())
+}
+
+/// One thread locks a mutex and yields, and the next one waits for it. By the seed each draw has the winner that is meant.
+const WAITING: &str = "lottery 1
+quantum 10
+seed 132
+mutex m
+script one
+lock m
+compute 2
+yield
+unlock m
+endscript
+fundx 3 base a one
+fundx 2 base b one
+fundx 1 base c one
+schedule 0 0 0 1 1 1 1 1 1 1
+";
+
+#[test]
+fn waiters_stand_in_order_of_waiting(rt: HostRuntime) -> Result<(), Fail> {
+    let program = program_of(rt.alloc(), WAITING)?;
+    let threads = program.limits().threads as usize;
+    let mut waiters = Vec::with_capacity(rt.alloc(), threads)?;
+    let mut system = System::open(rt.alloc(), &program, 10)?;
+    make_turns(&mut system, &program, program.schedule())?;
+    system.list_waiters(1, &mut waiters);
+    assert_eq!(rt; waiters.as_slice(), [2, 3].as_slice());
+    system.list_waiters(2, &mut waiters);
+    assert!(rt; waiters.is_empty());
     Ok(())
 }

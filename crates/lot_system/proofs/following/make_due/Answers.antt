@@ -12,7 +12,7 @@ try_turn-requires c =
     let program = c.args.program.now in
     let seen = c.args.system.now in
     let followed = c.requires.followed in
-    let there = due-there program (moment_in seen c.args.following.now) c.args.due c.requires.due in
+    let there = due-there program (moment_in seen c.args.following.now) c.args.due c.requires.due.first in
     omega (arith, there.0, ap (λ (p : Program). p.limits.processors) followed.program_is)
 
 pub unreachable-requires : goal.unreachable-requires
@@ -20,7 +20,7 @@ unreachable-requires c =
     let program = c.args.program.now in
     let seen = c.args.system.now in
     let followed = c.requires.followed in
-    let there = due-there program (moment_in seen c.args.following.now) c.args.due c.requires.due in
+    let there = due-there program (moment_in seen c.args.following.now) c.args.due c.requires.due.first in
     let ended = (rw c.in-Err-Ended.field-0-is at c.in-Err-Ended.ensures.err).0.1 in
     omega (arith, there.1 ended.0, followed.left, ap length ended.1)
 
@@ -29,7 +29,7 @@ follow-requires c =
     let program = c.args.program.now in
     let seen = c.args.system.now in
     let followed = c.requires.followed in
-    let there = due-there program (moment_in seen c.args.following.now) c.args.due c.requires.due in
+    let there = due-there program (moment_in seen c.args.following.now) c.args.due c.requires.due.first in
     record {
       there = omega (arith, there.0, followed.room.clocks, c.args.following.now.timeline.clocks.ok.0);
       followed = (turns_done program seen, length seen.history, omega (arith, within-room program seen c.args.following.now followed, room-small), followed.followed);
@@ -44,15 +44,16 @@ returns c =
     let e = c.try_turn.new.event in
     let r = c.in-Ok.reply in
     let followed = c.requires.followed in
-    let room : length seen.history < timed_room = omega (arith, c.requires.room, followed.room_is) in
+    let room : length seen.history < timed_room = omega (arith, c.requires.due.room, followed.room_is) in
     let made = c.in-Ok.ensures.ok in
     let turn = turn_due program (moment_in seen following) due in
-    let after = c.follow.ensures.followed (turns_done program seen) (length seen.history) turn refl (answer-is program seen following followed due c.requires.due room e r made.2 c.follow.new.self c.follow.ensures.time c.follow.ensures.clocks) followed.followed in
-    let next : IsFollowed program (after_turn seen due.actor) c.follow.new.self = followed-more program seen following followed due c.requires.due room e r made.2 c.follow.new.self c.follow.ensures.time c.follow.ensures.clocks after (c.follow.ensures.room program followed.room) in
+    let after = c.follow.ensures.followed (turns_done program seen) (length seen.history) turn refl (answer-is program seen following followed due c.requires.due.first room e r made.2 c.follow.new.self c.follow.ensures.time c.follow.ensures.clocks) followed.followed in
+    let next : IsFollowed program (after_turn seen due.actor) c.follow.new.self = followed-more program seen following followed due c.requires.due.first room e r made.2 c.follow.new.self c.follow.ensures.time c.follow.ensures.clocks after (c.follow.ensures.room program followed.room) in
     let same : turn ≡ turn_told seen (record { time = due.time; actor = due.actor; reply = r }) = ap (λ (p : Program). record { time = due.time; actor = due.actor; turn = system_turn p (world_of seen) due.actor }) (sym followed.program_is) in
     record {
       followed = subst (λ s. IsFollowed program s c.follow.new.self) (sym made.1) next;
-      next = one-next program seen following followed due c.requires.due room ∙ ap (λ t. t ∷ []) same;
+      next = one-next program seen following followed due c.requires.due.first room ∙ ap (λ t. t ∷ []) same;
+      due = (refl, refl);
       answer = made.2;
       after = made.1;
     }

@@ -1,0 +1,11 @@
+pub mod EventFacts
+pub mod GatheringFacts
+pub mod LineFacts
+pub mod WonFacts
+pub mod TurnFacts
+pub mod TimeTexts
+pub mod Lengths
+pub mod ShortLots
+pub mod ShortTurns
+pub mod ReadPrograms
+pub mod ShortTexts

@@ -1,0 +1,99 @@
+-- What explains turns is longer than what is written of them by a line for each turn and each thread that there may be at most.
+use Rattle.std.proofs.Common.{◌≡◌, ℕ, zero, suc, ◌+◌, ◌*◌, ◌^◌, ◌<◌, ◌≤◌, nat_lt, Bool, true, false, cond, Option, Some, None, Ok, List, [], ◌∷◌, ◌++◌, length, refl, ap, arith, length-append}
+use Rattle.std.specs.Prelude.{All}
+use Rattle.std.specs.List.{flat_map}
+use Rattle.std.proofs.lemmas.Bool.{ltb-false}
+use Rattle.lot_machine.specs.Bounds.{IsWithinBounds}
+use Rattle.lot_machine.proofs.Tickets.{some-injective}
+use Rattle.lot_simulation.specs.declared.manner.Manner.TheVariants.{Whole, Timed}
+use Rattle.lot_simulation.specs.declared.timed.Due.{Due}
+use Rattle.lot_simulation.specs.Grammar.{program_in}
+use Rattle.lot_simulation.specs.Output.{output, played_output, scheduled_output, timed_output, timed_text, turn_text, turn_texts}
+use Rattle.lot_simulation.specs.Report.{report}
+use Rattle.lot_simulation.specs.Timed.{Moment, TimedTurn, all_due, due_first, earliest, end_of, moment_after, next_due, opening_moment, timed_room, timed_turns, turn_due, turns_from, within}
+use Rattle.lot_simulation.specs.TimedReport.{timed_report}
+use Rattle.lot_simulation.specs.World.{Program, World, opening_world, system_run, system_turn}
+use Rattle.lot_explain.specs.Explained.{explained_in_time, explained_output, explained_program, explained_schedule, explained_texts, explained_times, lots_text}
+use Rattle.lot_explain.specs.Short.{HasShortName, turn_count}
+use Rattle.lot_explain.proofs.ReadPrograms.{IsReadProgram, program-read}
+use Rattle.lot_explain.proofs.ShortTurns.{IsShort, opening-short, turn-keeps, turn-short}
+
+-- One turn more: its lots are at most so many bytes, and so are those of each of the turns after it.
+more-short : (most n : ℕ) (lots turn explained written : List ℕ) → length lots ≤ most → length explained ≤ length written + n * most → length ((lots ++ turn) ++ explained) ≤ length (turn ++ written) + suc n * most
+more-short most n lots turn explained written few rest =
+    omega (arith, length-append (lots ++ turn) explained, length-append lots turn, length-append turn written, few, rest)
+
+-- what comes after both
+after-short : (more : ℕ) (explained written end : List ℕ) → length explained ≤ length written + more → length (explained ++ end) ≤ length (written ++ end) + more
+after-short more explained written end few = omega (arith, length-append explained end, length-append written end, few)
+
+-- ---- by a schedule
+
+-- what explains the turns of actors
+texts-short : (program : Program) (w : World) (actors : List ℕ) → IsShort program.limits w → length (explained_texts program w actors) ≤ length (turn_texts program w actors) + length actors * (program.limits.threads * 139)
+texts-short program w [] short = omega arith
+texts-short program w (actor ∷ actors) short =
+    let turn = system_turn program w actor in
+    more-short (program.limits.threads * 139) (length actors) (lots_text Whole actor w.state turn.answer) (turn_text Whole actor turn) (explained_texts program turn.world actors) (turn_texts program turn.world actors)
+    (turn-short Whole program w actor tt short) (texts-short program turn.world actors (turn-keeps program w actor short))
+
+-- and what explains the whole schedule, with the report
+pub schedule-short : (program : Program) → IsWithinBounds program.limits → All HasShortName program.commands
+    → length (explained_schedule program) ≤ length (scheduled_output program) + length program.schedule * (program.limits.threads * 139)
+schedule-short program bounds names =
+    let first = opening_world program in
+    after-short (length program.schedule * (program.limits.threads * 139)) (explained_texts program first program.schedule) (turn_texts program first program.schedule)
+    (report program (system_run program program.schedule).history) (texts-short program first program.schedule (opening-short program bounds names))
+
+-- ---- in the order of time
+
+-- a turn that is due is no later than the end
+within-end : (end : ℕ) (o : Option Due) (due : Due) → within end o ≡ Some due → due.time ≤ end
+within-end end None due e = cc
+within-end end (Some x) due e = at (nat_lt end x.time) refl e
+  where
+    at : (b : Bool) → nat_lt end x.time ≡ b → cond b None (Some x) ≡ Some due → due.time ≤ end
+    at true late is = cc
+    at false early is = omega (arith, ltb-false end x.time early, ap (λ (d : Due). d.time) (some-injective x due is))
+
+-- turns, the first of which is made in this world, are explained in few bytes more than are written of them
+abbrev AreShortTimes : Program → World → List TimedTurn → Type 0
+AreShortTimes program w turns = length (explained_times w turns) ≤ length (flat_map timed_text turns) + length turns * (program.limits.threads * 139)
+
+-- the turns from a moment on
+times-short : (program : Program) → end_of program < 2 ^ 32 → (room : ℕ) (m : Moment) → IsShort program.limits m.world → AreShortTimes program m.world (turns_from program room m)
+times-short program small zero m short = omega arith
+times-short program small (suc room) m short = at (λ next. times-short program small room next) (next_due program m) refl
+  where
+    at : ((next : Moment) → IsShort program.limits next.world → AreShortTimes program next.world (turns_from program room next)) → (o : Option Due) → next_due program m ≡ o
+        → AreShortTimes program m.world (due_first program m (λ done. turns_from program room (moment_after m done)) o)
+    at later None is = omega arith
+    at later (Some due) is =
+        let done = turn_due program m due in
+        let turn = system_turn program m.world due.actor in
+        let next = moment_after m done in
+        let others = turns_from program room next in
+        let time : due.time < 2 ^ 32 = omega (arith, within-end (end_of program) (earliest (all_due program m)) due is, small) in
+        more-short (program.limits.threads * 139) (length others) (lots_text (Timed due.time) due.actor m.world.state turn.answer) (turn_text (Timed due.time) due.actor turn) (explained_times turn.world others)
+        (flat_map timed_text others) (turn-short (Timed due.time) program m.world due.actor time short) (later next (turn-keeps program m.world due.actor short))
+
+-- and all turns in the order of time, with the report
+pub in_time-short : (program : Program) → IsWithinBounds program.limits → All HasShortName program.commands → end_of program < 2 ^ 32
+    → length (explained_in_time program) ≤ length (timed_output program) + length (timed_turns program) * (program.limits.threads * 139)
+in_time-short program bounds names small =
+    let turns = timed_turns program in
+    after-short (length turns * (program.limits.threads * 139)) (explained_times (opening_world program) turns) (flat_map timed_text turns) (timed_report program)
+    (times-short program small timed_room (opening_moment program) (opening-short program bounds names))
+
+-- ---- every input
+
+-- a program that is read
+program-short : (program : Program) → IsReadProgram program → (duration : Option ℕ)
+    → length (explained_program program duration) ≤ length (played_output program duration) + turn_count program duration * (program.limits.threads * 139)
+program-short program is None = schedule-short program is.bounds is.names
+program-short program is (Some duration) = in_time-short program is.bounds is.names is.time
+
+-- and the bytes that it is read from
+pub output-short : (bytes : List ℕ) (program : Program) → program_in bytes ≡ Ok program
+    → length (explained_output bytes) ≤ length (output bytes) + turn_count program program.duration * (program.limits.threads * 139)
+output-short bytes program is = rw is (program-short program (program-read bytes program is) program.duration)

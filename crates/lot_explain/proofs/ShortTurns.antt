@@ -1,0 +1,240 @@
+-- A turn writes few lines of lots, and leaves names short.
+use Rattle.std.proofs.Common.{◌≡◌, ℕ, ◌+◌, ◌*◌, ◌≤◌, ◌==◌, nat_lt, Bool, true, false, not, ◌||◌, cond, Option, Some, None, is_some, is_none, List, [], ◌∷◌, ◌++◌, length, map, refl, sym, ◌∙◌, ap, subst, arith}
+use Rattle.std.specs.Prelude.{All}
+use Rattle.std.proofs.lemmas.Bool.{leb-false, ltb-false, or_parts}
+use Rattle.std.proofs.lemmas.List.{length-append}
+use Rattle.std.proofs.lemmas.List.Elements.{All-head, All-tail, All-nil, All-push}
+use Rattle.std.proofs.Math.Nat.{mul-le-mul_right}
+use Rattle.lot_machine.specs.declared.action.Action.{Action}
+use Rattle.lot_machine.specs.declared.action.Action.TheVariants as action
+use Rattle.lot_machine.specs.declared.command.Command.{Command}
+use Rattle.lot_machine.specs.declared.command.Command.TheVariants.{MakeThread, MakeFunded}
+use Rattle.lot_machine.specs.declared.drawn.Drawn.{Drawn}
+use Rattle.lot_machine.specs.declared.event.Event.{Event}
+use Rattle.lot_machine.specs.declared.event.Event.TheVariants as event
+use Rattle.lot_machine.specs.declared.record.Thread.{Thread}
+use Rattle.lot_machine.specs.declared.refusal.Refusal.{Refusal}
+use Rattle.lot_machine.specs.declared.refusal.Refusal.TheVariants.{BadName, NameTaken, NoCurrency, BadAmount, Full, NoScript, BadProcessor, Busy, NotRunning, BadTicks}
+use Rattle.lot_machine.specs.declared.refusal.TrapRefusal.{TrapRefusal}
+use Rattle.lot_machine.specs.declared.reply.Reply.TheVariants as reply
+use Rattle.lot_machine.specs.declared.sizes.Sizes.{Sizes}
+use Rattle.lot_machine.specs.Bounds.{IsWithinBounds}
+use Rattle.lot_machine.specs.Commands.{are_threads_full, are_tickets_full, command_effect, command_refusal, command_step, currency_named, is_bad_amount, is_good_name, is_no_script, is_taken, unless_refused}
+use Rattle.lot_machine.specs.Lottery.{winner}
+use Rattle.lot_machine.specs.Named.{processor_of}
+use Rattle.lot_machine.specs.Order.{IsInOrder}
+use Rattle.lot_machine.specs.State.{State, ready_threads, thread_on, weight_of}
+use Rattle.lot_machine.specs.Step.{checked_effect, draw, event_effect, event_refusal, is_bad_processor, step, thread_there, trap, trap_effect, trap_refusal, used_there}
+use Rattle.lot_machine.proofs.CommandsKept.{all-pass, unrefused}
+use Rattle.lot_machine.proofs.OrderKept.{opening-order, step-order}
+use Rattle.lot_machine.proofs.Tickets.{some-injective}
+use Rattle.lot_machine.proofs.StepSizes.{command-grown, step-sizes}
+use Rattle.lot_simulation.specs.declared.manner.Manner.{Manner}
+use Rattle.lot_simulation.specs.declared.script.ScriptTrap.{ScriptTrap}
+use Rattle.lot_simulation.specs.Script.{Slice}
+use Rattle.lot_simulation.specs.World.{Program, World, number_of, slice_on, event_of_slice, processor_event, console_turn, opening_world, processor_turn, system_turn}
+use Rattle.lot_explain.specs.declared.won.Won.{Won}
+use Rattle.lot_explain.specs.Explained.{lots_text}
+use Rattle.lot_explain.specs.Lots.{entrants_in, lots_of, won_in, won_lines}
+use Rattle.lot_explain.specs.Short.{HasShortName}
+use Rattle.lot_explain.proofs.Lengths.{HasShortTime, lines-short}
+use Rattle.lot_explain.proofs.ShortLots.{IsShortThread, HasShortNames, among-short}
+
+-- What each world keeps: its state is in order, its limits are the program's, no more threads were made than may be, and their names are
+-- short, as are those in the commands that are left.
+pub record IsShort (sizes : Sizes) (w : World) : Type 0 where
+  pub order : IsInOrder w.state
+  pub limits : w.state.limits ≡ sizes
+  pub records : length w.state.records ≡ length w.state.threads
+  pub room : length w.state.threads ≤ sizes.threads
+  pub names : All IsShortThread w.state.threads
+  pub commands : All HasShortName w.commands
+
+-- ---- an event of a processor
+
+-- what a trap does besides makes no thread
+effect-threads : (s : State) (t : ℕ) (a : Action) → (trap_effect s t a).state.threads ≡ s.threads
+effect-threads s t action.Yield = refl
+effect-threads s t other = refl
+
+-- whether it is refused or not
+checked-threads : (s : State) (t : ℕ) (a : Action) (o : Option TrapRefusal) → (checked_effect s o (trap_effect s t a)).state.threads ≡ s.threads
+checked-threads s t a None = effect-threads s t a
+checked-threads s t a (Some refusal) = refl
+
+-- nor does a draw
+draw-threads : (s : State) (p d : ℕ) → (draw s p d).state.threads ≡ s.threads
+draw-threads s p d = at (winner (map (weight_of s) (ready_threads s.records)) d) refl
+  where
+    at : (o : Option Drawn) → winner (map (weight_of s) (ready_threads s.records)) d ≡ o → (draw s p d).state.threads ≡ s.threads
+    at None is = rw is refl
+    at (Some w) is = rw is refl
+
+-- a state after another has the same threads
+abbrev HasThreadsOf : State → State → Type 0
+HasThreadsOf s after = after.threads ≡ s.threads
+
+-- so after an event of a processor
+step-threads : (s : State) (e : Event) (q : ℕ) → processor_of e ≡ Some q → HasThreadsOf s (step s e).state
+step-threads s (event.Command command) q on = cc
+step-threads s (event.Draw p d) q on = unrefused (HasThreadsOf s) s (event_refusal s (event.Draw p d)) (draw s p d) refl (λ _. draw-threads s p d)
+step-threads s (event.Expire p) q on = unrefused (HasThreadsOf s) s (event_refusal s (event.Expire p)) (event_effect s (event.Expire p)) refl (λ _. refl)
+step-threads s (event.Trap p ran a) q on =
+    unrefused (HasThreadsOf s) s (event_refusal s (event.Trap p ran a)) (event_effect s (event.Trap p ran a)) refl
+    (λ _. checked-threads s (thread_there s p) a (trap_refusal s (thread_there s p) a))
+
+-- a processor that isn't bad is one of those that there are
+good-processor : (s : State) (p : ℕ) → is_bad_processor s p ≡ false → p ≤ s.limits.processors
+good-processor s p good = ltb-false s.limits.processors p (or_parts (p == 0) (nat_lt s.limits.processors p) good).1
+
+-- so is an event's that isn't refused
+processor-few : (s : State) (e : Event) (p : ℕ) → processor_of e ≡ Some p → event_refusal s e ≡ None → p ≤ s.limits.processors
+processor-few s (event.Command command) p on passes = cc
+processor-few s (event.Draw q d) p on passes =
+    let checks = all-pass ((is_bad_processor s q, BadProcessor) ∷ (is_some (thread_on s.records q), Busy) ∷ []) passes in
+    subst (λ n. n ≤ s.limits.processors) (some-injective q p on) (good-processor s q checks.0)
+processor-few s (event.Expire q) p on passes =
+    let checks = all-pass ((is_bad_processor s q, BadProcessor) ∷ (is_none (thread_on s.records q), NotRunning) ∷ []) passes in
+    subst (λ n. n ≤ s.limits.processors) (some-injective q p on) (good-processor s q checks.0)
+processor-few s (event.Trap q ran a) p on passes =
+    let checks = all-pass ((is_bad_processor s q, BadProcessor) ∷ (is_none (thread_on s.records q), NotRunning) ∷ (nat_lt s.limits.quantum (used_there s q + ran + 1), BadTicks) ∷ []) passes in
+    subst (λ n. n ≤ s.limits.processors) (some-injective q p on) (good-processor s q checks.0)
+
+-- nobody has won where an event is refused
+none-won : (e : Event) (refusal : Refusal) → won_in e (reply.Refused refusal) ≡ None
+none-won (event.Command command) refusal = refl
+none-won (event.Draw p d) refusal = refl
+none-won (event.Expire p) refusal = refl
+none-won (event.Trap p ran action.Yield) refusal = refl
+none-won (event.Trap p ran other) refusal = refl
+
+module _ (manner : Manner) (timely : HasShortTime manner) (s : State) (short : HasShortNames s) where
+  -- the lines of lots are no more than there may be threads, if somebody has won
+  won-short : (actor : ℕ) → actor ≤ 64 → (e : Event) (won : Option Won) → length (won_lines manner s.limits.unit actor (lots_of s e) won) ≤ s.limits.threads * 139
+  won-short actor few e None = omega arith
+  won-short actor few e (Some won) =
+      let lots = among-short s short (entrants_in e) in
+      let lines = lines-short manner s.limits.unit actor timely short.order.bounds.of_unit few won 0 (lots_of s e) lots.each (omega (arith, lots.total)) in
+      omega (arith, lines, mul-le-mul_right 139 lots.few)
+
+  -- so are those of a lottery that an event holds: if it isn't refused, its processor is there
+  event-short : (actor : ℕ) (e : Event) → processor_of e ≡ Some actor → length (won_lines manner s.limits.unit actor (lots_of s e) (won_in e (step s e).reply)) ≤ s.limits.threads * 139
+  event-short actor e on = at (event_refusal s e) refl
+    where
+      at : (o : Option Refusal) → event_refusal s e ≡ o → length (won_lines manner s.limits.unit actor (lots_of s e) (won_in e (unless_refused s o (event_effect s e)).reply)) ≤ s.limits.threads * 139
+      at None passes = won-short actor (omega (arith, processor-few s e actor on passes, short.order.bounds.of_processors.1)) e (won_in e (event_effect s e).reply)
+      at (Some refusal) fails = rw (none-won e refusal) (omega arith)
+
+-- ---- a command
+
+-- no more threads than there may be, with short names
+abbrev HasRoom : State → State → Type 0
+HasRoom s after = All IsShortThread after.threads × (length after.threads ≤ s.limits.threads)
+
+-- one thread more
+thread-more : (s : State) (thread : Thread) → IsShortThread thread → are_threads_full s ≡ false → All IsShortThread s.threads → All IsShortThread (s.threads ++ thread ∷ []) × (length (s.threads ++ thread ∷ []) ≤ s.limits.threads)
+thread-more s thread short free names =
+    (All-push IsShortThread s.threads thread names short, omega (arith, length-append s.threads (thread ∷ []), leb-false s.limits.threads (length s.threads) free))
+
+-- a command makes a thread only if there is room for it
+command-threads : (s : State) (c : Command) → HasShortName c → All IsShortThread s.threads → length s.threads ≤ s.limits.threads → HasRoom s (command_step s c).state
+command-threads s (MakeThread name script) short names room =
+    let c = MakeThread name script in
+    unrefused (HasRoom s) s (command_refusal s c) (command_effect s c) (names, room) (λ passes.
+    let checks = all-pass ((not (is_good_name name), BadName) ∷ (is_taken s name, NameTaken) ∷ (is_no_script s script, NoScript) ∷ (are_threads_full s, Full) ∷ []) passes in
+    thread-more s (record { name = name; script = script }) short checks.1.1.1.0 names)
+command-threads s (MakeFunded amount currency name script) short names room =
+    let c = MakeFunded amount currency name script in
+    unrefused (HasRoom s) s (command_refusal s c) (command_effect s c) (names, room) (λ passes.
+    let checks = all-pass ((is_bad_amount amount, BadAmount) ∷ (is_none (currency_named s currency), NoCurrency) ∷ (not (is_good_name name), BadName)
+    ∷ (is_taken s name, NameTaken) ∷ (is_no_script s script, NoScript) ∷ (are_tickets_full s || are_threads_full s, Full) ∷ []) passes in
+    thread-more s (record { name = name; script = script }) short (or_parts (are_tickets_full s) (are_threads_full s) checks.1.1.1.1.1.0).1 names)
+command-threads s c short names room = unrefused (HasRoom s) s (command_refusal s c) (command_effect s c) (names, room) (λ _. (names, room))
+
+-- ---- a turn
+
+-- a slice is its processor's
+slice-on : (p d : ℕ) (s : Slice) → processor_of (event_of_slice p d s) ≡ Some p
+slice-on p d s = at s.trap refl
+  where
+    at : (o : Option ScriptTrap) → s.trap ≡ o → processor_of (event_of_slice p d s) ≡ Some p
+    at None is = rw is refl
+    at (Some trap) is = rw is refl
+
+-- and so is what a processor does next
+event-on : (w : World) (p : ℕ) → processor_of (processor_event w p) ≡ Some p
+event-on w p = at (thread_on w.state.records p) refl
+  where
+    at : (o : Option ℕ) → thread_on w.state.records p ≡ o → processor_of (processor_event w p) ≡ Some p
+    at None is = rw is refl
+    at (Some t) is = rw is (slice-on p (number_of w p) (slice_on w p t))
+
+-- so the world's state has short names
+short-names : (limits : Sizes) (w : World) → IsShort limits w → HasShortNames w.state
+short-names limits w short = record { order = short.order; room = omega (arith, short.records, short.room, ap (λ (l : Sizes). l.threads) short.limits); names = short.names }
+
+-- a turn of a processor keeps them
+processor-keeps : (limits : Sizes) (w : World) (p : ℕ) (e : Event) → processor_of e ≡ Some p → IsShort limits w → IsShort limits (processor_turn w p e).world
+processor-keeps limits w p e on short =
+    let sizes = step-sizes w.state e p on in
+    let threads = step-threads w.state e p on in
+    let count = ap (length {A = Thread}) threads in
+    record {
+      order = step-order w.state e short.order;
+      limits = sizes.0 ∙ short.limits;
+      records = omega (arith, sizes.1, count, short.records);
+      room = omega (arith, count, short.room);
+      names = subst (All IsShortThread) (sym threads) short.names;
+      commands = short.commands;
+    }
+
+-- and one of the console
+console-keeps : (program : Program) (w : World) (commands : List Command) → All HasShortName commands → IsShort program.limits w → IsShort program.limits (console_turn program w commands).world
+console-keeps program w [] left short = short
+console-keeps program w (c ∷ cs) left short =
+    let grown = command-grown w.state c in
+    let same = ap (λ (l : Sizes). l.threads) short.limits in
+    let made = command-threads w.state c (All-head HasShortName c cs left) short.names (omega (arith, short.room, same)) in
+    record {
+      order = step-order w.state (event.Command c) short.order;
+      limits = grown.0 ∙ short.limits;
+      records = omega (arith, grown.1.1, grown.1.2, short.records);
+      room = omega (arith, made.1, same);
+      names = made.0;
+      commands = All-tail HasShortName c cs left;
+    }
+
+-- and any turn
+pub turn-keeps : (program : Program) (w : World) (actor : ℕ) → IsShort program.limits w → IsShort program.limits (system_turn program w actor).world
+turn-keeps program w actor short = at (actor == 0)
+  where
+    at : (b : Bool) → IsShort program.limits (cond b (console_turn program w w.commands) (processor_turn w actor (processor_event w actor))).world
+    at true = console-keeps program w w.commands short.commands short
+    at false = processor-keeps program.limits w actor (processor_event w actor) (event-on w actor) short
+
+-- the console holds no lottery
+console-short : (program : Program) (w : World) (commands : List Command) (manner : Manner) (actor : ℕ) → length (lots_text manner actor w.state (console_turn program w commands).answer) ≤ 0
+console-short program w [] manner actor = omega arith
+console-short program w (c ∷ cs) manner actor = omega arith
+
+-- the lines of the lots of a turn's lottery are no more than there may be threads
+pub turn-short : (manner : Manner) (program : Program) (w : World) (actor : ℕ) → HasShortTime manner → IsShort program.limits w
+    → length (lots_text manner actor w.state (system_turn program w actor).answer) ≤ program.limits.threads * 139
+turn-short manner program w actor timely short = at (actor == 0)
+  where
+    at : (b : Bool) → length (lots_text manner actor w.state (cond b (console_turn program w w.commands) (processor_turn w actor (processor_event w actor))).answer) ≤ program.limits.threads * 139
+    at true = omega (arith, console-short program w w.commands manner actor)
+    at false =
+        subst (λ n. length (lots_text manner actor w.state (processor_turn w actor (processor_event w actor)).answer) ≤ n * 139) (ap (λ (l : Sizes). l.threads) short.limits)
+        (event-short manner timely w.state (short-names program.limits w short) actor (processor_event w actor) (event-on w actor))
+
+-- at the start there are no threads
+pub opening-short : (program : Program) → IsWithinBounds program.limits → All HasShortName program.commands → IsShort program.limits (opening_world program)
+opening-short program bounds commands = record {
+  order = opening-order program.limits bounds;
+  limits = refl;
+  records = refl;
+  room = omega arith;
+  names = All-nil IsShortThread;
+  commands = commands;
+}

@@ -1,0 +1,6 @@
+use Rattle.std.proofs.Common.{sym}
+use Rattle.lot_system.specs.Steps.{done_of}
+use Rattle.lot_explain.proofs.entrants.entrants_of_slice.Goals as goal
+
+pub returns-in-Some-clause-entrants : goal.returns-in-Some-clause-entrants
+returns-in-Some-clause-entrants c processor drawn = rw c.in-Some.is (c.entrants_of_trap.ensures processor drawn (done_of c.in-Some.slice) (sym c.trap.ensures.trap))

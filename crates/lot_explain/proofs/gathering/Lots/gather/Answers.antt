@@ -1,0 +1,18 @@
+use Rattle.std.proofs.Common.{map, sym, ◌∙◌, ap}
+use Rattle.lot_system.specs.Seen.{world_of}
+use Rattle.lot_explain.specs.Lots.{lots_among, waiter_lot}
+use Rattle.lot_explain.proofs.gathering.Lots.gather.Goals as goal
+
+pub returns-in-Nobody-clause-lots : goal.returns-in-Nobody-clause-lots
+returns-in-Nobody-clause-lots c event reply is =
+    c.clear.ensures.items ∙ ap (lots_among (world_of c.args.system.now).state) (sym c.in-Nobody.is ∙ c.next_entrants.ensures event reply is)
+
+pub returns-in-Ready-clause-lots : goal.returns-in-Ready-clause-lots
+returns-in-Ready-clause-lots c event reply is =
+    c.push_all_ready.ensures.lots ∙ ap (lots_among (world_of c.args.system.now).state) (sym c.in-Ready.is ∙ c.next_entrants.ensures event reply is)
+
+pub returns-in-Waiters-clause-lots : goal.returns-in-Waiters-clause-lots
+returns-in-Waiters-clause-lots c event reply is =
+    let s = (world_of c.args.system.now).state in
+    c.push_waiters.ensures.lots ∙ ap (map (waiter_lot s)) (c.deref.ensures.value ∙ c.list_waiters.ensures.waiters)
+    ∙ ap (lots_among s) (sym c.in-Waiters.is ∙ c.next_entrants.ensures event reply is)

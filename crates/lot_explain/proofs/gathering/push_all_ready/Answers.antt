@@ -1,0 +1,26 @@
+use Rattle.std.proofs.Common.{◌≡◌, length, ◌∙◌, ap, arith}
+use Rattle.std.specs.List.{flat_map, range_with_len}
+use Rattle.lot_machine.specs.Numbered.{numbers}
+use Rattle.lot_system.specs.Seen.{Seen, world_of}
+use Rattle.lot_explain.specs.Gathering.{lot_if_ready}
+use Rattle.lot_explain.proofs.GatheringFacts.{lots-more, ready-lots}
+use Rattle.lot_explain.proofs.gathering.push_all_ready.Goals as goal
+
+pub loop-place-preserved : goal.loop-place-preserved
+loop-place-preserved c =
+    let i = c.loop-place.invariant in
+    let told = c.push_if_ready.ensures in
+    let s = (world_of c.args.system.now).state in
+    let same = ap (λ (x : Seen). (world_of x).state) i.system in
+    record {
+      system = told.same ∙ i.system;
+      capacity = told.room ∙ i.capacity;
+      few = omega (arith, told.few, i.few);
+      lots = lots-more s (world_of c.loop-place.system).state c.loop-place.place c.loop-place.lots.items c.push_if_ready.new.lots.items same i.lots told.lots;
+    }
+
+pub returns-clause-lots : goal.returns-clause-lots
+returns-clause-lots c =
+    let s = (world_of c.args.system.now).state in
+    let all : c.loop-place.place ≡ length s.records = omega (arith, c.loop-place-test.false, c.loop-place.auto.place-end, c.thread_count-place-end.ensures.count) in
+    c.loop-place.invariant.lots ∙ ap (λ n. flat_map (lot_if_ready s) (range_with_len 1 n)) all ∙ ready-lots s (numbers s.records)

@@ -1,0 +1,15 @@
+use Rattle.std.proofs.Common.{◌≡◌, ◌≤◌}
+use Rattle.std.specs.List.{flat_map, range_with_len}
+use Rattle.std.specs.Prelude.{vec_capacity, vec_len}
+use Rattle.lot_system.specs.Seen.{world_of}
+use Rattle.lot_explain.specs.Gathering.{lot_if_ready}
+use Rattle.lot_explain.proofs.gathering.push_all_ready.Given as goal
+
+-- the lots of the threads passed so far are there
+abbrev pub invariant-loop-place : goal.invariant-loop-place
+invariant-loop-place l = record {
+  system : l.system ≡ l.initial.system;
+  capacity : vec_capacity l.lots ≡ vec_capacity l.initial.lots;
+  few : vec_len l.lots ≤ l.place;
+  lots : l.lots.items ≡ flat_map (lot_if_ready (world_of l.initial.system).state) (range_with_len 1 l.place);
+}

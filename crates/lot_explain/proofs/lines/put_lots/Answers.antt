@@ -1,0 +1,24 @@
+use Rattle.std.proofs.Common.{◌≡◌, Some, Err, refl, rules, sym, ◌∙◌}
+use Rattle.lot_print.proofs.WritingFacts.{begins-front}
+use Rattle.lot_system.specs.declared.fault.PlayFault.TheVariants.{Write}
+use Rattle.lot_system.proofs.WritingFacts.{put-written}
+use Rattle.lot_explain.specs.Lots.{won_in, won_lines}
+use Rattle.lot_explain.proofs.lines.put_lots.Goals as goal
+
+pub returns-in_err-write_out-in-Some : goal.returns-in_err-write_out-in-Some
+returns-in_err-write_out-in-Some g c =
+    let is : c.from_residual.result ≡ Err Write = search rules in
+    let told = c.in_err-write_out-in-Some.ensures.text in
+    let h = c.args.heading in
+    let text = won_lines h.manner h.unit h.actor c.args.lots.now (won_in c.args.event.now c.args.reply) in
+    rw is (refl, told.0, begins-front (g.W.Write.contents c.args.writer.now.inner) (g.W.Write.contents c.write_out.new.writer.inner) c.args.page.now text told.1)
+
+pub returns-in_ok-write_out-in-Some : goal.returns-in_ok-write_out-in-Some
+returns-in_ok-write_out-in-Some g c =
+    let told = c.in_ok-write_out-in-Some.ensures in
+    let old = g.W.Write.contents c.args.writer.now.inner in
+    let mid = g.W.Write.contents c.write_out.new.writer.inner in
+    let new = g.W.Write.contents c.write_lots.new.writer.inner in
+    let h = c.args.heading in
+    let won : won_in c.args.event.now c.args.reply ≡ Some c.in-Some.won = sym c.won_in.ensures ∙ c.in-Some.is in
+    rw won (put-written old mid new c.args.page.now c.write_out.new.self (won_lines h.manner h.unit h.actor c.args.lots.now (Some c.in-Some.won)) c.write_lots.new.writer.failed c.write_lots.result told.none told.text.1 c.write_lots.ensures)

@@ -1,0 +1,63 @@
+-- The whole of what `explain` writes: what `play` writes, and before the line of each lottery that was won who took part in it.
+use Rattle.std.specs.Prelude.{ℕ, Option, Some, None, Result, Ok, Err, List, [], ◌∷◌, ◌++◌}
+use Rattle.lot_machine.specs.State.{State}
+use Rattle.lot_simulation.specs.declared.input.InputFault.{InputFault}
+use Rattle.lot_simulation.specs.declared.manner.Manner.{Manner}
+use Rattle.lot_simulation.specs.declared.manner.Manner.TheVariants.{Whole, Timed}
+use Rattle.lot_simulation.specs.Grammar.{program_in}
+use Rattle.lot_simulation.specs.Output.{turn_text}
+use Rattle.lot_simulation.specs.Report.{report}
+use Rattle.lot_simulation.specs.Texts.{fault_line}
+use Rattle.lot_simulation.specs.Timed.{TimedTurn, timed_turns}
+use Rattle.lot_simulation.specs.TimedReport.{timed_report}
+use Rattle.lot_simulation.specs.World.{Program, World, Answer, Turn, opening_world, system_turn, system_run}
+use Rattle.lot_simulation.specs.World.Answer.{Answered, Ended}
+use Rattle.lot_explain.specs.Lots.{lots_of, won_in, won_lines}
+
+-- the lines of the lots of a turn's lottery, given the state before the turn and what it answers; none if no lottery was won
+abbrev pub lots_text : Manner → ℕ → State → Answer → List ℕ
+lots_text manner actor s (Answered e r) = won_lines manner s.limits.unit actor (lots_of s e) (won_in e r)
+lots_text manner actor s Ended = []
+
+-- the lots of a turn's lottery, and then the turn's lines, given the world before it
+abbrev pub explained_text : Manner → ℕ → World → Turn → List ℕ
+explained_text manner actor w turn = lots_text manner actor w.state turn.answer ++ turn_text manner actor turn
+
+-- ---- the turns of a schedule
+
+-- the same of the turns of these actors, from this world on
+abbrev pub explained_texts : Program → World → List ℕ → List ℕ
+explained_texts program w [] = []
+explained_texts program w (actor ∷ actors) =
+    explained_text Whole actor w (system_turn program w actor) ++ explained_texts program (system_turn program w actor).world actors
+
+-- the turns of the program's whole schedule, and the report of the history that it leaves
+abbrev pub explained_schedule : Program → List ℕ
+explained_schedule program = explained_texts program (opening_world program) program.schedule ++ report program (system_run program program.schedule).history
+
+-- ---- turns in the order of time
+
+-- the same of turns that were made in the order of time, the first of them in this world, and each other in the world after the one before
+abbrev pub explained_times : World → List TimedTurn → List ℕ
+explained_times w [] = []
+explained_times w (done ∷ others) = explained_text (Timed done.time) done.actor w done.turn ++ explained_times done.turn.world others
+
+-- the program's turns in the order of time, and their report
+abbrev pub explained_in_time : Program → List ℕ
+explained_in_time program = explained_times (opening_world program) (timed_turns program) ++ timed_report program
+
+-- ---- the whole
+
+-- what `explain` writes of a program: its schedule is played, or its turns in the order of time if the input says how long it runs
+abbrev pub explained_program : Program → Option ℕ → List ℕ
+explained_program program None = explained_schedule program
+explained_program program (Some duration) = explained_in_time program
+
+-- what it writes of what was read
+abbrev pub explained_of : Result Program InputFault → List ℕ
+explained_of (Ok program) = explained_program program program.duration
+explained_of (Err fault) = fault_line fault
+
+-- what it writes if it reads these bytes
+abbrev pub explained_output : List ℕ → List ℕ
+explained_output bytes = explained_of (program_in bytes)

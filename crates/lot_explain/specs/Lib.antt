@@ -1,0 +1,5 @@
+pub mod Lots
+pub mod Explained
+pub mod Gathering
+pub mod OnLiterals
+pub mod Short

@@ -1,0 +1,82 @@
+-- Who takes part in a lottery, with what, and which numbers are each one's own.
+use Rattle.std.specs.Prelude.{ℕ, ◌+◌, Option, Some, None, List, [], ◌∷◌, ◌++◌, map, sum_by, unwrap_or}
+use Rattle.lot_machine.specs.declared.action.Action.TheVariants as action
+use Rattle.lot_machine.specs.declared.event.Event.{Event}
+use Rattle.lot_machine.specs.declared.event.Event.TheVariants as event
+use Rattle.lot_machine.specs.declared.reply.Outcome.TheVariants.{Passed}
+use Rattle.lot_machine.specs.declared.reply.Reply.{Reply}
+use Rattle.lot_machine.specs.declared.reply.Reply.TheVariants as reply
+use Rattle.lot_machine.specs.Mutexes.{mutex_at}
+use Rattle.lot_machine.specs.Rows.{thread_name}
+use Rattle.lot_machine.specs.State.{State, ready_threads, value_of, weight_of}
+use Rattle.lot_simulation.specs.declared.manner.Manner.{Manner}
+use Rattle.lot_print.specs.declared.lots.Lot.{Lot}
+use Rattle.lot_print.specs.declared.lots.Lottery.TheVariants.{OfProcessor, OfMutex}
+use Rattle.lot_print.specs.Lots.{lot_line}
+use Rattle.lot_explain.specs.declared.entrants.Entrants.{Entrants}
+use Rattle.lot_explain.specs.declared.entrants.Entrants.TheVariants.{Nobody, Ready, Waiters}
+use Rattle.lot_explain.specs.declared.won.Won.{Won}
+
+-- ---- who takes part
+
+-- a thread that takes part, by its name, with this weight
+abbrev pub lot_of : State → ℕ → ℕ → Lot
+lot_of s t weight = record { thread = t; name = unwrap_or (thread_name s t) []; weight = weight }
+
+-- a Ready thread takes part in a draw with what it weighs (3.4, 4.5)
+abbrev pub ready_lot : State → ℕ → Lot
+ready_lot s t = lot_of s t (weight_of s t)
+
+-- the lots of a draw: those of the Ready threads by rising number (4.2)
+abbrev pub draw_lots : State → List Lot
+draw_lots s = map (ready_lot s) (ready_threads s.records)
+
+-- who waits for a mutex takes part in its lottery with what it is worth (6.1)
+abbrev pub waiter_lot : State → ℕ → Lot
+waiter_lot s t = lot_of s t (value_of s t)
+
+-- the lots of the lottery of a mutex: those of its waiters, the one that has waited longest first (6.1)
+abbrev pub mutex_lots : State → ℕ → List Lot
+mutex_lots s m = map (waiter_lot s) (mutex_at s.mutexes m).waiters
+
+-- Who takes part in the lottery that an event may hold: the Ready threads in that of a draw, and those who wait for its mutex in that of
+-- an unlock. No other event holds one.
+abbrev pub entrants_in : Event → Entrants
+entrants_in (event.Draw p d) = Ready
+entrants_in (event.Trap p ran (action.Unlock m d)) = Waiters m
+entrants_in other = Nobody
+
+-- their lots
+abbrev pub lots_among : State → Entrants → List Lot
+lots_among s Nobody = []
+lots_among s Ready = draw_lots s
+lots_among s (Waiters m) = mutex_lots s m
+
+-- the lots of the lottery that an event may hold, given the state before it
+abbrev pub lots_of : State → Event → List Lot
+lots_of s e = lots_among s (entrants_in e)
+
+-- what all of them weigh together
+abbrev pub total_of : List Lot → ℕ
+total_of lots = sum_by (λ lot. lot.weight) lots
+
+-- ---- who has won
+
+-- The lottery that an event has held, by the reply to it: whose it was, who has won it, and what all lots weigh together. There is none
+-- if nobody won: a draw was idle, a mutex is free, or it went to the one that had waited longest.
+abbrev pub won_in : Event → Reply → Option Won
+won_in (event.Draw p d) (reply.Winner t number total delivered) = Some (record { lottery = OfProcessor; winner = t; total = total })
+won_in (event.Trap p ran (action.Unlock m d)) (reply.Trapped t ticks (Passed to (Some drawn)) ends) = Some (record { lottery = OfMutex; winner = to; total = drawn.1 })
+won_in e other = None
+
+-- ---- the lines
+
+-- The lines of lots, whose numbers begin with this one: the numbers of each follow those of the one before it.
+abbrev pub lot_lines : Manner → ℕ → ℕ → Won → ℕ → List Lot → List ℕ
+lot_lines manner unit actor won first [] = []
+lot_lines manner unit actor won first (lot ∷ lots) = lot_line manner unit actor won.lottery won.winner first lot ++ lot_lines manner unit actor won (first + lot.weight) lots
+
+-- the lines of the lots of a lottery that was won, whose numbers begin with 0
+abbrev pub won_lines : Manner → ℕ → ℕ → List Lot → Option Won → List ℕ
+won_lines manner unit actor lots None = []
+won_lines manner unit actor lots (Some won) = lot_lines manner unit actor won 0 lots

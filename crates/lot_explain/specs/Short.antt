@@ -1,0 +1,17 @@
+-- What the law of short explanations speaks of.
+use Rattle.std.specs.Prelude.{ℕ, ◌≤◌, Option, Some, None, length, ⊤}
+use Rattle.lot_machine.specs.declared.command.Command.{Command}
+use Rattle.lot_machine.specs.declared.command.Command.TheVariants.{MakeThread, MakeFunded}
+use Rattle.lot_simulation.specs.Timed.{timed_turns}
+use Rattle.lot_simulation.specs.World.{Program}
+
+-- a command that makes a thread gives it a name of at most 16 bytes
+abbrev pub HasShortName : Command → Type 0
+HasShortName (MakeThread name script) = length name ≤ 16
+HasShortName (MakeFunded amount currency name script) = length name ≤ 16
+HasShortName other = ⊤
+
+-- how many turns are played: the schedule's, or those in the order of time if the input says how long it runs
+abbrev pub turn_count : Program → Option ℕ → ℕ
+turn_count program None = length program.schedule
+turn_count program (Some duration) = length (timed_turns program)

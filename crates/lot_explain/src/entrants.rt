@@ -1,0 +1,58 @@
+//! Who takes part in the lottery that a turn may hold.
+ghost use Rattle.std.specs.Prelude.{◌≡◌, ℕ, IfSome};
+ghost use Rattle.lot_machine.specs.declared.event.Event.{Event as AnEvent};
+ghost use Rattle.lot_machine.specs.declared.reply.Reply.{Reply as AReply};
+ghost use Rattle.lot_script.specs.Slices.{IsSlice};
+ghost use Rattle.lot_simulation.specs.Script.{Slice as ASlice};
+ghost use Rattle.lot_simulation.specs.World.{event_of_slice};
+ghost use Rattle.lot_simulation.specs.World.Answer.{Answered};
+ghost use Rattle.lot_system.specs.Playing.{turn_in};
+ghost use Rattle.lot_system.specs.Steps.{event_given};
+ghost use Rattle.lot_explain.specs.Lots.{entrants_in};
+
+use lot_script::Slice;
+use lot_simulation::ScriptTrap;
+use lot_system::{System, slice_in};
+use lot_text::Program;
+
+/// Who takes part in a lottery.
+#[derive(Clone, Copy, Debug, PartialEq, Eq)]
+pub(crate) enum Entrants {
+    Nobody,
+    /// The Ready threads.
+    Ready,
+    /// Those who wait for the mutex with this number.
+    Waiters(u32),
+}
+
+/// Who takes part in the lottery that the actor's next turn may hold.
+pub(crate) fn next_entrants(program: &Program, system: &System, actor: u32) -> Entrants
+    requires { system.now.setting.program ≡ program.now }
+    ensures { (event : AnEvent) (reply : AReply) → (turn_in system.now actor).answer ≡ Answered event reply → result ≡ entrants_in event }
+{
+    if actor == 0 {
+        return Entrants::Nobody;
+    }
+    entrants_of_slice(&slice_in(system, program, actor))
+}
+
+/// The same of a processor's turn with this slice, or of a draw without one.
+fn entrants_of_slice(slice: &Option<Slice<'_>>) -> Entrants
+    ensures entrants { (processor drawn : ℕ) → result ≡ entrants_in (event_given processor drawn slice.now) }
+    ensures exact { IfSome slice.now IsSlice }
+{
+    match slice {
+        None => Entrants::Ready,
+        Some(slice) => entrants_of_trap(slice.trap()),
+    }
+}
+
+/// The same of a slice that ends with this trap, or with its budget.
+fn entrants_of_trap(trap: Option<ScriptTrap>) -> Entrants
+    ensures { (processor drawn : ℕ) (done : ASlice) → done.trap ≡ trap → result ≡ entrants_in (event_of_slice processor drawn done) }
+{
+    match trap {
+        Some(ScriptTrap::Unlock(mutex)) => Entrants::Waiters(mutex),
+        _ => Entrants::Nobody,
+    }
+}

@@ -1,0 +1,71 @@
+//! Explaining an input.
+ghost use Rattle.std.specs.Prelude.{◌≡◌, ℕ, List, false, true, IfErr, IfOk, OnOk};
+ghost use Rattle.std.specs.Io.KnownBytes.{Appends};
+ghost use Rattle.lot_simulation.specs.Grammar.{program_in};
+ghost use Rattle.lot_system.specs.Played.{Leaves, Plays, came_of};
+ghost use Rattle.lot_system.specs.Reading.{Reads};
+ghost use Rattle.lot_system.specs.Writing.{IsFaultOf};
+ghost use Rattle.lot_system.specs.declared.playing.Played.TheVariants.{Done};
+ghost use Rattle.lot_explain.specs.Explained.{explained_output, explained_program};
+
+use crate::in_time::explain_timed;
+use crate::scheduled::explain_scheduled;
+use lot_system::{Leftovers, PlayFault, Played, program_of, read_input, refuse};
+use lot_text::{ParseFault, Program, Watched};
+use std::alloc::Global;
+use std::io::{Read, Write};
+
+/// Reads an input, makes its turns, and writes what `play` writes, with the lines of those who took part before the line of each lottery
+/// that was won; or one line, if the input is refused.
+pub fn explain<R: Read, W: Write>(
+    alloc: Global,
+    reader: &mut Watched<R>,
+    writer: &mut Watched<W>,
+) -> Result<Played, PlayFault>
+    requires { (reader.old.failed ≡ false) × (writer.old.failed ≡ false) }
+    ensures ok { OnOk result ((reader.new.failed ≡ false) × (writer.new.failed ≡ false)) }
+    ensures flushed { OnOk result (writer.new.flushed ≡ true) }
+    ensures err { IfErr result (λ fault. IsFaultOf fault reader.new.failed writer.new.failed) }
+    ensures output { IfOk result (λ played. (bytes : List ℕ) × Reads R.remaining reader.old reader.new bytes × (played ≡ came_of (program_in bytes)) × Appends (W.contents writer.old.inner) (W.contents writer.new.inner) (explained_output bytes)) }
+    ensures fault { IfErr result (λ fault. Leaves explained_output R.remaining reader.old reader.new W.contents writer.old writer.new fault) }
+{
+    let mut bytes = read_input(alloc, reader)?;
+    let mut leftovers = Leftovers::none(alloc);
+    explain_bytes(alloc, &mut bytes, &mut leftovers, writer)
+}
+
+/// Explains what these bytes say, or writes why they are refused, as `explain` does, for callers who want to say more of it. The bytes
+/// stay if they are refused, and else go before the first turn; then what the run leaves to tell is put in `leftovers`.
+pub fn explain_bytes<W: Write>(
+    alloc: Global,
+    bytes: &mut Vec<u8>,
+    leftovers: &mut Leftovers,
+    writer: &mut Watched<W>,
+) -> Result<Played, PlayFault>
+    requires { writer.old.failed ≡ false }
+    ensures flushed { OnOk result (writer.new.flushed ≡ true) }
+    ensures played { Plays W.contents writer.old writer.new result (came_of (program_in bytes.old.items)) (explained_output bytes.old.items) }
+{
+    match program_of(alloc, bytes) {
+        Ok(program) => explain_program(alloc, &program, leftovers, writer),
+        Err(ParseFault::Memory) => Err(PlayFault::Memory),
+        Err(ParseFault::Input(fault)) => refuse(fault, writer),
+    }
+}
+
+/// Explains the program in a system of its own.
+fn explain_program<W: Write>(
+    alloc: Global,
+    program: &Program,
+    leftovers: &mut Leftovers,
+    writer: &mut Watched<W>,
+) -> Result<Played, PlayFault>
+    requires { writer.old.failed ≡ false }
+    ensures flushed { OnOk result (writer.new.flushed ≡ true) }
+    ensures played { Plays W.contents writer.old writer.new result Done (explained_program program.now program.now.duration) }
+{
+    match program.duration() {
+        Some(_) => explain_timed(alloc, program, leftovers, writer),
+        None => explain_scheduled(alloc, program, leftovers, writer),
+    }
+}

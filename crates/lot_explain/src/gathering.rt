@@ -1,0 +1,144 @@
+//! Gathering the lots of a lottery before it is held.
+ghost use Rattle.std.specs.Prelude.{◌≡◌, ◌+◌, ◌<◌, ◌≤◌, ◌∷◌, ◌++◌, [], All, IfOk, length, map, vec_len, vec_capacity};
+ghost use Rattle.lot_machine.specs.Bounds.{IsBetween};
+ghost use Rattle.lot_machine.specs.declared.event.Event.{Event as AnEvent};
+ghost use Rattle.lot_machine.specs.declared.reply.Reply.{Reply as AReply};
+ghost use Rattle.lot_simulation.specs.World.Answer.{Answered};
+ghost use Rattle.lot_system.specs.Playing.{turn_in};
+ghost use Rattle.lot_system.specs.Seen.{world_of};
+ghost use Rattle.lot_explain.specs.Gathering.{lot_if_ready};
+ghost use Rattle.lot_explain.specs.Lots.{draw_lots, lots_of, waiter_lot};
+
+use crate::entrants::{Entrants, next_entrants};
+use lot_machine::Status;
+use lot_print::Lot;
+use lot_system::System;
+use lot_text::Program;
+use std::alloc::{AllocError, Global};
+use std::marker::Model;
+
+/// The lots of a lottery, with room for those of all threads.
+#[derive(Drop)]
+pub(crate) struct Lots {
+    lots: Vec<Lot>,
+    /// Who waits for the mutex.
+    waiters: Vec<u32>,
+    /// How many threads there is room for.
+    room: u32,
+}
+
+impl Model for Lots {
+    ghost use Rattle.std.specs.Prelude.{◌≤◌, vec_capacity};
+    ghost use Rattle.lot_explain.specs.Gathering.{Gathered};
+
+    ghost Value = { Gathered };
+
+    ghost view = { λ l. record { lots = l.lots.items; room = l.room } };
+
+    ghost invariant = { λ l. record {
+      lots_room : l.room ≤ vec_capacity l.lots;
+      waiters_room : l.room ≤ vec_capacity l.waiters;
+    } };
+}
+
+impl Lots {
+    /// Room for the lots of this many threads, and none yet. It takes all the memory that will ever be used.
+    pub(crate) fn open(alloc: Global, threads: u32) -> Result<Lots, AllocError>
+        ensures { IfOk result (λ lots. lots ≡ record { lots = []; room = threads }) }
+    {
+        Ok(Lots {
+            lots: Vec::with_capacity(alloc, threads as usize)?,
+            waiters: Vec::with_capacity(alloc, threads as usize)?,
+            room: threads,
+        })
+    }
+
+    /// Those that were gathered last.
+    pub(crate) fn as_slice(&self) -> &[Lot]
+        ensures { result.now ≡ self.now.lots }
+    {
+        &self.lots
+    }
+
+    /// Gathers the lots of the lottery that the actor's next turn may hold. It takes no memory.
+    pub(crate) fn gather(&mut self, program: &Program, system: &mut System, actor: u32)
+        requires program { system.old.setting.program ≡ program.now }
+        requires room { self.old.room ≡ program.now.limits.threads }
+        ensures same { system.new ≡ system.old }
+        ensures room { self.new.room ≡ self.old.room }
+        ensures lots { (event : AnEvent) (reply : AReply) → (turn_in system.old actor).answer ≡ Answered event reply → self.new.lots ≡ lots_of (world_of system.old).state event }
+    {
+        self.lots.clear();
+        match next_entrants(program, system, actor) {
+            Entrants::Nobody => (),
+            Entrants::Ready => push_all_ready(&mut self.lots, system),
+            Entrants::Waiters(mutex) => {
+                system.list_waiters(mutex, &mut self.waiters);
+                push_waiters(&mut self.lots, system, &self.waiters);
+            }
+        }
+    }
+}
+
+/// Puts the lots of the Ready threads, by rising number.
+fn push_all_ready(lots: &mut Vec<Lot>, system: &mut System)
+    requires none { lots.old.items ≡ [] }
+    requires room { system.old.setting.program.limits.threads ≤ vec_capacity lots.old }
+    ensures same { system.new ≡ system.old }
+    ensures lots { lots.new.items ≡ draw_lots (world_of system.old).state }
+    ensures room { vec_capacity lots.new ≡ vec_capacity lots.old }
+{
+    for place in 0..system.thread_count() {
+        push_if_ready(lots, system, place + 1);
+    }
+}
+
+/// Puts the lot of the thread with this number, if it is Ready.
+fn push_if_ready(lots: &mut Vec<Lot>, system: &mut System, thread: u32)
+    requires room { vec_len lots.old < vec_capacity lots.old }
+    ensures same { system.new ≡ system.old }
+    ensures lots { lots.new.items ≡ lots.old.items ++ lot_if_ready (world_of system.old).state thread }
+    ensures few { vec_len lots.new ≤ vec_len lots.old + 1 }
+    ensures room { vec_capacity lots.new ≡ vec_capacity lots.old }
+{
+    let Some(row) = system.thread_row(thread) else {
+        return;
+    };
+    if row.status == Status::Ready {
+        lots.push_reserved(Lot {
+            thread,
+            name: row.name,
+            weight: row.weight,
+        });
+    }
+}
+
+/// Puts the lots of those who wait for a mutex.
+fn push_waiters(lots: &mut Vec<Lot>, system: &mut System, waiters: &[u32])
+    requires none { lots.old.items ≡ [] }
+    requires there { All (IsBetween 1 (length (world_of system.old).state.records)) waiters.now }
+    requires room { length waiters.now ≤ vec_capacity lots.old }
+    ensures same { system.new ≡ system.old }
+    ensures lots { lots.new.items ≡ map (waiter_lot (world_of system.old).state) waiters.now }
+    ensures room { vec_capacity lots.new ≡ vec_capacity lots.old }
+{
+    for thread in waiters {
+        push_waiter(lots, system, *thread);
+    }
+}
+
+/// Puts the lot of a thread that waits for a mutex.
+fn push_waiter(lots: &mut Vec<Lot>, system: &mut System, thread: u32)
+    requires there { IsBetween 1 (length (world_of system.old).state.records) thread }
+    requires room { vec_len lots.old < vec_capacity lots.old }
+    ensures same { system.new ≡ system.old }
+    ensures lots { lots.new.items ≡ lots.old.items ++ waiter_lot (world_of system.old).state thread ∷ [] }
+    ensures room { vec_capacity lots.new ≡ vec_capacity lots.old }
+{
+    let row = system.thread_row(thread).unwrap();
+    lots.push_reserved(Lot {
+        thread,
+        name: row.name,
+        weight: u128::from(row.value),
+    });
+}

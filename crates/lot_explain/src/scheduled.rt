@@ -1,0 +1,57 @@
+//! Explaining a program whose turns come by its schedule.
+ghost use Rattle.std.specs.Prelude.{◌≡◌, false, true, OnOk};
+ghost use Rattle.lot_system.specs.Played.{Plays};
+ghost use Rattle.lot_system.specs.Playing.{IsOpened};
+ghost use Rattle.lot_system.specs.Writing.{Writes};
+ghost use Rattle.lot_system.specs.declared.playing.Played.TheVariants.{Done};
+ghost use Rattle.lot_explain.specs.Explained.{explained_schedule};
+
+use crate::gathering::Lots;
+use crate::turns::explain_turns;
+use lot_system::{Leftovers, PlayFault, Played, System, flush, write_report};
+use lot_text::{Program, Watched};
+use std::alloc::Global;
+use std::io::Write;
+
+/// Makes the turns of the program's schedule, and writes what `play` writes of them, and before the line of each lottery that was won who
+/// took part in it. It takes all its memory before the first turn.
+pub(crate) fn explain_scheduled<W: Write>(
+    alloc: Global,
+    program: &Program,
+    leftovers: &mut Leftovers,
+    writer: &mut Watched<W>,
+) -> Result<Played, PlayFault>
+    requires { writer.old.failed ≡ false }
+    ensures flushed { OnOk result (writer.new.flushed ≡ true) }
+    ensures played { Plays W.contents writer.old writer.new result Done (explained_schedule program.now) }
+{
+    let room = program.schedule().len() as u32;
+    let Ok(mut system) = System::open(alloc, program, room) else {
+        return Err(PlayFault::Memory);
+    };
+    let Ok(mut lots) = Lots::open(alloc, program.limits().threads) else {
+        return Err(PlayFault::Memory);
+    };
+    explain_schedule(program, &mut system, &mut lots, leftovers, writer)?;
+    leftovers.note_end(&mut system);
+    Ok(Played::Done)
+}
+
+/// Makes the turns of the program's schedule, and writes what explains them and the report.
+fn explain_schedule<W: Write>(
+    program: &Program,
+    system: &mut System,
+    lots: &mut Lots,
+    leftovers: &mut Leftovers,
+    writer: &mut Watched<W>,
+) -> Result<(), PlayFault>
+    requires opened { IsOpened program.now system.old }
+    requires room { lots.old.room ≡ program.now.limits.threads }
+    requires working { writer.old.failed ≡ false }
+    ensures flushed { OnOk result (writer.new.flushed ≡ true) }
+    ensures text { Writes W.contents writer.old writer.new result (explained_schedule program.now) }
+{
+    explain_turns(program, system, lots, leftovers, writer)?;
+    write_report(system, writer)?;
+    flush(writer)
+}

@@ -1,0 +1,28 @@
+use Rattle.std.proofs.Common.{◌≡◌, ℕ, Option, Some, None, [], length, slice_index_or, unwrap_or, refl, arith}
+use Rattle.std.specs.List.{All}
+use Rattle.std.proofs.lemmas.Option.{slice_get-get_or}
+use Rattle.lot_machine.specs.declared.record.Status.TheVariants.{Waiting}
+use Rattle.lot_machine.specs.Bounds.{IsBetween}
+use Rattle.lot_machine.specs.Mutexes.{mutex_at}
+use Rattle.lot_machine.specs.Numbered.{at_number}
+use Rattle.lot_machine.specs.Order.{IsInOrder}
+use Rattle.lot_machine.specs.State.{State, Mutex}
+use Rattle.lot_machine.proofs.LendSums.{number-within}
+use Rattle.lot_machine.proofs.Queues.{record-of}
+use Rattle.lot_kernel.proofs.kernel.Kernel.list_waiters.Goals as goal
+
+-- who waits for a mutex is a thread
+waiters-there : (s : State) (m : ℕ) → IsInOrder s → All (IsBetween 1 (length s.records)) (mutex_at s.mutexes m).waiters
+waiters-there s m order = from (at_number s.mutexes m) refl
+  where
+    from : (o : Option Mutex) → at_number s.mutexes m ≡ o → All (IsBetween 1 (length s.records)) (unwrap_or {T = Mutex} o (record { owner = None; waiters = [] })).waiters
+    from None is k d below = absurd (omega (arith, below))
+    from (Some mutex) is k d below =
+        let t = slice_index_or mutex.waiters k d in
+        let found = record-of s.records t (Waiting m) ((order.queues.waiters m mutex is).each k t (slice_get-get_or mutex.waiters k d below)) in
+        number-within s.records t found.0 found.1
+
+pub returns-clause-there : goal.returns-clause-there
+returns-clause-there c =
+    let s = c.args.self.now.state in
+    rw c.list_waiters.ensures.waiters (rw c.self.view_is (waiters-there s c.args.mutex (rw (← c.self.view_is) c.self.invariant)))

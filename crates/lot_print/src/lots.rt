@@ -1,0 +1,112 @@
+//! The lines of those who take part in a lottery.
+ghost use Rattle.std.specs.Prelude.{◌≡◌, ◌<◌, ◌≤◌, ◌+◌, ◌^◌, ◌++◌, codes, false, length};
+ghost use Rattle.std.specs.Fmt.{decimal};
+ghost use Rattle.lot_simulation.specs.Texts.{drawn_value, newline, value_text};
+ghost use Rattle.lot_print.specs.Lots.{lot_line, mark, part_word, weight_word};
+ghost use Rattle.lot_print.specs.Writing.{Writes};
+
+use crate::line::RowLine;
+use crate::{Heading, WriteFault};
+use lot_machine::Name;
+use lot_text::Watched;
+use std::io::Write;
+
+/// Whose lottery it is.
+#[derive(Clone, Copy, Debug, PartialEq, Eq)]
+pub enum Lottery {
+    /// A processor's, among the Ready threads by what they weigh.
+    OfProcessor,
+    /// A mutex's, among those who wait for it by what they are worth.
+    OfMutex,
+}
+
+/// A thread's part in a lottery.
+#[derive(Debug, PartialEq, Eq, Drop)]
+pub struct Lot {
+    pub thread: u32,
+    pub name: Name,
+    /// What it weighs in the lottery.
+    pub weight: u128,
+}
+
+/// Writes the line of a lot in a lottery that this thread has won: what it weighs, and which numbers are its own, of which this is the
+/// first. It stands before the line of the actor's turn.
+pub fn write_lot<W: Write>(
+    writer: &mut Watched<W>,
+    heading: Heading,
+    lottery: Lottery,
+    winner: u32,
+    first: u128,
+    lot: &Lot,
+) -> Result<(), WriteFault>
+    requires working { writer.old.failed ≡ false }
+    requires unit { 0 < heading.unit }
+    requires fits { first + lot.now.weight < 2 ^ 128 }
+    ensures { Writes W.contents writer.old writer.new result (lot_line heading.manner heading.unit heading.actor lottery winner first lot.now) }
+{
+    lot_text(heading, lottery, winner, first, lot).write_to(writer)
+}
+
+/// The line of a lot.
+fn lot_text(heading: Heading, lottery: Lottery, winner: u32, first: u128, lot: &Lot) -> RowLine
+    requires unit { 0 < heading.unit }
+    requires fits { first + lot.now.weight < 2 ^ 128 }
+    ensures { result ≡ lot_line heading.manner heading.unit heading.actor lottery winner first lot.now }
+{
+    let mut line = RowLine::new();
+    line.push_front(heading.manner);
+    line.push_field("", heading.actor);
+    push_part(&mut line, lottery, lot);
+    push_weight(&mut line, heading, lottery, lot.weight);
+    push_numbers(&mut line, heading, first, first + lot.weight);
+    push_mark(&mut line, lot.thread == winner);
+    line
+}
+
+/// Puts who takes part.
+fn push_part(line: &mut RowLine, lottery: Lottery, lot: &Lot)
+    requires { length line.old ≤ 21 }
+    ensures text { line.new ≡ line.old ++ (part_word lottery ++ (decimal lot.now.thread ++ (codes " " ++ lot.now.name))) }
+    ensures len { length line.new ≤ length line.old + 39 }
+{
+    let word = match lottery {
+        Lottery::OfProcessor => " lot thread ",
+        Lottery::OfMutex => " lot waiter ",
+    };
+    line.push_field(word, lot.thread);
+    line.push_text(" ");
+    line.push_bytes(lot.name.as_bytes());
+}
+
+/// Puts what it weighs in the lottery.
+fn push_weight(line: &mut RowLine, heading: Heading, lottery: Lottery, weight: u128)
+    requires room { length line.old ≤ 60 }
+    requires unit { 0 < heading.unit }
+    ensures text { line.new ≡ line.old ++ (weight_word lottery ++ value_text heading.manner heading.unit weight) }
+    ensures len { length line.new ≤ length line.old + 51 }
+{
+    let word = match lottery {
+        Lottery::OfProcessor => " weight ",
+        Lottery::OfMutex => " value ",
+    };
+    line.push_value(word, heading.manner, heading.unit, weight);
+}
+
+/// Puts the first of its numbers, and what they are below.
+fn push_numbers(line: &mut RowLine, heading: Heading, first: u128, below: u128)
+    requires room { length line.old ≤ 111 }
+    requires unit { 0 < heading.unit }
+    ensures text { line.new ≡ line.old ++ (codes " from " ++ (drawn_value heading.manner heading.unit first ++ (codes " below " ++ drawn_value heading.manner heading.unit below))) }
+    ensures len { length line.new ≤ length line.old + 99 }
+{
+    line.push_drawn(" from ", heading.manner, heading.unit, first);
+    line.push_drawn(" below ", heading.manner, heading.unit, below);
+}
+
+/// Puts the mark at the winner's line, and the line's end.
+fn push_mark(line: &mut RowLine, wins: bool)
+    requires { length line.old ≤ 210 }
+    ensures { line.new ≡ line.old ++ (mark wins ++ newline) }
+{
+    line.push_text(if wins { " wins\n" } else { "\n" });
+}

@@ -1,0 +1,33 @@
+//! An input that is explained.
+ghost use Rattle.std.specs.Prelude.{◌≡◌, ℕ, List, false, true, IfErr, IfOk, OnOk};
+ghost use Rattle.std.specs.Io.KnownBytes.{Appends};
+ghost use Rattle.lot_explain.specs.Explained.{explained_output};
+ghost use Rattle.lot_simulation.specs.Grammar.{program_in};
+ghost use Rattle.lot_system.specs.Played.{Leaves, came_of};
+ghost use Rattle.lot_system.specs.Reading.{Reads};
+
+use crate::told::Told;
+use lot_explain::explain_bytes;
+use lot_system::{PlayFault, Played, read_input};
+use lot_text::Watched;
+use std::alloc::Global;
+use std::io::{Read, Write};
+
+/// Reads an input, makes its turns, and writes what `play` writes, with the lines of those who took part before the line of each lottery
+/// that was won; or one line, if the input is refused: what `explain` of `lot_explain` does. What is to be said of it in words is put in
+/// `told`.
+pub(crate) fn explain<R: Read, W: Write>(
+    alloc: Global,
+    told: &mut Told,
+    reader: &mut Watched<R>,
+    writer: &mut Watched<W>,
+) -> Result<Played, PlayFault>
+    requires { (reader.old.failed ≡ false) × (writer.old.failed ≡ false) }
+    ensures flushed { OnOk result (writer.new.flushed ≡ true) }
+    ensures output { IfOk result (λ played. (bytes : List ℕ) × Reads R.remaining reader.old reader.new bytes × (played ≡ came_of (program_in bytes)) × Appends (W.contents writer.old.inner) (W.contents writer.new.inner) (explained_output bytes)) }
+    ensures fault { IfErr result (λ fault. Leaves explained_output R.remaining reader.old reader.new W.contents writer.old writer.new fault) }
+{
+    let input = read_input(alloc, reader)?;
+    told.take_up(alloc, input);
+    explain_bytes(alloc, &mut told.input, &mut told.leftovers, writer)
+}
