@@ -37,6 +37,7 @@ impl EdgeEnds {
 }
 
 /// Where an edge leads, and its amount, if it is there.
+#[inline(always)]
 pub fn ends_of_edge(graph: &Graph, edge: Edge) -> Option<EdgeEnds>
     ensures ends { result ≡ fundings.ends_of_edge graph.now.funding edge }
     ensures sound { IsSound graph.now.funding }

@@ -125,7 +125,7 @@ fn explain_next<W: Write>(
     let mut event = Event::Expire(0);
     lots.gather(program, system, due.actor);
     let told = make_due(program, system, following, due, &mut event);
-    leftovers.note(told.actor, told.reply);
+    leftovers.note(told.actor, &told.reply);
     put_turn(
         system,
         heading,

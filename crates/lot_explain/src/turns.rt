@@ -72,7 +72,7 @@ fn explain_turn<W: Write>(
     lots.gather(program, system, actor);
     match next_turn(program, system, actor, &mut event) {
         Some(reply) => {
-            leftovers.note(actor, reply);
+            leftovers.note(actor, &reply);
             put_turn(
                 system,
                 heading,
@@ -110,7 +110,7 @@ pub(crate) fn put_turn<W: Write>(
         heading.manner,
         heading.actor,
         event,
-        reply,
+        &reply,
         writer,
         page,
     )

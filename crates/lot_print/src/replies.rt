@@ -35,11 +35,11 @@ pub fn write_reply<W: Write>(
     page: &mut Page,
     heading: Heading,
     event: &Event,
-    reply: Reply,
+    reply: &Reply,
 ) -> Result<(), WriteFault>
     requires working { writer.old.failed ≡ false }
     requires unit { 0 < heading.unit }
-    ensures { Puts W.contents writer.old writer.new page.old page.new result (front heading.manner ++ (decimal heading.actor ++ (codes " " ++ plain_text heading.manner heading.unit event.now reply))) }
+    ensures { Puts W.contents writer.old writer.new page.old page.new result (front heading.manner ++ (decimal heading.actor ++ (codes " " ++ plain_text heading.manner heading.unit event.now reply.now))) }
 {
     page.make_room(writer)?;
     push_turn(&mut page.lines, heading, event, reply);
@@ -62,10 +62,10 @@ pub fn write_ended<W: Write>(
 
 /// Puts the line of an actor's turn.
 #[inline(always)]
-fn push_turn<const N: usize>(line: &mut Line<N>, heading: Heading, event: &Event, reply: Reply)
+fn push_turn<const N: usize>(line: &mut Line<N>, heading: Heading, event: &Event, reply: &Reply)
     requires room { length line.old + 192 ≤ N }
     requires unit { 0 < heading.unit }
-    ensures { line.new ≡ line.old ++ (front heading.manner ++ (decimal heading.actor ++ (codes " " ++ plain_text heading.manner heading.unit event.now reply))) }
+    ensures { line.new ≡ line.old ++ (front heading.manner ++ (decimal heading.actor ++ (codes " " ++ plain_text heading.manner heading.unit event.now reply.now))) }
 {
     push_heading(line, heading);
     push_reply(line, heading, event, reply);
@@ -94,12 +94,12 @@ fn push_heading<const N: usize>(line: &mut Line<N>, heading: Heading)
 }
 
 /// Puts the reply to the event, and the line's end.
-fn push_reply<const N: usize>(line: &mut Line<N>, heading: Heading, event: &Event, reply: Reply)
+fn push_reply<const N: usize>(line: &mut Line<N>, heading: Heading, event: &Event, reply: &Reply)
     requires room { length line.old + 170 ≤ N }
     requires unit { 0 < heading.unit }
-    ensures { line.new ≡ line.old ++ plain_text heading.manner heading.unit event.now reply }
+    ensures { line.new ≡ line.old ++ plain_text heading.manner heading.unit event.now reply.now }
 {
-    match reply {
+    match *reply {
         Reply::Ticket(n) => push_made(line, "ticket ", n),
         Reply::Currency(n) => push_made(line, "currency ", n),
         Reply::Thread(n) => push_made(line, "thread ", n),

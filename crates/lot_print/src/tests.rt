@@ -51,7 +51,7 @@ fn check_event(
 ) {
     let mut writer = Watched::new(Vec::new(alloc));
     let mut page = Page::new();
-    let mut ended = write_reply(&mut writer, &mut page, whole(actor), event, reply);
+    let mut ended = write_reply(&mut writer, &mut page, whole(actor), event, &reply);
     if ended.is_ok() {
         ended = page.write_out(&mut writer);
     }
@@ -744,7 +744,7 @@ fn histories_after_a_line(rt: HostRuntime) -> Result<(), Fail> {
 fn check_timed(rt: &impl Abort, alloc: Global, event: Event, reply: Reply, wanted: &str) {
     let mut writer = Watched::new(Vec::new(alloc));
     let mut page = Page::new();
-    let mut ended = write_reply(&mut writer, &mut page, TIMED, &event, reply);
+    let mut ended = write_reply(&mut writer, &mut page, TIMED, &event, &reply);
     if ended.is_ok() {
         ended = page.write_out(&mut writer);
     }

@@ -12,7 +12,6 @@ ghost use Rattle.lot_text.specs.Programs.{IsProgram};
 use crate::System;
 use crate::playing::slice_in;
 use crate::timeline::Timeline;
-use crate::turn::Unmade;
 use crate::waits::{WaitTable, mutex_change, reply_change};
 use lot_machine::{Event, Reply};
 use lot_simulation::Due;
@@ -137,18 +136,14 @@ pub fn make_due(
     ensures after { system.new ≡ after_turn system.old result.actor }
 {
     let slice = slice_in(system, program, due.actor);
-    match system.try_turn(due.actor, &slice, event) {
-        Ok(reply) => {
-            let told = TimedReply {
-                time: due.time as u32,
-                actor: due.actor,
-                reply,
-            };
-            following.follow(told.time, told.actor, event, reply);
-            told
-        }
-        Err(Unmade::Ended) => unreachable!(),
-        Err(Unmade::Stale) => unreachable!(),
-        Err(Unmade::HistoryFull) => unreachable!(),
-    }
+    let Some(reply) = system.fresh_turn(due.actor, &slice, event) else {
+        unreachable!()
+    };
+    let told = TimedReply {
+        time: due.time as u32,
+        actor: due.actor,
+        reply,
+    };
+    following.follow(told.time, told.actor, event, reply);
+    told
 }

@@ -76,8 +76,8 @@ fn play_next<W: Write>(
         return Ok(false);
     };
     let TimedReply { time, actor, reply } = told;
-    leftovers.note(actor, reply);
+    leftovers.note(actor, &reply);
     let manner = Manner::Timed(time);
-    put_answer(system, manner, actor, &event, reply, writer, page)?;
+    put_answer(system, manner, actor, &event, &reply, writer, page)?;
     Ok(true)
 }

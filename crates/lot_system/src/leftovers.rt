@@ -92,15 +92,15 @@ impl Leftovers {
 
     /// Takes up what the actor's turn answered.
     #[inline(always)]
-    pub fn note(&mut self, actor: u32, reply: Reply) {
+    pub fn note(&mut self, actor: u32, reply: &Reply) {
         if actor == 0 {
             self.note_command(reply);
         }
     }
 
     /// Takes up what the next command came to.
-    fn note_command(&mut self, reply: Reply) {
-        if let Reply::Refused(refusal) = reply {
+    fn note_command(&mut self, reply: &Reply) {
+        if let Reply::Refused(refusal) = *reply {
             let place = self.made;
             self.refused.add(RefusedCommand { place, refusal });
         }

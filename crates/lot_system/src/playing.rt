@@ -23,7 +23,6 @@ use crate::in_time::play_in_time;
 use crate::listing::write_listing;
 use crate::report::write_report;
 use crate::slices::slice_of_kept;
-use crate::turn::Unmade;
 use crate::writing::flush;
 use crate::{Leftovers, PlayFault, System, TimedRun, read_input};
 use lot_machine::{Event, Reply};
@@ -247,16 +246,14 @@ fn play_slice<W: Write>(
     ensures played { IsPlayed system.old actor system.new }
     ensures text { Puts W.contents writer.old writer.new page.old page.new result (turn_text manners.Whole actor (turn_in system.old actor)) }
 {
-    let mut event = Event::Expire(actor);
-    match system.try_turn(actor, &slice, &mut event) {
-        Ok(reply) => {
-            leftovers.note(actor, reply);
-            put_answer(system, Manner::Whole, actor, &event, reply, writer, page)
-        }
-        Err(Unmade::Ended) => Ok(write_ended(writer, page, heading(system, Manner::Whole, actor))?),
-        Err(Unmade::Stale) => unreachable!(),
-        Err(Unmade::HistoryFull) => unreachable!(),
+    if system.is_ended(actor) {
+        return Ok(write_ended(writer, page, heading(system, Manner::Whole, actor))?);
     }
+    let mut event = Event::Expire(actor);
+    let mut reply = Reply::Idle;
+    system.make_turn(actor, &slice, &mut event, &mut reply);
+    leftovers.note(actor, &reply);
+    put_answer(system, Manner::Whole, actor, &event, &reply, writer, page)
 }
 
 /// The slice of the actor's work, if it has any.
@@ -278,20 +275,20 @@ pub fn put_answer<W: Write>(
     manner: Manner,
     actor: u32,
     event: &Event,
-    reply: Reply,
+    reply: &Reply,
     writer: &mut Watched<W>,
     page: &mut Page,
 ) -> Result<(), PlayFault>
     requires { writer.old.failed ≡ false }
     ensures same { system.new ≡ system.old }
-    ensures text { Puts W.contents writer.old writer.new page.old page.new result (front manner ++ (decimal actor ++ (codes " " ++ reply_text manner (world_of system.old).state event.now reply))) }
+    ensures text { Puts W.contents writer.old writer.new page.old page.new result (front manner ++ (decimal actor ++ (codes " " ++ reply_text manner (world_of system.old).state event.now reply.now))) }
 {
-    match reply {
+    match *reply {
         Reply::List(kind) => {
             page.write_out(writer)?;
             write_listing(system, manner, actor, kind, writer)
         }
-        reply => Ok(write_reply(writer, page, heading(system, manner, actor), event, reply)?),
+        _ => Ok(write_reply(writer, page, heading(system, manner, actor), event, reply)?),
     }
 }
 

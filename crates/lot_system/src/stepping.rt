@@ -6,7 +6,6 @@ ghost use Rattle.lot_system.specs.Seen.{after_turn};
 
 use crate::System;
 use crate::playing::slice_in;
-use crate::turn::Unmade;
 use lot_machine::{Event, Reply};
 use lot_text::Program;
 
@@ -26,10 +25,5 @@ pub fn next_turn(
     ensures ended { IfNone result ((system.new ≡ system.old) × ((turn_in system.old actor).answer ≡ Ended)) }
 {
     let slice = slice_in(system, program, actor);
-    match system.try_turn(actor, &slice, event) {
-        Ok(reply) => Some(reply),
-        Err(Unmade::Ended) => None,
-        Err(Unmade::Stale) => unreachable!(),
-        Err(Unmade::HistoryFull) => unreachable!(),
-    }
+    system.fresh_turn(actor, &slice, event)
 }

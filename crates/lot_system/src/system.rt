@@ -1,5 +1,5 @@
 //! The system.
-ghost use Rattle.std.specs.Prelude.{◌≡◌, ◌↔◌, ◌<◌, ◌≤◌, ◌*◌, ◌^◌, [], ◌∷◌, ◌++◌, All, IfOk, IfErr, IsTrue, length, vec_len, vec_capacity};
+ghost use Rattle.std.specs.Prelude.{◌≡◌, ◌↔◌, ◌<◌, ◌≤◌, ◌*◌, ◌^◌, [], ◌∷◌, ◌++◌, All, IfOk, IfErr, IfNone, IfSome, IsTrue, length, vec_len, vec_capacity};
 ghost use Rattle.lot_machine.specs.Bounds.{IsBetween};
 ghost use Rattle.lot_machine.specs.Mutexes.{mutex_at};
 ghost use Rattle.lot_machine.specs.Rows as rows;
@@ -10,6 +10,7 @@ ghost use Rattle.lot_simulation.specs.Report.{ticks_in, total_of, turns_made, tu
 ghost use Rattle.lot_system.specs.Counted.{counted};
 ghost use Rattle.lot_system.specs.Listing.{given_count};
 ghost use Rattle.lot_system.specs.InTime.{commands_made};
+ghost use Rattle.lot_system.specs.Playing.{IsPlayed};
 ghost use Rattle.lot_system.specs.Seen.{after_turn, world_of};
 ghost use Rattle.lot_system.specs.Turns.{Answers, Faults, Goes, IfStale, IsEnded, IsFresh, IsWorkOf, Prevents};
 
@@ -212,12 +213,38 @@ impl System {
         if self.is_full() {
             return Err(Unmade::HistoryFull);
         }
-        Ok(self.make_turn(actor, slice, event))
+        let mut reply = Reply::Idle;
+        self.make_turn(actor, slice, event, &mut reply);
+        Ok(reply)
+    }
+
+    /// The same with the slice that the actor's work asks for, while the history has room: `None` if the actor is the console and no
+    /// command is left. Then nothing changes.
+    #[inline(always)]
+    pub(crate) fn fresh_turn(
+        &mut self,
+        actor: u32,
+        slice: &Option<Slice>,
+        event: &mut Event,
+    ) -> Option<Reply>
+        requires there { actor ≤ self.old.setting.program.limits.processors }
+        requires fresh { IsFresh self.old actor slice.now }
+        requires room { length self.old.history < self.old.setting.room }
+        ensures made { IfSome result (λ reply. (self.new ≡ after_turn self.old actor) × ((system_turn self.old.setting.program (world_of self.old) actor).answer ≡ Answered event.new reply)) }
+        ensures ended { IfNone result (IsEnded self.old actor × (self.new ≡ self.old)) }
+        ensures played { IsPlayed self.old actor self.new }
+    {
+        if self.is_ended(actor) {
+            return None;
+        }
+        let mut reply = Reply::Idle;
+        self.make_turn(actor, slice, event, &mut reply);
+        Some(reply)
     }
 
     /// Whether the actor is the console, and no command is left.
     #[inline(always)]
-    fn is_ended(&self, actor: u32) -> bool
+    pub(crate) fn is_ended(&self, actor: u32) -> bool
         ensures { IsTrue result ↔ IsEnded self.now actor }
     {
         actor == 0 && self.spent >= self.program.commands().len()
@@ -231,18 +258,24 @@ impl System {
         self.history.len() >= self.room as usize
     }
 
-    /// A turn that is made: what it was, and what the kernel replied.
+    /// A turn that is made: what it was, and what the kernel replied, each put where it is kept.
     #[inline(always)]
-    fn make_turn(&mut self, actor: u32, slice: &Option<Slice>, event: &mut Event) -> Reply
+    pub(crate) fn make_turn(
+        &mut self,
+        actor: u32,
+        slice: &Option<Slice>,
+        event: &mut Event,
+        reply: &mut Reply,
+    )
         requires actor { actor ≤ self.old.setting.program.limits.processors }
         requires goes { Goes self.old actor slice.now }
         ensures seen { self.new ≡ after_turn self.old actor }
-        ensures answer { (system_turn self.old.setting.program (world_of self.old) actor).answer ≡ Answered event.new result }
+        ensures answer { (system_turn self.old.setting.program (world_of self.old) actor).answer ≡ Answered event.new reply.new }
     {
         if actor == 0 {
-            self.console_turn(event)
+            *reply = self.console_turn(event);
         } else {
-            self.processor_turn(actor, slice, event)
+            self.processor_turn(actor, slice, event, reply);
         }
     }
 
@@ -265,22 +298,27 @@ impl System {
 
     /// A processor's draw, or the slice of the thread that runs there.
     #[inline(always)]
-    fn processor_turn(&mut self, actor: u32, slice: &Option<Slice>, event: &mut Event) -> Reply
+    fn processor_turn(
+        &mut self,
+        actor: u32,
+        slice: &Option<Slice>,
+        event: &mut Event,
+        reply: &mut Reply,
+    )
         requires actor { IsBetween 1 self.old.setting.program.limits.processors actor }
         requires fresh { IsFresh self.old actor slice.now }
         requires room { length self.old.history < self.old.setting.room }
         ensures seen { self.new ≡ after_turn self.old actor }
-        ensures answer { (system_turn self.old.setting.program (world_of self.old) actor).answer ≡ Answered event.new result }
+        ensures answer { (system_turn self.old.setting.program (world_of self.old) actor).answer ≡ Answered event.new reply.new }
     {
         let next = next_number(&self.generators, actor, self.is_wide);
         *event = event_of(actor, slice, next.number);
         pass_number(&mut self.generators, actor, event, next);
-        let reply = self.kernel.event(event);
-        follow_turn(&mut self.places, slice, reply);
-        count_turn(&mut self.counts, actor, reply);
-        self.total = self.total.with_turn(reply);
+        *reply = self.kernel.event(event);
+        follow_turn(&mut self.places, slice, *reply);
+        count_turn(&mut self.counts, actor, *reply);
+        self.total = self.total.with_turn(*reply);
         remember(&mut self.history, actor);
-        reply
     }
 
     /// The limits of the program.

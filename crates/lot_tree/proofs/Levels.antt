@@ -1,10 +1,12 @@
 -- What a write of one weight and of the partial sums over it leaves true, level by level.
-use Rattle.std.proofs.Common.{ℕ, suc, zero, ◌≡◌, ◌≢◌, ◌+◌, ◌-◌, ◌*◌, ◌/◌, ◌%◌, ◌^◌, ◌<◌, ◌≤◌, ◌⊎◌, inl, inr, List, length, sum, take, set, get_or, add-one, ap, sym, subst, ◌∙◌, arith, refl, length-set}
+use Rattle.std.proofs.Common.{ℕ, suc, zero, ◌≡◌, ◌≢◌, ◌+◌, ◌-◌, ◌*◌, ◌/◌, ◌%◌, ◌^◌, ◌<◌, ◌≤◌, ◌⊎◌, inl, inr, List, length, sum, take, set, get_or, add-one, ap, sym, subst, ◌∙◌, arith, refl, length-set, w64}
 use Rattle.std.proofs.lemmas.List.{get_or-set_same, get_or-set_other}
 use Rattle.std.proofs.lemmas.List.Sums.{sum_by-set, sum_by-take-le}
 use Rattle.std.proofs.lemmas.Bool.{cases_lt, cases_eq}
-use Rattle.std.proofs.lemmas.Nat.{pow-add, pow_pos, div-add-mod', mod_below, same_from_place}
-use Rattle.std.proofs.Math.Nat.{pow-suc, pow-le-pow_right, mul-le-mul_right}
+use Rattle.std.proofs.lemmas.Nat.{pow-add, pow_pos, div-add-mod', div-mul-add, mod_below, same_from_place}
+use Rattle.std.proofs.lemmas.Nat.Bits.{bit_at_cat_low, bit_at_ones, bit_at-trailing_ones}
+use Rattle.std.specs.Int.{bit_at, trailing_ones}
+use Rattle.std.proofs.Math.Nat.{pow-suc, div-div-eq-div-mul, pow-le-pow_right, mul-le-mul_right}
 use Rattle.lot_tree.specs.Sums.{AreKept, ArePartialSumsAt, IsPartialSum, Kept}
 use Rattle.lot_tree.proofs.Sums.{sum-take-le, sum-take-set, sum-take-set_past, weight-le}
 
@@ -125,7 +127,7 @@ module _ (ws sums : List ℕ) (i w height level : ℕ) (place : i < length ws) (
     unwritten = λ k above few. ArePartialSumsAt-set_other ws sums k level pair _ (λ same. absurd (omega arith)) (done.unwritten k (omega arith) few);
   }
 
--- ---- the step of the code: `last` is the last place of the block of i, and `size` its length
+-- ---- the climb of the code: `last` is the last place of the block of i, at the levels that it goes through
 -- a weight is within the partial sum over it, which stays within the sum of all
 IsPartialSum-within : (ws sums : List ℕ) (i w from to : ℕ) → i < length ws → from ≤ i → i < to → IsPartialSum ws sums from to
     → (get_or ws i 0 ≤ get_or sums (to - 1) 0) × (get_or sums (to - 1) 0 - get_or ws i 0 + w ≤ sum (set ws i w))
@@ -133,48 +135,162 @@ IsPartialSum-within ws sums i w from to place after before held =
     let least : get_or ws i 0 ≤ get_or sums (to - 1) 0 = omega (arith, held.adds, weight-le ws i from to place after before) in
     (least, omega (arith, held.adds, sum-take-set ws i w to place before, sum_by-take-le (λ x. x) (set ws i w) to))
 
-module _ (ws sums : List ℕ) (i w height level size : ℕ) (place : i < length ws) (same_length : length sums ≡ length ws) (is_size : size ≡ 2 ^ level) (low : level < height) (done : IsWrittenBelow ws sums i w height level) where
-  -- if the block of i is even and whole, its partial sum is the last one of the left half of a pair
-  its_pair : i / 2 ^ level % 2 ≡ 0 → size ≤ length ws - i / 2 ^ level * size
-      → (pair : ℕ) × (2 * pair ≡ i / 2 ^ level) × ((2 * pair + 1) * 2 ^ level ≤ length ws) × (i / 2 ^ level * size + size ≡ (2 * pair + 1) * 2 ^ level)
-  its_pair even whole =
-      let pair = i / 2 ^ level / 2 in
-      let its : 2 * pair ≡ i / 2 ^ level = omega arith in
-      let ends : i / 2 ^ level * size + size ≡ (2 * pair + 1) * 2 ^ level = rw (is_size, its) (omega arith) in
-      let around = block_around (2 ^ level) i (pow_pos level) in
-      let starts : i / 2 ^ level * size < length ws = rw is_size (omega (arith, around.0)) in
-      (pair, its, omega arith, ends)
+-- the place past the block of i
+abbrev pub block_end : ℕ → ℕ → ℕ
+block_end i level = (i / 2 ^ level + 1) * 2 ^ level
 
-  module _ (even : i / 2 ^ level % 2 ≡ 0) (whole : size ≤ length ws - i / 2 ^ level * size) where
-    pub last_sum_within : (get_or ws i 0 ≤ get_or sums (i / 2 ^ level * size + size - 1) 0) × (get_or sums (i / 2 ^ level * size + size - 1) 0 - get_or ws i 0 + w ≤ sum (set ws i w))
-    last_sum_within =
-        let found = its_pair even whole in
-        let around = block_around (2 ^ level) i (pow_pos level) in
-        rw found.3 (IsPartialSum-within ws sums i w (2 * found.0 * 2 ^ level) _ place (rw found.1 around.0) (rw found.1 around.1) (done.unwritten level (omega arith) low found.0 found.2))
+twice_as_long : (level : ℕ) → 2 ^ (level + 1) ≡ 2 ^ level * 2
+twice_as_long level = rw add-one (pow-suc 2 level)
 
-    pub last_sum_written : IsWrittenBelow ws (set sums (i / 2 ^ level * size + size - 1) (get_or sums (i / 2 ^ level * size + size - 1) 0 - get_or ws i 0 + w)) i w height (level + 1)
-    last_sum_written =
-        let found = its_pair even whole in
-        rw found.3 (IsWrittenBelow_written ws sums i w height level place low done found.0 found.1 (omega (arith, found.2)))
+-- the block of twice the length that has i has half the number
+half_block : (i level : ℕ) → i / 2 ^ (level + 1) ≡ i / 2 ^ level / 2
+half_block i level = rw twice_as_long (sym (div-div-eq-div-mul i (2 ^ level) 2))
 
-  pub odd_skipped : i / 2 ^ level % 2 ≢ 0 → IsWrittenBelow ws sums i w height (level + 1)
-  odd_skipped odd = IsWrittenBelow_skipped ws sums i w height level place low done (λ pair its. absurd (odd (omega arith)))
+double_odd : (half size : ℕ) → (half + 1) * (size * 2) ≡ (2 * half + 1 + 1) * size
+double_odd half size = omega arith
 
-  pub short_skipped : length ws - i / 2 ^ level * size < size → IsWrittenBelow ws sums i w height (level + 1)
-  short_skipped short = IsWrittenBelow_skipped ws sums i w height level place low done (λ pair its.
-      let same : i / 2 ^ level * size + size ≡ (2 * pair + 1) * 2 ^ level = rw (is_size, ← its) (omega arith) in
-      omega arith)
+double_even : (half size : ℕ) → (half + 1) * (size * 2) ≡ (2 * half + 1) * size + size
+double_even half size = omega arith
 
-  -- it ends within the first 2 ^ height places
-  pub last_below : i < 2 ^ height → i / 2 ^ level * size + size ≤ 2 ^ height
-  last_below reached =
-      let more = height - level in
-      let split : 2 ^ height ≡ 2 ^ more * 2 ^ level = ap (λ n. 2 ^ n) (omega (arith, low)) ∙ pow-add 2 more level in
-      let around = block_around (2 ^ level) i (pow_pos level) in
-      elim (cases_lt (i / 2 ^ level) (2 ^ more)) [
-        | inl below ↦ rw is_size (omega (arith, split, mul-le-mul_right {m = i / 2 ^ level + 1} {n = 2 ^ more} (2 ^ level) (omega (arith, below))))
-        | inr above ↦ absurd (omega (arith, reached, split, around.0, mul-le-mul_right {m = 2 ^ more} {n = i / 2 ^ level} (2 ^ level) above))
-      ]
+block_end-suc : (i level : ℕ) → block_end i (level + 1) ≡ (i / 2 ^ level / 2 + 1) * (2 ^ level * 2)
+block_end-suc i level = ap (λ n. (n + 1) * 2 ^ (level + 1)) (half_block i level) ∙ ap (λ n. (i / 2 ^ level / 2 + 1) * n) (twice_as_long level)
+
+-- a level up from an odd block, the block of i ends at the same place
+block_end-odd : (i level : ℕ) → i / 2 ^ level % 2 ≡ 1 → block_end i (level + 1) ≡ block_end i level
+block_end-odd i level odd =
+    let is : 2 * (i / 2 ^ level / 2) + 1 ≡ i / 2 ^ level = omega arith in
+    block_end-suc i level ∙ double_odd (i / 2 ^ level / 2) (2 ^ level) ∙ ap (λ n. (n + 1) * 2 ^ level) is
+
+-- and up from an even block, one block further on
+block_end-even : (i level : ℕ) → i / 2 ^ level % 2 ≡ 0 → block_end i (level + 1) ≡ block_end i level + 2 ^ level
+block_end-even i level even =
+    let is : 2 * (i / 2 ^ level / 2) ≡ i / 2 ^ level = omega arith in
+    block_end-suc i level ∙ double_even (i / 2 ^ level / 2) (2 ^ level) ∙ ap (λ n. (n + 1) * 2 ^ level + 2 ^ level) is
+
+block_end-grows : (i level : ℕ) → block_end i level ≤ block_end i (level + 1)
+block_end-grows i level = elim (cases_eq (i / 2 ^ level % 2) 0) [
+  | inl even ↦ omega (arith, block_end-even i level even)
+  | inr odd ↦ omega (arith, block_end-odd i level (omega (arith, odd)))
+]
+
+-- at each level that i needs, its block ends within the first 2 ^ height places
+block_end-within : (i level height : ℕ) → level < height → i < 2 ^ height → block_end i level ≤ 2 ^ height
+block_end-within i level height low reached =
+    let more = height - level in
+    let split : 2 ^ height ≡ 2 ^ more * 2 ^ level = ap (λ n. 2 ^ n) (omega (arith, low)) ∙ pow-add 2 more level in
+    let around = block_around (2 ^ level) i (pow_pos level) in
+    elim (cases_lt (i / 2 ^ level) (2 ^ more)) [
+      | inl below ↦ omega (arith, split, mul-le-mul_right {m = i / 2 ^ level + 1} {n = 2 ^ more} (2 ^ level) (omega (arith, below)))
+      | inr above ↦ absurd (omega (arith, reached, split, around.0, mul-le-mul_right {m = 2 ^ more} {n = i / 2 ^ level} (2 ^ level) above))
+    ]
+
+module _ (i last level : ℕ) (ends : last + 1 ≡ block_end i level) where
+  -- in binary, the last place of a block is the block's number, and then a digit 1 for each level below
+  last_digits : last ≡ i / 2 ^ level * 2 ^ level + (2 ^ level - 1)
+  last_digits = omega (arith, ends, pow_pos level)
+
+  last_block : bit_at last level ≡ i / 2 ^ level % 2
+  last_block = ap (λ n. bit_at n level) last_digits ∙ ap (λ n. n % 2) (div-mul-add (i / 2 ^ level) (2 ^ level) (2 ^ level - 1) (omega (arith, pow_pos level)))
+
+  ones_below : (k : ℕ) → k < level → bit_at last k ≡ 1
+  ones_below k low = ap (λ n. bit_at n k) last_digits ∙ bit_at_cat_low (i / 2 ^ level) level (2 ^ level - 1) k low ∙ bit_at_ones level k low
+
+-- the levels below `level` are done, and the block of i at that level has the last place `last`
+pub record IsClimbed (ws sums : List ℕ) (i w height last level : ℕ) : Type 0 where
+  pub below : IsWrittenBelow ws sums i w height level
+  pub ends : last + 1 ≡ block_end i level
+
+module _ (ws sums : List ℕ) (i w height last : ℕ) (place : i < length ws) where
+  -- up past a level at which the block of i is an odd one
+  IsClimbed_odd : (level : ℕ) → level < height → IsClimbed ws sums i w height last level → bit_at last level ≡ 1
+      → IsClimbed ws sums i w height last (level + 1)
+  IsClimbed_odd level low done odd =
+      let is : i / 2 ^ level % 2 ≡ 1 = sym (last_block i last level done.ends) ∙ odd in
+      record {
+        below = IsWrittenBelow_skipped ws sums i w height level place low done.below (λ pair its. absurd (omega (arith, its, is)));
+        ends = done.ends ∙ sym (block_end-odd i level is);
+      }
+
+  -- up past all levels below a digit of `last`, if those digits are 1
+  IsClimbed_ones : (more level : ℕ) → level + more ≤ height → ((k : ℕ) → k < level + more → bit_at last k ≡ 1)
+      → IsClimbed ws sums i w height last level → IsClimbed ws sums i w height last (level + more)
+  IsClimbed_ones zero level low ones done = let same : level + 0 ≡ level = omega arith in rw same done
+  IsClimbed_ones (suc more) level low ones done =
+      let next : level + 1 + more ≡ level + suc more = omega arith in
+      rw next at (IsClimbed_ones more (level + 1) (omega arith) (λ k below. ones k (omega arith)) (IsClimbed_odd level (omega arith) done (ones level (omega arith))))
+
+  -- up past all levels if the block of i is cut short
+  IsWrittenBelow_short : (more level : ℕ) → level + more ≤ height → length ws < block_end i level
+      → IsWrittenBelow ws sums i w height level → IsWrittenBelow ws sums i w height (level + more)
+  IsWrittenBelow_short zero level low short below = let same : level + 0 ≡ level = omega arith in rw same below
+  IsWrittenBelow_short (suc more) level low short below =
+      let next : level + 1 + more ≡ level + suc more = omega arith in
+      rw next at (IsWrittenBelow_short more (level + 1) (omega arith) (omega (arith, short, block_end-grows i level))
+      (IsWrittenBelow_skipped ws sums i w height level place (omega arith) below (λ pair its. rw its short)))
+
+  -- past the last place no level is left with a partial sum over i
+  pub IsWrittenBelow_past : (level : ℕ) → level ≤ height → IsClimbed ws sums i w height last level → length ws ≤ last → IsWrittenBelow ws sums i w height height
+  IsWrittenBelow_past level within done past =
+      let up : level + (height - level) ≡ height = omega (arith, within) in
+      rw up at (IsWrittenBelow_short (height - level) level (omega (arith, up)) (omega (arith, done.ends, past)) done.below)
+
+  -- the code looks for the lowest digit 0 of `last`
+  module _ (level lowest : ℕ) (within : level ≤ height) (done : IsClimbed ws sums i w height last level) (fits : last + 1 < 2 ^ 64)
+      (is_lowest : lowest ≡ trailing_ones w64 last) where
+    zero_at_lowest : bit_at last lowest ≡ 0
+    zero_at_lowest = rw is_lowest (bit_at-trailing_ones w64 last fits).1
+
+    ones_to_lowest : (k : ℕ) → k < lowest → bit_at last k ≡ 1
+    ones_to_lowest k low = (bit_at-trailing_ones w64 last fits).2 k (rw is_lowest at low)
+
+    -- it is at no level below, where the digits are 1
+    lowest_from : level ≤ lowest
+    lowest_from = elim (cases_lt lowest level) [
+      | inl below ↦ absurd (omega (arith, zero_at_lowest, ones_below i last level done.ends lowest below))
+      | inr from ↦ from
+    ]
+
+    -- if it is at no level below the height either, no level is left with a partial sum over i
+    pub IsWrittenBelow_height : height ≤ lowest → IsWrittenBelow ws sums i w height height
+    IsWrittenBelow_height low =
+        let up : level + (height - level) ≡ height = omega (arith, within) in
+        (rw up at (IsClimbed_ones (height - level) level (omega (arith, up)) (λ k below. ones_to_lowest k (omega (arith, up, below, low))) done)).below
+
+    -- else the block of i is there an even one, with its partial sum at `last`
+    module _ (low : lowest < height) where
+      IsClimbed_lowest : IsClimbed ws sums i w height last lowest
+      IsClimbed_lowest =
+          let up : level + (lowest - level) ≡ lowest = omega (arith, lowest_from) in
+          rw up at (IsClimbed_ones (lowest - level) level (omega (arith, up, low)) (λ k below. ones_to_lowest k (omega (arith, up, below))) done)
+
+      lowest_even : i / 2 ^ lowest % 2 ≡ 0
+      lowest_even = sym (last_block i last lowest IsClimbed_lowest.ends) ∙ zero_at_lowest
+
+      abbrev pair : ℕ
+      pair = i / 2 ^ lowest / 2
+
+      its : 2 * pair ≡ i / 2 ^ lowest
+      its = omega (arith, lowest_even)
+
+      last_of_pair : last ≡ (2 * pair + 1) * 2 ^ lowest - 1
+      last_of_pair = rw its (omega (arith, IsClimbed_lowest.ends))
+
+      -- which is one of the first 2 ^ height places
+      pub last_below : i < 2 ^ height → last < 2 ^ height
+      last_below reached = omega (arith, IsClimbed_lowest.ends, block_end-within i lowest height low reached)
+
+      module _ (same_length : length sums ≡ length ws) (whole : last < length ws) where
+        pub last_sum_within : (get_or ws i 0 ≤ get_or sums last 0) × (get_or sums last 0 - get_or ws i 0 + w ≤ sum (set ws i w))
+        last_sum_within =
+            let around = block_around (2 ^ lowest) i (pow_pos lowest) in
+            rw last_of_pair (IsPartialSum-within ws sums i w (2 * pair * 2 ^ lowest) _ place (rw its around.0) (rw its around.1)
+            (IsClimbed_lowest.below.unwritten lowest (omega arith) low pair (omega (arith, whole, last_of_pair))))
+
+        pub last_sum_written : IsClimbed ws (set sums last (get_or sums last 0 - get_or ws i 0 + w)) i w height (last + 2 ^ lowest) (lowest + 1)
+        last_sum_written = record {
+          below = rw last_of_pair (IsWrittenBelow_written ws sums i w height lowest place low IsClimbed_lowest.below pair its (omega (arith, whole, last_of_pair, same_length)));
+          ends = omega (arith, IsClimbed_lowest.ends, block_end-even i lowest lowest_even);
+        }
 
 -- ---- one level more
 -- all the weight is in the first places, and so it is in more of them

@@ -108,10 +108,10 @@ impl SumTree {
             // A left half that is cut short has all the places that are left.
             if size <= n - base {
                 let left = self.sums.read(base + size - 1, &mut reads);
-                if left <= rest {
-                    rest -= left;
-                    base += size;
-                }
+                // Which half has the place can't be foreseen, so nothing branches on it.
+                let is_past = left <= rest;
+                rest -= if is_past { left } else { 0 };
+                base += usize::from(is_past) << level;
             }
         }
         *visits = visits.saturating_add(reads);

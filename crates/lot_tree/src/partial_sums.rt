@@ -98,14 +98,15 @@ fn set_partial_sums(sums: &mut [u128], weights: &[u128], i: usize, w: u128, heig
 {
     let n = weights.len();
     let old = weights[i];
-    for level in 0..height {
-        let size = 1usize << level;
-        let block = i >> level;
-        let from = block * size;
-        // The odd blocks and the one that is cut short keep no partial sum.
-        if block % 2 == 0 && size <= n - from {
-            let last = from + size - 1;
-            sums[last] = sums[last] - old + w;
+    let mut last = i;
+    while last < n {
+        // The levels below the lowest binary digit 0 of `last` are done, or have `i` in an odd block, which keeps no partial sum.
+        let level = last.trailing_ones();
+        // The blocks of the levels from the height on keep no partial sum.
+        if height <= level {
+            return;
         }
+        sums[last] = sums[last] - old + w;
+        last += 1 << level;
     }
 }

@@ -4,11 +4,13 @@ use Rattle.std.proofs.lemmas.Bool.{eqb-true, eqb-false}
 use Rattle.lot_machine.specs.declared.ticket.Ticket.{Ticket}
 use Rattle.lot_machine.specs.declared.funding.Node.{Node}
 use Rattle.lot_machine.specs.declared.funding.Node.TheVariants.{Currency}
-use Rattle.lot_machine.specs.declared.funding.Edge.TheVariants.{OfTicket}
+use Rattle.lot_machine.specs.declared.funding.Edge.{Edge}
+use Rattle.lot_machine.specs.declared.funding.Edge.TheVariants.{OfTicket, OfLender, OfMutex}
 use Rattle.lot_machine.specs.Funding.{Funding, ticket_at, ends_of}
 use Rattle.lot_machine.specs.Activity.{IsActive, is_active, active_amount}
 use Rattle.lot_machine.specs.Equations.{ticket_share, share, LeadsInto}
 use Rattle.lot_machine.proofs.Tickets.{some-injective}
+use Rattle.lot_machine.proofs.Edges.{ends-are}
 use Rattle.lot_machine.proofs.TicketDepth.{is_active-exact}
 use Rattle.lot_machine.proofs.NodeBounds.{issuer-amount}
 use Rattle.lot_graph.specs.Graphs.{LimitedFunding}
@@ -16,6 +18,7 @@ use Rattle.lot_graph.specs.Places.{FitsLimits}
 use Rattle.lot_graph.proofs.EndLemmas.{ticket-ends}
 use Rattle.lot_active.specs.Activity.{Activity}
 use Rattle.lot_active.specs.Fundings.{IsKeptFor}
+use Rattle.lot_value.proofs.Nodes.{node-number}
 
 pub same-test : (a b : Bool) → (a ≡ true → b ≡ true) → (b ≡ true → a ≡ true) → a ≡ b
 same-test true true to back = refl
@@ -65,3 +68,26 @@ ticket-here w n t fits there at =
     let (u, here, (to, ends)) = edge-ticket w.funding n there in
     let same : u ≡ t = some-injective u t (sym here ∙ at) in
     subst (λ (x : Ticket). x.issuer ≤ w.currency_limit) same (fits.from (OfTicket n) (Currency u.issuer) to ends)
+
+-- an edge passes on as much, if its source is worth as much or is base
+module _ (unit : ℕ) (f : Funding) (live : List Bool) (worth other : Node → ℕ) (from to : Node) (same : from ≢ Currency 0 → worth from ≡ other from) where
+  same-ticket : (t : Ticket) → from ≡ Currency t.issuer → ticket_share unit f live worth t ≡ ticket_share unit f live other t
+  same-ticket t is = by (t.issuer == 0) refl
+    where
+      by : (b : Bool) → (t.issuer == 0) ≡ b → ticket_share unit f live worth t ≡ ticket_share unit f live other t
+      by true e = rw e refl
+      by false e =
+          let user : from ≢ Currency 0 = λ base. eqb-false t.issuer 0 e (ap node-number (sym is ∙ base)) in
+          let worth_same : worth (Currency t.issuer) ≡ other (Currency t.issuer) = subst (λ (n : Node). worth n ≡ other n) is (same user) in
+          rw (e, worth_same) refl
+
+  pub same-share : (edge : Edge) → ends_of f edge ≡ Some (from, to) → share unit f live worth edge ≡ share unit f live other edge
+  same-share (OfTicket n) at =
+      let r = ends-are f (OfTicket n) from to at in
+      share-is unit f live worth n r.0 r.1 ∙ same-ticket r.0 r.2 ∙ sym (share-is unit f live other n r.0 r.1)
+  same-share (OfLender s) at =
+      let r = ends-are f (OfLender s) from to at in
+      subst (λ (n : Node). worth n ≡ other n) r.2 (same (λ base. cc (sym r.2 ∙ base)))
+  same-share (OfMutex m) at =
+      let r = ends-are f (OfMutex m) from to at in
+      subst (λ (n : Node). worth n ≡ other n) r.2 (same (λ base. cc (sym r.2 ∙ base)))

@@ -1,5 +1,5 @@
 //! How one stale node gets its value.
-ghost use Rattle.std.specs.Prelude.{◌≡◌, ◌^◌, ◌*◌, ◌/◌, ◌<◌, ℕ, Bool, List, Contains, Some, length};
+ghost use Rattle.std.specs.Prelude.{◌≡◌, ◌^◌, ◌*◌, ◌/◌, ◌<◌, ℕ, Bool, List, Contains, Some, IfSome, IfNone, OnSome, length};
 ghost use Rattle.std.specs.Bool.{OnTrue, OnFalse};
 ghost use Rattle.lot_lists.specs.NodeLists.{nodes_of};
 ghost use Rattle.lot_machine.specs.declared.funding.Node.{Node as ANode};
@@ -13,7 +13,7 @@ ghost use Rattle.lot_active.specs.Fundings.{IsKeptFor};
 ghost use Rattle.lot_value.specs.Counts.{counted_up};
 ghost use Rattle.lot_value.specs.Caches.{kept_worth};
 ghost use Rattle.lot_value.specs.Marking.{IsStaleList, IsReordered, LeadsFromPlace, last_of};
-ghost use Rattle.lot_value.specs.Sources.{AreSources};
+ghost use Rattle.lot_value.specs.Sources.{AreSources, IsBounded};
 
 use crate::marking::STALE;
 use crate::meter::Meter;
@@ -33,6 +33,7 @@ pub(crate) struct Sources<'a> {
 
 /// Moves the node at the front of the list to the back, if there is one. Of the nodes that a touch made stale the one that was touched
 /// stands in front, and so its value is most often computed first.
+#[inline(always)]
 pub(crate) fn turn_over(stale: &mut Lists)
     requires list { IsStaleList stale.old stale.old.nodes }
     ensures list { IsStaleList stale.new stale.old.nodes }
@@ -44,6 +45,7 @@ pub(crate) fn turn_over(stale: &mut Lists)
 }
 
 /// Moves the stale sources of a node to the back of the list. Answers whether there are any.
+#[inline(always)]
 pub(crate) fn raise_sources(graph: &Graph, stale: &mut Lists, node: Node) -> bool
     requires list { IsStaleList stale.old (places.node_count (layout_of graph.now)) }
     requires node { IsNodeOf graph.now node }
@@ -68,6 +70,7 @@ pub(crate) fn raise_sources(graph: &Graph, stale: &mut Lists, node: Node) -> boo
 }
 
 /// What the edges into a node pass on together, each of them read once.
+#[inline(always)]
 pub(crate) fn read_value(sources: Sources, node: Node, meter: &mut Meter) -> u64
     requires node { IsNodeOf sources.graph.now node }
     requires sources { (live : List Bool) × AreSources sources live × (shares_into sources.unit sources.graph.now.funding live (kept_worth (layout_of sources.graph.now) sources.values.now) node < 2 ^ 64) }
@@ -81,7 +84,43 @@ pub(crate) fn read_value(sources: Sources, node: Node, meter: &mut Meter) -> u64
     total
 }
 
+/// What the edges into a node pass on together, each of them read once; `None`, and none of them is counted, if a source of the node
+/// is stale.
+#[inline(always)]
+pub(crate) fn fresh_value(
+    sources: Sources,
+    stale: &Lists,
+    node: Node,
+    meter: &mut Meter,
+) -> Option<u64>
+    requires list { IsStaleList stale.now (places.node_count (layout_of sources.graph.now)) }
+    requires node { IsNodeOf sources.graph.now node }
+    requires sources { (live : List Bool) × AreSources sources live × IsBounded sources live (nodes_of stale.now 0) node }
+    ensures fresh { OnSome result ((from : ANode) → IsEdge sources.entry.graph.now.funding from node → ¬ Contains (nodes_of stale.now 0) (node_place (layout_of sources.entry.graph.now) from)) }
+    ensures value { IfSome result (λ value. (live : List Bool) → AreSources sources.entry live → value ≡ shares_into sources.entry.unit sources.entry.graph.now.funding live (kept_worth (layout_of sources.entry.graph.now) sources.entry.values.now) node) }
+    ensures counted { OnSome result (meter.new ≡ record meter.old { ticket_reads = counted_up meter.old.ticket_reads (edge_count_into sources.entry.graph.now.funding node) }) }
+    ensures found { IfNone result ((place : ℕ) × Contains (nodes_of stale.now 0) place × LeadsFromPlace (layout_of sources.entry.graph.now) sources.entry.graph.now.funding place node) }
+    ensures uncounted { IfNone result (meter.new ≡ meter.old) }
+{
+    let layout = sources.graph.layout();
+    let mut counted = *meter;
+    let mut total = 0;
+    for edge in sources.graph.edges_into(node) {
+        let Some(ends) = ends_of_edge(sources.graph, edge) else {
+            unreachable!()
+        };
+        let place = layout.list_of(ends.from);
+        if stale.list_of(place).is_some() {
+            return None;
+        }
+        total += read_share(sources, edge, &mut counted);
+    }
+    *meter = counted;
+    Some(total)
+}
+
 /// The share that an edge passes on, counted. Edges are read for values in no other way.
+#[inline(always)]
 pub(crate) fn read_share(sources: Sources, edge: Edge, meter: &mut Meter) -> u64
     requires edge { (to : ANode) × LeadsInto sources.graph.now.funding to edge }
     requires sources { (live : List Bool) × AreSources sources live × (share sources.unit sources.graph.now.funding live (kept_worth (layout_of sources.graph.now) sources.values.now) edge < 2 ^ 64) }
@@ -98,6 +137,7 @@ pub(crate) fn read_share(sources: Sources, edge: Edge, meter: &mut Meter) -> u64
 }
 
 /// The share of a ticket that funds something.
+#[inline(always)]
 fn ticket_share(sources: Sources, number: u32) -> u64
     requires edge { (to : ANode) × LeadsInto sources.graph.now.funding to (OfTicketEdge number) }
     requires sources { (live : List Bool) × AreSources sources live × (share sources.unit sources.graph.now.funding live (kept_worth (layout_of sources.graph.now) sources.values.now) (OfTicketEdge number) < 2 ^ 64) }
@@ -119,6 +159,7 @@ fn ticket_share(sources: Sources, number: u32) -> u64
 
 /// The share of a value that an amount has, of all active amounts, rounded down once (4.4). An amount that is all of them needs no
 /// division, and nearly all products fit 64 bits, which divide faster.
+#[inline(always)]
 fn share_of(value: u64, amount: u32, active: u64) -> u64
     requires active { 0 < active }
     requires fits { value * amount / active < 2 ^ 64 }

@@ -17,6 +17,7 @@ use lot_graph::Graph;
 use lot_machine::Node;
 
 /// Touches the nodes with an equation that the last call of `active` switched.
+#[inline(always)]
 pub(crate) fn touch_switched(graph: &Graph, active: &Active, values: &mut Values)
     requires layout { values.old.layout ≡ layout_of graph.now }
     requires kept { (live : List Bool) × IsKeptFor active.now graph.now live }
@@ -32,6 +33,7 @@ pub(crate) fn touch_switched(graph: &Graph, active: &Active, values: &mut Values
 }
 
 /// Touches what tickets of the user currencies among these nodes fund.
+#[inline(always)]
 pub(crate) fn touch_funded(graph: &Graph, nodes: ChangedNodes, values: &mut Values)
     requires layout { values.old.layout ≡ layout_of graph.now }
     requires nodes { (node : ANode) → Contains nodes node → IsNodeOf graph.now node }

@@ -345,6 +345,7 @@ impl ValuedGraph {
 
     /// Computes the value of one stale node again and answers the node; `None` if none is stale. Counts each edge into
     /// it.
+    #[inline(always)]
     pub fn settle_next(&mut self, meter: &mut Meter) -> Option<Node>
         ensures now { self.new.now ≡ self.old.now }
         ensures live { self.new.live ≡ self.old.live }

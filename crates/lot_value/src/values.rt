@@ -16,7 +16,7 @@ ghost use Rattle.lot_value.specs.Caches.{IsStale, IsOnce, IsRight, IsRightBut, I
 
 use crate::marking::{STALE, mark};
 use crate::meter::Meter;
-use crate::settling::{Sources, raise_sources, read_share, read_value, turn_over};
+use crate::settling::{Sources, fresh_value, raise_sources, read_share, read_value, turn_over};
 use lot_active::Active;
 use lot_graph::{Graph, Layout};
 use lot_lists::Lists;
@@ -139,7 +139,54 @@ impl Values {
 
     /// Computes again the value of one stale node whose sources aren't stale, and answers that node; `None` if none is
     /// stale. Counts each edge into the node.
+    #[inline(always)]
     pub fn settle_next(&mut self, graph: &Graph, active: &Active, meter: &mut Meter) -> Option<Node>
+        requires right { (live : List Bool) × IsKeptFor active.now graph.now live × IsSmall self.old.unit graph.now live × IsRight graph.now live self.old }
+        ensures right { (live : List Bool) → IsKeptFor active.now graph.now live → IsRight graph.now live self.old → IsRight graph.now live self.new }
+        ensures node { IfSome result (HasEquation graph.now.funding) }
+        ensures within { IfSome result (IsNodeWithin self.old.layout) }
+        ensures once { IsOnce self.old }
+        ensures settles { IfSome result (Settles self.old self.new) }
+        ensures counted { IfSome result (λ node. meter.new ≡ record meter.old { ticket_reads = counted_up meter.old.ticket_reads (edge_count_into graph.now.funding node) }) }
+        ensures none { IfNone result ((self.old.stale ≡ []) × (self.new ≡ self.old) × (meter.new ≡ meter.old)) }
+    {
+        if let Some(node) = self.settle_front(graph, active, meter) {
+            return Some(node);
+        }
+        self.settle_last(graph, active, meter)
+    }
+
+    /// Computes again the value of the node at the front of the list of stale nodes, and answers that node; `None`, and nothing has
+    /// changed, if none is stale or one of its sources is. Counts each edge into the node. Most often the node at the front has no
+    /// stale source.
+    #[inline(always)]
+    fn settle_front(&mut self, graph: &Graph, active: &Active, meter: &mut Meter) -> Option<Node>
+        requires right { (live : List Bool) × IsKeptFor active.now graph.now live × IsSmall self.old.unit graph.now live × IsRight graph.now live self.old }
+        ensures right { (live : List Bool) → IsKeptFor active.now graph.now live → IsRight graph.now live self.old → IsRight graph.now live self.new }
+        ensures node { IfSome result (HasEquation graph.now.funding) }
+        ensures within { IfSome result (IsNodeWithin self.old.layout) }
+        ensures once { IsOnce self.old }
+        ensures settles { IfSome result (Settles self.old self.new) }
+        ensures counted { IfSome result (λ node. meter.new ≡ record meter.old { ticket_reads = counted_up meter.old.ticket_reads (edge_count_into graph.now.funding node) }) }
+        ensures none { IfNone result ((self.new ≡ self.old) × (meter.new ≡ meter.old)) }
+    {
+        let place = self.stale.first(STALE)?;
+        let node = self.layout.node_of(place);
+        let sources = Sources {
+            graph,
+            active,
+            values: &self.values,
+            unit: self.unit,
+        };
+        let value = fresh_value(sources, &self.stale, node, meter)?;
+        self.values[place] = value;
+        self.stale.remove(place);
+        Some(node)
+    }
+
+    /// Moves stale nodes to the back until the one there has no stale source, computes its value again and answers it; `None` if
+    /// none is stale. Counts each edge into the node.
+    fn settle_last(&mut self, graph: &Graph, active: &Active, meter: &mut Meter) -> Option<Node>
         requires right { (live : List Bool) × IsKeptFor active.now graph.now live × IsSmall self.old.unit graph.now live × IsRight graph.now live self.old }
         ensures right { (live : List Bool) → IsKeptFor active.now graph.now live → IsRight graph.now live self.old → IsRight graph.now live self.new }
         ensures node { IfSome result (HasEquation graph.now.funding) }

@@ -7,8 +7,8 @@ use Rattle.lot_system.proofs.FollowFacts.{answer-is, followed-more, one-next, ro
 use Rattle.lot_system.proofs.TimeFacts.{due-there}
 use Rattle.lot_system.proofs.following.make_due.Goals as goal
 
-pub try_turn-requires : goal.try_turn-requires
-try_turn-requires c =
+pub fresh_turn-requires-clause-there : goal.fresh_turn-requires-clause-there
+fresh_turn-requires-clause-there c =
     let program = c.args.program.now in
     let seen = c.args.system.now in
     let followed = c.requires.followed in
@@ -21,7 +21,7 @@ unreachable-requires c =
     let seen = c.args.system.now in
     let followed = c.requires.followed in
     let there = due-there program (moment_in seen c.args.following.now) c.args.due c.requires.due.first in
-    let ended = (rw c.in-Err-Ended.field-0-is at c.in-Err-Ended.ensures.err).0.1 in
+    let ended = c.in_default.ensures.ended.0 in
     omega (arith, there.1 ended.0, followed.left, ap length ended.1)
 
 pub follow-requires : goal.follow-requires
@@ -41,19 +41,19 @@ returns c =
     let seen = c.args.system.now in
     let following = c.args.following.now in
     let due = c.args.due in
-    let e = c.try_turn.new.event in
-    let r = c.in-Ok.reply in
+    let e = c.fresh_turn.new.event in
+    let r = c.in-Some.reply in
     let followed = c.requires.followed in
     let room : length seen.history < timed_room = omega (arith, c.requires.due.room, followed.room_is) in
-    let made = c.in-Ok.ensures.ok in
+    let made = c.in-Some.ensures.made in
     let turn = turn_due program (moment_in seen following) due in
-    let after = c.follow.ensures.followed (turns_done program seen) (length seen.history) turn refl (answer-is program seen following followed due c.requires.due.first room e r made.2 c.follow.new.self c.follow.ensures.time c.follow.ensures.clocks) followed.followed in
-    let next : IsFollowed program (after_turn seen due.actor) c.follow.new.self = followed-more program seen following followed due c.requires.due.first room e r made.2 c.follow.new.self c.follow.ensures.time c.follow.ensures.clocks after (c.follow.ensures.room program followed.room) in
+    let after = c.follow.ensures.followed (turns_done program seen) (length seen.history) turn refl (answer-is program seen following followed due c.requires.due.first room e r made.1 c.follow.new.self c.follow.ensures.time c.follow.ensures.clocks) followed.followed in
+    let next : IsFollowed program (after_turn seen due.actor) c.follow.new.self = followed-more program seen following followed due c.requires.due.first room e r made.1 c.follow.new.self c.follow.ensures.time c.follow.ensures.clocks after (c.follow.ensures.room program followed.room) in
     let same : turn ≡ turn_told seen (record { time = due.time; actor = due.actor; reply = r }) = ap (λ (p : Program). record { time = due.time; actor = due.actor; turn = system_turn p (world_of seen) due.actor }) (sym followed.program_is) in
     record {
-      followed = subst (λ s. IsFollowed program s c.follow.new.self) (sym made.1) next;
+      followed = subst (λ s. IsFollowed program s c.follow.new.self) (sym made.0) next;
       next = one-next program seen following followed due c.requires.due.first room ∙ ap (λ t. t ∷ []) same;
       due = (refl, refl);
-      answer = made.2;
-      after = made.1;
+      answer = made.1;
+      after = made.0;
     }

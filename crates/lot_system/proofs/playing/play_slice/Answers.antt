@@ -13,20 +13,22 @@ use Rattle.lot_system.specs.Writing.{Put}
 use Rattle.lot_system.proofs.PlayingFacts.{played-after, text-after}
 use Rattle.lot_system.proofs.playing.play_slice.Goals as goal
 
-pub returns-in-Ok-clause-played : goal.returns-in-Ok-clause-played
-returns-in-Ok-clause-played g c =
+pub returns-clause-played : goal.returns-clause-played
+returns-clause-played g c =
     let old = c.args.system.now in
     let actor = c.args.actor in
-    let told = c.in-Ok.ensures.ok in
-    let now : c.put_answer.new.system ≡ after_turn old actor = c.put_answer.ensures.same ∙ told.1 in
-    subst (IsPlayed old actor) (sym now) (played-after old actor c.try_turn.new.event c.in-Ok.reply told.2)
+    let told = c.make_turn.ensures in
+    let now : c.put_answer.new.system ≡ after_turn old actor = c.put_answer.ensures.same ∙ told.seen in
+    subst (IsPlayed old actor) (sym now) (played-after old actor c.make_turn.new.event c.make_turn.new.reply told.answer)
 
-pub returns-in-Ok-clause-text : goal.returns-in-Ok-clause-text
-returns-in-Ok-clause-text g c =
+pub returns-clause-text : goal.returns-clause-text
+returns-clause-text g c =
     let old = c.args.system.now in
     let actor = c.args.actor in
-    let told = c.in-Ok.ensures.ok in
-    let text = ap (λ (x : Seen). decimal actor ++ (codes " " ++ reply_text Whole (world_of x).state c.try_turn.new.event c.in-Ok.reply)) told.1 ∙ text-after old actor c.try_turn.new.event c.in-Ok.reply told.2 Whole in
+    let e = c.make_turn.new.event in
+    let r = c.make_turn.new.reply in
+    let told = c.make_turn.ensures in
+    let text = ap (λ (x : Seen). decimal actor ++ (codes " " ++ reply_text Whole (world_of x).state e r)) told.seen ∙ text-after old actor e r told.answer Whole in
     subst (Put (g.W.Write.contents c.args.writer.now.inner) (g.W.Write.contents c.put_answer.new.writer.inner) c.args.page.now c.put_answer.new.page c.put_answer.new.writer.failed c.put_answer.result) text c.put_answer.ensures.text
 
 -- the text of a turn without a command, with this heading
@@ -34,10 +36,10 @@ headed : (m : Manner) (actor a : ℕ) → m ≡ Whole → a ≡ actor
     → front m ++ (decimal a ++ (codes " " ++ (refused 41 (codes "Ended") ++ newline))) ≡ decimal actor ++ (codes " " ++ (refused 41 (codes "Ended") ++ newline))
 headed m actor a of_manner of_actor = rw (of_manner, of_actor) refl
 
-pub returns-in_err-write_ended-in-Err-Ended-clause-text : goal.returns-in_err-write_ended-in-Err-Ended-clause-text
-returns-in_err-write_ended-in-Err-Ended-clause-text g c =
+pub returns-in_err-write_ended-clause-text : goal.returns-in_err-write_ended-clause-text
+returns-in_err-write_ended-clause-text g c =
     let is : c.from_residual.result ≡ Err Write = search rules in
-    let told = c.in_err-write_ended-in-Err-Ended.ensures in
+    let told = c.in_err-write_ended.ensures in
     let ended : decimal c.args.actor ++ (codes " " ++ (refused 41 (codes "Ended") ++ newline)) ≡ turn_text Whole c.args.actor (turn_in c.args.system.now c.args.actor) = search rules in
     let text = headed c.heading.result.manner c.args.actor c.heading.result.actor c.heading.ensures.manner c.heading.ensures.actor ∙ ended in
     rw is (refl, told.0, subst (λ t. Begins (g.W.Write.contents c.args.writer.now.inner) (g.W.Write.contents c.write_ended.new.writer.inner) (c.args.page.now ++ t)) text told.1)

@@ -21,7 +21,7 @@ pub returns-in_err-write_out-in-List-clause-text : goal.returns-in_err-write_out
 returns-in_err-write_out-in-List-clause-text g c =
     let is : c.from_residual.result ≡ Err Write = search rules in
     let told = c.in_err-write_out-in-List.ensures.text in
-    let text = front c.args.manner ++ (decimal c.args.actor ++ (codes " " ++ reply_text c.args.manner (world_of c.args.system.now).state c.args.event.now c.args.reply)) in
+    let text = front c.args.manner ++ (decimal c.args.actor ++ (codes " " ++ reply_text c.args.manner (world_of c.args.system.now).state c.args.event.now c.args.reply.now)) in
     rw is (refl, told.0, begins-front (g.W.Write.contents c.args.writer.now.inner) (g.W.Write.contents c.write_out.new.writer.inner) c.args.page.now text told.1)
 
 pub returns-in_ok-write_out-in-List-clause-text : goal.returns-in_ok-write_out-in-List-clause-text
@@ -31,7 +31,7 @@ returns-in_ok-write_out-in-List-clause-text g c =
     let old = g.W.Write.contents c.args.writer.now.inner in
     let new = g.W.Write.contents c.write_listing.new.writer.inner in
     let manner = c.args.manner in
-    let text : front manner ++ (decimal c.args.actor ++ (codes " " ++ listing_text manner state c.in-List.kind)) ≡ front manner ++ (decimal c.args.actor ++ (codes " " ++ reply_text manner state c.args.event.now c.args.reply)) =
+    let text : front manner ++ (decimal c.args.actor ++ (codes " " ++ listing_text manner state c.in-List.kind)) ≡ front manner ++ (decimal c.args.actor ++ (codes " " ++ reply_text manner state c.args.event.now c.args.reply.now)) =
     ap (λ (r : Reply). front manner ++ (decimal c.args.actor ++ (codes " " ++ reply_text manner state c.args.event.now r))) (sym c.in-List.is) in
     subst (Put old new c.args.page.now c.write_out.new.self c.write_listing.new.writer.failed c.write_listing.result) text
     (put-written old (g.W.Write.contents c.write_out.new.writer.inner) new c.args.page.now c.write_out.new.self (front manner ++ (decimal c.args.actor ++ (codes " " ++ listing_text manner state c.in-List.kind))) c.write_listing.new.writer.failed c.write_listing.result told.none told.text.1 c.write_listing.ensures.text)
@@ -42,6 +42,6 @@ returns-in_err-write_reply-in_default-clause-text g c =
     let told = c.in_err-write_reply-in_default.ensures in
     let manner = c.args.manner in
     let state = (world_of c.args.system.now).state in
-    let plain : front manner ++ (decimal c.args.actor ++ (codes " " ++ plain_text manner state.limits.unit c.args.event.now c.args.reply)) ≡ front manner ++ (decimal c.args.actor ++ (codes " " ++ reply_text manner state c.args.event.now c.args.reply)) = search rules in
-    let text = headed manner c.heading.result.manner c.args.actor c.heading.result.actor state.limits.unit c.heading.result.unit c.args.event.now c.args.reply c.heading.ensures.manner c.heading.ensures.actor c.heading.ensures.unit ∙ plain in
+    let plain : front manner ++ (decimal c.args.actor ++ (codes " " ++ plain_text manner state.limits.unit c.args.event.now c.args.reply.now)) ≡ front manner ++ (decimal c.args.actor ++ (codes " " ++ reply_text manner state c.args.event.now c.args.reply.now)) = search rules in
+    let text = headed manner c.heading.result.manner c.args.actor c.heading.result.actor state.limits.unit c.heading.result.unit c.args.event.now c.args.reply.now c.heading.ensures.manner c.heading.ensures.actor c.heading.ensures.unit ∙ plain in
     rw is (refl, told.0, subst (λ t. Begins (g.W.Write.contents c.args.writer.now.inner) (g.W.Write.contents c.write_reply.new.writer.inner) (c.args.page.now ++ t)) text told.1)

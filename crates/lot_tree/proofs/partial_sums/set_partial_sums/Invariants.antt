@@ -1,9 +1,14 @@
-use Rattle.std.proofs.Common.{◌≡◌, ℕ, ◌^◌, ◌≤◌, get_or}
-use Rattle.lot_tree.proofs.Levels.{IsWrittenBelow}
+use Rattle.std.proofs.Common.{◌≡◌, ℕ, ◌-◌, ◌^◌, ◌≤◌, get_or}
+use Rattle.lot_tree.proofs.Levels.{IsClimbed}
 use Rattle.lot_tree.proofs.partial_sums.set_partial_sums.Given as goal
 
-abbrev pub invariant-loop-level : goal.invariant-loop-level
-invariant-loop-level l = record {
-  below : IsWrittenBelow l.weights l.sums l.i l.w l.height l.level;
+abbrev pub invariant-loop-last : goal.invariant-loop-last
+invariant-loop-last l = record {
+  level : ℕ;
+  within : level ≤ l.height;
+  climbed : IsClimbed l.weights l.sums l.i l.w l.height l.last level;
   others : (place : ℕ) → 2 ^ l.height ≤ place → get_or l.sums place 0 ≡ get_or l.fn.sums place 0;
 }
+
+abbrev pub decreases-loop-last : goal.decreases-loop-last
+decreases-loop-last l = l.n - l.last

@@ -3,7 +3,7 @@ use Rattle.lot_lists.specs.NodeLists.{nodes_of}
 use Rattle.lot_graph.specs.Places.{node_of, node_count}
 use Rattle.lot_value.specs.Marking.{IsStaleList, IsReordered, last_of}
 use Rattle.lot_value.proofs.Settled.{rank_of}
-use Rattle.lot_value.proofs.values.Values.settle_next.Given as goal
+use Rattle.lot_value.proofs.values.Values.settle_last.Given as goal
 
 -- the stale nodes are those of before in some order, and nothing else has changed
 abbrev pub invariant-loop-place : goal.invariant-loop-place

@@ -16,7 +16,7 @@ use Rattle.lot_value.proofs.Mapped.{reordered-mapped}
 use Rattle.lot_value.proofs.Nodes.{within-node}
 use Rattle.lot_value.proofs.Rightness.{sources-small}
 use Rattle.lot_value.proofs.Settled.{rank-falls, reordered-right, settle-right, settle-settles, source-fresh, nothing-stale, known-same, fresh-at, shares-at, once-mapped}
-use Rattle.lot_value.proofs.values.Values.settle_next.Goals as goal
+use Rattle.lot_value.proofs.values.Values.settle_last.Goals as goal
 
 pub loop-place-init : goal.loop-place-init
 loop-place-init c = record {
