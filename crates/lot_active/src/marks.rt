@@ -133,6 +133,7 @@ impl Marks {
     }
 
     /// Publishes a node's mark: the edges into it are counted, or no longer counted.
+    #[inline(always)]
     fn publish(&mut self, graph: &Graph, node: usize, on: bool)
         requires nodes { length self.old.amounts ≡ node_count (layout_of graph.now) }
         requires node { node < node_count (layout_of graph.now) }
@@ -154,6 +155,7 @@ impl Marks {
     }
 
     /// Publishes marks until none is left that differs from what is published.
+    #[inline(always)]
     pub(crate) fn propagate(&mut self, graph: &Graph, on: bool)
         requires nodes { length self.old.amounts ≡ node_count (layout_of graph.now) }
         requires sized { IsSized self.old }

@@ -9,15 +9,15 @@ use Rattle.lot_curves.specs.declared.stretch.Stretch.{Stretch}
 use Rattle.lot_curves.specs.OwnTimes.{EndedTurn}
 
 -- the thread that won the draw, or that ran; 0 if there is none
-abbrev pub thread_in : Reply → ℕ
-thread_in (reply.Winner thread number total delivered) = thread
-thread_in (reply.Expired thread ticks) = thread
-thread_in (reply.Trapped thread ticks came ends) = thread
-thread_in other = 0
+abbrev pub charged_thread : Reply → ℕ
+charged_thread (reply.Winner thread number total delivered) = thread
+charged_thread (reply.Expired thread ticks) = thread
+charged_thread (reply.Trapped thread ticks came ends) = thread
+charged_thread other = 0
 
 -- what a turn was for its thread
 abbrev pub stretch_of : EndedTurn → Stretch
-stretch_of turn = record { thread = count_in thread_in turn.answer; end = turn.time; ticks = count_in ticks_in turn.answer; draws = count_in quanta_in turn.answer }
+stretch_of turn = record { thread = count_in charged_thread turn.answer; end = turn.time; ticks = count_in ticks_in turn.answer; draws = count_in quanta_in turn.answer }
 
 -- what the thread has had of it at this tick: its ticks but for those after this one, or the draw if it was won by then
 abbrev pub part_at : Measure → ℕ → Stretch → ℕ

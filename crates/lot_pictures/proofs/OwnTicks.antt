@@ -49,7 +49,7 @@ use Rattle.lot_system.proofs.StepFacts.{effect-same, checked-same}
 use Rattle.lot_curves.specs.declared.stretch.Stretch.{Stretch}
 use Rattle.lot_curves.specs.Curves.{stretches_made, timed_stretches}
 use Rattle.lot_curves.specs.declared.stretch.Measure.TheVariants.{Ticks}
-use Rattle.lot_curves.specs.Stretches.{had_at, last_end, stretch_of, stretches_of, thread_in}
+use Rattle.lot_curves.specs.Stretches.{had_at, last_end, stretch_of, stretches_of, charged_thread}
 use Rattle.lot_curves.proofs.Ends.{ticks-at_last}
 use Rattle.lot_curves.specs.OwnTimes.{ended_after}
 use Rattle.lot_pictures.proofs.Notes.{timed-few, timed_stretch}
@@ -132,13 +132,13 @@ module _ (records : List Record) (u n : ℕ) (change : Record → Record) (i : �
 
 -- the record at the place has what the reply says besides, if it names it; and that is no more than a quantum
 record Adds (s : State) (i : ℕ) (done : Step) : Type 0 where
-  pub own : own_ticks done.state.records i ≡ own_ticks s.records i + cond (thread_in done.reply == suc i) (ticks_in done.reply) 0
+  pub own : own_ticks done.state.records i ≡ own_ticks s.records i + cond (charged_thread done.reply == suc i) (ticks_in done.reply) 0
   pub short : ticks_in done.reply ≤ s.limits.quantum
 
 -- the ticks stay, and the reply has none
 stays : (s : State) (i : ℕ) (done : Step) → own_ticks done.state.records i ≡ own_ticks s.records i → ticks_in done.reply ≡ 0 → Adds s i done
 stays s i done same none =
-    let nothing : cond (thread_in done.reply == suc i) (ticks_in done.reply) 0 ≡ 0 = ap (λ n. cond (thread_in done.reply == suc i) n 0) none ∙ cond-none (thread_in done.reply == suc i) in
+    let nothing : cond (charged_thread done.reply == suc i) (ticks_in done.reply) 0 ≡ 0 = ap (λ n. cond (charged_thread done.reply == suc i) n 0) none ∙ cond-none (charged_thread done.reply == suc i) in
     record { own = omega (arith, same, nothing); short = omega (arith, none) }
 
 unless-adds : (s : State) (i : ℕ) (o : Option Refusal) (next : Step) → (o ≡ None → Adds s i next) → Adds s i (unless_refused s o next)
@@ -272,7 +272,7 @@ step-adds s i (event.Trap p ran action) space =
 
 -- what an answer has for the thread at the place
 abbrev part_of : ℕ → Answer → ℕ
-part_of i answer = cond (count_in thread_in answer == suc i) (count_in ticks_in answer) 0
+part_of i answer = cond (count_in charged_thread answer == suc i) (count_in ticks_in answer) 0
 
 record AddsTurn (w : World) (i : ℕ) (turn : Turn) : Type 0 where
   pub own : own_ticks turn.world.state.records i ≡ own_ticks w.state.records i + part_of i turn.answer
@@ -280,7 +280,7 @@ record AddsTurn (w : World) (i : ℕ) (turn : Turn) : Type 0 where
   pub order : IsInOrder turn.world.state
 
 part-short : (i : ℕ) (answer : Answer) → part_of i answer ≤ count_in ticks_in answer
-part-short i answer = at (count_in thread_in answer == suc i)
+part-short i answer = at (count_in charged_thread answer == suc i)
   where
     at : (b : Bool) → cond b (count_in ticks_in answer) 0 ≤ count_in ticks_in answer
     at true = omega arith

@@ -13,9 +13,10 @@ pub struct Place {
     pub(crate) line: usize,
     /// The ticks that are done of it, if it is a `compute`.
     pub(crate) done: u32,
+    // Before the loops, since the two numbers of 32 bits then leave no gap, which a copy of the whole would wait for.
+    pub(crate) accumulator: u32,
     /// The loops that it is in.
     pub(crate) loops: OpenLoops,
-    pub(crate) accumulator: u32,
 }
 
 impl Model for Place {

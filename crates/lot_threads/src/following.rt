@@ -58,6 +58,7 @@ pub(crate) fn follow_status(graph: &mut ValuedGraph, thread: u32, before: Status
 
 /// Makes a thread live or not, and makes it lend this. A thread that is live before or after is so all the time, so that a server
 /// doesn't sleep while a client's funding moves to it.
+#[inline(always)]
 fn follow(graph: &mut ValuedGraph, thread: u32, live: bool, lend: Lend)
     requires thread { IsThread graph.old.now.funding thread }
     requires lend { CanLend graph.old.now.funding thread lend }
@@ -77,6 +78,7 @@ fn follow(graph: &mut ValuedGraph, thread: u32, live: bool, lend: Lend)
 }
 
 /// Makes a thread lend this.
+#[inline(always)]
 fn relend(graph: &mut ValuedGraph, thread: u32, lend: Lend)
     requires thread { IsThread graph.old.now.funding thread }
     requires lend { CanLend graph.old.now.funding thread lend }
@@ -96,6 +98,7 @@ fn relend(graph: &mut ValuedGraph, thread: u32, lend: Lend)
 }
 
 /// Makes a thread lend to nobody.
+#[inline(always)]
 fn unlend(graph: &mut ValuedGraph, thread: u32)
     requires thread { IsThread graph.old.now.funding thread }
     ensures now { graph.new.now ≡ with_lends graph.old.now (set_number graph.old.now.funding.lends thread Nobody) }

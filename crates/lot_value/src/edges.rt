@@ -16,6 +16,7 @@ use lot_graph::Graph;
 use lot_machine::Edge;
 
 /// Takes up an edge that was put into the graph.
+#[inline(always)]
 pub(crate) fn attach(graph: &Graph, active: &mut Active, values: &mut Values, edge: Edge)
     requires before { (before : LimitedFunding) × (ends : Ends) × AddsEdge before graph.now edge ends × StandsFor before graph.now ends × AreTogether before active.old values.old }
     ensures follows { (before : LimitedFunding) (ends : Ends) → AddsEdge before graph.now edge ends → StandsFor before graph.now ends → AreTogether before active.old values.old
@@ -32,6 +33,7 @@ pub(crate) fn attach(graph: &Graph, active: &mut Active, values: &mut Values, ed
 }
 
 /// Gives up an edge that was taken out of the graph, from the ends that it had.
+#[inline(always)]
 pub(crate) fn detach(graph: &Graph, active: &mut Active, values: &mut Values, ends: EdgeEnds)
     requires sound { IsSound graph.now.funding }
     requires fits { FitsLimits graph.now }

@@ -31,8 +31,8 @@ pub(crate) struct Sources<'a> {
     pub(crate) unit: u32,
 }
 
-/// Moves the node at the front of the list to the back, if there is one. Of the nodes that a touch made stale the one that was touched
-/// stands in front, and so its value is most often computed first.
+/// Moves the node at the front of the list to the back, if there is one. It comes here only if one of its sources is stale too, and
+/// then the others are looked at before it.
 #[inline(always)]
 pub(crate) fn turn_over(stale: &mut Lists)
     requires list { IsStaleList stale.old stale.old.nodes }

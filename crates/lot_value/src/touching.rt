@@ -87,6 +87,7 @@ fn is_user_currency(node: Node) -> bool
 
 /// Touches all that the last call of `active` asks for: the nodes that it switched, and what tickets of the user currencies
 /// fund whose active amount it changed.
+#[inline(always)]
 pub(crate) fn touch_listed(graph: &Graph, active: &Active, values: &mut Values)
     requires layout { values.old.layout ≡ layout_of graph.now }
     requires kept { (live : List Bool) × IsKeptFor active.now graph.now live }

@@ -80,6 +80,7 @@ impl ValuedGraph {
     }
 
     /// Makes a thread live, or not.
+    #[inline(always)]
     pub fn set_live(&mut self, thread: u32, live: bool)
         requires thread { IsThread self.old.now.funding thread }
         ensures now { self.new.now ≡ self.old.now }
