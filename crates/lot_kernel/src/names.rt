@@ -1,5 +1,5 @@
 //! Who has a name.
-ghost use Rattle.std.specs.Prelude.{◌≡◌, position};
+ghost use Rattle.std.specs.Prelude.{◌≡◌, ◌-◌, length, position, slice_get, unwrap_or};
 ghost use Rattle.std.specs.Str.{bytes_eq};
 ghost use Rattle.lot_machine.specs.Numbered.{option_any};
 
@@ -10,7 +10,7 @@ pub(crate) fn currency_place(currencies: &[Option<Name>], name: &Name) -> Option
     ensures { result ≡ position (option_any (bytes_eq name.now)) currencies.now }
 {
     currencies.iter().position(|currency| match currency {
-        Some(other) => name == other,
+        Some(other) => is_same(name, other),
         None => false,
     })
 }
@@ -19,5 +19,27 @@ pub(crate) fn currency_place(currencies: &[Option<Name>], name: &Name) -> Option
 pub(crate) fn thread_place(threads: &[Thread], name: &Name) -> Option<usize>
     ensures { result ≡ position (λ t. bytes_eq name.now t.name) threads.now }
 {
-    threads.iter().position(|thread| *name == thread.name)
+    threads
+        .iter()
+        .position(|thread| is_same(name, &thread.name))
+}
+
+/// Whether it is the same name. Names that are made one after the other differ most often in their last byte, so that is looked at
+/// first.
+#[inline(always)]
+fn is_same(name: &Name, other: &Name) -> bool
+    ensures { result ≡ bytes_eq name.now other.now }
+{
+    last_byte(name) == last_byte(other) && name == other
+}
+
+/// The last byte of a name, or 0 if it has none.
+#[inline(always)]
+fn last_byte(name: &Name) -> u8
+    ensures { result ≡ unwrap_or (slice_get name.now (length name.now - 1)) 0 }
+{
+    match name.as_bytes().last() {
+        Some(byte) => *byte,
+        None => 0,
+    }
 }

@@ -125,7 +125,7 @@ impl Tables {
             Event::Command(command) => self.command(command),
             Event::Draw(processor, d) => self.draw(*processor, *d),
             Event::Expire(processor) => self.expire(*processor),
-            Event::Trap(processor, ran, action) => self.trap(*processor, *ran, *action),
+            Event::Trap(processor, ran, action) => self.trap(*processor, *ran, action),
         }
     }
 }

@@ -98,8 +98,8 @@ impl<const N: usize> Line<N> {
         self.push_number(number);
     }
 
-    /// Puts the text and then the number at the end. A number below 1000, as most are, is put digit by digit, since a buffer of its
-    /// own costs more.
+    /// Puts the text and then the number at the end. A number below 1000000, as most are, is put digit by digit, since a buffer of
+    /// its own costs more.
     #[inline(always)]
     pub(crate) fn push_count(&mut self, text: &str, number: u32)
         requires { length self.old + length text.now + 10 ≤ N }
@@ -107,8 +107,8 @@ impl<const N: usize> Line<N> {
         ensures len { length self.new ≤ length self.old + length text.now + 10 }
     {
         self.push_text(text);
-        if number < 1000 {
-            self.push_digits(number);
+        if number < 1000000 {
+            self.push_six_digits(number);
         } else {
             self.push_number(number);
         }
@@ -197,6 +197,23 @@ impl<const N: usize> Line<N> {
             Manner::Whole => self.push_wide(text, number),
             Manner::Timed(_) => self.push_quotient(text, number, u128::from(unit)),
         }
+    }
+
+    /// Puts the digits of a number below 1000000 at the end.
+    #[inline(always)]
+    fn push_six_digits(&mut self, number: u32)
+        requires { (length self.old + 6 ≤ N) × (number < 1000000) }
+        ensures text { self.new ≡ self.old ++ decimal number }
+        ensures len { length self.new ≤ length self.old + 6 }
+    {
+        if number < 1000 {
+            self.push_digits(number);
+            return;
+        }
+        self.push_digits(number / 1000);
+        self.push_digit(number / 100 % 10);
+        self.push_digit(number / 10 % 10);
+        self.push_digit(number % 10);
     }
 
     /// Puts the digits of a number below 1000 at the end.

@@ -201,7 +201,11 @@ fn push_trap_of<const N: usize>(
     if let Event::Trap(_, _, action) = event {
         push_trap(line, heading, *action, outcome);
     }
-    line.push_text(if ends { " ends\n" } else { "\n" });
+    if ends {
+        line.push_text(" ends\n");
+    } else {
+        line.push_text("\n");
+    }
 }
 
 /// Puts what a trap came to. An outcome that the action never has is no text.
@@ -269,6 +273,7 @@ fn push_replied_then<const N: usize>(line: &mut Line<N>, client: u32)
 }
 
 /// Puts the port or mutex of a trap, and what the trap came to there.
+#[inline(always)]
 fn push_state<const N: usize>(line: &mut Line<N>, word: &str, number: u32, state: &str)
     requires { (length line.old + 25 ≤ N) × (length word.now ≤ 8) × (length state.now ≤ 7) }
     ensures text { line.new ≡ line.old ++ (word.now ++ (decimal number ++ state.now)) }

@@ -1,5 +1,5 @@
 -- What an event leaves of the threads, and whom its reply names.
-use Rattle.std.specs.Prelude.{◌≡◌, ℕ, ◌+◌, ◌≤◌, ⊤, Option, Some, None, List, [], ◌∷◌, ◌++◌, length, unwrap_or}
+use Rattle.std.specs.Prelude.{◌≡◌, ℕ, ◌+◌, ◌≤◌, ⊤, Bool, true, false, Option, Some, None, List, [], ◌∷◌, ◌++◌, length, unwrap_or}
 use Rattle.lot_machine.specs.declared.event.Event.{Event}
 use Rattle.lot_machine.specs.declared.event.Event.TheVariants as event
 use Rattle.lot_machine.specs.declared.record.Thread.{Thread}
@@ -7,6 +7,8 @@ use Rattle.lot_machine.specs.declared.reply.Reply.{Reply}
 use Rattle.lot_machine.specs.declared.reply.Reply.TheVariants as reply
 use Rattle.lot_machine.specs.Bounds.{IsBetween}
 use Rattle.lot_machine.specs.Numbered.{at_number, set_number}
+use Rattle.lot_simulation.specs.declared.script.ScriptTrap.{ScriptTrap}
+use Rattle.lot_simulation.specs.declared.script.ScriptTrap.TheVariants as script_trap
 use Rattle.lot_simulation.specs.Script.{Slice}
 use Rattle.lot_machine.specs.State.{State}
 use Rattle.lot_simulation.specs.World.{event_of_slice, number_delivered}
@@ -70,6 +72,16 @@ done_of given = record { ticks = given.ticks; trap = given.trap; end = context_a
 abbrev pub event_given : ℕ → ℕ → Option Parts → Event
 event_given p drawn None = event.Draw p drawn
 event_given p drawn (Some given) = event_of_slice p drawn (done_of given)
+
+-- whether the trap unlocks a mutex
+abbrev pub unlocks : Option ScriptTrap → Bool
+unlocks (Some (script_trap.Unlock mutex)) = true
+unlocks other = false
+
+-- whether the event takes a drawn number: a draw does, and a slice that unlocks
+abbrev pub needs_number : Option Parts → Bool
+needs_number None = true
+needs_number (Some given) = unlocks given.trap
 
 -- the reply is one to such an event: to a draw among this many threads, or to the slice of one of them
 abbrev pub OfGiven : ℕ → ℕ → Option Parts → Reply → Type 0

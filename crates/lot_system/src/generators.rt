@@ -1,13 +1,16 @@
 //! The processors' generators.
-ghost use Rattle.std.specs.Prelude.{◌≡◌, IfOk, length, unwrap_or, vec_len, if◌then◌else◌};
+ghost use Rattle.std.specs.Prelude.{◌≡◌, IfOk, IfSome, length, unwrap_or, vec_len, if◌then◌else◌};
 ghost use Rattle.lot_machine.specs.Bounds.{IsBetween};
 ghost use Rattle.lot_machine.specs.Numbered.{at_number, set_number};
 ghost use Rattle.lot_simulation.specs.World as world;
 ghost use Rattle.lot_simulation.specs.World.{number_from, seed_from};
+ghost use Rattle.lot_script.specs.Slices.{IsSlice};
+ghost use Rattle.lot_system.specs.Steps.{event_given};
 
-use crate::turn::takes_number;
+use crate::turn::{event_of, needs_number};
 use lot_draw::ParkMiller;
 use lot_machine::Event;
+use lot_script::Slice;
 use lot_text::Program;
 use std::alloc::{AllocError, Global};
 
@@ -25,14 +28,14 @@ pub(crate) fn generators_of(alloc: Global, program: &Program) -> Result<Vec<Park
 
 /// A processor's next number, and its generator after it.
 #[derive(Clone, Copy, Debug)]
-pub(crate) struct NextNumber {
-    pub(crate) number: u128,
+struct NextNumber {
+    number: u128,
     after: ParkMiller,
 }
 
 /// The processor's next number, a wide one or not, which stays its next one.
 #[inline(always)]
-pub(crate) fn next_number(generators: &[ParkMiller], processor: u32, is_wide: bool) -> NextNumber
+fn next_number(generators: &[ParkMiller], processor: u32, is_wide: bool) -> NextNumber
     requires { IsBetween 1 (length generators.now) processor }
     ensures number { result.number ≡ number_from is_wide (unwrap_or (at_number generators.now processor) 0) }
     ensures after { result.after ≡ seed_from is_wide (unwrap_or (at_number generators.now processor) 0) }
@@ -46,19 +49,27 @@ pub(crate) fn next_number(generators: &[ParkMiller], processor: u32, is_wide: bo
     NextNumber { number, after }
 }
 
-/// Takes the processor's next number, if the event takes one.
+/// Puts the event of a processor's turn with this slice, or of its draw without one, where it is kept. Only a turn that takes a number
+/// moves the processor's generator on.
 #[inline(always)]
-pub(crate) fn pass_number(
+pub(crate) fn next_event(
     generators: &mut Vec<ParkMiller>,
     processor: u32,
-    event: &Event,
-    next: NextNumber,
+    is_wide: bool,
+    slice: &Option<Slice>,
+    event: &mut Event,
 )
     requires processor { IsBetween 1 (vec_len generators.old) processor }
-    ensures values { generators.new.items ≡ (if world.takes_number event.now then set_number generators.old.items processor next.after else generators.old.items) }
+    ensures event { event.new ≡ event_given processor (number_from is_wide (unwrap_or (at_number generators.old.items processor) 0)) slice.now }
+    ensures values { generators.new.items ≡ (if world.takes_number event.new then set_number generators.old.items processor (seed_from is_wide (unwrap_or (at_number generators.old.items processor) 0)) else generators.old.items) }
     ensures count { vec_len generators.new ≡ vec_len generators.old }
+    ensures exact { IfSome slice.now IsSlice }
 {
-    if takes_number(event) {
-        generators[processor as usize - 1] = next.after;
+    if !needs_number(slice) {
+        *event = event_of(processor, slice, 0);
+        return;
     }
+    let next = next_number(generators, processor, is_wide);
+    *event = event_of(processor, slice, next.number);
+    generators[processor as usize - 1] = next.after;
 }

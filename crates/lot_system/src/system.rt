@@ -16,7 +16,7 @@ ghost use Rattle.lot_system.specs.Turns.{Answers, Faults, Goes, IfStale, IsEnded
 
 use crate::TurnFault;
 use crate::counts::{Counts, count_turn, no_counts};
-use crate::generators::{generators_of, next_number, pass_number};
+use crate::generators::{generators_of, next_event};
 use crate::places::{follow_command, follow_turn, places_for};
 use crate::slices::script_numbered;
 use crate::turn::{Answer, KeptWork, Unmade, Work, event_of, matches_work};
@@ -311,9 +311,7 @@ impl System {
         ensures seen { self.new ≡ after_turn self.old actor }
         ensures answer { (system_turn self.old.setting.program (world_of self.old) actor).answer ≡ Answered event.new reply.new }
     {
-        let next = next_number(&self.generators, actor, self.is_wide);
-        *event = event_of(actor, slice, next.number);
-        pass_number(&mut self.generators, actor, event, next);
+        next_event(&mut self.generators, actor, self.is_wide, slice, event);
         *reply = self.kernel.event(event);
         follow_turn(&mut self.places, slice, *reply);
         count_turn(&mut self.counts, actor, *reply);

@@ -1,9 +1,9 @@
 //! What an actor has to do, and what its turn answers.
 ghost use Rattle.std.specs.Prelude.{◌≡◌, ◌↔◌, ℕ, IfSome, IsTrue, length};
-ghost use Rattle.lot_machine.specs.declared.event.Event.TheVariants as event;
 ghost use Rattle.lot_machine.specs.Bounds.{IsBetween};
 ghost use Rattle.lot_simulation.specs.World as world;
 ghost use Rattle.lot_script.specs.Slices.{IsSlice};
+ghost use Rattle.lot_system.specs.Steps as steps;
 ghost use Rattle.lot_system.specs.Steps.{done_of, event_given};
 ghost use Rattle.lot_system.specs.Turns.{IsSliceOf, Matches};
 
@@ -149,21 +149,21 @@ fn action_of(trap: ScriptTrap, accumulator: u32, drawn: u128) -> Action
     }
 }
 
-/// Whether the event takes a drawn number: a draw and an unlock do.
+/// Whether a turn with this slice takes a drawn number: a draw and an unlock do.
 #[inline(always)]
-pub(crate) fn takes_number(event: &Event) -> bool
-    ensures { result ≡ world.takes_number event.now }
+pub(crate) fn needs_number(slice: &Option<Slice>) -> bool
+    ensures { result ≡ steps.needs_number slice.now }
 {
-    match event {
-        Event::Draw(..) => true,
-        Event::Trap(_, _, action) => is_unlock(*action),
-        _ => false,
+    match slice {
+        None => true,
+        Some(slice) => unlocks(slice.trap()),
     }
 }
 
+/// Whether a slice that ends so unlocks a mutex.
 #[inline(always)]
-fn is_unlock(action: Action) -> bool
-    ensures { (p ran : ℕ) → result ≡ world.takes_number (event.Trap p ran action) }
+fn unlocks(trap: Option<ScriptTrap>) -> bool
+    ensures { result ≡ steps.unlocks trap }
 {
-    matches!(action, Action::Unlock(..))
+    matches!(trap, Some(ScriptTrap::Unlock(_)))
 }

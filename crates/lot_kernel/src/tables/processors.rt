@@ -86,12 +86,12 @@ impl Tables {
     }
 
     /// A trap on a processor, with the ticks that were run before it.
-    pub(super) fn trap(&mut self, processor: u32, ran: u32, action: Action) -> Reply
+    pub(super) fn trap(&mut self, processor: u32, ran: u32, action: &Action) -> Reply
         requires { IsInOrder self.old.state }
-        ensures reply { result ≡ (step self.old.state (event.Trap processor ran action)).reply }
-        ensures state { self.new.state ≡ (step self.old.state (event.Trap processor ran action)).state }
+        ensures reply { result ≡ (step self.old.state (event.Trap processor ran action.now)).reply }
+        ensures state { self.new.state ≡ (step self.old.state (event.Trap processor ran action.now)).state }
         ensures stale { MakesStale self.old self.new }
-        ensures counts { Counts (event.Trap processor ran action) result self.old self.new }
+        ensures counts { Counts (event.Trap processor ran action.now) result self.old self.new }
     {
         if self.is_bad_processor(processor) {
             return Reply::Refused(Refusal::BadProcessor);
@@ -114,15 +114,15 @@ impl Tables {
     }
 
     /// A trap that costs no more than what is left of its thread's quantum.
-    fn make_trap(&mut self, trap: Trap, action: Action) -> Reply
+    fn make_trap(&mut self, trap: Trap, action: &Action) -> Reply
         requires order { IsInOrder self.old.state }
         requires processor { IsBetween 1 self.old.state.limits.processors trap.processor }
         requires runs { RunsOn self.old.state.records trap.thread trap.processor }
         requires ticks { (0 < trap.ticks) × (trap.ticks ≤ trap.used) }
-        ensures reply { result ≡ (trapped self.old.state trap action).reply }
-        ensures state { self.new.state ≡ (trapped self.old.state trap action).state }
+        ensures reply { result ≡ (trapped self.old.state trap action.now).reply }
+        ensures state { self.new.state ≡ (trapped self.old.state trap action.now).state }
         ensures stale { MakesStale self.old self.new }
-        ensures counts { (ran : ℕ) → Counts (event.Trap trap.processor ran action) result self.old self.new }
+        ensures counts { (ran : ℕ) → Counts (event.Trap trap.processor ran action.now) result self.old self.new }
     {
         let effect = self.act(trap.thread, action);
         self.finish(trap, effect.after);

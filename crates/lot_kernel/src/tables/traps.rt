@@ -17,16 +17,16 @@ use lot_threads::Effect;
 
 impl Tables {
     /// What a trap of a thread that runs does, and what came of it. A refused one does nothing.
-    pub(super) fn act(&mut self, thread: u32, action: Action) -> Effect
+    pub(super) fn act(&mut self, thread: u32, action: &Action) -> Effect
         requires order { IsInOrder self.old.state }
         requires runs { IsRunning self.old.state.records thread }
-        ensures outcome { result.outcome ≡ (effect_of self.old.state thread action).outcome }
-        ensures after { result.after ≡ (effect_of self.old.state thread action).after }
-        ensures state { self.new.state ≡ (effect_of self.old.state thread action).state }
+        ensures outcome { result.outcome ≡ (effect_of self.old.state thread action.now).outcome }
+        ensures after { result.after ≡ (effect_of self.old.state thread action.now).after }
+        ensures state { self.new.state ≡ (effect_of self.old.state thread action.now).state }
         ensures stale { MakesStale self.old self.new }
-        ensures counts { CountsTrap action result.outcome self.old self.new }
+        ensures counts { CountsTrap action.now result.outcome self.old self.new }
     {
-        match action {
+        match *action {
             Action::Yield => Effect {
                 outcome: Outcome::Yielded,
                 after: After::Leaves(Status::Ready),

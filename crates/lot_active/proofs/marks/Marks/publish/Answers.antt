@@ -1,6 +1,6 @@
-use Rattle.std.proofs.Common.{◌≡◌, List, ℕ, Some, map, sym, ◌∙◌, subst, arith}
+use Rattle.std.proofs.Common.{◌≡◌, ◌∷◌, [], List, ℕ, Some, map, sym, ◌∙◌, subst, arith}
 use Rattle.lot_graph.specs.Places.{layout_of, edge_place}
-use Rattle.lot_graph.proofs.TicketLemmas.{map-push}
+use Rattle.std.proofs.lemmas.List.{map-append}
 use Rattle.lot_active.specs.Fundings.{graph_net, places_of_edge}
 use Rattle.lot_active.specs.Spread.{Crossing}
 use Rattle.lot_active.proofs.Ends.{net-sound}
@@ -48,7 +48,7 @@ loop-edge-preserved c =
     let (seed, was, start) = c.requires.crossing in record {
       split = next-more l w.funding fits c.args.node c.requires.node done c.loop-edge.edge-iterator before.split edge c.next.new.self c.in-Some.ensures.steps;
       crossing = λ seed' was' start'.
-          subst (λ (es : List ℕ). Crossing (graph_net w) seed' c.args.on was' c.adjust.new.self c.args.node es) (sym (map-push (edge_place l) done edge))
+          subst (λ (es : List ℕ). Crossing (graph_net w) seed' c.args.on was' c.adjust.new.self c.args.node es) (sym (map-append (edge_place l) done (edge ∷ [])))
           (crossing-step (graph_net w) net seed' c.args.on was' c.loop-edge.self c.args.node (map (edge_place l) done) (before.crossing seed' was' start') place a at to left c.adjust.new.self before.sized (omega (arith, low, before.size, c.requires.nodes)) c.adjust.ensures.adjusts);
       switched =
           crossing-switched (graph_net w) net seed c.args.on was c.loop-edge.self c.args.node (map (edge_place l) done) (before.crossing seed was start) place a at to left c.adjust.new.self before.sized (omega (arith, low, before.size, c.requires.nodes)) c.adjust.ensures.adjusts
