@@ -2,5 +2,8 @@
 //! that `lot_kernel` is not proved a second time for them.
 #![tactic(auto)]
 
+mod replies;
 #[cfg(test)]
 mod tests;
+
+pub use replies::{trapped, won};

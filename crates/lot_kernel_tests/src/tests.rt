@@ -1,6 +1,7 @@
 mod reads;
 mod traps;
 
+use crate::{trapped, won};
 use lot_kernel::{
     Action, Command, CurrencyRow, Event, Kernel, Kind, Limits, Name, Outcome, Refusal, Reply,
     Sizes, Status, ThreadRow, TicketRow, TrapRefusal,
@@ -264,28 +265,9 @@ fn small(alloc: Global, tickets: u32, currencies: u32, threads: u32) -> Result<K
     Ok(Kernel::new(alloc, limits)?)
 }
 
-fn won(thread: u32, number: u128, total: u128) -> Reply {
-    winning((thread, number, total), None)
-}
-
-/// A draw that this thread wins, to which this is delivered.
+/// A draw with this winner, to which this is delivered.
 fn winning((thread, number, total): Winner, delivered: Option<u32>) -> Reply {
-    Reply::Winner {
-        thread,
-        number,
-        total,
-        delivered,
-    }
-}
-
-/// A trap without work before it, which doesn't end the quantum.
-fn trapped(thread: u32, outcome: Outcome) -> Reply {
-    Reply::Trapped {
-        thread,
-        ticks: 1,
-        outcome,
-        ends: false,
-    }
+    won(thread, number, total, delivered)
 }
 
 /// Makes a thread of this name with a new ticket of base, which has this number.
@@ -317,7 +299,7 @@ fn check_draw(rt: &impl Abort, kernel: &mut Kernel, d: u128, thread: u32, number
         rt,
         kernel,
         &[Event::Draw(1, d), Event::Expire(1)],
-        &[won(thread, number, 20), expired],
+        &[won(thread, number, 20, None), expired],
     );
 }
 
@@ -425,7 +407,7 @@ fn all_tickets(rt: &impl Abort, alloc: Global, unit: u32, total: u128) -> Result
     let mut kernel = largest(alloc, unit)?;
     fund_fully(&mut kernel)?;
     take_all(rt, &mut kernel, &NO_MORE_TICKETS)?;
-    check_event(rt, &mut kernel, Event::Draw(1, 7), won(1, 7, total));
+    check_event(rt, &mut kernel, Event::Draw(1, 7), won(1, 7, total, None));
     Ok(())
 }
 
@@ -453,7 +435,7 @@ fn largest_compensated_total(rt: HostRuntime) -> Result<(), Fail> {
     let limits = largest_limits(1000, 256).ok_or("limits")?;
     let mut kernel = Kernel::new(rt.alloc(), limits)?;
     fund_fully(&mut kernel)?;
-    let last = won(1, 18446744073709551615, 72056494509523200000);
+    let last = won(1, 18446744073709551615, 72056494509523200000, None);
     assert_eq!(rt; third_reply(&mut kernel), last);
     Ok(())
 }
@@ -638,7 +620,7 @@ fn check_shared(rt: &impl Abort, alloc: Global, row: Shared<'_>) -> Result<(), F
         rt,
         &mut kernel,
         Event::Draw(1, row.d),
-        won(thread, number, total),
+        won(thread, number, total, None),
     );
     Ok(())
 }
@@ -730,7 +712,7 @@ fn two_levels(rt: HostRuntime) -> Result<(), Fail> {
         &rt,
         &mut kernel,
         &[Event::Draw(1, 0), Event::Trap(1, 0, Action::Exit)],
-        &[won(1, 0, 100), trapped(1, Outcome::Exited)],
+        &[won(1, 0, 100, None), trapped(1, Outcome::Exited)],
     );
     take_all(&rt, &mut kernel, &ONE_LEVEL)
 }

@@ -4,3 +4,6 @@
 
 #[cfg(test)]
 mod tests;
+mod wholes;
+
+pub use wholes::is_whole_or_nothing;

@@ -1,5 +1,6 @@
 //! Inputs that are explained, and shown as tables and pictures: for runs in which one allocation is refused, each in turn.
 
+use crate::is_whole_or_nothing;
 use lot_curves::Measure;
 use lot_explain::explain;
 use lot_pictures::{chart, shares};
@@ -80,11 +81,11 @@ fn show(alloc: Global, shown: Shown, input: &str) -> (Result<Played, PlayFault>,
 /// If memory is refused, nothing was written.
 fn check(rt: &impl Abort, alloc: Global, shown: Shown) {
     for input in [SCHEDULED, TIMED] {
-        match show(alloc, shown, input) {
-            (Ok(Played::Done), taken) => assert!(rt; taken > 0, "{shown:?}"),
-            (Err(PlayFault::Memory), taken) => assert_eq!(rt; taken, 0, "{shown:?}"),
-            other => assert!(rt; false, "{other:?}"),
-        }
+        let (ended, written) = show(alloc, shown, input);
+        assert!(rt;
+            is_whole_or_nothing(ended, written),
+            "{shown:?}: {ended:?}, {written} bytes"
+        );
     }
 }
 

@@ -2,5 +2,8 @@
 //! `lot_system` is not proved a second time for them.
 #![tactic(auto)]
 
+mod moves;
 #[cfg(test)]
 mod tests;
+
+pub use moves::{make_turn, make_turns};

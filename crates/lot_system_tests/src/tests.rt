@@ -8,6 +8,7 @@ mod reports;
 mod timed;
 mod turns;
 
+use crate::make_turns;
 use lot_system::System;
 use lot_text::{Program, parse};
 use std::alloc::Global;
@@ -48,35 +49,12 @@ fn program_of(alloc: Global, input: &str) -> Result<Program, Fail> {
     }
 }
 
-/// The actor's turn, with the slice of its work if it has any; whether it was made.
-fn make_turn(system: &mut System, program: &Program, actor: u32) -> Result<bool, Fail>
-    ensures { system.new.setting ≡ system.old.setting }
-{
-    if actor > system.processors() {
-        return Err("an actor".into());
-    }
-    let slice = match system.work(actor) {
-        Some(work) => {
-            let number = work.script.saturating_sub(1) as usize;
-            let script = program.scripts().get(number).ok_or("a script")?;
-            if !script.fits(&work.place) || work.budget == 0 || work.budget > 1000 {
-                return Err("a slice".into());
-            }
-            Some(script.slice(work.place, work.budget))
-        }
-        None => None,
-    };
-    Ok(system.turn(actor, slice).is_ok())
-}
-
 /// A turn of each of these actors, in order.
-fn make_turns(system: &mut System, program: &Program, actors: &[u8]) -> Result<(), Fail>
+fn make_all_turns(system: &mut System, program: &Program, actors: &[u8]) -> Result<(), Fail>
     ensures { system.new.setting ≡ system.old.setting }
 {
-    for actor in actors {
-        if !make_turn(system, program, u32::from(*actor))? {
-            return Err("a turn".into());
-        }
+    if !make_turns(system, program, actors) {
+        return Err("a turn".into());
     }
     Ok(())
 }

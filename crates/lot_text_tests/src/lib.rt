@@ -2,5 +2,8 @@
 //! `lot_text` is not proved a second time for them.
 #![tactic(auto)]
 
+mod faults;
 #[cfg(test)]
 mod tests;
+
+pub use faults::fault_of;

@@ -1,5 +1,6 @@
 ghost use Rattle.std.specs.Prelude.{◌≤◌, IfOk};
 
+use crate::fault_of;
 use lot_machine::{Command, Kind, Limits, Name, Sizes};
 use lot_script::Script;
 use lot_simulation::{InputFault, InputRefusal, Line};
@@ -327,10 +328,8 @@ struct Refusals<'a> {
 
 /// The line and the refusal of an input that is refused.
 fn refused(alloc: Global, text: &str) -> Option<(u32, InputRefusal)> {
-    match read(alloc, text) {
-        Err(ParseFault::Input(fault)) => Some((fault.line, fault.refusal)),
-        _ => None,
-    }
+    let fault = fault_of(alloc, text.as_bytes()).ok()??;
+    Some((fault.line, fault.refusal))
 }
 
 fn check_refused(rt: &impl Abort, alloc: Global, text: &str, line: u32, refusal: InputRefusal) {

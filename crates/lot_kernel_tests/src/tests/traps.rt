@@ -64,9 +64,9 @@ fn check_compensation(
             Event::Draw(1, u128::from(last)),
         ],
         &[
-            won(1, 0, u128::from(amount)),
+            won(1, 0, u128::from(amount), None),
             yielded,
-            won(1, u128::from(last), u128::from(total)),
+            won(1, u128::from(last), u128::from(total), None),
         ],
     )?;
     check_compensated(rt, &mut kernel, amount, u64::from(ran).saturating_add(1))

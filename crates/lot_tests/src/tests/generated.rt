@@ -1,6 +1,7 @@
 //! Events of all kinds from a fixed generator, over the largest tables: a kernel that was asked for its rows again and again shows
 //! what a kernel shows that got the same events at once.
 
+use crate::may_read;
 use lot_draw::ParkMiller;
 use lot_kernel::{Action, Command, Event, Kernel, Kind, Limits, Meter, Name, Sizes};
 use std::alloc::Global;
@@ -101,14 +102,6 @@ fn next_event(alloc: Global, numbers: &mut ParkMiller) -> Result<Event, Fail> {
         5 => Event::Expire(processor),
         _ => Event::Trap(processor, numbers.next() % 64, next_action(numbers)),
     })
-}
-
-/// Whether an event may read values.
-fn may_read(event: &Event) -> bool {
-    matches!(
-        event,
-        Event::Draw(..) | Event::Trap(_, _, Action::Unlock(..))
-    )
 }
 
 /// Gives a kernel so many events, and answers how much draws and unlocks have read. Another event reads nothing.

@@ -1,7 +1,8 @@
 //! Inputs at the bounds of their sizes.
 
-use lot_simulation::{InputFault, InputRefusal};
-use lot_text::{ParseFault, Program, parse};
+use lot_simulation::InputRefusal;
+use lot_text::{Program, parse};
+use lot_text_tests::fault_of;
 use std::alloc::{AllocError, Global};
 use std::test::Fail;
 
@@ -10,10 +11,8 @@ const MOST_BYTES: usize = 16777216;
 
 /// The line and the refusal of an input that is refused; nothing if it isn't.
 fn refused(alloc: Global, bytes: &[u8]) -> Option<(u32, InputRefusal)> {
-    match parse(alloc, bytes) {
-        Err(ParseFault::Input(InputFault { line, refusal })) => Some((line, refusal)),
-        _ => None,
-    }
+    let fault = fault_of(alloc, bytes).ok()??;
+    Some((fault.line, fault.refusal))
 }
 
 /// Adds the text at the end.

@@ -1,7 +1,9 @@
 //! Kernels with the largest tables.
 
+use crate::is_worth_nothing;
 use lot_kernel::Kernel;
-use lot_machine::{Action, Command, CurrencyRow, Event, Limits, Name, Outcome, Reply, Sizes};
+use lot_kernel_tests::{trapped, won};
+use lot_machine::{Action, Command, Event, Limits, Name, Outcome, Reply, Sizes};
 use std::alloc::Global;
 use std::process::Abort;
 use std::test::Fail;
@@ -53,16 +55,6 @@ fn make_funded(kernel: &mut Kernel, amount: u64, issuer: &str, text: &str) -> Re
         script: 1,
     };
     Ok(kernel.event(&Event::Command(command)))
-}
-
-/// A draw that this thread wins.
-fn won(thread: u32, number: u128, total: u128) -> Reply {
-    Reply::Winner {
-        thread,
-        number,
-        total,
-        delivered: None,
-    }
 }
 
 /// Compares a reply with what it is to be.
@@ -161,14 +153,6 @@ fn make_chain(rt: &impl Abort, kernel: &mut Kernel, alloc: Global) -> Result<(),
     make_link(rt, kernel, (4097, 7), "base", "c1")
 }
 
-/// Whether the currency is worth nothing and has nothing active.
-fn is_worth_nothing(row: Option<CurrencyRow>) -> bool {
-    match row {
-        Some(row) => row.active_amount == 0 && row.value == 0,
-        None => false,
-    }
-}
-
 /// Compares all currencies of the chain with what is worth nothing.
 fn check_worth_nothing(rt: &impl Abort, kernel: &mut Kernel) {
     for currency in 0..=4096 {
@@ -181,14 +165,13 @@ fn check_worth_nothing(rt: &impl Abort, kernel: &mut Kernel) {
 
 /// A draw, the exit of the winner, and a draw that nobody wins.
 fn check_exit(rt: &impl Abort, kernel: &mut Kernel) {
-    check_event(rt, kernel, Event::Draw(1, 6), won(1, 6, 7));
-    let exited = Reply::Trapped {
-        thread: 1,
-        ticks: 1,
-        outcome: Outcome::Exited,
-        ends: false,
-    };
-    check_event(rt, kernel, Event::Trap(1, 0, Action::Exit), exited);
+    check_event(rt, kernel, Event::Draw(1, 6), won(1, 6, 7, None));
+    check_event(
+        rt,
+        kernel,
+        Event::Trap(1, 0, Action::Exit),
+        trapped(1, Outcome::Exited),
+    );
     check_worth_nothing(rt, kernel);
     assert!(rt; kernel.currency_row(4097).is_none());
     check_event(rt, kernel, Event::Draw(1, 6), Reply::Idle);
@@ -220,7 +203,7 @@ fn make_shared(rt: &impl Abort, kernel: &mut Kernel) -> Result<(), Fail> {
 
 /// The third thread wins a draw of 99, and its quantum expires.
 fn check_third(rt: &impl Abort, kernel: &mut Kernel) {
-    check_event(rt, kernel, Event::Draw(1, 98), won(3, 98, 99));
+    check_event(rt, kernel, Event::Draw(1, 98), won(3, 98, 99, None));
     let expired = Reply::Expired {
         thread: 3,
         ticks: 100,
@@ -235,7 +218,12 @@ fn a_second_ticket_is_shared(rt: HostRuntime) -> Result<(), Fail> {
     make_shared(&rt, &mut kernel)?;
     check_third(&rt, &mut kernel);
     make_link(&rt, &mut kernel, (5, 50), "base", "g")?;
-    check_event(&rt, &mut kernel, Event::Draw(1, 149), won(3, 149, 150));
+    check_event(
+        &rt,
+        &mut kernel,
+        Event::Draw(1, 149),
+        won(3, 149, 150, None),
+    );
     Ok(())
 }
 
@@ -257,10 +245,10 @@ fn check_upstream(rt: &impl Abort, kernel: &mut Kernel) {
         thread: 1,
         ticks: 100,
     };
-    check_event(rt, kernel, Event::Draw(1, 159), won(1, 159, 160));
+    check_event(rt, kernel, Event::Draw(1, 159), won(1, 159, 160, None));
     check_event(rt, kernel, Event::Expire(1), expired);
     check_event(rt, kernel, unfund, Reply::Done);
-    check_event(rt, kernel, Event::Draw(1, 59), won(1, 59, 60));
+    check_event(rt, kernel, Event::Draw(1, 59), won(1, 59, 60, None));
 }
 
 // A value follows funding two currencies upstream.

@@ -1,0 +1,26 @@
+//! What reads values, and what is worth nothing.
+ghost use Rattle.std.specs.Prelude.{◌≡◌, ◌↔◌, IsTrue, Some};
+ghost use Rattle.lot_machine.specs.declared.row.CurrencyRow.{CurrencyRow as CurrencyRecord};
+ghost use Rattle.lot_simulation.specs.World as world;
+
+use lot_machine::{Action, CurrencyRow, Event};
+
+/// Whether an event may read values: those that take a drawn number may, a draw and an unlock.
+pub fn may_read(event: &Event) -> bool
+    ensures { result ≡ world.takes_number event.now }
+{
+    matches!(
+        event,
+        Event::Draw(..) | Event::Trap(_, _, Action::Unlock(..))
+    )
+}
+
+/// Whether there is a currency, and it is worth nothing and has nothing active.
+pub fn is_worth_nothing(row: Option<CurrencyRow>) -> bool
+    ensures { IsTrue result ↔ ((shown : CurrencyRecord) × (row ≡ Some shown) × (shown.active_amount ≡ 0) × (shown.value ≡ 0)) }
+{
+    match row {
+        Some(row) => row.active_amount == 0 && row.value == 0,
+        None => false,
+    }
+}
