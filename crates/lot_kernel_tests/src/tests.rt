@@ -265,7 +265,7 @@ fn small(alloc: Global, tickets: u32, currencies: u32, threads: u32) -> Result<K
     Ok(Kernel::new(alloc, limits)?)
 }
 
-/// A draw with this winner, to which this is delivered.
+/// A draw with this winner of a row, and what is delivered to the thread.
 fn winning((thread, number, total): Winner, delivered: Option<u32>) -> Reply {
     won(thread, number, total, delivered)
 }

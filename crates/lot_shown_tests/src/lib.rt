@@ -2,8 +2,8 @@
 //! aren't proved a second time for them.
 #![tactic(auto)]
 
+mod endings;
 #[cfg(test)]
 mod tests;
-mod wholes;
 
-pub use wholes::is_whole_or_nothing;
+pub use endings::has_written_or_lacked_memory;

@@ -1,6 +1,6 @@
 //! Inputs that are explained, and shown as tables and pictures: for runs in which one allocation is refused, each in turn.
 
-use crate::is_whole_or_nothing;
+use crate::has_written_or_lacked_memory;
 use lot_curves::Measure;
 use lot_explain::explain;
 use lot_pictures::{chart, shares};
@@ -83,7 +83,7 @@ fn check(rt: &impl Abort, alloc: Global, shown: Shown) {
     for input in [SCHEDULED, TIMED] {
         let (ended, written) = show(alloc, shown, input);
         assert!(rt;
-            is_whole_or_nothing(ended, written),
+            has_written_or_lacked_memory(ended, written),
             "{shown:?}: {ended:?}, {written} bytes"
         );
     }

@@ -6,4 +6,4 @@ mod moves;
 #[cfg(test)]
 mod tests;
 
-pub use moves::{make_turn, make_turns};
+pub use moves::make_turn;

@@ -8,7 +8,7 @@ mod reports;
 mod timed;
 mod turns;
 
-use crate::make_turns;
+use crate::make_turn;
 use lot_system::System;
 use lot_text::{Program, parse};
 use std::alloc::Global;
@@ -50,11 +50,17 @@ fn program_of(alloc: Global, input: &str) -> Result<Program, Fail> {
 }
 
 /// A turn of each of these actors, in order.
-fn make_all_turns(system: &mut System, program: &Program, actors: &[u8]) -> Result<(), Fail>
+fn make_turns(system: &mut System, program: &Program, actors: &[u8]) -> Result<(), Fail>
     ensures { system.new.setting ≡ system.old.setting }
 {
-    if !make_turns(system, program, actors) {
-        return Err("a turn".into());
+    for actor in actors {
+        let actor = u32::from(*actor);
+        if actor > system.processors() {
+            return Err("an actor".into());
+        }
+        if make_turn(system, program, actor).is_err() {
+            return Err("a turn".into());
+        }
     }
     Ok(())
 }

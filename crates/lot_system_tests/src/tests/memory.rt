@@ -1,6 +1,6 @@
 //! For runs in which one allocation is refused, each in turn.
 
-use super::{CALL_AND_REPLY, make_all_turns, program_of};
+use super::{CALL_AND_REPLY, make_turns, program_of};
 use lot_system::{PlayFault, Played, System, play};
 use lot_text::Watched;
 use std::io;
@@ -51,7 +51,7 @@ fn opens(rt: HostRuntime) -> Result<(), Fail> {
 fn opens_and_has_turns(rt: HostRuntime) -> Result<(), Fail> {
     let program = program_of(rt.alloc(), CALL_AND_REPLY)?;
     let mut system = System::open(rt.alloc(), &program, 12)?;
-    make_all_turns(&mut system, &program, program.schedule())?;
+    make_turns(&mut system, &program, program.schedule())?;
     assert_eq!(rt; system.history(), program.schedule());
     Ok(())
 }

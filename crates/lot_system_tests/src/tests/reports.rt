@@ -1,6 +1,6 @@
 //! Reports with their histories, and what those are made of.
 
-use super::{SPINNER, make_all_turns, program_of};
+use super::{SPINNER, make_turns, program_of};
 use lot_kernel::Kernel;
 use lot_machine::{Command, Event, Limits, Name, Reply, Sizes};
 use lot_system::{PlayFault, System, write_end};
@@ -97,7 +97,7 @@ fn check_end(
 ) -> Result<(), Fail> {
     let program = program_of(alloc, input)?;
     let mut system = System::open(alloc, &program, 3)?;
-    make_all_turns(&mut system, &program, actors)?;
+    make_turns(&mut system, &program, actors)?;
     for kind in [Some(ErrorKind::Other), Some(ErrorKind::Interrupted), None] {
         let unmade = first_unmade_call(rt, alloc, &mut system, text, kind);
         assert!(rt; 3 < unmade, "{unmade}");

@@ -1,6 +1,6 @@
 //! Turns of small systems, in order: what each answers, and the faults.
 
-use super::{SPINNER, make_all_turns, program_of};
+use super::{SPINNER, make_turns, program_of};
 use lot_machine::{Outcome, Reply};
 use lot_script::Slice;
 use lot_system::{Answer, System, TurnFault};
@@ -313,7 +313,7 @@ fn waiters_stand_in_order_of_waiting(rt: HostRuntime) -> Result<(), Fail> {
     let threads = program.limits().threads as usize;
     let mut waiters = Vec::with_capacity(rt.alloc(), threads)?;
     let mut system = System::open(rt.alloc(), &program, 10)?;
-    make_all_turns(&mut system, &program, program.schedule())?;
+    make_turns(&mut system, &program, program.schedule())?;
     system.list_waiters(1, &mut waiters);
     assert_eq!(rt; waiters.as_slice(), [2, 3].as_slice());
     system.list_waiters(2, &mut waiters);
