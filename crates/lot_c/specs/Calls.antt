@@ -12,6 +12,7 @@ use Rattle.lot_machine.specs.Numbered.{at_number}
 use Rattle.lot_machine.specs.Rows as rows
 use Rattle.lot_machine.specs.State.{State, thread_on, used_by}
 use Rattle.lot_machine.specs.Step.{step, state_after}
+use Rattle.lot_value.specs.Caches.{HasNoneTwice}
 use Rattle.lot_kernel.specs.Counted.{Counts, settled, with_ticket_read}
 use Rattle.lot_kernel.specs.Snapshots.{Snapshot, MakesStale, starting}
 use Rattle.lot_c.specs.declared.event.PlainEvent.{PlainEvent}
@@ -98,20 +99,20 @@ pub record AreAnswered (fields : List PlainEvent) (status done : ℕ) (old new :
 
 -- the row of a ticket, if it is there; as at a kernel, what is stale is computed, and counted
 pub record ShowsTicket (ticket status : ℕ) (old new : Snapshot) (before after : PlainTicketRow) : Type 0 where
-  pub row : (t : TicketRow) → rows.ticket_row old.state ticket ≡ Some t → (status ≡ code Done) × (after ≡ plain_ticket_row t)
+  pub row : (t : TicketRow) → rows.ticket_row old.state ticket ≡ Some t → (status ≡ code Done) × (after ≡ plain_ticket_row t) × HasNoneTwice old.stale
   pub not_there : rows.ticket_row old.state ticket ≡ None → (status ≡ code NotThere) × (new ≡ old) × (after ≡ before)
   pub state : new.state ≡ old.state
   pub reads : (t : Ticket) → ticket_in old.state.tickets ticket ≡ Some t → new ≡ record (settled old) { meter = with_ticket_read (settled old).meter t }
 
 -- the row of a currency, if it is there
 pub record ShowsCurrency (currency status : ℕ) (old new : Snapshot) (before after : PlainCurrencyRow) : Type 0 where
-  pub row : (r : CurrencyRow) → rows.currency_row old.state currency ≡ Some r → (status ≡ code Done) × (after ≡ plain_currency_row r) × (new ≡ settled old)
+  pub row : (r : CurrencyRow) → rows.currency_row old.state currency ≡ Some r → (status ≡ code Done) × (after ≡ plain_currency_row r) × HasNoneTwice old.stale × (new ≡ settled old)
   pub not_there : rows.currency_row old.state currency ≡ None → (status ≡ code NotThere) × (new ≡ old) × (after ≡ before)
   pub state : new.state ≡ old.state
 
 -- the row of a thread, if there is one
 pub record ShowsThread (thread status : ℕ) (old new : Snapshot) (before after : PlainThreadRow) : Type 0 where
-  pub row : (r : ThreadRow) → rows.thread_row old.state thread ≡ Some r → (status ≡ code Done) × (after ≡ plain_thread_row r) × (new ≡ settled old)
+  pub row : (r : ThreadRow) → rows.thread_row old.state thread ≡ Some r → (status ≡ code Done) × (after ≡ plain_thread_row r) × HasNoneTwice old.stale × (new ≡ settled old)
   pub not_there : rows.thread_row old.state thread ≡ None → (status ≡ code NotThere) × (new ≡ old) × (after ≡ before)
   pub state : new.state ≡ old.state
 

@@ -17,7 +17,7 @@ use crate::lottery::{reduced, weight};
 use lot_lists::Lists;
 use lot_machine::{Limits, Node};
 use lot_tree::SumTree;
-use lot_value::{Meter, ValuedGraph};
+use lot_value::{Counter, ValuedGraph};
 use std::alloc::{AllocError, Global};
 use std::marker::Model;
 
@@ -83,7 +83,7 @@ impl RunQueue {
 
     /// Computes the values of all stale nodes again, as `ValuedGraph::settle` does. The weights of the threads among them are set
     /// at the next draw.
-    pub fn settle(&mut self, graph: &mut ValuedGraph, meter: &mut Meter)
+    pub fn settle(&mut self, graph: &mut ValuedGraph, meter: &mut Counter)
         requires places { length self.old.competitors ≡ graph.old.now.thread_limit }
         requires weights { AreWeights self.old graph.old.known }
         ensures queue { self.new ≡ record self.old { changed = self.new.changed } }
@@ -104,7 +104,7 @@ impl RunQueue {
     /// Holds a draw with the number `d` (2, 4.2) among the threads that compete: `None` if their weights sum to 0.
     ///
     /// Settles what is stale, sets the weights that may have changed, and visits the tree once.
-    pub fn draw(&mut self, graph: &mut ValuedGraph, d: u128, meter: &mut Meter) -> Option<Winner>
+    pub fn draw(&mut self, graph: &mut ValuedGraph, d: u128, meter: &mut Counter) -> Option<Winner>
         requires competes { CompetesIn self.old.competitors graph.old }
         requires weights { AreWeights self.old graph.old.known }
         ensures winner { result ≡ drawn_among self.old.quantum self.old.competitors (thread_value graph.old.known.unit graph.old.now.funding graph.old.live) d }
@@ -187,7 +187,7 @@ impl RunQueue {
     }
 
     /// Holds the lottery over the weights in the tree.
-    fn hold_lottery(&self, d: u128, meter: &mut Meter) -> Option<Winner>
+    fn hold_lottery(&self, d: u128, meter: &mut Counter) -> Option<Winner>
         ensures winner { result ≡ winner_among (numbers self.now.competitors) (lottery.winner self.now.weights d) }
         ensures reads { meter.new.ticket_reads ≡ meter.old.ticket_reads }
         ensures visits { MatchOption result (meter.new.tree_visits ≡ meter.old.tree_visits) (λ w. CountsReads (length self.now.competitors) meter.old.tree_visits meter.new.tree_visits) }
@@ -197,7 +197,9 @@ impl RunQueue {
             return None;
         }
         let number = reduced(d, total);
-        let place = self.tree.find(number, &mut meter.tree_visits);
+        let mut visits = meter.meter().tree_visits;
+        let place = self.tree.find(number, &mut visits);
+        meter.set_tree_visits(visits);
         Some(Winner {
             thread: place as u32 + 1,
             number,

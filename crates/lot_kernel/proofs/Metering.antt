@@ -1,5 +1,5 @@
 -- What is counted, through the parts of an event.
-use Rattle.std.proofs.Common.{◌≡◌, ◌≢◌, ◌∙◌, ℕ, Option, List, [], ◌∷◌, Contains, map, slice_index, option_map, unwrap_or, refl, subst, sym}
+use Rattle.std.proofs.Common.{◌≡◌, ◌≢◌, ◌∙◌, ℕ, Option, Some, List, [], ◌∷◌, Contains, map, slice_index, option_map, unwrap_or, refl, subst, sym}
 use Rattle.lot_machine.specs.declared.action.Action.{Action}
 use Rattle.lot_machine.specs.declared.action.Action.TheVariants.{Yield, Call, Receive, Reply, Serve, Lock, Unlock, Exit}
 use Rattle.lot_machine.specs.declared.drawn.Drawn.{Drawn}
@@ -10,6 +10,8 @@ use Rattle.lot_machine.specs.declared.reply.Outcome.TheVariants as outcome
 use Rattle.lot_machine.specs.Lottery.{winner}
 use Rattle.lot_machine.specs.Mutexes.{mutex_at, unlock}
 use Rattle.lot_machine.specs.State.{Mutex}
+use Rattle.lot_machine.proofs.Tickets.{some-injective}
+use Rattle.lot_value.specs.Caches.{HasNoneTwice}
 use Rattle.lot_kernel.specs.Counted.{CountsNothing, CountsTrap, KeepsStale, settled_meter}
 use Rattle.lot_kernel.specs.Snapshots.{Snapshot}
 
@@ -27,7 +29,12 @@ module _ (old mid new : Snapshot) (kept : KeepsStale mid new) (meter : new.meter
   trap-then (Serve p n) o first = nothing-twice old mid new first kept meter
   trap-then (Lock m) o first = nothing-twice old mid new first kept meter
   trap-then Exit o first = nothing-twice old mid new first kept meter
-  trap-then (Unlock m d) (outcome.Passed to draw) first = (meter ∙ first.0, kept (Thread to) first.1)
+  trap-then (Unlock m d) (outcome.Passed to draw) first = record {
+    once = first.once;
+    meter = meter ∙ first.meter;
+    owner = λ owner owns. kept (Thread owner) (first.owner owner owns);
+    next = kept (Thread to) first.next;
+  }
   trap-then (Unlock m d) outcome.Yielded first = nothing-twice old mid new first kept meter
   trap-then (Unlock m d) (outcome.ServedBy s) first = nothing-twice old mid new first kept meter
   trap-then (Unlock m d) outcome.Queued first = nothing-twice old mid new first kept meter
@@ -41,11 +48,15 @@ module _ (old mid new : Snapshot) (kept : KeepsStale mid new) (meter : new.meter
   trap-then (Unlock m d) outcome.Exited first = nothing-twice old mid new first kept meter
   trap-then (Unlock m d) (outcome.Refused why) first = nothing-twice old mid new first kept meter
 
+somebody : (waiters : List ℕ) (w : ℕ) (ws : List ℕ) → waiters ≡ w ∷ ws → waiters ≢ []
+somebody waiters w ws some none = let no = sym some ∙ none in cc
+
 -- an unlock that passes its mutex on counts what it settles, and one that frees it nothing
 pub unlock-counts : (records : List Record) (mutexes : List Mutex) (value : ℕ → ℕ) (m d : ℕ) (old new : Snapshot) (o : Outcome) → o ≡ (unlock records mutexes value m d).outcome → ((mutex_at mutexes m).waiters ≡ [] → KeepsStale old new)
-    → ((mutex_at mutexes m).waiters ≡ [] → new.meter ≡ old.meter) → ((mutex_at mutexes m).waiters ≢ [] → new.meter ≡ settled_meter old) → ((to : ℕ) (draw : Option (ℕ × ℕ)) → o ≡ outcome.Passed to draw → Contains new.stale (Thread to))
+    → ((mutex_at mutexes m).waiters ≡ [] → new.meter ≡ old.meter) → ((mutex_at mutexes m).waiters ≢ [] → new.meter ≡ settled_meter old) → ((mutex_at mutexes m).waiters ≢ [] → HasNoneTwice old.stale)
+    → (owner : ℕ) → (mutex_at old.state.mutexes m).owner ≡ Some owner → ((to : ℕ) (draw : Option (ℕ × ℕ)) → o ≡ outcome.Passed to draw → Contains new.stale (Thread owner) × Contains new.stale (Thread to))
     → CountsTrap (Unlock m d) o old new
-unlock-counts records mutexes value m d old new o is kept uncounted counted next = by (mutex_at mutexes m).waiters refl
+unlock-counts records mutexes value m d old new o is kept uncounted counted once owner owns stale = by (mutex_at mutexes m).waiters refl
   where
     by : (waiters : List ℕ) → (mutex_at mutexes m).waiters ≡ waiters → CountsTrap (Unlock m d) o old new
     by [] none =
@@ -57,4 +68,7 @@ unlock-counts records mutexes value m d old new o is kept uncounted counted next
         let to = slice_index (w ∷ ws) place in
         let numbers = option_map (λ (x : Drawn). (x.number, x.total)) drawn in
         let passed : o ≡ outcome.Passed to numbers = rw some at is in
-        subst (λ x. CountsTrap (Unlock m d) x old new) (sym passed) (counted (λ none. let no = sym some ∙ none in cc), next to numbers passed)
+        let both = stale to numbers passed in
+        let waits = somebody (mutex_at mutexes m).waiters w ws some in
+        subst (λ x. CountsTrap (Unlock m d) x old new) (sym passed)
+        (record { once = once waits; meter = counted waits; owner = λ other owns'. subst (λ t. Contains new.stale (Thread t)) (some-injective owner other (sym owns ∙ owns')) both.0; next = both.1 })

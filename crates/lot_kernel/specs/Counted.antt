@@ -1,5 +1,5 @@
 -- What events count.
-use Rattle.std.specs.Prelude.{◌≡◌, [], Contains, if◌then◌else◌}
+use Rattle.std.specs.Prelude.{◌≡◌, ℕ, List, [], ◌∷◌, Contains, Some, if◌then◌else◌}
 use Rattle.lot_machine.specs.declared.action.Action.{Action}
 use Rattle.lot_machine.specs.declared.action.Action.TheVariants.{Unlock}
 use Rattle.lot_machine.specs.declared.event.Event.{Event}
@@ -12,12 +12,15 @@ use Rattle.lot_machine.specs.declared.reply.Reply.{Reply}
 use Rattle.lot_machine.specs.declared.reply.Reply.TheVariants.{Winner, Idle, Trapped}
 use Rattle.lot_machine.specs.declared.ticket.Ticket.{Ticket}
 use Rattle.lot_machine.specs.Commands.{is_funding}
+use Rattle.lot_machine.specs.Facts.{IsSound}
+use Rattle.lot_machine.specs.Mutexes.{mutex_at}
 use Rattle.lot_machine.specs.State.{funding_of}
+use Rattle.lot_machine.specs.Step.{step}
 use Rattle.lot_tree.specs.Visits.{CountsReads}
-use Rattle.lot_value.specs.Caches.{edges_into_all}
+use Rattle.lot_value.specs.Caches.{HasNoneTwice, edges_into_all}
 use Rattle.lot_value.specs.Counts.{counted_up}
 use Rattle.lot_value.specs.declared.meter.Meter.{Meter}
-use Rattle.lot_kernel.specs.Snapshots.{Snapshot}
+use Rattle.lot_kernel.specs.Snapshots.{Snapshot, MakesStale}
 
 -- the counts after each edge into what is stale was read once
 abbrev pub settled_meter : Snapshot → Meter
@@ -40,15 +43,23 @@ pub record CountsNothing (old new : Snapshot) : Type 0 where
   pub kept : KeepsStale old new
   pub meter : new.meter ≡ old.meter
 
--- no node is stale, and each edge into what was stale has been read once
+-- no node is stale, and each edge into what was stale has been read once: no node was listed twice
 pub record Settles (old new : Snapshot) : Type 0 where
   pub fresh : new.stale ≡ []
+  pub once : HasNoneTwice old.stale
   pub reads : new.meter.ticket_reads ≡ (settled_meter old).ticket_reads
 
--- For its lottery an unlock that passes its mutex on has read each edge into what was stale once, and visited nothing; then the
--- next owner is stale. Any other trap counts nothing.
+-- For its lottery an unlock that passes its mutex on has read each edge into what was stale once, and visited nothing; then both
+-- the owner that was and the next one are stale.
+pub record PassesOn (mutex to : ℕ) (old new : Snapshot) : Type 0 where
+  pub once : HasNoneTwice old.stale
+  pub meter : new.meter ≡ settled_meter old
+  pub owner : (owner : ℕ) → (mutex_at old.state.mutexes mutex).owner ≡ Some owner → Contains new.stale (Thread owner)
+  pub next : Contains new.stale (Thread to)
+
+-- What a trap counts: nothing, but for an unlock that passes its mutex on.
 abbrev pub CountsTrap : Action → Outcome → Snapshot → Snapshot → Type 0
-CountsTrap (Unlock mutex d) (Passed to draw) old new = (new.meter ≡ settled_meter old) × Contains new.stale (Thread to)
+CountsTrap (Unlock mutex d) (Passed to draw) old new = PassesOn mutex to old new
 CountsTrap action outcome old new = CountsNothing old new
 
 -- What an event counts, given its reply. A draw that isn't refused settles. If it has a winner, it visits places of the tree of
@@ -60,3 +71,17 @@ Counts (Draw processor d) (Winner thread number total delivered) old new =
 Counts (Draw processor d) Idle old new = Settles old new × (new.meter.tree_visits ≡ old.meter.tree_visits)
 Counts (Trap processor ran action) (Trapped thread ticks outcome ends) old new = CountsTrap action outcome old new
 Counts event reply old new = CountsNothing old new
+
+-- one event and its reply: what it made stale, and what it counted
+pub record IsDone (event : Event) (answer : Reply) (old new : Snapshot) : Type 0 where
+  pub reply : answer ≡ (step old.state event).reply
+  pub state : new.state ≡ (step old.state event).state
+  pub sound : IsSound new.state
+  pub stale : MakesStale old new
+  pub counts : Counts event answer old new
+
+-- Events in order with their replies: each is done in what the one before it left.
+abbrev pub AreDone : List Event → List Reply → Snapshot → Snapshot → Type 0
+AreDone (event ∷ events) (reply ∷ replies) old new = (mid : Snapshot) × IsDone event reply old mid × AreDone events replies mid new
+AreDone [] [] old new = new ≡ old
+AreDone events replies old new = ⊥

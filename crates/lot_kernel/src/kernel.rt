@@ -9,7 +9,8 @@ ghost use Rattle.lot_machine.specs.Facts.{HasNoCycle, IsSound, base_value, live_
 ghost use Rattle.lot_machine.specs.Rows as rows;
 ghost use Rattle.lot_machine.specs.declared.ticket.Ticket.{Ticket as ATicket};
 ghost use Rattle.lot_machine.specs.Funding.{ticket_in};
-ghost use Rattle.lot_kernel.specs.Counted.{Counts, settled, with_ticket_read};
+ghost use Rattle.lot_value.specs.Caches.{HasNoneTwice};
+ghost use Rattle.lot_kernel.specs.Counted.{AreDone, Counts, settled, with_ticket_read};
 ghost use Rattle.lot_kernel.specs.Snapshots.{MakesStale, starting};
 
 use crate::tables::Tables;
@@ -110,7 +111,11 @@ impl Kernel {
         requires { length events.now ≡ length out.old }
         ensures replies { out.new ≡ replies self.old.state events.now }
         ensures state { self.new.state ≡ state_after self.old.state events.now }
+        ensures sound { IsSound self.new.state }
+        ensures done { AreDone events.now out.new self.old self.new }
     {
+        // What every kernel keeps is known here: its state is sound.
+        let _ = &self.tables;
         for i in 0..events.len() {
             out[i] = self.event(&events[i]);
         }
@@ -122,6 +127,7 @@ impl Kernel {
         ensures row { result ≡ rows.ticket_row self.old.state ticket }
         ensures state { self.new.state ≡ self.old.state }
         ensures settled { (t : ATicket) → ticket_in self.old.state.tickets ticket ≡ Some t → self.new ≡ record (settled self.old) { meter = with_ticket_read (settled self.old).meter t } }
+        ensures once { IfSome result (λ r. HasNoneTwice self.old.stale) }
         ensures unchanged { IfNone result (self.new ≡ self.old) }
     {
         self.tables.ticket_row(ticket)
@@ -133,6 +139,7 @@ impl Kernel {
         ensures row { result ≡ rows.currency_row self.old.state currency }
         ensures state { self.new.state ≡ self.old.state }
         ensures settled { IfSome result (λ r. self.new ≡ settled self.old) }
+        ensures once { IfSome result (λ r. HasNoneTwice self.old.stale) }
         ensures unchanged { IfNone result (self.new ≡ self.old) }
     {
         self.tables.currency_row(currency)
@@ -144,6 +151,7 @@ impl Kernel {
         ensures row { result ≡ rows.thread_row self.old.state thread }
         ensures state { self.new.state ≡ self.old.state }
         ensures settled { IfSome result (λ r. self.new ≡ settled self.old) }
+        ensures once { IfSome result (λ r. HasNoneTwice self.old.stale) }
         ensures unchanged { IfNone result (self.new ≡ self.old) }
     {
         self.tables.thread_row(thread)

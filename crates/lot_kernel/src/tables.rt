@@ -16,7 +16,7 @@ use lot_machine::{Event, Limits, Name, Reply};
 use lot_mutex::Lottery;
 use lot_queues::Queues;
 use lot_threads::Threads;
-use lot_value::Meter;
+use lot_value::{Counter, Meter};
 use std::alloc::{AllocError, Global};
 use std::marker::Model;
 
@@ -33,7 +33,7 @@ pub(crate) struct Tables {
     queues: Queues,
     /// Room for the lottery of a mutex.
     lottery: Lottery,
-    meter: Meter,
+    meter: Counter,
 }
 
 impl Model for Tables {
@@ -70,7 +70,7 @@ impl Tables {
             threads: Threads::new(alloc, &limits)?,
             queues: Queues::new(alloc, limits.ports, limits.mutexes, limits.threads)?,
             lottery: Lottery::new(alloc, limits.threads)?,
-            meter: Meter::default(),
+            meter: Counter::new(alloc),
         })
     }
 
@@ -83,7 +83,7 @@ impl Tables {
     pub(crate) fn meter(&self) -> Meter
         ensures { result ≡ self.now.meter }
     {
-        self.meter
+        self.meter.meter()
     }
 
     pub(crate) fn ticket_count(&self) -> u32

@@ -10,7 +10,7 @@ ghost use Rattle.lot_machine.specs.Numbered.{set_number};
 ghost use Rattle.lot_machine.specs.Order.{IsQueue};
 ghost use Rattle.lot_machine.specs.State.{change_record, status_of};
 ghost use Rattle.lot_queues.specs.QueueLists.{IsThere, IsNowhere, IsWaiter};
-ghost use Rattle.lot_value.specs.Caches.{edges_into_all};
+ghost use Rattle.lot_value.specs.Caches.{HasNoneTwice, edges_into_all};
 ghost use Rattle.lot_value.specs.Counts.{counted_up};
 ghost use Rattle.lot_threads.specs.Threaded.{IsLiveIn, IsStaleIn, MakesStaleIn, funding_in, with_records, worth_in};
 ghost use Rattle.lot_mutex.specs.Listed.{IsMutexTrap, owners_of, with_mutexes};
@@ -19,7 +19,7 @@ use crate::lottery::Lottery;
 use lot_machine::{After, Drawn, Outcome, Status};
 use lot_queues::Queues;
 use lot_threads::{Effect, Threads};
-use lot_value::Meter;
+use lot_value::Counter;
 
 /// A lock by a thread that runs: a free mutex is taken; else the thread waits, after earlier ones.
 pub fn lock(threads: &mut Threads, queues: &mut Queues, thread: u32, mutex: u32) -> Effect
@@ -56,7 +56,7 @@ pub fn unlock(
     threads: &mut Threads,
     queues: &mut Queues,
     lottery: &mut Lottery,
-    meter: &mut Meter,
+    meter: &mut Counter,
     owner: u32,
     mutex: u32,
     d: u128,
@@ -76,7 +76,8 @@ pub fn unlock(
     ensures kept { (mutex_at queues.old.mutexes mutex).waiters ≡ [] → (node : ANode) → IsStaleIn threads.old node → IsStaleIn threads.new node }
     ensures uncounted { (mutex_at queues.old.mutexes mutex).waiters ≡ [] → meter.new ≡ meter.old }
     ensures counted { (mutex_at queues.old.mutexes mutex).waiters ≢ [] → meter.new ≡ record meter.old { ticket_reads = counted_up meter.old.ticket_reads (edges_into_all (funding_in threads.old) threads.old.stale) } }
-    ensures next { (next : ℕ) (draw : Option (ℕ × ℕ)) → result.outcome ≡ Passed next draw → IsStaleIn threads.new (ThreadNode next) }
+    ensures once { (mutex_at queues.old.mutexes mutex).waiters ≢ [] → HasNoneTwice threads.old.stale }
+    ensures owners { (next : ℕ) (draw : Option (ℕ × ℕ)) → result.outcome ≡ Passed next draw → IsStaleIn threads.new (ThreadNode owner) × IsStaleIn threads.new (ThreadNode next) }
     ensures room { lottery.new.room ≡ lottery.old.room }
 {
     lottery.list(queues, mutex);
@@ -137,7 +138,7 @@ fn pass(threads: &mut Threads, queues: &mut Queues, owner: u32, mutex: u32, next
         → queues.new ≡ record queues.old { mutexes = set_number queues.old.mutexes mutex (record { owner = Some next; waiters = remove (mutex_at queues.old.mutexes mutex).waiters place }) } }
     ensures kept { (node : ANode) → IsStaleIn threads.old node → IsStaleIn threads.new node }
     ensures stale { MakesStaleIn threads.old threads.new }
-    ensures next { IsStaleIn threads.new (ThreadNode next) }
+    ensures owners { IsStaleIn threads.new (ThreadNode owner) × IsStaleIn threads.new (ThreadNode next) }
 {
     queues.take_waiter(next);
     queues.set_owner(mutex, Some(next));

@@ -1,5 +1,7 @@
 //! What stops a text that is being written.
+use thiserror::Error;
 
 /// The writer has failed, and what was written is a beginning of the text.
-#[derive(Clone, Copy, Debug, PartialEq, Eq)]
+#[derive(Clone, Copy, Debug, PartialEq, Eq, Error)]
+#[error("the writer has failed")]
 pub struct WriteFault;

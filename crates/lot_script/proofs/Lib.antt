@@ -7,4 +7,3 @@ pub mod Opened
 pub mod Passed
 pub mod Reached
 pub mod Rests
-pub mod Stacks

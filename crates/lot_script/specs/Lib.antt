@@ -1,4 +1,3 @@
 pub mod Drafts
 pub mod Places
 pub mod Slices
-pub mod Stacks

@@ -3,6 +3,7 @@ ghost use Rattle.std.specs.Prelude.{◌≡◌, ◌↔◌, ◌<◌, [], ◌∷◌
 ghost use Rattle.lot_script.specs.Drafts.{CanNest, IsLine};
 ghost use Rattle.lot_script.specs.Places.{AreCopies, IsCopy, open_after};
 
+use arrayvec::ArrayVec;
 use lot_simulation::Line;
 use std::marker::Model;
 
@@ -24,35 +25,28 @@ impl OpenLoop {
     }
 }
 
-/// How many loops may be open at once.
-const DEPTH_LIMIT: usize = 8;
-
-/// What stands where no loop is open.
-const BLANK: OpenLoop = OpenLoop { body: 0, left: 0 };
-
 /// The loops that are open somewhere, at most 8. The contracts see the innermost first.
-#[derive(Clone, Copy, Debug, PartialEq, Eq)]
+#[derive(Debug, PartialEq, Eq, Drop)]
 pub(crate) struct OpenLoops {
-    /// The outermost first, and blanks after the innermost: an array is copied faster than a list of some length.
-    stack: [OpenLoop; DEPTH_LIMIT],
-    depth: usize,
+    /// The outermost first.
+    stack: ArrayVec<OpenLoop, 8>,
 }
 
 impl Model for OpenLoops {
-    ghost use Rattle.std.specs.Prelude.{List, length, reverse, take};
-    ghost use Rattle.std.proofs.Common.{ap₂};
+    ghost use Rattle.std.specs.Prelude.{◌≤◌, List, length, reverse};
+    ghost use Rattle.std.proofs.Common.{ap};
+    ghost use Rattle.std.proofs.lemmas.List.{reverse-reverse};
     ghost use Rattle.lot_script.specs.declared.open_loops.OpenLoop.{OpenLoop};
-    ghost use Rattle.lot_script.specs.Stacks.{depth-back, stack-back, stack_of, IsStack};
 
     ghost Value = { List OpenLoop };
 
-    ghost view = { λ l. reverse (take l.depth l.stack) };
+    ghost view = { λ l. reverse l.stack.items };
 
-    ghost inverse = { λ loops. record { stack = stack_of loops; depth = length loops } };
+    ghost inverse = { λ loops. record { stack = record { items = reverse loops } } };
 
-    ghost inverse_ok = { λ l h. ap₂ (λ stack depth. record { stack = stack; depth = depth }) (stack-back l.stack l.depth h) (depth-back l.stack l.depth h) };
+    ghost inverse_ok = { λ l h. ap (λ loops. record { stack = record { items = loops } }) (reverse-reverse l.stack.items) };
 
-    ghost invariant = { λ l. IsStack l.stack l.depth };
+    ghost invariant = { λ l. length l.stack.items ≤ 8 };
 }
 
 impl OpenLoops {
@@ -61,17 +55,20 @@ impl OpenLoops {
         ensures { result ≡ [] }
     {
         OpenLoops {
-            stack: [BLANK; DEPTH_LIMIT],
-            depth: 0,
+            stack: ArrayVec::new(),
         }
     }
 
-    /// The same loops again. It takes no memory.
+    /// The same loops again, taken over one by one, since there are seldom more than two. It takes no memory.
     #[inline(always)]
     pub(crate) fn copied(&self) -> Self
         ensures { result ≡ self.now }
     {
-        *self
+        let mut stack = ArrayVec::new();
+        for open in self.stack.as_slice() {
+            stack.push(*open);
+        }
+        OpenLoops { stack }
     }
 
     /// Whether they are the same loops, with as many copies left of each.
@@ -79,14 +76,7 @@ impl OpenLoops {
     pub(crate) fn is_same(&self, other: &OpenLoops) -> bool
         ensures { IsTrue result ↔ (self.now ≡ other.now) }
     {
-        self.open() == other.open()
-    }
-
-    /// The loops that are open, the outermost first.
-    fn open(&self) -> &[OpenLoop]
-        ensures { reverse result.now ≡ self.now }
-    {
-        &self.stack[..self.depth]
+        self.stack.as_slice() == other.stack.as_slice()
     }
 
     /// This loop is innermost now.
@@ -94,8 +84,7 @@ impl OpenLoops {
         requires { length self.old < 8 }
         ensures { self.new ≡ innermost ∷ self.old }
     {
-        self.stack[self.depth] = innermost;
-        self.depth += 1;
+        self.stack.push(innermost);
     }
 
     /// Takes the innermost loop out.
@@ -104,10 +93,7 @@ impl OpenLoops {
         ensures innermost { self.old ≡ result ∷ self.new }
         ensures room { length self.new < 8 }
     {
-        self.depth -= 1;
-        let innermost = self.stack[self.depth];
-        self.stack[self.depth] = BLANK;
-        innermost
+        self.stack.pop().unwrap()
     }
 
     /// Goes past the line of this number: a `loop` opens a loop, in its first copy, and an `end` closes one.
@@ -133,7 +119,7 @@ impl OpenLoops {
     pub(crate) fn are_copies(&self, firsts: &OpenLoops) -> bool
         ensures { IsTrue result ↔ AreCopies self.now firsts.now }
     {
-        are_copies(self.open(), firsts.open())
+        are_copies(self.stack.as_slice(), firsts.stack.as_slice())
     }
 }
 

@@ -16,7 +16,7 @@ ghost use Rattle.lot_machine.specs.Value.{node_value, ticket_value};
 ghost use Rattle.lot_graph.specs.Graphs.{IsNodeOf, IsThread, IsMutex, IsCurrency, IsUserCurrency, IsTarget, IsCycle, IsFunding};
 ghost use Rattle.lot_tree.specs.Visits.{CountsReads};
 ghost use Rattle.lot_value.specs.Counts.{counted_up};
-ghost use Rattle.lot_value.specs.Caches.{edges_into_all};
+ghost use Rattle.lot_value.specs.Caches.{HasNoneTwice, edges_into_all};
 ghost use Rattle.lot_threads.specs.Threaded.{IsLiveIn, IsThreadOf, IsStaleIn, CanLend, CanRun, CanChange, MakesStaleIn, drawn_in, funding_in, limited_in, newborn, with_records, worth_in};
 ghost use Rattle.lot_threads.specs.Timely.{IsTimely};
 
@@ -27,7 +27,7 @@ use crate::runners::{Runner, move_runner, runner_on};
 use lot_draw::{RunQueue, Winner};
 use lot_graph::{Cycle, Graph};
 use lot_machine::{Limits, Node, Record, Status, Target, Thread};
-use lot_value::{Meter, ValuedGraph};
+use lot_value::{Counter, ValuedGraph};
 use std::alloc::{AllocError, Global};
 use std::marker::Model;
 
@@ -297,11 +297,11 @@ impl Threads {
 
     /// Holds a draw with the number `d` among the Ready threads (2, 4.2): `None` if their weights sum to 0. Settles what is stale,
     /// and visits the tree of weights once.
-    pub fn draw(&mut self, d: u128, meter: &mut Meter) -> Option<Winner>
+    pub fn draw(&mut self, d: u128, meter: &mut Counter) -> Option<Winner>
         ensures winner { result ≡ drawn_in self.old d }
         ensures settled { self.new ≡ record self.old { stale = [] } }
         ensures ready { IfSome result (λ w. status_of self.old.records w.thread ≡ Some Ready) }
-        ensures once { (node : ANode) (place other : ℕ) → slice_get self.old.stale place ≡ Some node → slice_get self.old.stale other ≡ Some node → place ≡ other }
+        ensures once { HasNoneTwice self.old.stale }
         ensures reads { meter.new.ticket_reads ≡ counted_up meter.old.ticket_reads (edges_into_all (funding_in self.old) self.old.stale) }
         ensures visits { MatchOption result (meter.new.tree_visits ≡ meter.old.tree_visits) (λ w. CountsReads self.old.thread_limit meter.old.tree_visits meter.new.tree_visits) }
     {
@@ -309,8 +309,9 @@ impl Threads {
     }
 
     /// Computes the values of all stale nodes again. Counts each edge into a node that was stale once.
-    pub fn settle(&mut self, meter: &mut Meter)
+    pub fn settle(&mut self, meter: &mut Counter)
         ensures settled { self.new ≡ record self.old { stale = [] } }
+        ensures once { HasNoneTwice self.old.stale }
         ensures counted { meter.new ≡ record meter.old { ticket_reads = counted_up meter.old.ticket_reads (edges_into_all (funding_in self.old) self.old.stale) } }
     {
         self.queue.settle(&mut self.graph, meter);
@@ -357,7 +358,7 @@ impl Threads {
 
     /// What a ticket is worth (4.4), in units of base, if the currency that issued it isn't stale. If the ticket funds something,
     /// that is one reading, which is counted; else it is worth nothing.
-    pub fn ticket_value(&self, ticket: u32, meter: &mut Meter) -> u64
+    pub fn ticket_value(&self, ticket: u32, meter: &mut Counter) -> u64
         requires fresh { (t : ATicket) → ticket_at (funding_in self.now) ticket ≡ Some t → ¬ IsStaleIn self.now (CurrencyNode t.issuer) }
         ensures worth { (t : ATicket) → ticket_at (funding_in self.now) ticket ≡ Some t → result ≡ ticket_value self.now.unit (funding_in self.now) (live_in self.now.records) t }
         ensures counted { IsFunding (funding_in self.now) ticket → meter.new ≡ record meter.old { ticket_reads = counted_up meter.old.ticket_reads 1 } }

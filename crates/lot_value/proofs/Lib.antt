@@ -8,7 +8,6 @@ pub mod Spreading
 pub mod Raising
 pub mod Shares
 pub mod Reading
-pub mod Fresh
 pub mod Rightness
 pub mod Differing
 pub mod Rank

@@ -62,16 +62,6 @@ module _ (w : LimitedFunding) (live : List Bool) (c : Known) (sound : IsSound w.
   sources-small node fresh there small =
       omega (arith, sources-worth node fresh there, node-bounded w.funding sound.no_cycle sound.funds_there c.unit live node (has-not-base w.funding node there), small)
 
-  -- a source that isn't stale, and isn't base, has the value that it is worth
-  pub known-source : (from to : Node) → IsEdge w.funding from to → ¬ IsStale c from → from ≢ Currency 0 → value_in c from ≡ node_value c.unit w.funding live from
-  known-source from to edge fresh differs = right-worth from fresh (fits.from edge.0 from to edge.1) (source-has w.funding from to edge differs)
-
-  -- what the edges into a node pass on of what nodes are worth is small, whatever is stale
-  pub worth-small : (node : Node) → HasEquation w.funding node → IsSmall c.unit w live → shares_into c.unit w.funding live (node_value c.unit w.funding live) node < 2 ^ 64
-  worth-small node there small =
-      let bounded = node-bounded w.funding sound.no_cycle sound.funds_there c.unit live node (has-not-base w.funding node there) in
-      omega (arith, values-solve w.funding sound.no_cycle sound.funds_there c.unit live node there, bounded, small)
-
 -- ---- after a touch
 
 -- what is marked by places is marked by nodes

@@ -1,5 +1,5 @@
 -- The next node to settle, and what is right when it is.
-use Rattle.std.proofs.Common.{◌≡◌, ℕ, zero, suc, ◌+◌, ◌-◌, ◌^◌, ◌<◌, ◌⊎◌, inl, inr, Bool, true, Option, Some, None, List, [], ◌∷◌, Contains, length, map, slice_get, slice_index, set, sum_by, ap, sym, ◌∙◌, refl, subst, arith, length-set}
+use Rattle.std.proofs.Common.{◌≡◌, ℕ, zero, suc, ◌+◌, ◌-◌, ◌<◌, ◌⊎◌, inl, inr, Bool, true, Option, Some, None, List, [], ◌∷◌, Contains, length, map, slice_get, slice_index, set, sum_by, ap, sym, ◌∙◌, refl, subst, arith, length-set}
 use Rattle.std.specs.List.{remove}
 use Rattle.std.specs.Option.{IfSome, is_some}
 use Rattle.std.proofs.lemmas.Grind.{get_or-set_at}
@@ -7,29 +7,25 @@ use Rattle.std.proofs.lemmas.List.{get_or-set_other}
 use Rattle.lot_lists.specs.NodeLists.{NodeLists, nodes_of, node_at, IsFree, with_removed}
 use Rattle.lot_machine.specs.declared.funding.Node.{Node}
 use Rattle.lot_machine.specs.Funding.{Funding, IsEdge, edge_count_into}
-use Rattle.lot_machine.specs.Value.{node_value}
 use Rattle.lot_machine.specs.Facts.{HasNoCycle}
-use Rattle.lot_machine.specs.Equations.{HasEquation, shares_into}
+use Rattle.lot_machine.specs.Equations.{shares_into}
 use Rattle.lot_machine.proofs.EachOnce.{contains-nothing, contains-mapped, mapped-contains, contains-at, left-before, still-left}
 use Rattle.lot_machine.proofs.NodeShares.{same-shares}
 use Rattle.lot_graph.specs.declared.layout.Layout.{Layout}
-use Rattle.lot_graph.specs.Graphs.{LimitedFunding, IsSound, IsNodeOf}
+use Rattle.lot_graph.specs.Graphs.{LimitedFunding, IsNodeOf}
 use Rattle.lot_graph.specs.Places.{node_place, node_of, node_count, IsNodeWithin, FitsIn, FitsLimits, layout_of}
 use Rattle.lot_graph.proofs.WalkLemmas.{mapped-at}
 use Rattle.lot_graph.proofs.SpreadLemmas.{same-list, node-back, list-back}
 use Rattle.lot_value.specs.declared.meter.Meter.{Meter}
 use Rattle.lot_value.specs.Counts.{counted_up}
-use Rattle.lot_value.specs.Caches.{Known, IsStale, IsRight, IsSmall, Settles, kept_worth, value_in, edges_into_all}
-use Rattle.lot_value.specs.Marking.{IsStaleList, IsReordered, LeadsFromPlace, last_of}
-use Rattle.lot_value.specs.Sources.{IsBounded}
-use Rattle.lot_value.specs.declared.settling.Sources.{Sources}
+use Rattle.lot_value.specs.Caches.{Known, IsStale, IsRight, Settles, kept_worth, value_in, edges_into_all}
+use Rattle.lot_value.specs.Marking.{IsStaleList, IsReordered, IsFreshPlace, LeadsFromPlace}
 use Rattle.lot_value.proofs.Rank.{rank, rank-rises}
 use Rattle.lot_value.proofs.Counting.{counted-more}
 use Rattle.lot_value.proofs.Listed.{contains-first, listed-low, list-within, removed-is, sum-taken}
 use Rattle.lot_value.proofs.Mapped.{sum-mapped, length-mapped, place-mapped}
 use Rattle.lot_value.proofs.Reading.{length-ones}
 use Rattle.lot_value.proofs.Nodes.{same-or-not, node-within}
-use Rattle.lot_value.proofs.Rightness.{known-source, worth-small}
 
 -- one more than the rank of the node of a place, if there is one
 abbrev pub rank_of : Layout → Funding → Option ℕ → ℕ
@@ -184,32 +180,16 @@ module _ (w : LimitedFunding) (live : List Bool) (fits : FitsLimits w) (old : Kn
       values = λ other off. get_or-set_other values place other value 0 (λ at_place. off (at_place ∙ sym (list-back old.layout place low).0)) ∙ ap (λ (vs : List ℕ). slice_index vs other) same;
     }
 
--- what nodes are worth bounds what is read from sources that aren't stale
-module _ (s : Sources) (live : List Bool) (c : Known) (v : NodeLists) (node : Node) (sound : IsSound s.graph.now.funding) (fits : FitsLimits s.graph.now)
-    (right : IsRight s.graph.now live c) (list : IsStaleList v (node_count c.layout)) (stale_is : c.stale ≡ map (node_of c.layout) (nodes_of v 0)) where
-  unlisted-fresh : (from : Node) → IsEdge s.graph.now.funding from node → ¬ Contains (nodes_of v 0) (node_place (layout_of s.graph.now) from) → ¬ IsStale c from
-  unlisted-fresh from edge off stale =
-      let within : IsNodeWithin c.layout from = subst (λ (l : Layout). IsNodeWithin l from) (sym right.layout) (fits.from edge.0 from node edge.1) in
-      let mapped = place-mapped c.layout (nodes_of v 0) from within (list-within v (node_count c.layout) list) in
-      off (subst (λ (l : Layout). Contains (nodes_of v 0) (node_place l from)) right.layout (mapped.1 (subst (λ (xs : List Node). Contains xs from) stale_is stale)))
-
-  module _ (values : s.values.now ≡ c.values) (unit : s.unit ≡ c.unit) where
-    pub sources-bounded : HasEquation s.graph.now.funding node → IsSmall c.unit s.graph.now live → IsBounded s live (nodes_of v 0) node
-    sources-bounded there small =
-        let w = s.graph.now in
-        let worth = node_value c.unit w.funding live in record {
-          worth = worth;
-          same = λ from edge off differs.
-              ap (λ (vs : List ℕ). kept_worth (layout_of w) vs from) values ∙ ap (λ (l : Layout). kept_worth l c.values from) (sym right.layout)
-              ∙ known-source w live c sound fits right from node edge (unlisted-fresh from edge off) differs;
-          small = subst (λ (u : ℕ). shares_into u w.funding live worth node < 2 ^ 64) (sym unit) (worth-small w live c sound fits right node there small);
-        }
+-- the place of a node that is listed, and none of whose sources is
+pub fresh-place : (l : Layout) (f : Funding) (v : NodeLists) (at place : ℕ) (node : Node) → node_at v 0 at ≡ Some place → node ≡ node_of l place → ((from : Node) → IsEdge f from node → ¬ Contains (nodes_of v 0) (node_place l from)) → IsFreshPlace l f (nodes_of v 0) place
+fresh-place l f v at place node here node_is fresh = record {
+  listed = contains-at (nodes_of v 0) at place here;
+  sources = subst (λ (x : Node). (from : Node) → IsEdge f from x → ¬ Contains (nodes_of v 0) (node_place l from)) node_is fresh;
+}
 
 -- nothing is stale
-pub nothing-stale : (l : Layout) (old : List Node) (v : NodeLists) (o : Option ℕ) → IsReordered old (map (node_of l) (nodes_of v 0)) → o ≡ last_of v → o ≡ None → (old ≡ []) × (nodes_of v 0 ≡ [])
-nothing-stale l old v o reordered is none =
-    let empty = last-none (nodes_of v 0) o is none in
-    (reordered-empty old (subst (IsReordered old) (ap (map (node_of l)) empty) reordered), empty)
+pub nothing-stale : (l : Layout) (old : List Node) (v : NodeLists) → IsReordered old (map (node_of l) (nodes_of v 0)) → nodes_of v 0 ≡ [] → old ≡ []
+nothing-stale l old v reordered empty = reordered-empty old (subst (IsReordered old) (ap (map (node_of l)) empty) reordered)
 
 -- one more node is settled: what was counted, and what is to come
 pub settle-more : (f : Funding) (start before after : Meter) (old : List Node) (was now : Known) (o : Option Node) (test : Bool) → test ≡ is_some o → test ≡ true
@@ -250,10 +230,7 @@ known-same a b unit layout values stale =
     known : ℕ → Layout → List ℕ → List Node → Known
     known u l vs xs = record { unit = u; layout = l; values = vs; stale = xs }
 
--- a node whose sources aren't stale, by the places of another layout that is the same
-pub fresh-at : (l m : Layout) (f : Funding) (v : NodeLists) (node other : Node) → l ≡ m → node ≡ other → ((from : Node) → IsEdge f from node → ¬ Contains (nodes_of v 0) (node_place m from)) → (from : Node) → IsEdge f from other → ¬ Contains (nodes_of v 0) (node_place l from)
-fresh-at l m f v node other layout same fresh from edge c = fresh from (subst (IsEdge f from) (sym same) edge) (subst (λ (x : Layout). Contains (nodes_of v 0) (node_place x from)) layout c)
-
+-- what is passed on, by the places of another layout that is the same
 pub shares-at : (unit : ℕ) (f : Funding) (live : List Bool) (l m : Layout) (vs us : List ℕ) (node other : Node) → l ≡ m → vs ≡ us → node ≡ other → shares_into unit f live (kept_worth l vs) node ≡ shares_into unit f live (kept_worth m us) other
 shares-at unit f live l m vs us node other layout values same =
     ap (λ x. shares_into unit f live (kept_worth x vs) node) layout ∙ ap (λ x. shares_into unit f live (kept_worth m x) node) values ∙ ap (shares_into unit f live (kept_worth m us)) same

@@ -24,9 +24,13 @@ pub record Known : Type 0 where
 abbrev pub IsStale : Known → Node → Type 0
 IsStale c node = Contains c.stale node
 
+-- no node stands twice in the list
+abbrev pub HasNoneTwice : List Node → Type 0
+HasNoneTwice nodes = (node : Node) (place other : ℕ) → slice_get nodes place ≡ Some node → slice_get nodes other ≡ Some node → place ≡ other
+
 -- no node stands twice among the stale ones
 abbrev pub IsOnce : Known → Type 0
-IsOnce c = (node : Node) (place other : ℕ) → slice_get c.stale place ≡ Some node → slice_get c.stale other ≡ Some node → place ≡ other
+IsOnce c = HasNoneTwice c.stale
 
 -- what these values say that a node is worth
 abbrev pub kept_worth : Layout → List ℕ → Node → ℕ

@@ -22,6 +22,11 @@ LeadsToPlace l f from place = (to : Node) × IsEdge f from to × (node_place l t
 abbrev pub LeadsFromPlace : Layout → Funding → ℕ → Node → Type 0
 LeadsFromPlace l f place to = (from : Node) × IsEdge f from to × (node_place l from ≡ place)
 
+-- the place is listed, and that of no source of its node
+pub record IsFreshPlace (l : Layout) (f : Funding) (places : List ℕ) (place : ℕ) : Type 0 where
+  pub listed : Contains places place
+  pub sources : (from : Node) → IsEdge f from (node_of l place) → ¬ Contains places (node_place l from)
+
 -- what was listed stays in its place, and after it comes just what is so
 pub record Spreads (old new : NodeLists) (IsSo : ℕ → Type 0) : Type 0 where
   pub kept : (place x : ℕ) → node_at old 0 place ≡ Some x → node_at new 0 place ≡ Some x

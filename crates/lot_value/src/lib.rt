@@ -11,6 +11,7 @@ mod edges;
 pub mod laws;
 mod marking;
 mod meter;
+mod readings;
 mod settling;
 #[cfg(test)]
 mod tests;
@@ -18,6 +19,6 @@ mod touching;
 mod valued_graph;
 mod values;
 
-pub use meter::Meter;
+pub use meter::{Counter, Meter};
 pub use valued_graph::ValuedGraph;
 pub use values::Values;

@@ -1,52 +1,134 @@
-//! How one stale node gets its value.
-ghost use Rattle.std.specs.Prelude.{◌≡◌, ◌^◌, ◌*◌, ◌/◌, ◌<◌, ℕ, Bool, List, Contains, Some, IfSome, IfNone, OnSome, length};
+//! Which stale node is settled next. What is here sees neither values nor counts, so it reads no edge for a value: whether a node is
+//! stale isn't a value.
+ghost use Rattle.std.specs.Prelude.{◌≡◌, ℕ, [], Contains, Some, IfSome, IfNone};
 ghost use Rattle.std.specs.Bool.{OnTrue, OnFalse};
 ghost use Rattle.lot_lists.specs.NodeLists.{nodes_of};
 ghost use Rattle.lot_machine.specs.declared.funding.Node.{Node as ANode};
-ghost use Rattle.lot_machine.specs.declared.funding.Edge.TheVariants.{OfTicket as OfTicketEdge};
-ghost use Rattle.lot_machine.specs.Funding.{IsEdge, edge_count_into};
-ghost use Rattle.lot_machine.specs.Equations.{LeadsInto, share, shares_into};
+ghost use Rattle.lot_machine.specs.Funding.{IsEdge};
 ghost use Rattle.lot_graph.specs.Graphs.{IsNodeOf};
 ghost use Rattle.lot_graph.specs.Places as places;
 ghost use Rattle.lot_graph.specs.Places.{layout_of, node_place};
-ghost use Rattle.lot_active.specs.Fundings.{IsKeptFor};
-ghost use Rattle.lot_value.specs.Counts.{counted_up};
-ghost use Rattle.lot_value.specs.Caches.{kept_worth};
-ghost use Rattle.lot_value.specs.Marking.{IsStaleList, IsReordered, LeadsFromPlace, last_of};
-ghost use Rattle.lot_value.specs.Sources.{AreSources, IsBounded};
+ghost use Rattle.lot_value.specs.Marking.{IsStaleList, IsReordered, IsFreshPlace, LeadsFromPlace, last_of};
 
 use crate::marking::STALE;
-use crate::meter::Meter;
-use lot_active::{Active, ends_of_edge};
+use lot_active::ends_of_edge;
 use lot_graph::Graph;
 use lot_lists::Lists;
-use lot_machine::{Edge, Node};
+use lot_machine::Node;
 
-/// What shares are read from: the graph, what is active in it, and the values that are kept.
-#[derive(Clone, Copy)]
-pub(crate) struct Sources<'a> {
-    pub(crate) graph: &'a Graph,
-    pub(crate) active: &'a Active,
-    pub(crate) values: &'a [u64],
-    pub(crate) unit: u32,
+/// The place of a stale node that has no stale source; `None` if none is stale. Most often that is the node at the front of the
+/// list. If the one at the front has a stale source, it is turned over, and then all that is stale upstream of it comes first, and
+/// it too, from the back of the list: `turned` is its place until it was answered.
+///
+/// While all stale nodes are settled one after the other, and none gets stale between, the edges into each of them are walked here
+/// three times at most: once as it is looked at at the front, once as its stale sources are raised, and once as it has none left. For
+/// those that are raised above a node lie upstream of it, so that they never raise it again, and they are all answered before it.
+/// With the reading of its value that makes four times, and two for a node whose sources come before it in the list.
+#[inline(always)]
+pub(crate) fn next_fresh(
+    graph: &Graph,
+    stale: &mut Lists,
+    turned: &mut Option<usize>,
+) -> Option<usize>
+    requires list { IsStaleList stale.old (places.node_count (layout_of graph.now)) }
+    ensures list { IsStaleList stale.new (places.node_count (layout_of graph.now)) }
+    ensures reordered { IsReordered (nodes_of stale.old 0) (nodes_of stale.new 0) }
+    ensures fresh { IfSome result (IsFreshPlace (layout_of graph.now) graph.now.funding (nodes_of stale.new 0)) }
+    ensures none { IfNone result (nodes_of stale.new 0 ≡ []) }
+{
+    if turned.is_none() {
+        if let Some(place) = fresh_front(graph, stale) {
+            return Some(place);
+        }
+    }
+    raise_fresh(graph, stale, turned)
 }
 
-/// Moves the node at the front of the list to the back, if there is one. It comes here only if one of its sources is stale too, and
-/// then the others are looked at before it.
+/// The place of the node at the front of the list, if there is one and it has no stale source.
 #[inline(always)]
-pub(crate) fn turn_over(stale: &mut Lists)
+fn fresh_front(graph: &Graph, stale: &Lists) -> Option<usize>
+    requires list { IsStaleList stale.now (places.node_count (layout_of graph.now)) }
+    ensures fresh { IfSome result (IsFreshPlace (layout_of graph.now) graph.now.funding (nodes_of stale.now 0)) }
+{
+    let place = stale.first(STALE)?;
+    let node = graph.layout().node_of(place);
+    if has_stale_source(graph, stale, node) {
+        return None;
+    }
+    Some(place)
+}
+
+/// Whether a source of a node is stale.
+#[inline(always)]
+fn has_stale_source(graph: &Graph, stale: &Lists, node: Node) -> bool
+    requires list { IsStaleList stale.now (places.node_count (layout_of graph.now)) }
+    requires node { IsNodeOf graph.now node }
+    ensures found { OnTrue result ((place : ℕ) × Contains (nodes_of stale.now 0) place × LeadsFromPlace (layout_of graph.now) graph.now.funding place node) }
+    ensures none { OnFalse result ((from : ANode) → IsEdge graph.now.funding from node → ¬ Contains (nodes_of stale.now 0) (node_place (layout_of graph.now) from)) }
+{
+    let layout = graph.layout();
+    for edge in graph.edges_into(node) {
+        let Some(ends) = ends_of_edge(graph, edge) else {
+            unreachable!()
+        };
+        let place = layout.list_of(ends.from);
+        if stale.list_of(place).is_some() {
+            return true;
+        }
+    }
+    false
+}
+
+/// Turns the node at the front over, unless one was turned over before that isn't done yet, and answers what comes first of it and
+/// what is stale upstream of it.
+fn raise_fresh(graph: &Graph, stale: &mut Lists, turned: &mut Option<usize>) -> Option<usize>
+    requires list { IsStaleList stale.old (places.node_count (layout_of graph.now)) }
+    ensures list { IsStaleList stale.new (places.node_count (layout_of graph.now)) }
+    ensures reordered { IsReordered (nodes_of stale.old 0) (nodes_of stale.new 0) }
+    ensures fresh { IfSome result (IsFreshPlace (layout_of graph.now) graph.now.funding (nodes_of stale.new 0)) }
+    ensures none { IfNone result (nodes_of stale.new 0 ≡ []) }
+{
+    let bottom = turn_over(stale, *turned);
+    let fresh = fresh_back(graph, stale);
+    *turned = if bottom == fresh { None } else { bottom };
+    fresh
+}
+
+/// Moves the node at the front of the list to the back, if there is one, and answers its place. If one was turned over before,
+/// answers that one.
+fn turn_over(stale: &mut Lists, turned: Option<usize>) -> Option<usize>
     requires list { IsStaleList stale.old stale.old.nodes }
     ensures list { IsStaleList stale.new stale.old.nodes }
     ensures reordered { IsReordered (nodes_of stale.old 0) (nodes_of stale.new 0) }
 {
-    if let Some(place) = stale.first(STALE) {
-        stale.move_to(place, STALE);
+    if turned.is_some() {
+        return turned;
     }
+    let place = stale.first(STALE)?;
+    stale.move_to(place, STALE);
+    Some(place)
+}
+
+/// Moves stale nodes to the back until the one there has no stale source, and answers its place; `None` if none is stale.
+fn fresh_back(graph: &Graph, stale: &mut Lists) -> Option<usize>
+    requires list { IsStaleList stale.old (places.node_count (layout_of graph.now)) }
+    ensures list { IsStaleList stale.new (places.node_count (layout_of graph.now)) }
+    ensures reordered { IsReordered (nodes_of stale.old 0) (nodes_of stale.new 0) }
+    ensures fresh { IfSome result (IsFreshPlace (layout_of graph.now) graph.now.funding (nodes_of stale.new 0)) }
+    ensures none { IfNone result (nodes_of stale.new 0 ≡ []) }
+{
+    let layout = graph.layout();
+    while let Some(place) = stale.last(STALE) {
+        if !raise_sources(graph, stale, layout.node_of(place)) {
+            return Some(place);
+        }
+    }
+    None
 }
 
 /// Moves the stale sources of a node to the back of the list. Answers whether there are any.
 #[inline(always)]
-pub(crate) fn raise_sources(graph: &Graph, stale: &mut Lists, node: Node) -> bool
+fn raise_sources(graph: &Graph, stale: &mut Lists, node: Node) -> bool
     requires list { IsStaleList stale.old (places.node_count (layout_of graph.now)) }
     requires node { IsNodeOf graph.now node }
     ensures list { IsStaleList stale.new (places.node_count (layout_of graph.now)) }
@@ -67,109 +149,4 @@ pub(crate) fn raise_sources(graph: &Graph, stale: &mut Lists, node: Node) -> boo
         }
     }
     raised
-}
-
-/// What the edges into a node pass on together, each of them read once.
-#[inline(always)]
-pub(crate) fn read_value(sources: Sources, node: Node, meter: &mut Meter) -> u64
-    requires node { IsNodeOf sources.graph.now node }
-    requires sources { (live : List Bool) × AreSources sources live × (shares_into sources.unit sources.graph.now.funding live (kept_worth (layout_of sources.graph.now) sources.values.now) node < 2 ^ 64) }
-    ensures value { (live : List Bool) → AreSources sources.entry live → result ≡ shares_into sources.entry.unit sources.entry.graph.now.funding live (kept_worth (layout_of sources.entry.graph.now) sources.entry.values.now) node }
-    ensures counted { meter.new ≡ record meter.old { ticket_reads = counted_up meter.old.ticket_reads (edge_count_into sources.entry.graph.now.funding node) } }
-{
-    let mut total = 0;
-    for edge in sources.graph.edges_into(node) {
-        total += read_share(sources, edge, meter);
-    }
-    total
-}
-
-/// What the edges into a node pass on together, each of them read once; `None`, and none of them is counted, if a source of the node
-/// is stale.
-#[inline(always)]
-pub(crate) fn fresh_value(
-    sources: Sources,
-    stale: &Lists,
-    node: Node,
-    meter: &mut Meter,
-) -> Option<u64>
-    requires list { IsStaleList stale.now (places.node_count (layout_of sources.graph.now)) }
-    requires node { IsNodeOf sources.graph.now node }
-    requires sources { (live : List Bool) × AreSources sources live × IsBounded sources live (nodes_of stale.now 0) node }
-    ensures fresh { OnSome result ((from : ANode) → IsEdge sources.entry.graph.now.funding from node → ¬ Contains (nodes_of stale.now 0) (node_place (layout_of sources.entry.graph.now) from)) }
-    ensures value { IfSome result (λ value. (live : List Bool) → AreSources sources.entry live → value ≡ shares_into sources.entry.unit sources.entry.graph.now.funding live (kept_worth (layout_of sources.entry.graph.now) sources.entry.values.now) node) }
-    ensures counted { OnSome result (meter.new ≡ record meter.old { ticket_reads = counted_up meter.old.ticket_reads (edge_count_into sources.entry.graph.now.funding node) }) }
-    ensures found { IfNone result ((place : ℕ) × Contains (nodes_of stale.now 0) place × LeadsFromPlace (layout_of sources.entry.graph.now) sources.entry.graph.now.funding place node) }
-    ensures uncounted { IfNone result (meter.new ≡ meter.old) }
-{
-    let layout = sources.graph.layout();
-    let mut counted = *meter;
-    let mut total = 0;
-    for edge in sources.graph.edges_into(node) {
-        let Some(ends) = ends_of_edge(sources.graph, edge) else {
-            unreachable!()
-        };
-        let place = layout.list_of(ends.from);
-        if stale.list_of(place).is_some() {
-            return None;
-        }
-        total += read_share(sources, edge, &mut counted);
-    }
-    *meter = counted;
-    Some(total)
-}
-
-/// The share that an edge passes on, counted. Edges are read for values in no other way.
-#[inline(always)]
-pub(crate) fn read_share(sources: Sources, edge: Edge, meter: &mut Meter) -> u64
-    requires edge { (to : ANode) × LeadsInto sources.graph.now.funding to edge }
-    requires sources { (live : List Bool) × AreSources sources live × (share sources.unit sources.graph.now.funding live (kept_worth (layout_of sources.graph.now) sources.values.now) edge < 2 ^ 64) }
-    ensures value { (live : List Bool) → AreSources sources.entry live → result ≡ share sources.entry.unit sources.entry.graph.now.funding live (kept_worth (layout_of sources.entry.graph.now) sources.entry.values.now) edge }
-    ensures counted { meter.new ≡ record meter.old { ticket_reads = counted_up meter.old.ticket_reads 1 } }
-{
-    meter.count_read();
-    let layout = sources.graph.layout();
-    match edge {
-        Edge::OfTicket(ticket) => ticket_share(sources, ticket),
-        Edge::OfLender(thread) => sources.values[layout.list_of(Node::Thread(thread))],
-        Edge::OfMutex(mutex) => sources.values[layout.list_of(Node::Mutex(mutex))],
-    }
-}
-
-/// The share of a ticket that funds something.
-#[inline(always)]
-fn ticket_share(sources: Sources, number: u32) -> u64
-    requires edge { (to : ANode) × LeadsInto sources.graph.now.funding to (OfTicketEdge number) }
-    requires sources { (live : List Bool) × AreSources sources live × (share sources.unit sources.graph.now.funding live (kept_worth (layout_of sources.graph.now) sources.values.now) (OfTicketEdge number) < 2 ^ 64) }
-    ensures { (live : List Bool) → AreSources sources.entry live → result ≡ share sources.entry.unit sources.entry.graph.now.funding live (kept_worth (layout_of sources.entry.graph.now) sources.entry.values.now) (OfTicketEdge number) }
-{
-    let Some(ticket) = sources.graph.ticket(number) else {
-        return 0;
-    };
-    if !sources.active.is_active(sources.graph, number) {
-        return 0;
-    }
-    if ticket.issuer == 0 {
-        return u64::from(ticket.amount) * u64::from(sources.unit);
-    }
-    let value = sources.values[ticket.issuer as usize];
-    let active = sources.active.active_amount(ticket.issuer);
-    share_of(value, ticket.amount, active)
-}
-
-/// The share of a value that an amount has, of all active amounts, rounded down once (4.4). An amount that is all of them needs no
-/// division, and nearly all products fit 64 bits, which divide faster.
-#[inline(always)]
-fn share_of(value: u64, amount: u32, active: u64) -> u64
-    requires active { 0 < active }
-    requires fits { value * amount / active < 2 ^ 64 }
-    ensures { result ≡ value * amount / active }
-{
-    if active == u64::from(amount) {
-        return value;
-    }
-    match value.checked_mul(u64::from(amount)) {
-        Some(whole) => whole / active,
-        None => (u128::from(value) * u128::from(amount) / u128::from(active)) as u64,
-    }
 }

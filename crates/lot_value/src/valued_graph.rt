@@ -22,7 +22,7 @@ ghost use Rattle.lot_value.specs.Valued.{MakesStale};
 ghost use Rattle.lot_graph.specs.Changes.{with_currencies, with_lends, with_owners, with_tickets};
 
 use crate::edges::{attach, detach};
-use crate::meter::Meter;
+use crate::meter::Counter;
 use crate::touching::touch_listed;
 use crate::values::Values;
 use lot_active::{Active, ends_of_edge};
@@ -322,7 +322,7 @@ impl ValuedGraph {
 
     /// What a ticket is worth (4.4), in units of base, if the currency that issued it isn't stale. If the ticket funds something,
     /// that is one reading, which is counted; else it is worth nothing.
-    pub fn ticket_value(&self, ticket: u32, meter: &mut Meter) -> u64
+    pub fn ticket_value(&self, ticket: u32, meter: &mut Counter) -> u64
         requires fresh { (t : ATicket) → ticket_at self.now.now.funding ticket ≡ Some t → ¬ IsStale self.now.known (CurrencyNode t.issuer) }
         ensures worth { (t : ATicket) → ticket_at self.now.now.funding ticket ≡ Some t → result ≡ ticket_value self.now.known.unit self.now.now.funding self.now.live t }
         ensures counted { IsFunding self.now.now.funding ticket → meter.new ≡ record meter.old { ticket_reads = counted_up meter.old.ticket_reads 1 } }
@@ -333,7 +333,7 @@ impl ValuedGraph {
     }
 
     /// Computes the values of all stale nodes again. Counts each edge into a node that was stale once.
-    pub fn settle(&mut self, meter: &mut Meter)
+    pub fn settle(&mut self, meter: &mut Counter)
         ensures now { self.new.now ≡ self.old.now }
         ensures live { self.new.live ≡ self.old.live }
         ensures unit { self.new.known.unit ≡ self.old.known.unit }
@@ -347,7 +347,7 @@ impl ValuedGraph {
     /// Computes the value of one stale node again and answers the node; `None` if none is stale. Counts each edge into
     /// it.
     #[inline(always)]
-    pub fn settle_next(&mut self, meter: &mut Meter) -> Option<Node>
+    pub fn settle_next(&mut self, meter: &mut Counter) -> Option<Node>
         ensures now { self.new.now ≡ self.old.now }
         ensures live { self.new.live ≡ self.old.live }
         ensures layout { self.new.known.layout ≡ layout_of self.new.now }

@@ -14,9 +14,10 @@ ghost use Rattle.lot_active.specs.Fundings.{IsKeptFor};
 ghost use Rattle.lot_value.specs.Counts.{counted_up};
 ghost use Rattle.lot_value.specs.Caches.{IsStale, IsOnce, IsRight, IsRightBut, IsSmall, Settles, edges_into_all, value_in};
 
-use crate::marking::{STALE, mark};
-use crate::meter::Meter;
-use crate::settling::{Sources, fresh_value, raise_sources, read_share, read_value, turn_over};
+use crate::marking::mark;
+use crate::meter::Counter;
+use crate::readings::{Sources, read_share, read_value};
+use crate::settling::next_fresh;
 use lot_active::Active;
 use lot_graph::{Graph, Layout};
 use lot_lists::Lists;
@@ -30,6 +31,8 @@ pub struct Values {
     values: Vec<u64>,
     // One list, of the places of the stale nodes.
     stale: Lists,
+    // The place of a node that `next_fresh` turned over, until it is settled.
+    turned: Option<usize>,
     layout: Layout,
     unit: u32,
 }
@@ -58,6 +61,7 @@ impl Values {
         Ok(Values {
             values: vec![in alloc; 0; nodes]?,
             stale: Lists::new(alloc, 1, nodes)?,
+            turned: None,
             layout,
             unit,
         })
@@ -87,7 +91,7 @@ impl Values {
         graph: &Graph,
         active: &Active,
         ticket: u32,
-        meter: &mut Meter,
+        meter: &mut Counter,
     ) -> u64
         requires right { (live : List Bool) × IsKeptFor active.now graph.now live × IsSmall self.now.unit graph.now live × IsRight graph.now live self.now }
         requires fresh { (t : ATicket) → ticket_at graph.now.funding ticket ≡ Some t → ¬ IsStale self.now (CurrencyNode t.issuer) }
@@ -124,7 +128,7 @@ impl Values {
     }
 
     /// Computes the values of all stale nodes again, in an order along the edges. Counts each edge into a node that was stale once.
-    pub fn settle(&mut self, graph: &Graph, active: &Active, meter: &mut Meter)
+    pub fn settle(&mut self, graph: &Graph, active: &Active, meter: &mut Counter)
         requires right { (live : List Bool) × IsKeptFor active.now graph.now live × IsSmall self.old.unit graph.now live × IsRight graph.now live self.old }
         ensures settled { self.new.stale ≡ [] }
         ensures unit { self.new.unit ≡ self.old.unit }
@@ -140,7 +144,12 @@ impl Values {
     /// Computes again the value of one stale node whose sources aren't stale, and answers that node; `None` if none is
     /// stale. Counts each edge into the node.
     #[inline(always)]
-    pub fn settle_next(&mut self, graph: &Graph, active: &Active, meter: &mut Meter) -> Option<Node>
+    pub fn settle_next(
+        &mut self,
+        graph: &Graph,
+        active: &Active,
+        meter: &mut Counter,
+    ) -> Option<Node>
         requires right { (live : List Bool) × IsKeptFor active.now graph.now live × IsSmall self.old.unit graph.now live × IsRight graph.now live self.old }
         ensures right { (live : List Bool) → IsKeptFor active.now graph.now live → IsRight graph.now live self.old → IsRight graph.now live self.new }
         ensures node { IfSome result (HasEquation graph.now.funding) }
@@ -150,27 +159,7 @@ impl Values {
         ensures counted { IfSome result (λ node. meter.new ≡ record meter.old { ticket_reads = counted_up meter.old.ticket_reads (edge_count_into graph.now.funding node) }) }
         ensures none { IfNone result ((self.old.stale ≡ []) × (self.new ≡ self.old) × (meter.new ≡ meter.old)) }
     {
-        if let Some(node) = self.settle_front(graph, active, meter) {
-            return Some(node);
-        }
-        self.settle_last(graph, active, meter)
-    }
-
-    /// Computes again the value of the node at the front of the list of stale nodes, and answers that node; `None`, and nothing has
-    /// changed, if none is stale or one of its sources is. Counts each edge into the node. Most often the node at the front has no
-    /// stale source.
-    #[inline(always)]
-    fn settle_front(&mut self, graph: &Graph, active: &Active, meter: &mut Meter) -> Option<Node>
-        requires right { (live : List Bool) × IsKeptFor active.now graph.now live × IsSmall self.old.unit graph.now live × IsRight graph.now live self.old }
-        ensures right { (live : List Bool) → IsKeptFor active.now graph.now live → IsRight graph.now live self.old → IsRight graph.now live self.new }
-        ensures node { IfSome result (HasEquation graph.now.funding) }
-        ensures within { IfSome result (IsNodeWithin self.old.layout) }
-        ensures once { IsOnce self.old }
-        ensures settles { IfSome result (Settles self.old self.new) }
-        ensures counted { IfSome result (λ node. meter.new ≡ record meter.old { ticket_reads = counted_up meter.old.ticket_reads (edge_count_into graph.now.funding node) }) }
-        ensures none { IfNone result ((self.new ≡ self.old) × (meter.new ≡ meter.old)) }
-    {
-        let place = self.stale.first(STALE)?;
+        let place = next_fresh(graph, &mut self.stale, &mut self.turned)?;
         let node = self.layout.node_of(place);
         let sources = Sources {
             graph,
@@ -178,39 +167,8 @@ impl Values {
             values: &self.values,
             unit: self.unit,
         };
-        let value = fresh_value(sources, &self.stale, node, meter)?;
-        self.values[place] = value;
+        self.values[place] = read_value(sources, node, meter);
         self.stale.remove(place);
         Some(node)
-    }
-
-    /// Moves stale nodes to the back until the one there has no stale source, computes its value again and answers it; `None` if
-    /// none is stale. Counts each edge into the node.
-    fn settle_last(&mut self, graph: &Graph, active: &Active, meter: &mut Meter) -> Option<Node>
-        requires right { (live : List Bool) × IsKeptFor active.now graph.now live × IsSmall self.old.unit graph.now live × IsRight graph.now live self.old }
-        ensures right { (live : List Bool) → IsKeptFor active.now graph.now live → IsRight graph.now live self.old → IsRight graph.now live self.new }
-        ensures node { IfSome result (HasEquation graph.now.funding) }
-        ensures within { IfSome result (IsNodeWithin self.old.layout) }
-        ensures once { IsOnce self.old }
-        ensures settles { IfSome result (Settles self.old self.new) }
-        ensures counted { IfSome result (λ node. meter.new ≡ record meter.old { ticket_reads = counted_up meter.old.ticket_reads (edge_count_into graph.now.funding node) }) }
-        ensures none { IfNone result ((self.old.stale ≡ []) × (self.new ≡ self.old) × (meter.new ≡ meter.old)) }
-    {
-        turn_over(&mut self.stale);
-        while let Some(place) = self.stale.last(STALE) {
-            let node = self.layout.node_of(place);
-            if !raise_sources(graph, &mut self.stale, node) {
-                let sources = Sources {
-                    graph,
-                    active,
-                    values: &self.values,
-                    unit: self.unit,
-                };
-                self.values[place] = read_value(sources, node, meter);
-                self.stale.remove(place);
-                return Some(node);
-            }
-        }
-        None
     }
 }

@@ -7,6 +7,7 @@ ghost use Rattle.lot_machine.specs.Funding.{ticket_in};
 ghost use Rattle.lot_machine.specs.declared.funding.Node.TheVariants as node;
 ghost use Rattle.lot_machine.specs.State.{funding_of, live_of};
 ghost use Rattle.lot_machine.specs.Value as worth;
+ghost use Rattle.lot_value.specs.Caches.{HasNoneTwice};
 ghost use Rattle.lot_kernel.specs.Counted.{settled, with_ticket_read};
 
 use crate::counts::{count_backing, count_issued};
@@ -21,6 +22,7 @@ impl Tables {
         ensures row { result ≡ rows.ticket_row self.old.state ticket }
         ensures state { self.new.state ≡ self.old.state }
         ensures settled { (t : ATicket) → ticket_in self.old.state.tickets ticket ≡ Some t → self.new ≡ record (settled self.old) { meter = with_ticket_read (settled self.old).meter t } }
+        ensures once { IfSome result (λ r. HasNoneTwice self.old.stale) }
         ensures unchanged { IfNone result (self.new ≡ self.old) }
     {
         let found = self.threads.graph().ticket(ticket)?;
@@ -43,6 +45,7 @@ impl Tables {
         ensures row { result ≡ rows.currency_row self.old.state currency }
         ensures state { self.new.state ≡ self.old.state }
         ensures settled { IfSome result (λ r. self.new ≡ settled self.old) }
+        ensures once { IfSome result (λ r. HasNoneTwice self.old.stale) }
         ensures unchanged { IfNone result (self.new ≡ self.old) }
     {
         let name = self.currency_name(currency)?;
@@ -74,6 +77,7 @@ impl Tables {
         ensures row { result ≡ rows.thread_row self.old.state thread }
         ensures state { self.new.state ≡ self.old.state }
         ensures settled { IfSome result (λ r. self.new ≡ settled self.old) }
+        ensures once { IfSome result (λ r. HasNoneTwice self.old.stale) }
         ensures unchanged { IfNone result (self.new ≡ self.old) }
     {
         let found = self.threads.record(thread)?;

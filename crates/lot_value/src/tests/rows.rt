@@ -11,11 +11,11 @@ struct Row<'a> {
     worth: &'a [(Node, u64)],
 }
 
-fn play(rt: &impl Abort, graph: &mut ValuedGraph, row: &Row) {
+fn play(rt: &impl Abort, alloc: Global, graph: &mut ValuedGraph, row: &Row) {
     for step in row.changes {
         make(rt, graph, *step);
     }
-    assert!(rt; settle(graph) == row.reads, "reads");
+    assert!(rt; settle(alloc, graph) == row.reads, "reads");
     check(rt, graph, row.worth);
 }
 
@@ -25,9 +25,9 @@ fn check(rt: &impl Abort, graph: &ValuedGraph, worth: &[(Node, u64)]) {
     }
 }
 
-fn play_all(rt: &impl Abort, graph: &mut ValuedGraph, rows: &[Row]) {
+fn play_all(rt: &impl Abort, alloc: Global, graph: &mut ValuedGraph, rows: &[Row]) {
     for row in rows {
-        play(rt, graph, row);
+        play(rt, alloc, graph, row);
     }
 }
 
@@ -65,9 +65,9 @@ fn shared_currency(rt: HostRuntime) -> Result<(), Fail> {
         },
     ];
     let mut graph = opening(&rt, rt.alloc(), 3, 1)?;
-    play_all(&rt, &mut graph, &rows);
-    assert!(rt; is_ticket_worth(&graph, 1, 100));
-    assert!(rt; is_ticket_worth(&graph, 4, 50));
+    play_all(&rt, rt.alloc(), &mut graph, &rows);
+    assert!(rt; is_ticket_worth(rt.alloc(), &graph, 1, 100));
+    assert!(rt; is_ticket_worth(rt.alloc(), &graph, 4, 50));
     Ok(())
 }
 
@@ -93,7 +93,7 @@ fn unfunded_upstream(rt: HostRuntime) -> Result<(), Fail> {
         },
     ];
     let mut graph = opening(&rt, rt.alloc(), 1, 2)?;
-    play_all(&rt, &mut graph, &rows);
+    play_all(&rt, rt.alloc(), &mut graph, &rows);
     Ok(())
 }
 
@@ -132,7 +132,7 @@ fn the_last_goes_and_another_comes(rt: HostRuntime) -> Result<(), Fail> {
         },
     ];
     let mut graph = opening(&rt, rt.alloc(), 2, 1)?;
-    play_all(&rt, &mut graph, &rows);
+    play_all(&rt, rt.alloc(), &mut graph, &rows);
     Ok(())
 }
 
@@ -171,7 +171,54 @@ fn lent_and_inherited(rt: HostRuntime) -> Result<(), Fail> {
         },
     ];
     let mut graph = opening(&rt, rt.alloc(), 4, 0)?;
-    play_all(&rt, &mut graph, &rows);
+    play_all(&rt, rt.alloc(), &mut graph, &rows);
+    Ok(())
+}
+
+/// A thread gets stale before a currency that funds it, and there is a ticket of base before that currency's. Each of the three
+/// edges into the thread is read once, and so are the two into the currency.
+#[test]
+fn stale_before_its_source(rt: HostRuntime) -> Result<(), Fail> {
+    let rows = [
+        Row {
+            changes: &[
+                Change::Funding(0, 1, Target::Thread(1)),
+                Change::Funding(1, 1, Target::Thread(1)),
+                Change::Funding(0, 1, Target::Currency(1)),
+                Change::Wake(1),
+            ],
+            reads: 3,
+            worth: &[(Node::Currency(1), 1), (Node::Thread(1), 2)],
+        },
+        Row {
+            changes: &[
+                Change::Funding(0, 1, Target::Thread(1)),
+                Change::Funding(0, 1, Target::Currency(1)),
+            ],
+            reads: 5,
+            worth: &[(Node::Currency(1), 2), (Node::Thread(1), 4)],
+        },
+    ];
+    let mut graph = opening(&rt, rt.alloc(), 1, 1)?;
+    play_all(&rt, rt.alloc(), &mut graph, &rows);
+    Ok(())
+}
+
+/// A thread with a hundred tickets of base gets stale before each of twenty currencies that fund it too. The edges into it are read
+/// once, and not again for each of the currencies.
+#[test]
+fn stale_before_many_sources(rt: HostRuntime) -> Result<(), Fail> {
+    let mut graph = opening(&rt, rt.alloc(), 1, 20)?;
+    set_live(&rt, &mut graph, 1, true);
+    for _ in 0..100 {
+        fund(&rt, &mut graph, 0, 1, Target::Thread(1));
+    }
+    for currency in 1..=20 {
+        fund(&rt, &mut graph, currency, 1, Target::Thread(1));
+        fund(&rt, &mut graph, 0, 1, Target::Currency(currency));
+    }
+    assert!(rt; settle(rt.alloc(), &mut graph) == 140);
+    assert!(rt; is_worth(&graph, Node::Thread(1), 120));
     Ok(())
 }
 
@@ -194,7 +241,7 @@ fn ladder_of_diamonds(rt: HostRuntime) -> Result<(), Fail> {
     }
     fund(&rt, &mut graph, 192, 1, Target::Thread(1));
     set_live(&rt, &mut graph, 1, true);
-    assert!(rt; settle(&mut graph) == 257);
+    assert!(rt; settle(rt.alloc(), &mut graph) == 257);
     assert!(rt; is_worth(&graph, Node::Thread(1), 2));
     Ok(())
 }

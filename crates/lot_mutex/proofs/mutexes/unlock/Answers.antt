@@ -64,8 +64,8 @@ returns-clause-queues c =
 pub returns-clause-stale : goal.returns-clause-stale
 returns-clause-stale c = settled-makes c.args.threads.now c.pass.new.threads (subst (λ (x : Threaded). MakesStaleIn x c.pass.new.threads) c.settle.ensures.settled c.pass.ensures.stale)
 
-pub returns-then-is_empty-clause-next : goal.returns-then-is_empty-clause-next
-returns-then-is_empty-clause-next c next draw passed = let never : Freed ≡ Passed next draw = sym c.free.ensures.freed ∙ passed in cc
+pub returns-then-is_empty-clause-owners : goal.returns-then-is_empty-clause-owners
+returns-then-is_empty-clause-owners c next draw passed = let never : Freed ≡ Passed next draw = sym c.free.ensures.freed ∙ passed in cc
 
-pub returns-clause-next : goal.returns-clause-next
-returns-clause-next c next draw passed = subst (λ t. IsStaleIn c.pass.new.threads (Thread t)) (ap next-owner passed) c.pass.ensures.next
+pub returns-clause-owners : goal.returns-clause-owners
+returns-clause-owners c next draw passed = (c.pass.ensures.owners.0, subst (λ t. IsStaleIn c.pass.new.threads (Thread t)) (ap next-owner passed) c.pass.ensures.owners.1)

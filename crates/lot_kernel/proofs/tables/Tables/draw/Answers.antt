@@ -44,7 +44,7 @@ pub returns-in_default-clause-counts : goal.returns-in_default-clause-counts
 returns-in_default-clause-counts c =
     let i = c.self.inside in
     let reads = ap (λ (v : Threaded). counted_up i.meter.ticket_reads (edges_into_all (funding_in v) v.stale)) c.self.invariant.threads in
-    rw (← c.self.view_is) (record { fresh = ap (λ (v : Threaded). v.stale) c.draw.ensures.settled; reads = c.draw.ensures.reads ∙ reads }, c.in_default.ensures.visits)
+    rw (← c.self.view_is) (record { fresh = ap (λ (v : Threaded). v.stale) c.draw.ensures.settled; once = c.draw.ensures.once; reads = c.draw.ensures.reads ∙ reads }, c.in_default.ensures.visits)
 
 pub start-delivered-requires-clause-thread : goal.start-delivered-requires-clause-thread
 start-delivered-requires-clause-thread c =
@@ -88,4 +88,4 @@ returns-clause-counts c =
     let reads = ap (λ (v : Threaded). counted_up i.meter.ticket_reads (edges_into_all (funding_in v) v.stale)) c.self.invariant.threads in
     let none = fresh i.threads c.draw.new.self c.start-delivered.new.self c.args.processor c.in-Some.winner.thread c.draw.ensures.settled c.in-Some.ensures.ready c.start-delivered.ensures.started c.start-delivered.ensures.stale in
     let limit = ap (λ (v : Threaded). v.thread_limit) c.self.invariant.threads in
-    rw (← c.self.view_is) (record { fresh = none; reads = c.draw.ensures.reads ∙ reads }, subst (λ n. CountsReads n i.meter.tree_visits c.draw.new.meter.tree_visits) limit c.in-Some.ensures.visits)
+    rw (← c.self.view_is) (record { fresh = none; once = c.draw.ensures.once; reads = c.draw.ensures.reads ∙ reads }, subst (λ n. CountsReads n i.meter.tree_visits c.draw.new.meter.tree_visits) limit c.in-Some.ensures.visits)

@@ -61,6 +61,7 @@ returns-clause-stale c =
 pub returns-clause-counts : goal.returns-clause-counts
 returns-clause-counts c =
     let i = c.self.inside in
+    let owned : (mutex_at i.queues.mutexes c.args.mutex).owner ≡ Some c.args.thread = search rules in
     let reads = ap (λ (v : Threaded). record i.meter { ticket_reads = counted_up i.meter.ticket_reads (edges_into_all (funding_in v) v.stale) }) c.self.invariant.threads in
     rw (← c.self.view_is) (unlock-counts i.threads.records i.queues.mutexes (worth_in i.threads) c.args.mutex c.args.d (the_view i) (record { state = held (sizes_of i.limits) i.currencies.items c.unlock.new.threads c.unlock.new.queues; stale = c.unlock.new.threads.stale; meter = c.unlock.new.meter }) c.unlock.result.outcome
-    c.unlock.ensures.outcome c.unlock.ensures.kept c.unlock.ensures.uncounted (λ some. c.unlock.ensures.counted some ∙ reads) c.unlock.ensures.next)
+    c.unlock.ensures.outcome c.unlock.ensures.kept c.unlock.ensures.uncounted (λ some. c.unlock.ensures.counted some ∙ reads) c.unlock.ensures.once c.args.thread owned c.unlock.ensures.owners)

@@ -20,5 +20,5 @@ both result xs ys loops others decided here there = (λ same. sym here ∙ ap re
 
 pub returns : goal.returns
 returns c =
-    let decided : Decides c.eq.result (c.open.result.now ≡ c.open-2.result.now) = slice_eq-Decides loop_eq-decides c.open.result.now c.open-2.result.now c.eq.result c.eq.ensures in
-    both _ _ _ _ _ decided c.open.ensures c.open-2.ensures
+    let decided : Decides c.eq.result (c.as_slice.result.now ≡ c.as_slice-2.result.now) = slice_eq-Decides loop_eq-decides c.as_slice.result.now c.as_slice-2.result.now c.eq.result c.eq.ensures in
+    both _ _ _ _ _ decided (ap reverse c.as_slice.ensures.value ∙ c.self.view_is) (ap reverse c.as_slice-2.ensures.value ∙ c.other.view_is)

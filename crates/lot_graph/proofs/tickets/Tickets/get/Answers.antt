@@ -1,0 +1,15 @@
+use Rattle.std.proofs.Common.{ℕ, ◌+◌, ◌%◌, ap, sym, ◌∙◌, arith}
+use Rattle.std.specs.Option.{option_copied, option_flatten}
+use Rattle.lot_machine.specs.Funding.{ticket_in}
+use Rattle.lot_graph.specs.Tickets.{TicketTable}
+use Rattle.lot_graph.proofs.TicketLemmas.{ticket-found}
+use Rattle.lot_graph.proofs.tickets.Tickets.get.Goals as goal
+
+pub returns : goal.returns
+returns c =
+    let s = c.self.inside in
+    let n = c.args.number in
+    let place : ℕ = (n + 18446744073709551615) % 18446744073709551616 in
+    ap option_flatten (sym (ap option_copied c.in_ok-get.was) ∙ c.get.ensures)
+    ∙ sym (ticket-found s.records s.made s.room c.self.invariant n place (omega arith) (omega arith))
+    ∙ ap (λ (v : TicketTable). ticket_in v.tickets n) c.self.view_is

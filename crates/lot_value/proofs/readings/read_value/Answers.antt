@@ -1,0 +1,67 @@
+use Rattle.std.proofs.Common.{◌≡◌, ◌∙◌, ap, sym, subst, refl, arith, ◌+◌, List, [], ◌∷◌, ◌++◌, length}
+use Rattle.std.proofs.lemmas.List.{length_push}
+use Rattle.std.proofs.lemmas.List.Sums.{sum_by_push}
+use Rattle.lot_machine.specs.declared.funding.Edge.{Edge}
+use Rattle.lot_machine.specs.Equations.{HasEachOnce, LeadsInto, share}
+use Rattle.lot_graph.specs.Places.{layout_of}
+use Rattle.lot_value.specs.Caches.{kept_worth}
+use Rattle.lot_value.specs.declared.meter.Meter.{Meter}
+use Rattle.lot_value.specs.Counts.{counted_up}
+use Rattle.lot_value.proofs.Counting.{counted-more}
+use Rattle.lot_value.proofs.Reading.{next-sum, all-sum, all-count}
+use Rattle.lot_value.proofs.Listed.{each-next, each-here}
+use Rattle.lot_value.proofs.readings.read_value.Goals as goal
+
+pub loop-edge-init : goal.loop-edge-init
+loop-edge-init c = record {
+  split = subst (λ (edges : List Edge). HasEachOnce edges (LeadsInto c.args.sources.graph.now.funding c.args.node)) (sym c.into_iter-edge-iterator.ensures.into_iter_gives) c.edges_into-edge-items.ensures.edges;
+  total = λ live are. refl;
+  meter = refl;
+}
+
+pub read_share-total-requires-clause-edge : goal.read_share-total-requires-clause-edge
+read_share-total-requires-clause-edge c =
+    (c.args.node, each-here (LeadsInto c.args.sources.graph.now.funding c.args.node) c.loop-edge.yielded _ _ c.in-Some.edge c.in-Some.ensures.steps c.loop-edge.invariant.split)
+
+pub read_share-total-requires-clause-sources : goal.read_share-total-requires-clause-sources
+read_share-total-requires-clause-sources c =
+    let s = c.args.sources in
+    let (live, are, small) = c.requires.sources in
+    let g = share s.unit s.graph.now.funding live (kept_worth (layout_of s.graph.now) s.values.now) in
+    let part = next-sum s.graph.now.funding c.args.node c.loop-edge.yielded c.loop-edge.edge-iterator c.loop-edge.invariant.split g c.next.new.self c.in-Some.edge c.in-Some.ensures.steps in
+    (live, are, omega (arith, part, small))
+
+pub overflow_add-total : goal.overflow_add-total
+overflow_add-total c =
+    let s = c.args.sources in
+    let (live, are, small) = c.requires.sources in
+    let g = share s.unit s.graph.now.funding live (kept_worth (layout_of s.graph.now) s.values.now) in
+    let part = next-sum s.graph.now.funding c.args.node c.loop-edge.yielded c.loop-edge.edge-iterator c.loop-edge.invariant.split g c.next.new.self c.in-Some.edge c.in-Some.ensures.steps in
+    omega (arith, part, small, c.loop-edge.invariant.total live are, c.read_share-total.ensures.value live are)
+
+pub loop-edge-preserved : goal.loop-edge-preserved
+loop-edge-preserved c = record {
+  split = each-next (LeadsInto c.args.sources.graph.now.funding c.args.node) c.loop-edge.yielded _ _ c.in-Some.edge c.in-Some.ensures.steps c.loop-edge.invariant.split;
+  total = λ live are.
+      let s = c.args.sources in
+      let g = share s.unit s.graph.now.funding live (kept_worth (layout_of s.graph.now) s.values.now) in
+      omega (arith, c.loop-edge.invariant.total live are, c.read_share-total.ensures.value live are, sum_by_push g c.loop-edge.yielded c.in-Some.edge);
+  meter =
+      let start = c.args.meter.now in
+      let done = c.loop-edge.yielded in
+      let one : length done + 1 ≡ length (done ++ c.in-Some.edge ∷ []) = omega (arith, length_push done c.in-Some.edge) in
+      c.read_share-total.ensures.counted ∙ ap (λ (m : Meter). record m { ticket_reads = counted_up m.ticket_reads 1 }) c.loop-edge.invariant.meter
+      ∙ ap (λ n. record start { ticket_reads = n }) (counted-more start.ticket_reads (length done) 1 ∙ ap (counted_up start.ticket_reads) one);
+}
+
+pub returns-clause-value : goal.returns-clause-value
+returns-clause-value c live are =
+    let s = c.args.sources in
+    let g = share s.unit s.graph.now.funding live (kept_worth (layout_of s.graph.now) s.values.now) in
+    c.loop-edge.invariant.total live are ∙ all-sum s.graph.now.funding c.args.node c.loop-edge.yielded c.loop-edge.edge-iterator c.loop-edge.invariant.split g c.in-None.ensures.steps.0
+
+pub returns-clause-counted : goal.returns-clause-counted
+returns-clause-counted c =
+    let s = c.args.sources in
+    let count = all-count s.graph.now.funding c.args.node c.loop-edge.yielded c.loop-edge.edge-iterator c.loop-edge.invariant.split c.in-None.ensures.steps.0 in
+    c.loop-edge.invariant.meter ∙ ap (λ n. record c.args.meter.now { ticket_reads = counted_up c.args.meter.now.ticket_reads n }) count

@@ -1,0 +1,15 @@
+use Rattle.std.proofs.Common.{◌≡◌, ◌++◌, Bool, List, length, sum_by}
+use Rattle.lot_machine.specs.Equations.{HasEachOnce, LeadsInto, share}
+use Rattle.lot_graph.specs.Places.{layout_of}
+use Rattle.lot_value.specs.Counts.{counted_up}
+use Rattle.lot_value.specs.Caches.{kept_worth}
+use Rattle.lot_value.specs.Sources.{AreSources}
+use Rattle.lot_value.proofs.readings.read_value.Given as goal
+
+-- the edges are those that were read and those that are left
+abbrev pub invariant-loop-edge : goal.invariant-loop-edge
+invariant-loop-edge l = record {
+  split : HasEachOnce (l.yielded ++ l.edge-iterator) (LeadsInto l.sources.graph.now.funding l.fn.node);
+  total : (live : List Bool) → AreSources l.sources live → l.total ≡ sum_by (share l.sources.unit l.sources.graph.now.funding live (kept_worth (layout_of l.sources.graph.now) l.sources.values.now)) l.yielded;
+  meter : l.meter ≡ record l.fn.meter { ticket_reads = counted_up l.fn.meter.ticket_reads (length l.yielded) };
+}

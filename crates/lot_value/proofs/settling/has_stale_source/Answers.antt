@@ -1,0 +1,72 @@
+use Rattle.std.proofs.Common.{◌≡◌, ◌∙◌, ap, sym, subst, arith, false, Some, List, Contains}
+use Rattle.lot_lists.specs.NodeLists.{nodes_of}
+use Rattle.lot_machine.specs.declared.funding.Edge.{Edge}
+use Rattle.lot_machine.specs.declared.funding.Node.{Node}
+use Rattle.lot_machine.specs.Funding.{ends_of}
+use Rattle.lot_machine.specs.Equations.{HasEachOnce, LeadsInto}
+use Rattle.lot_graph.specs.declared.layout.Layout.{Layout}
+use Rattle.lot_graph.specs.Places.{layout_of, node_place}
+use Rattle.lot_graph.proofs.SpreadLemmas.{list-low}
+use Rattle.lot_value.proofs.Ends.{edge-there, from-is}
+use Rattle.lot_value.proofs.Listed.{each-next, each-here, each-done}
+use Rattle.lot_value.proofs.Spreading.{listed-some}
+use Rattle.lot_value.proofs.Raising.{free-none, raising-start, raising-kept, raising-none}
+use Rattle.lot_value.proofs.settling.has_stale_source.Goals as goal
+use Rattle.lot_value.proofs.settling.has_stale_source.Goals.{After-list_of-place}
+
+pub loop-edge-init : goal.loop-edge-init
+loop-edge-init c =
+    let w = c.args.graph.now in record {
+      split = subst (λ (edges : List Edge). HasEachOnce edges (LeadsInto w.funding c.args.node)) (sym c.into_iter-edge-iterator.ensures.into_iter_gives) c.edges_into-edge-items.ensures.edges;
+      fresh = raising-start (layout_of w) w.funding c.args.node c.args.stale.now;
+    }
+
+pub unreachable-requires : goal.unreachable-requires
+unreachable-requires c =
+    let w = c.args.graph.now in
+    let here = each-here (LeadsInto w.funding c.args.node) c.loop-edge.yielded _ _ c.in-Some.edge c.in-Some.ensures.steps c.loop-edge.invariant.split in
+    c.in_default.not-Some _ (c.ends_of_edge.ensures.ends ∙ edge-there w.funding c.in-Some.edge here.0 c.args.node here.1)
+
+-- where the next edge leads from, and the place of that node
+next-source : (c : After-list_of-place)
+    → (from : Node) × (ends_of c.args.graph.now.funding c.in-Some.edge ≡ Some (from, c.args.node))
+    × (c.list_of-place.result ≡ node_place (layout_of c.args.graph.now) from)
+next-source c =
+    let w = c.args.graph.now in
+    let edge = c.in-Some.edge in
+    let e = c.in-Some-ends_of_edge.ends in
+    let is = sym c.ends_of_edge.ensures.ends ∙ c.in-Some-ends_of_edge.is in
+    let (from, ends) = each-here (LeadsInto w.funding c.args.node) c.loop-edge.yielded _ _ edge c.in-Some.ensures.steps c.loop-edge.invariant.split in
+    let same = ap (node_place (layout_of w)) (from-is w.funding edge from c.args.node ends e is) in
+    (from, ends, c.list_of-place.ensures ∙ ap (λ (l : Layout). node_place l e.from) c.layout-layout.ensures.layout ∙ same)
+
+pub list_of-requires : goal.list_of-requires
+list_of-requires c =
+    let (from, ends, place) = next-source c in
+    let low = list-low (layout_of c.args.graph.now) from (c.layout-layout.ensures.fits.from c.in-Some.edge from c.args.node ends) in
+    omega (arith, place, low, c.requires.list.nodes)
+
+pub returns-then-is_some-clause-found : goal.returns-then-is_some-clause-found
+returns-then-is_some-clause-found c =
+    let (from, ends, place) = next-source (goal.at.returns-then-is_some-clause-found c).After-list_of-place in
+    let v = c.args.stale.now in
+    let there = listed-some v c.list_of-place.result c.list_of.result c.is_some.result c.requires.list.one c.is_some.ensures c.if-is_some.true c.list_of.ensures.found in
+    (c.list_of-place.result, there, (from, (c.in-Some.edge, ends), sym place))
+
+pub loop-edge-preserved : goal.loop-edge-preserved
+loop-edge-preserved c =
+    let w = c.args.graph.now in
+    let v = c.args.stale.now in
+    let edge = c.in-Some.edge in
+    let (from, ends, place) = next-source (goal.at.loop-edge-preserved c).After-list_of-place in
+    let free = free-none v c.list_of-place.result c.list_of.result c.is_some.result c.is_some.ensures c.if-is_some.false c.list_of.ensures.free in
+    let off = subst (λ x. ¬ Contains (nodes_of v 0) x) place free in record {
+      split = each-next (LeadsInto w.funding c.args.node) c.loop-edge.yielded _ _ edge c.in-Some.ensures.steps c.loop-edge.invariant.split;
+      fresh = raising-kept (layout_of w) w.funding c.args.node v v c.loop-edge.yielded false c.loop-edge.invariant.fresh edge from ends off;
+    }
+
+pub returns-clause-none : goal.returns-clause-none
+returns-clause-none c =
+    let w = c.args.graph.now in
+    let all = each-done (LeadsInto w.funding c.args.node) c.loop-edge.yielded _ c.in-None.ensures.steps.0 c.loop-edge.invariant.split in
+    (raising-none (layout_of w) w.funding c.args.node c.args.stale.now c.args.stale.now c.loop-edge.yielded false c.loop-edge.invariant.fresh all).1
