@@ -19,7 +19,7 @@ ghost use Rattle.lot_machine.specs.Numbered.{option_any};
 ghost use Rattle.lot_machine.specs.State.{State, funding_of, status_of, weight_of};
 ghost use Rattle.lot_machine.specs.Step.{draw};
 ghost use Rattle.lot_machine.specs.declared.reply.Reply.{Reply};
-ghost use Rattle.lot_machine.specs.Lends.{LendsLead, IsBacked, lends_lead, IsLendChain, IsLive, lends_lead_within, is_backed_within, is_backed};
+ghost use Rattle.lot_machine.specs.Lends.{LendsLead, LendsOnTo, IsBacked, lends_lead, lends_on_to, IsLendChain, IsLive, lends_lead_within, is_backed_within, is_backed};
 
 /// The test that follows lends is true if and only if a chain of lends, no longer than it may follow, leads there.
 pub fn lends_are_followed()
@@ -62,13 +62,15 @@ pub fn shares_are_exact()
         → count_by (λ d. is_won_by t (draw s p d).reply) (range_with_len 0 (total_weight s)) ≡ weight_of s t }
 {}
 
-/// If nothing makes a cycle, and tickets fund only currencies that are there, values are the solution of their
-/// equations, and more depth changes nothing: an active base ticket is worth its amount times the unit, another active
-/// ticket its share of its currency's value, and a currency the sum of what the tickets that fund it are worth.
+/// If nothing makes a cycle, and tickets fund only currencies that are there, an active base ticket is worth its amount
+/// times the unit, another active ticket its share of its currency's value, and any other ticket nothing (4.4). More
+/// depth than there are user currencies changes no value.
 pub fn values_unfold()
-    ensures ticket { (f : Funding) → HasNoCycle f → FundsThere f → (unit : ℕ) (live : List Bool) (t : Ticket) → ticket_value unit f live t
-        ≡ (if is_active f live t then (if t.issuer == 0 then t.amount * unit else currency_value unit f live t.issuer * t.amount / active_amount f live t.issuer) else 0) }
-    ensures currency { (f : Funding) (unit : ℕ) (live : List Bool) (c : ℕ) → currency_value unit f live c ≡ sum_by (ticket_value unit f live) (backing_currency f c) }
+    ensures user_ticket { (f : Funding) → HasNoCycle f → FundsThere f → (unit : ℕ) (live : List Bool) (t : Ticket) → IsTrue (is_active f live t) → t.issuer ≢ 0
+        → ticket_value unit f live t ≡ currency_value unit f live t.issuer * t.amount / active_amount f live t.issuer }
+    ensures base_ticket { (f : Funding) → HasNoCycle f → FundsThere f → (unit : ℕ) (live : List Bool) (t : Ticket) → IsTrue (is_active f live t) → t.issuer ≡ 0
+        → ticket_value unit f live t ≡ t.amount * unit }
+    ensures other_ticket { (f : Funding) → HasNoCycle f → FundsThere f → (unit : ℕ) (live : List Bool) (t : Ticket) → ¬ IsTrue (is_active f live t) → ticket_value unit f live t ≡ 0 }
     ensures depth { (f : Funding) → HasNoCycle f → FundsThere f → (k unit : ℕ) (live : List Bool) (t : Ticket) → user_currency_count f ≤ k
         → ticket_value_within k unit f live t ≡ ticket_value unit f live t }
 {}
@@ -94,9 +96,11 @@ pub fn soundness_follows()
     ensures { (s : State) → HasNoCycle (funding_of s) → FundsThere (funding_of s) → IsWithinBounds s.limits → RunsApart s.records → base_value s < 2 ^ 56 → IsSound s }
 {}
 
-/// If lends make no cycle, the tests for chains of lends and for backed threads agree with their relations.
+/// If lends make no cycle, the tests for chains of lends and for backed threads agree with their relations. The test for
+/// a chain of one lend or more is the one that refuses a lock with `LockCycle` (6.1).
 pub fn lends_are_exact()
     ensures lead { (f : Funding) → HasNoCycle f → (t u : ℕ) → IsTrue (lends_lead f t u) ↔ LendsLead f t u }
+    ensures lead_on { (f : Funding) → HasNoCycle f → (t u : ℕ) → IsTrue (lends_on_to f t u) ↔ LendsOnTo f t u }
     ensures backed { (f : Funding) → HasNoCycle f → (live : List Bool) (t : ℕ) → IsTrue (is_backed f live t) ↔ IsBacked f live t }
 {}
 
@@ -113,22 +117,6 @@ pub fn tickets_are_exact()
 pub fn thread_values_add_up()
     ensures { (f : Funding) → HasNoCycle f → (unit : ℕ) (live : List Bool) (t : ℕ) → 0 < t → t ≤ length f.lends
         → thread_value unit f live t ≡ own_value unit f live t + sum_by (thread_value unit f live) (direct_lenders f t) + sum_by (mutex_value unit f live) (owned_by f t) }
-{}
-
-/// A mutex is worth what its waiters are worth together.
-pub fn mutex_values_add_up()
-    ensures { (f : Funding) (unit : ℕ) (live : List Bool) (m : ℕ) → mutex_value unit f live m ≡ sum_by (thread_value unit f live) (waiters_for f m) }
-{}
-
-/// A currency is worth what the tickets that fund it are worth together. An active ticket of a user currency is worth
-/// its share of the currency, an active base ticket its amount times the unit, and one that isn't active nothing.
-pub fn currency_values_add_up()
-    ensures currency { (f : Funding) (unit : ℕ) (live : List Bool) (c : ℕ) → currency_value unit f live c ≡ sum_by (ticket_value unit f live) (backing_currency f c) }
-    ensures user_ticket { (f : Funding) → HasNoCycle f → FundsThere f → (unit : ℕ) (live : List Bool) (t : Ticket) → IsTrue (is_active f live t) → t.issuer ≢ 0
-        → ticket_value unit f live t ≡ currency_value unit f live t.issuer * t.amount / active_amount f live t.issuer }
-    ensures base_ticket { (f : Funding) → HasNoCycle f → FundsThere f → (unit : ℕ) (live : List Bool) (t : Ticket) → IsTrue (is_active f live t) → t.issuer ≡ 0
-        → ticket_value unit f live t ≡ t.amount * unit }
-    ensures other_ticket { (f : Funding) → HasNoCycle f → FundsThere f → (unit : ℕ) (live : List Bool) (t : Ticket) → ¬ IsTrue (is_active f live t) → ticket_value unit f live t ≡ 0 }
 {}
 
 /// An active ticket's issuer has at least the ticket's amount active, so more than 0 if the ticket's amount is.
