@@ -10,3 +10,5 @@ pub mod Axes
 pub mod Escapes
 -- Curves as a picture.
 pub mod Charts
+-- A small run, and its curves as a table and as a picture.
+pub mod Samples

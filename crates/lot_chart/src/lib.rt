@@ -6,6 +6,7 @@ mod charts;
 mod escapes;
 pub mod laws;
 mod lines;
+pub mod rows;
 mod standings;
 mod tables;
 mod text;

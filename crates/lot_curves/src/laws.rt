@@ -7,10 +7,9 @@ ghost use Rattle.lot_curves.specs.Curves as curves;
 ghost use Rattle.lot_curves.specs.Curves.{sample_count, sample_tick, sample_ticks, share_at};
 ghost use Rattle.lot_curves.specs.Stretches.{had_at, last_end, stretches_of};
 
-/// There are at most 201 samples. The first is at tick 0, and the last at the last tick.
+/// There are at most 201 samples, and the last is at the last tick.
 pub fn samples_reach_the_last()
     ensures few { (last : ℕ) → length (sample_ticks last) ≤ 201 }
-    ensures first { (last : ℕ) → sample_tick last 0 ≡ 0 }
     ensures last { (last : ℕ) → sample_tick last (sample_count last) ≡ last }
 {}
 

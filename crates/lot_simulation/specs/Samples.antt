@@ -1,7 +1,14 @@
 -- Small inputs, and what is printed of them.
-use Rattle.std.specs.Prelude.{ℕ, List, [], ◌∷◌, ◌++◌, codes, replicate}
+use Rattle.std.specs.Prelude.{ℕ, Bool, List, [], ◌∷◌, ◌++◌, codes, replicate}
 use Rattle.std.specs.List.{flat_map}
-use Rattle.lot_simulation.specs.Texts.{newline}
+use Rattle.lot_machine.specs.declared.action.Action.{Action}
+use Rattle.lot_machine.specs.declared.event.Event.TheVariants.{Expire, Trap}
+use Rattle.lot_machine.specs.declared.record.Status.{Status}
+use Rattle.lot_machine.specs.declared.refusal.Refusal.{Refusal}
+use Rattle.lot_machine.specs.declared.reply.Outcome.{Outcome}
+use Rattle.lot_machine.specs.declared.reply.Reply.TheVariants.{Refused, Trapped}
+use Rattle.lot_simulation.specs.declared.manner.Manner.TheVariants.{Whole}
+use Rattle.lot_simulation.specs.Texts.{newline, plain_text, thread_line}
 
 -- lines, each with the byte that ends it
 abbrev pub text : List (List ℕ) → List ℕ
@@ -162,3 +169,17 @@ fine_thirds_output = text (codes "0 currency 1" ∷ codes "0 ticket 1" ∷ codes
     ∷ codes "0 lscur 2" ∷ codes "currency 0 base backing 0 issued 1 active 100 value 100" ∷ codes "currency 1 g backing 1 issued 3 active 3 value 100"
     ∷ codes "0 lsthr 3" ∷ codes "thread 1 a ready value 33 weight 33 quanta 0 ticks 0" ∷ codes "thread 2 b ready value 33 weight 33 quanta 0 ticks 0" ∷ codes "thread 3 c ready value 33 weight 33 quanta 0 ticks 0"
     ∷ codes "report" ∷ codes "thread 1 a quanta 0 ticks 0" ∷ codes "thread 2 b quanta 0 ticks 0" ∷ codes "thread 3 c quanta 0 ticks 0" ∷ codes "processor 1 quanta 0 idle 0 ticks 0" ∷ codes "total turns 8 quanta 0 ticks 0" ∷ [])
+
+-- ---- single lines
+
+-- what is printed of a command or an event that is refused, whichever it was
+abbrev pub refusal_line : Refusal → List ℕ
+refusal_line why = plain_text Whole 1 (Expire 1) (Refused why)
+
+-- what is printed of a trap of thread 1 after 4 ticks of work
+abbrev pub trap_line : Action → Outcome → Bool → List ℕ
+trap_line made came ends = plain_text Whole 1 (Trap 1 4 made) (Trapped 1 5 came ends)
+
+-- thread 1 in a listing, with this status
+abbrev pub status_line : Status → List ℕ
+status_line status = thread_line Whole 1 1 (record { name = codes "a"; status = status; value = 10; weight = 20; quanta = 3; ticks = 40 })

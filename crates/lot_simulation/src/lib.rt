@@ -9,6 +9,7 @@ pub mod printed;
 pub mod read;
 mod script;
 pub mod sliced;
+pub mod texts;
 mod timed;
 pub mod timed_rows;
 pub mod worked;

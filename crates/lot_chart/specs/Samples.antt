@@ -1,0 +1,50 @@
+-- A small run, and its curves as a table and as a picture. What is expected was worked out by hand.
+use Rattle.std.specs.Prelude.{ℕ, List, [], ◌∷◌, codes}
+use Rattle.lot_curves.specs.Curves.{Curves, curves_of}
+use Rattle.lot_simulation.specs.Samples.{text}
+use Rattle.lot_simulation.specs.WorkedSystems.{first_run}
+use Rattle.lot_simulation.specs.World.{Program}
+
+-- the first run with a quantum of one tick: thread a wins at ticks 0 and 1, and thread b at tick 2
+abbrev pub three_ticks : Program
+three_ticks = record first_run {
+  limits = record first_run.limits { quantum = 1 };
+  schedule = 0 ∷ 0 ∷ 0 ∷ 0 ∷ 0 ∷ 0 ∷ 1 ∷ 1 ∷ 1 ∷ 1 ∷ 1 ∷ 1 ∷ [];
+}
+
+abbrev pub three_tick_curves : Curves
+three_tick_curves = curves_of three_ticks
+
+-- its picture with the title `a < b`
+abbrev pub three_tick_picture : List ℕ
+three_tick_picture = text (
+    codes "<svg xmlns='http://www.w3.org/2000/svg' width='1040' height='540' viewBox='0 0 1040 540' role='img' aria-labelledby='title' font-family='sans-serif' font-size='12' fill='#222222'>"
+    ∷ codes "<title id='title'>a &lt; b</title>"
+    ∷ codes "<rect width='1040' height='540' fill='#ffffff'/>"
+    ∷ codes "<text x='100' y='34' font-size='18'>a &lt; b</text>"
+    ∷ codes "<path d='M100 460.0H770' stroke='#dddddd'/>"
+    ∷ codes "<text x='92' y='460.0' dy='4' text-anchor='end'>0</text>"
+    ∷ codes "<path d='M100 260.0H770' stroke='#dddddd'/>"
+    ∷ codes "<text x='92' y='260.0' dy='4' text-anchor='end'>1</text>"
+    ∷ codes "<path d='M100 60.0H770' stroke='#dddddd'/>"
+    ∷ codes "<text x='92' y='60.0' dy='4' text-anchor='end'>2</text>"
+    ∷ codes "<path d='M100.0 460v5' stroke='#222222'/>"
+    ∷ codes "<text x='100.0' y='480' text-anchor='middle'>0</text>"
+    ∷ codes "<path d='M323.3 460v5' stroke='#222222'/>"
+    ∷ codes "<text x='323.3' y='480' text-anchor='middle'>1</text>"
+    ∷ codes "<path d='M546.6 460v5' stroke='#222222'/>"
+    ∷ codes "<text x='546.6' y='480' text-anchor='middle'>2</text>"
+    ∷ codes "<path d='M770.0 460v5' stroke='#222222'/>"
+    ∷ codes "<text x='770.0' y='480' text-anchor='middle'>3</text>"
+    ∷ codes "<path d='M100 60V460H770' fill='none' stroke='#222222'/>"
+    ∷ codes "<text x='435' y='512' text-anchor='middle'>time, in ticks</text>"
+    ∷ codes "<text transform='translate(14 260) rotate(-90)' text-anchor='middle'>what each thread has run, in ticks</text>"
+    ∷ codes "<g fill='none' stroke-width='2' stroke-linejoin='round'>"
+    ∷ codes "<polyline points=' 100.0,460.0 323.3,260.0 546.6,60.0 770.0,60.0' stroke='#0072b2'/>"
+    ∷ codes "<polyline points=' 100.0,460.0 323.3,460.0 546.6,460.0 770.0,260.0' stroke='#d55e00'/>"
+    ∷ codes "</g>"
+    ∷ codes "<path d='M770 60.0L784 60.0' stroke='#0072b2'/>"
+    ∷ codes "<text x='788' y='60.0' dy='4'>a 66.7%</text>"
+    ∷ codes "<path d='M770 260.0L784 260.0' stroke='#d55e00'/>"
+    ∷ codes "<text x='788' y='260.0' dy='4'>b 33.3%</text>"
+    ∷ codes "</svg>" ∷ [])

@@ -1,0 +1,22 @@
+//! A small run, and its curves as a table and as a picture.
+ghost use Rattle.std.specs.Prelude.{◌≡◌, [], ◌∷◌, codes};
+ghost use Rattle.lot_curves.specs.declared.stretch.Measure.TheVariants.{Draws, Ticks};
+ghost use Rattle.lot_simulation.specs.Samples.{text};
+ghost use Rattle.lot_chart.specs.Charts.{chart};
+ghost use Rattle.lot_chart.specs.Samples.{three_tick_curves, three_tick_picture};
+ghost use Rattle.lot_chart.specs.Tables.{table};
+
+/// The ticks that two threads have run, and the draws that they have won. A draw counts from its time on.
+#[tactic(auto, unfolding(lot_simulation::specs::OnLiterals::texts_on_literals))]
+pub fn tables()
+    ensures ticks { table Ticks three_tick_curves
+        ≡ text (codes "tick,a,b" ∷ codes "0,0,0" ∷ codes "1,1,0" ∷ codes "2,2,0" ∷ codes "3,2,1" ∷ []) }
+    ensures draws { table Draws three_tick_curves
+        ≡ text (codes "tick,a,b" ∷ codes "0,1,0" ∷ codes "1,2,0" ∷ codes "2,2,1" ∷ codes "3,2,1" ∷ []) }
+{}
+
+/// The same as a picture, with a title that is escaped.
+#[tactic(auto, unfolding(lot_simulation::specs::OnLiterals::texts_on_literals, crate::specs::Charts::picture))]
+pub fn pictures()
+    ensures { chart (codes "a < b") three_tick_curves ≡ three_tick_picture }
+{}
