@@ -1,3 +1,4 @@
+mod bounds;
 mod reads;
 mod traps;
 
@@ -230,6 +231,15 @@ fn play(rt: &impl Abort, alloc: Global, steps: &[Step<'_>]) -> Result<(), Fail> 
     take_all(rt, &mut kernel, steps)
 }
 
+/// Makes this many threads with 1 of base each: `t1`, `t2` and so on.
+fn make_threads(kernel: &mut Kernel, alloc: Global, count: u32) -> Result<(), Fail> {
+    for number in 1..=count {
+        let text = format!(in alloc; "t{number}")?;
+        answer(kernel, Line::Fundx(1, "base", text.as_str(), 1))?;
+    }
+    Ok(())
+}
+
 /// The limits of the largest tables with this quantum and unit, two processors, ports and mutexes, and one script.
 fn largest_limits(quantum: u32, unit: u32) -> Option<Limits> {
     Limits::new(Sizes {
@@ -275,6 +285,14 @@ fn fund_thread(kernel: &mut Kernel, number: u64, amount: u64, name: &str) -> Res
     answer(kernel, Line::Mkthr(name, 1))?;
     answer(kernel, Line::Mktkt(amount, "base"))?;
     answer(kernel, Line::Fund(number, name))?;
+    Ok(())
+}
+
+/// Makes threads of these names, funded with this much base, in order.
+fn fund(kernel: &mut Kernel, threads: &[(u64, &str)]) -> Result<(), Fail> {
+    for (amount, name) in threads {
+        answer(kernel, Line::Fundx(*amount, "base", name, 1))?;
+    }
     Ok(())
 }
 
@@ -328,6 +346,12 @@ fn list_lottery(rt: HostRuntime) -> Result<(), Fail> {
     let mut kernel = largest(rt.alloc(), 1)?;
     fund_five(&mut kernel)?;
     check_draws(&rt, &mut kernel);
+    let mut funded = largest(rt.alloc(), 1)?;
+    fund(
+        &mut funded,
+        &[(10, "a"), (2, "b"), (5, "c"), (1, "d"), (2, "e")],
+    )?;
+    check_draws(&rt, &mut funded);
     Ok(())
 }
 
@@ -336,6 +360,17 @@ const ONE_FUNDED: [Step<'_>; 4] = [
     Step::Gives(Line::Mktkt(10, "base"), Reply::Ticket(1)),
     Step::Gives(Line::Fund(1, "a"), Reply::Done),
     Step::Gives(Line::Mktkt(10, "base"), Reply::Ticket(2)),
+];
+
+/// Events while no thread runs: the processor is checked first, then whether a thread runs there, then the ticks.
+const NO_THREAD_RUNS: [(Event, Refusal); 7] = [
+    (Event::Expire(0), Refusal::BadProcessor),
+    (Event::Expire(3), Refusal::BadProcessor),
+    (Event::Trap(0, 0, Action::Yield), Refusal::BadProcessor),
+    (Event::Trap(3, 100, Action::Exit), Refusal::BadProcessor),
+    (Event::Expire(1), Refusal::NotRunning),
+    (Event::Trap(1, 0, Action::Exit), Refusal::NotRunning),
+    (Event::Trap(2, 100, Action::Receive(3)), Refusal::NotRunning),
 ];
 
 const OUT_OF_PLACE: [Event; 10] = [
@@ -378,6 +413,9 @@ const OUT_OF_PLACE_REPLIES: [Reply; 10] = [
 fn events_out_of_place(rt: HostRuntime) -> Result<(), Fail> {
     let mut kernel = largest(rt.alloc(), 1)?;
     take_all(&rt, &mut kernel, &ONE_FUNDED)?;
+    for (event, refusal) in NO_THREAD_RUNS {
+        check_event(&rt, &mut kernel, event, Reply::Refused(refusal));
+    }
     check_run(&rt, &mut kernel, &OUT_OF_PLACE, &OUT_OF_PLACE_REPLIES);
     let dead = Reply::Refused(Refusal::DeadThread);
     check_answer(&rt, &mut kernel, Line::Fund(2, "a"), dead)

@@ -96,6 +96,24 @@ const SHARED: &[Count<'static>] = &[
     Count::Draws(149, (3, 149, 150), 5),
 ];
 
+// 100 and 60 of base fund `g`, which funds `h`, which funds a thread: four tickets. Without the first
+// of them `g`, `h` and the thread are stale, and one ticket funds each.
+const UPSTREAM: &[Count<'static>] = &[
+    Count::Does(Line::Mkcur("g")),
+    Count::Does(Line::Mkcur("h")),
+    Count::Does(Line::Mktkt(100, "base")),
+    Count::Does(Line::Fund(1, "g")),
+    Count::Does(Line::Mktkt(1, "g")),
+    Count::Does(Line::Fund(2, "h")),
+    Count::Does(Line::Fundx(1, "h", "a", 1)),
+    Count::Does(Line::Mktkt(60, "base")),
+    Count::Does(Line::Fund(4, "g")),
+    Count::Draws(159, (1, 159, 160), 4),
+    Count::Expires,
+    Count::Does(Line::Unfund(1)),
+    Count::Draws(59, (1, 59, 60), 3),
+];
+
 // A listing settles what is stale once; a draw after it reads nothing. A ticket's row reads the ticket besides.
 const LISTED: &[Count<'static>] = &[
     Count::Does(Line::Fundx(10, "base", "a", 1)),
@@ -121,17 +139,9 @@ const TRAPPED: &[Count<'static>] = &[
 #[test]
 fn what_is_read(rt: HostRuntime) -> Result<(), Fail> {
     count_all(&rt, rt.alloc(), SHARED)?;
+    count_all(&rt, rt.alloc(), UPSTREAM)?;
     count_all(&rt, rt.alloc(), LISTED)?;
     count_all(&rt, rt.alloc(), TRAPPED)
-}
-
-/// Makes this many threads with 1 of base each.
-fn make_threads(kernel: &mut Kernel, alloc: Global, count: u32) -> Result<(), Fail> {
-    for number in 0..count {
-        let text = format!(in alloc; "t{number}")?;
-        answer(kernel, Line::Fundx(1, "base", text.as_str(), 1))?;
-    }
-    Ok(())
 }
 
 /// A draw visits places of the tree of weights, 1 to 10.

@@ -1,19 +1,11 @@
 //! Yields, ports, mutexes and exits.
 use super::{
-    Line, Step, answer, check_run, check_thread, largest, play, take_all, thread_row, won,
+    Line, Step, check_run, check_thread, fund, largest, play, take, take_all, thread_row, won,
 };
 use lot_kernel::{Action, Event, Kernel, Outcome, Refusal, Reply, Status, TrapRefusal};
 use std::alloc::{AllocError, Global};
 use std::process::Abort;
 use std::test::Fail;
-
-/// Makes threads of these names, funded with this much base, in order.
-fn fund(kernel: &mut Kernel, threads: &[(u64, &str)]) -> Result<(), Fail> {
-    for (amount, name) in threads {
-        answer(kernel, Line::Fundx(*amount, "base", name, 1))?;
-    }
-    Ok(())
-}
 
 /// Takes the steps in a kernel of the largest tables with threads of these names, funded with this much base, in order.
 fn play_funded(
@@ -527,9 +519,37 @@ const REFUSED_TRAPS: [Step<'_>; 4] = [
     )),
 ];
 
+/// Traps at unknown ports and mutexes: there are two of each, numbered from 1.
+const UNKNOWN_OBJECTS: [(Action, TrapRefusal); 7] = [
+    (Action::Receive(0), TrapRefusal::NoPort),
+    (Action::Receive(3), TrapRefusal::NoPort),
+    (Action::Call(0, 7), TrapRefusal::NoPort),
+    (Action::Serve(0, 7), TrapRefusal::NoPort),
+    (Action::Lock(0), TrapRefusal::NoMutex),
+    (Action::Unlock(0, 0), TrapRefusal::NoMutex),
+    (Action::Unlock(3, 0), TrapRefusal::NoMutex),
+];
+
+/// A thread makes each of these traps within a quantum, and runs on.
+fn check_unknown_objects(rt: &impl Abort, alloc: Global) -> Result<(), Fail> {
+    let mut kernel = largest(alloc, 1)?;
+    fund(&mut kernel, &[(10, "a")])?;
+    take(rt, &mut kernel, Step::Wins(1, 0, (1, 0, 10), None))?;
+    for (action, refusal) in UNKNOWN_OBJECTS {
+        let refused = Outcome::Refused(refusal);
+        take(rt, &mut kernel, Step::Traps(1, action, 1, refused))?;
+    }
+    let runs = Status::Running {
+        processor: 1,
+        used: 7,
+    };
+    take(rt, &mut kernel, Step::Thread((1, "a", runs, 10, 10, 1, 7)))
+}
+
 #[test]
 fn refused_traps_cost_their_ticks(rt: HostRuntime) -> Result<(), Fail> {
-    play_funded(&rt, rt.alloc(), &[(10, "a")], &REFUSED_TRAPS)
+    play_funded(&rt, rt.alloc(), &[(10, "a")], &REFUSED_TRAPS)?;
+    check_unknown_objects(&rt, rt.alloc())
 }
 
 const TWO_CLIENTS: [Step<'_>; 16] = [
