@@ -13,11 +13,15 @@ const ABOUT: &str =
     "Gives events to the kernel by itself, and prints what it answered, which is the same each time";
 
 /// The options that ask for something else, and what they ask for.
-const FLAGS: [(&str, &str); 3] = [
+const FLAGS: [(&str, &str); 4] = [
     ("time", "Nanoseconds for each event"),
     (
         "growth",
         "The same with 16 to 4096 threads, in tables that just suffice and in the largest",
+    ),
+    (
+        "settling",
+        "Nanoseconds of a draw for each edge that it reads, in the largest graph whose stale nodes stand in the worst order, and in parts of it",
     ),
     (
         "workers",
@@ -31,6 +35,7 @@ pub(crate) enum Request {
     Digests,
     Times,
     Growth,
+    Settling,
     Workers,
 }
 
@@ -75,6 +80,8 @@ fn requested(matches: &ArgMatches<'_>) -> Request {
         Request::Times
     } else if matches.get_flag("growth") {
         Request::Growth
+    } else if matches.get_flag("settling") {
+        Request::Settling
     } else if matches.get_flag("workers") {
         Request::Workers
     } else {

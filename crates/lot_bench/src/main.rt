@@ -9,6 +9,7 @@ mod opening;
 mod place;
 mod role;
 mod rounds;
+mod settling;
 mod tally;
 mod timing;
 mod track;
@@ -34,6 +35,7 @@ fn main(rt: HostRuntime) -> Result<ExitCode> {
         Request::Digests => rounds::print_digests(&rt, rt.alloc(), wish)?,
         Request::Times => rounds::print_times(&rt, rt.alloc(), wish)?,
         Request::Growth => growth::print_growth(&rt, rt.alloc(), wish.events)?,
+        Request::Settling => settling::print_settling(&rt, rt.alloc())?,
         Request::Workers => workers::print_workers(&rt, rt.alloc())?,
     }
     Ok(ExitCode::SUCCESS)

@@ -160,6 +160,6 @@ pub(crate) fn currency_name(alloc: Global, currency: u32) -> Result<Name> {
 }
 
 /// The name with this text.
-fn name(text: &str) -> Result<Name> {
+pub(crate) fn name(text: &str) -> Result<Name> {
     Name::new(text).context("a name of more than 16 bytes")
 }

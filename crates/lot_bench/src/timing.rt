@@ -25,7 +25,7 @@ pub(crate) struct PerEvent(u128);
 
 impl PerEvent {
     /// So many nanoseconds for so many events.
-    fn of(nanoseconds: u64, events: u64) -> PerEvent
+    pub(crate) fn of(nanoseconds: u64, events: u64) -> PerEvent
         requires { 0 < events }
         ensures { result.0 ≡ nanoseconds * 10 / events }
     {
