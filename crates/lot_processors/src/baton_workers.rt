@@ -18,7 +18,7 @@ use std::thread::Threads;
 /// wait.
 ///
 /// Answers the fault that stopped the first of the seats that were stopped, and takes it out of that seat. A later seat that
-/// was stopped keeps its own fault, until `BatonSeat::stopped` takes it out or the next run begins.
+/// was stopped keeps its own fault, until `BatonSeat::take_fault` takes it out or the next run begins.
 pub fn run_all_baton<G: Gate + Sync, R: Threads + Wait + Sync>(
     rt: &R,
     station: &BatonStation,

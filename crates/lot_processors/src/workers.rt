@@ -16,7 +16,7 @@ use std::thread::Threads;
 /// one can be started; it stops at its first fault. All have stopped when this returns. It may wait.
 ///
 /// Answers the fault that stopped the first of the seats that were stopped, and takes it out of that seat. A later seat that
-/// was stopped keeps its own fault, until `Seat::stopped` takes it out or the next run begins.
+/// was stopped keeps its own fault, until `Seat::take_fault` takes it out or the next run begins.
 pub fn run_all<
     T: TurnLedger + Send + Sync,
     Q: Ledger + Send + Sync,
