@@ -76,6 +76,7 @@ same-kept : (v : Activity) (w now : LimitedFunding) (live after : List Bool) →
 same-kept v w now live after kept sound fits layout net awake = record {
   sound = sound;
   fits = fits;
+  layout = kept.layout ∙ sym layout;
   awake = subst (λ (l : Layout). AwakeAre l after v.awake) (sym layout) awake;
   kept = subst (λ (g : Net). IsKept g v) (sym net) kept.kept;
 }

@@ -3,6 +3,7 @@ use Rattle.std.proofs.Common.{◌≡◌, ℕ, zero, suc, ◌+◌, ◌<◌, ◌�
 use Rattle.std.proofs.lemmas.Bool.{cases_eq}
 use Rattle.std.proofs.lemmas.List.{get_or-set_same, get_or-set_other, length-replicate}
 use Rattle.lot_lists.specs.NodeLists.{NodeLists, nodes_of, IsFree, IsListed}
+use Rattle.lot_graph.specs.declared.layout.Layout.{Layout}
 use Rattle.lot_active.specs.declared.edge_ends.EdgePlaces.{EdgePlaces}
 use Rattle.lot_active.specs.Nets.{Net, IsNet, Reaches, HasNoCycle}
 use Rattle.lot_graph.proofs.MirrorLemmas.{contains-nothing}
@@ -42,8 +43,8 @@ module _ (g : Net) (seed : ℕ) (on : Bool) (was now : Held) (spreading : Spread
   marks-differ : (n : ℕ) → In now.lists 1 n → ¬ (on_at now n ≡ on_at was n)
   marks-differ n there same = let r = spreading.noted.switched n there in not-both (on_at now n) on r.0 (same ∙ r.1)
 
-  pub end-changes : (some more : List ℕ) → Changes g seed (record { awake = was.awake; amounts = was.amounts; switched = some; adjusted = more }) (record { awake = now.awake; amounts = now.amounts; switched = nodes_of now.lists 1; adjusted = nodes_of now.lists 2 })
-  end-changes some more = record {
+  pub end-changes : (l m : Layout) (some more : List ℕ) → Changes g seed (record { layout = l; awake = was.awake; amounts = was.amounts; switched = some; adjusted = more }) (record { layout = m; awake = now.awake; amounts = now.amounts; switched = nodes_of now.lists 1; adjusted = nodes_of now.lists 2 })
+  end-changes l m some more = record {
     switched = record {
       each = marks-differ;
       all = λ n differ. switched-all n differ (place n);
@@ -259,15 +260,15 @@ pub local-by : (g : Net) (now : Activity) (h : Held) → h.awake ≡ now.awake �
 local-by g now h awake amounts local = subst (λ (xs : List Bool). IsLocal g xs h.amounts) (sym awake) (subst (λ (xs : List ℕ). IsLocal g now.awake xs) (sym amounts) local)
 
 module _ (g : Net) (seed : ℕ) (on : Bool) (was new : Held) (spreading : Spreading g seed on was new) (none : nodes_of new.lists 0 ≡ []) (sized : IsSized new) where
-  pub end-kept : IsNet g → HasNoCycle g → length new.amounts ≡ g.nodes → IsKept g (record { awake = new.awake; amounts = new.amounts; switched = nodes_of new.lists 1; adjusted = nodes_of new.lists 2 })
-  end-kept net no_cycle size =
-      local-kept g (record { awake = new.awake; amounts = new.amounts; switched = nodes_of new.lists 1; adjusted = nodes_of new.lists 2 }) net no_cycle (sized.awake ∙ size) size (end-local g seed on was new spreading none sized)
+  pub end-kept : (l : Layout) → IsNet g → HasNoCycle g → length new.amounts ≡ g.nodes → IsKept g (record { layout = l; awake = new.awake; amounts = new.amounts; switched = nodes_of new.lists 1; adjusted = nodes_of new.lists 2 })
+  end-kept l net no_cycle size =
+      local-kept g (record { layout = l; awake = new.awake; amounts = new.amounts; switched = nodes_of new.lists 1; adjusted = nodes_of new.lists 2 }) net no_cycle (sized.awake ∙ size) size (end-local g seed on was new spreading none sized)
 
-  pub end-changes_from : (old : Activity) → was.awake ≡ old.awake → was.amounts ≡ old.amounts → Changes g seed old (record { awake = new.awake; amounts = new.amounts; switched = nodes_of new.lists 1; adjusted = nodes_of new.lists 2 })
-  end-changes_from old awake amounts =
-      let end : Activity = record { awake = new.awake; amounts = new.amounts; switched = nodes_of new.lists 1; adjusted = nodes_of new.lists 2 } in
-      subst (λ (xs : List Bool). Changes g seed (record { awake = xs; amounts = old.amounts; switched = old.switched; adjusted = old.adjusted }) end) awake
-      (subst (λ (xs : List ℕ). Changes g seed (record { awake = was.awake; amounts = xs; switched = old.switched; adjusted = old.adjusted }) end) amounts (end-changes g seed on was new spreading none sized old.switched old.adjusted))
+  pub end-changes_from : (l : Layout) (old : Activity) → was.awake ≡ old.awake → was.amounts ≡ old.amounts → Changes g seed old (record { layout = l; awake = new.awake; amounts = new.amounts; switched = nodes_of new.lists 1; adjusted = nodes_of new.lists 2 })
+  end-changes_from l old awake amounts =
+      let end : Activity = record { layout = l; awake = new.awake; amounts = new.amounts; switched = nodes_of new.lists 1; adjusted = nodes_of new.lists 2 } in
+      subst (λ (xs : List Bool). Changes g seed (record { layout = old.layout; awake = xs; amounts = old.amounts; switched = old.switched; adjusted = old.adjusted }) end) awake
+      (subst (λ (xs : List ℕ). Changes g seed (record { layout = old.layout; awake = was.awake; amounts = xs; switched = old.switched; adjusted = old.adjusted }) end) amounts (end-changes g seed on was new spreading none sized old.layout l old.switched old.adjusted))
 
 -- with one edge less it is still a net
 pub net-less : (less more : Net) (e : ℕ) (a : EdgePlaces) → Adds less more e a → IsNet more → IsNet less

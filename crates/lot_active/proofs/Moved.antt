@@ -72,7 +72,7 @@ module _ (mid w now : LimitedFunding) (edge : Edge) (a b : EdgeEnds) (was : Adds
   pub moved-kept : (switched adjusted : List ℕ) → IsKeptFor (record v { switched = switched; adjusted = adjusted }) now live
   moved-kept switched adjusted =
       let new : Activity = record v { switched = switched; adjusted = adjusted } in
-      kept-moves v new w now live kept moved-layout sound fits refl
+      kept-moves v new w now live kept moved-layout sound fits refl refl
       (local-kept (graph_net now) new (graph-net now fits) (graph-no_cycle now fits sound) (kept.kept.awake_length ∙ sym (ap node_count moved-layout)) (kept.kept.amounts_length ∙ sym (ap node_count moved-layout)) local)
 
   -- and no node is switched or adjusted

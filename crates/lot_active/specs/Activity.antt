@@ -2,6 +2,7 @@
 use Rattle.std.specs.Prelude.{◌≡◌, ℕ, zero, suc, ◌+◌, ◌==◌, ◌↔◌, nat_lt, Bool, true, false, ◌||◌, ◌&&◌, ◌⊎◌, Option, Some, None, List, Contains, IsTrue, length, slice_get, slice_index, slice_index_or, if◌then◌else◌}
 use Rattle.lot_active.specs.declared.edge_ends.EdgePlaces.{EdgePlaces}
 use Rattle.lot_active.specs.Nets.{Net, Reaches}
+use Rattle.lot_graph.specs.declared.layout.Layout.{Layout}
 use Rattle.lot_graph.specs.Graphs.{HasEachOnce}
 
 -- ---- from scratch
@@ -47,9 +48,10 @@ IsActiveAmount g awake n amount = (test : ℕ → Bool) × Tells g awake test ×
 
 -- ---- what is kept
 
--- whether each node is awake, its amount, the nodes that the last call switched on or off, and those whose amount alone
--- it changed
+-- where nodes stand, whether each node is awake, its amount, the nodes that the last call switched on or off, and those
+-- whose amount alone it changed
 pub record Activity : Type 0 where
+  pub layout : Layout
   pub awake : List Bool
   pub amounts : List ℕ
   pub switched : List ℕ

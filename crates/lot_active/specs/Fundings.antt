@@ -46,11 +46,12 @@ edge_between amount from to = record { from = from; to = to; amount = amount }
 abbrev pub graph_net : LimitedFunding → Net
 graph_net w = net_of (layout_of w) w.funding
 
--- What is kept is right for a graph and the live threads: they alone are awake, and each amount and each mark is the
--- definitions'.
+-- What is kept is right for a graph and the live threads: nodes stand where the graph has them, the live threads alone
+-- are awake, and each amount and each mark is the definitions'.
 pub record IsKeptFor (v : Activity) (w : LimitedFunding) (live : List Bool) : Type 0 where
   pub sound : IsSound w.funding
   pub fits : FitsLimits w
+  pub layout : v.layout ≡ layout_of w
   pub awake : AwakeAre (layout_of w) live v.awake
   pub kept : IsKept (graph_net w) v
 

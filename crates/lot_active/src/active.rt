@@ -3,10 +3,11 @@ ghost use Rattle.std.specs.Prelude.{◌≡◌, ℕ, ◌<◌, ◌≤◌, ◌^◌,
 ghost use Rattle.lot_machine.specs.declared.funding.Edge.{Edge};
 ghost use Rattle.lot_machine.specs.declared.funding.Node.TheVariants.{Thread as ThreadNode};
 ghost use Rattle.lot_machine.specs.Numbered.{set_number};
+ghost use Rattle.lot_machine.specs.Funding.{target_of};
 ghost use Rattle.lot_machine.specs.Lends.{IsLive, IsBacked};
 ghost use Rattle.lot_machine.specs.Activity as machine;
 ghost use Rattle.lot_graph.specs.Graphs.{LimitedFunding, IsSound, IsThread};
-ghost use Rattle.lot_graph.specs.Places.{FitsLimits, layout_of, node_place, node_count};
+ghost use Rattle.lot_graph.specs.Places.{FitsLimits, layout_of, node_count};
 ghost use Rattle.lot_active.specs.declared.edge_ends.EdgeEnds.{EdgeEnds};
 ghost use Rattle.lot_active.specs.Nets.{Net, IsNet, HasNoCycle};
 ghost use Rattle.lot_active.specs.Activity.{IsKept, Changes, Adds, amount_of, mark_of};
@@ -16,8 +17,8 @@ ghost use Rattle.lot_active.specs.Changes.{ChangesNodes, switched_nodes, adjuste
 use crate::changed::ChangedNodes;
 use crate::edge_ends::{EdgeEnds, EdgePlaces, ends_of_edge, funded_node};
 use crate::marks::Marks;
-use lot_graph::Graph;
-use lot_machine::{Edge, Node};
+use lot_graph::{Graph, Layout};
+use lot_machine::{Edge, Node, Target};
 use std::alloc::{AllocError, Global};
 use std::marker::Model;
 
@@ -26,6 +27,7 @@ use std::marker::Model;
 #[derive(Drop)]
 pub struct Active {
     marks: Marks,
+    layout: Layout,
 }
 
 impl Model for Active {
@@ -36,7 +38,7 @@ impl Model for Active {
 
     ghost Value = { Activity };
 
-    ghost view = { λ s. record { awake = s.marks.awake; amounts = s.marks.amounts; switched = nodes_of s.marks.lists 1; adjusted = nodes_of s.marks.lists 2 } };
+    ghost view = { λ s. record { layout = s.layout; awake = s.marks.awake; amounts = s.marks.amounts; switched = nodes_of s.marks.lists 1; adjusted = nodes_of s.marks.lists 2 } };
 
     ghost invariant = { λ s. IsQuiet s.marks };
 }
@@ -46,33 +48,31 @@ impl Active {
     pub fn new(alloc: Global, graph: &Graph) -> Result<Self, AllocError>
         ensures kept { IfOk result (λ made. (live : List Bool) → ((t : ℕ) → ¬ IsLive live t) → IsKeptFor made graph.now live) }
     {
-        let nodes = graph.layout().node_count();
+        let layout = graph.layout();
+        let nodes = layout.node_count();
         Ok(Active {
             marks: Marks::new(alloc, nodes)?,
+            layout,
         })
     }
 
-    /// Whether a ticket is active.
-    pub fn is_active(&self, graph: &Graph, ticket: u32) -> bool
-        requires kept { (live : List Bool) × IsKeptFor self.now graph.now live }
-        ensures active { (live : List Bool) → IsKeptFor self.now graph.now live → IsTrue result ↔ machine.IsActive graph.now.funding live ticket }
+    /// Whether a ticket with this target is active, in each graph that this is kept for.
+    pub fn is_active(&self, target: Target) -> bool
+        requires target { (w : LimitedFunding) × (live : List Bool) × (ticket : ℕ) × IsKeptFor self.now w live × (target_of w.funding ticket ≡ Some target) }
+        ensures active { (w : LimitedFunding) (live : List Bool) (ticket : ℕ) → IsKeptFor self.now w live → target_of w.funding ticket ≡ Some target → IsTrue result ↔ machine.IsActive w.funding live ticket }
     {
-        let Some(record) = graph.ticket(ticket) else {
-            return false;
-        };
-        match funded_node(record.target) {
-            Some(node) => self.is_on(place_in(graph, node)),
+        match funded_node(target) {
+            Some(node) => self.is_on(self.layout.list_of(node)),
             None => false,
         }
     }
 
-    /// Whether a chain of lends, perhaps empty, leads from a thread to a live one.
-    pub fn is_backed(&self, graph: &Graph, thread: u32) -> bool
-        requires thread { IsThread graph.now.funding thread }
-        requires kept { (live : List Bool) × IsKeptFor self.now graph.now live }
-        ensures backed { (live : List Bool) → IsKeptFor self.now graph.now live → IsTrue result ↔ IsBacked graph.now.funding live thread }
+    /// Whether a chain of lends, perhaps empty, leads from a thread to a live one, in each graph that this is kept for.
+    pub fn is_backed(&self, thread: u32) -> bool
+        requires thread { (w : LimitedFunding) × (live : List Bool) × IsKeptFor self.now w live × IsThread w.funding thread }
+        ensures backed { (w : LimitedFunding) (live : List Bool) → IsKeptFor self.now w live → IsThread w.funding thread → IsTrue result ↔ IsBacked w.funding live thread }
     {
-        self.is_on(place_in(graph, Node::Thread(thread)))
+        self.is_on(self.layout.list_of(Node::Thread(thread)))
     }
 
     /// The sum of the amounts of the active tickets that a currency issues, in each graph that this is kept for.
@@ -90,7 +90,7 @@ impl Active {
         ensures kept { (live : List Bool) → IsKeptFor self.old graph.now live → thread ≤ length live → IsKeptFor self.new graph.now (set_number live thread true) }
         ensures changes { (live : List Bool) → IsKeptFor self.old graph.now live → thread ≤ length live → ChangesNodes graph.now live graph.now (set_number live thread true) (ThreadNode thread) self.new }
     {
-        let node = place_in(graph, Node::Thread(thread));
+        let node = self.layout.list_of(Node::Thread(thread));
         self.wake_node(graph, node);
     }
 
@@ -101,7 +101,7 @@ impl Active {
         ensures kept { (live : List Bool) → IsKeptFor self.old graph.now live → thread ≤ length live → IsKeptFor self.new graph.now (set_number live thread false) }
         ensures changes { (live : List Bool) → IsKeptFor self.old graph.now live → thread ≤ length live → ChangesNodes graph.now live graph.now (set_number live thread false) (ThreadNode thread) self.new }
     {
-        let node = place_in(graph, Node::Thread(thread));
+        let node = self.layout.list_of(Node::Thread(thread));
         self.sleep_node(graph, node);
     }
 
@@ -129,26 +129,26 @@ impl Active {
     }
 
     /// The nodes that the last call switched on or off.
-    pub fn switched(&self, graph: &Graph) -> ChangedNodes<'_>
-        requires kept { (live : List Bool) × IsKeptFor self.now graph.now live }
-        ensures nodes { result ≡ switched_nodes graph.now self.now }
+    pub fn switched(&self) -> ChangedNodes<'_>
+        requires kept { (w : LimitedFunding) × (live : List Bool) × IsKeptFor self.now w live }
+        ensures nodes { (w : LimitedFunding) (live : List Bool) → IsKeptFor self.now w live → result ≡ switched_nodes w self.now }
         ensures count { length result < 2 ^ 32 }
     {
         ChangedNodes {
             places: self.marks.switched(),
-            layout: graph.layout(),
+            layout: self.layout,
         }
     }
 
     /// The nodes whose amount alone the last call changed.
-    pub fn adjusted(&self, graph: &Graph) -> ChangedNodes<'_>
-        requires kept { (live : List Bool) × IsKeptFor self.now graph.now live }
-        ensures nodes { result ≡ adjusted_nodes graph.now self.now }
+    pub fn adjusted(&self) -> ChangedNodes<'_>
+        requires kept { (w : LimitedFunding) × (live : List Bool) × IsKeptFor self.now w live }
+        ensures nodes { (w : LimitedFunding) (live : List Bool) → IsKeptFor self.now w live → result ≡ adjusted_nodes w self.now }
         ensures count { length result < 2 ^ 32 }
     {
         ChangedNodes {
             places: self.marks.adjusted(),
-            layout: graph.layout(),
+            layout: self.layout,
         }
     }
 
@@ -177,6 +177,7 @@ impl Active {
         requires graph { IsNet (graph_net graph.now) }
         requires no_cycle { HasNoCycle (graph_net graph.now) }
         requires kept { IsKept (graph_net graph.now) self.old }
+        ensures layout { self.new.layout ≡ self.old.layout }
         ensures awake { self.new.awake ≡ slice_set self.old.awake node true }
         ensures kept { IsKept (graph_net graph.now) self.new }
         ensures changes { Changes (graph_net graph.now) node self.old self.new }
@@ -191,6 +192,7 @@ impl Active {
         requires graph { IsNet (graph_net graph.now) }
         requires no_cycle { HasNoCycle (graph_net graph.now) }
         requires kept { IsKept (graph_net graph.now) self.old }
+        ensures layout { self.new.layout ≡ self.old.layout }
         ensures awake { self.new.awake ≡ slice_set self.old.awake node false }
         ensures kept { IsKept (graph_net graph.now) self.new }
         ensures changes { Changes (graph_net graph.now) node self.old self.new }
@@ -204,6 +206,7 @@ impl Active {
         requires graph { IsNet (graph_net graph.now) }
         requires no_cycle { HasNoCycle (graph_net graph.now) }
         requires kept { (before : Net) × (edge : ℕ) × Adds before (graph_net graph.now) edge places × IsKept before self.old }
+        ensures layout { self.new.layout ≡ self.old.layout }
         ensures awake { self.new.awake ≡ self.old.awake }
         ensures kept { IsKept (graph_net graph.now) self.new }
         ensures changes { Changes (graph_net graph.now) places.from self.old self.new }
@@ -218,6 +221,7 @@ impl Active {
     fn detach_places(&mut self, graph: &Graph, places: EdgePlaces)
         requires no_cycle { HasNoCycle (graph_net graph.now) }
         requires kept { (before : Net) × (edge : ℕ) × Adds (graph_net graph.now) before edge places × IsNet before × IsKept before self.old }
+        ensures layout { self.new.layout ≡ self.old.layout }
         ensures awake { self.new.awake ≡ self.old.awake }
         ensures kept { IsKept (graph_net graph.now) self.new }
         ensures changes { Changes (graph_net graph.now) places.from self.old self.new }
@@ -228,11 +232,4 @@ impl Active {
             self.marks.propagate(graph, false);
         }
     }
-}
-
-/// The place of a node.
-fn place_in(graph: &Graph, node: Node) -> usize
-    ensures place { result ≡ node_place (layout_of graph.now) node }
-{
-    graph.layout().list_of(node)
 }

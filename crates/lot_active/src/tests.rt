@@ -153,14 +153,22 @@ impl Kept {
 
     fn is_backed(&self, rt: &impl Abort, thread: u32) -> bool {
         assert!(rt; 0 < thread && thread <= self.graph.threads());
-        self.active.is_backed(&self.graph, thread)
+        self.active.is_backed(thread)
+    }
+
+    /// Whether a ticket is there and active.
+    fn is_active(&self, ticket: u32) -> bool {
+        match self.graph.ticket(ticket) {
+            Some(record) => self.active.is_active(record.target),
+            None => false,
+        }
     }
 
     /// How many nodes the last call switched, and of how many it changed the amount alone.
     fn changed(&self) -> (usize, usize) {
         (
-            self.active.switched(&self.graph).count(),
-            self.active.adjusted(&self.graph).count(),
+            self.active.switched().count(),
+            self.active.adjusted().count(),
         )
     }
 
@@ -182,9 +190,7 @@ impl Kept {
             Step::Sleep(thread) => self.sleep(rt, thread),
             Step::IsAmount(currency, amount) => assert!(rt; self.amount(rt, currency) == amount),
             Step::IsBacked(thread, is) => assert!(rt; self.is_backed(rt, thread) == is),
-            Step::IsActive(ticket, is) => {
-                assert!(rt; self.active.is_active(&self.graph, ticket) == is);
-            }
+            Step::IsActive(ticket, is) => assert!(rt; self.is_active(ticket) == is),
             Step::HavePassed(edges) => assert!(rt; self.active.passed() == edges),
             Step::Changed(switched, adjusted) => {
                 let changed = self.changed();

@@ -6,7 +6,7 @@ use Rattle.lot_machine.specs.declared.funding.Node.{Node}
 use Rattle.lot_machine.specs.declared.funding.Node.TheVariants.{Currency}
 use Rattle.lot_machine.specs.declared.funding.Edge.{Edge}
 use Rattle.lot_machine.specs.declared.funding.Edge.TheVariants.{OfTicket, OfLender, OfMutex}
-use Rattle.lot_machine.specs.Funding.{Funding, ticket_at, ends_of}
+use Rattle.lot_machine.specs.Funding.{Funding, ticket_at, target_of, ends_of}
 use Rattle.lot_machine.specs.Activity.{IsActive, is_active, active_amount}
 use Rattle.lot_machine.specs.Equations.{ticket_share, share, LeadsInto}
 use Rattle.lot_machine.proofs.Tickets.{some-injective}
@@ -25,6 +25,10 @@ same-test true true to back = refl
 same-test true false to back = sym (to refl)
 same-test false true to back = back refl
 same-test false false to back = refl
+
+-- what a ticket that is there funds
+pub ticket-target : (f : Funding) (n : ℕ) (t : Ticket) → ticket_at f n ≡ Some t → target_of f n ≡ Some t.target
+ticket-target f n t at = ap (option_map (λ (u : Ticket). u.target)) at
 
 -- the test of a ticket's activity says what is kept
 pub active-is : (v : Activity) (w : LimitedFunding) (live : List Bool) (n : ℕ) (t : Ticket) (b : Bool) → IsKeptFor v w live → ticket_at w.funding n ≡ Some t → IsTrue b ↔ IsActive w.funding live n → is_active w.funding live t ≡ b

@@ -66,7 +66,7 @@ fn ticket_share(sources: Sources, number: u32) -> u64
     let Some(ticket) = sources.graph.ticket(number) else {
         return 0;
     };
-    if !sources.active.is_active(sources.graph, number) {
+    if !sources.active.is_active(ticket.target) {
         return 0;
     }
     if ticket.issuer == 0 {

@@ -25,7 +25,7 @@ pub(crate) fn touch_switched(graph: &Graph, active: &Active, values: &mut Values
     ensures touched { Touched graph.now values.old values.new (λ node. Contains (switched_nodes graph.now active.now) node × HasEquation graph.now.funding node) }
     ensures marked { (node : ANode) → Contains (switched_nodes graph.now active.now) node → HasEquation graph.now.funding node → IsStale values.new node }
 {
-    for node in active.switched(graph) {
+    for node in active.switched() {
         if has_equation(graph, node) {
             values.touch(graph, node);
         }
@@ -98,6 +98,6 @@ pub(crate) fn touch_listed(graph: &Graph, active: &Active, values: &mut Values)
     ensures listed { TouchesListed graph.now active.now values.new.stale }
 {
     touch_switched(graph, active, values);
-    touch_funded(graph, active.switched(graph), values);
-    touch_funded(graph, active.adjusted(graph), values);
+    touch_funded(graph, active.switched(), values);
+    touch_funded(graph, active.adjusted(), values);
 }

@@ -283,7 +283,10 @@ impl ValuedGraph {
     pub fn is_active(&self, ticket: u32) -> bool
         ensures { IsTrue result ↔ IsActive self.now.now.funding self.now.live ticket }
     {
-        self.active.is_active(&self.graph, ticket)
+        match self.graph.ticket(ticket) {
+            Some(record) => self.active.is_active(record.target),
+            None => false,
+        }
     }
 
     /// The sum of the amounts of the active tickets of a currency (4.4), in tickets of the currency.

@@ -4,8 +4,14 @@ use Rattle.lot_machine.specs.Equations.{share}
 use Rattle.lot_graph.specs.Places.{layout_of}
 use Rattle.lot_value.specs.Sources.{AreSources}
 use Rattle.lot_value.specs.Caches.{kept_worth}
-use Rattle.lot_value.proofs.Shares.{active-is, share-off, share-base, share-user, share-amount, ticket-here}
+use Rattle.lot_value.proofs.Shares.{active-is, share-off, share-base, share-user, share-amount, ticket-here, ticket-target}
 use Rattle.lot_value.proofs.readings.ticket_share.Goals as goal
+
+pub is_active-requires : goal.is_active-requires
+is_active-requires c =
+    let w = c.args.sources.graph.now in
+    let (live, are, small) = c.requires.sources in
+    record { target = (w, live, c.args.number, are.kept, ticket-target w.funding c.args.number c.in-Some.ticket (sym c.ticket.ensures.ticket ∙ c.in-Some.is)) }
 
 pub returns-then-not-is_active : goal.returns-then-not-is_active
 returns-then-not-is_active c live are =
@@ -13,7 +19,7 @@ returns-then-not-is_active c live are =
     let w = s.graph.now in
     let t = c.in-Some.ticket in
     let at = sym c.ticket.ensures.ticket ∙ c.in-Some.is in
-    let is = active-is s.active.now w live c.args.number t c.is_active.result are.kept at (c.is_active.ensures.active live are.kept) in
+    let is = active-is s.active.now w live c.args.number t c.is_active.result are.kept at (c.is_active.ensures.active w live c.args.number are.kept (ticket-target w.funding c.args.number t at)) in
     share-off s.unit w.funding live (kept_worth (layout_of w) s.values.now) c.args.number t at (is ∙ c.if-not-is_active.true)
 
 pub returns-then-ticket-eq0 : goal.returns-then-ticket-eq0
@@ -22,7 +28,7 @@ returns-then-ticket-eq0 c live are =
     let w = s.graph.now in
     let t = c.in-Some.ticket in
     let at = sym c.ticket.ensures.ticket ∙ c.in-Some.is in
-    let is = active-is s.active.now w live c.args.number t c.is_active.result are.kept at (c.is_active.ensures.active live are.kept) in
+    let is = active-is s.active.now w live c.args.number t c.is_active.result are.kept at (c.is_active.ensures.active w live c.args.number are.kept (ticket-target w.funding c.args.number t at)) in
     ap₂ (λ (a b : ℕ). a * b) c.from.ensures c.from-then-ticket-eq0.ensures
     ∙ share-base s.unit w.funding live (kept_worth (layout_of w) s.values.now) c.args.number t at (is ∙ c.if-not-is_active.false) c.if-ticket-eq0.true
 
@@ -48,7 +54,7 @@ share_of-requires-clause-active c =
     let (live, are, small) = c.requires.sources in
     let at = sym c.ticket.ensures.ticket ∙ c.in-Some.is in
     let low = ticket-here w c.args.number t c.ticket.ensures.fits c.requires.edge at in
-    let is = active-is s.active.now w live c.args.number t c.is_active.result are.kept at (c.is_active.ensures.active live are.kept) in
+    let is = active-is s.active.now w live c.args.number t c.is_active.result are.kept at (c.is_active.ensures.active w live c.args.number are.kept (ticket-target w.funding c.args.number t at)) in
     let most = share-amount s.unit w.funding live (kept_worth (layout_of w) s.values.now) c.args.number t at (is ∙ c.if-not-is_active.false) in
     omega (arith, most, (c.ticket.ensures.fits.amounts c.args.number t at).0, c.active_amount-active.ensures.amount w live are.kept low)
 
@@ -61,7 +67,7 @@ quotient c live are =
     let t = c.in-Some.ticket in
     let at = sym c.ticket.ensures.ticket ∙ c.in-Some.is in
     let low = ticket-here w c.args.number t c.ticket.ensures.fits c.requires.edge at in
-    let is = active-is s.active.now w live c.args.number t c.is_active.result are.kept at (c.is_active.ensures.active live are.kept) in
+    let is = active-is s.active.now w live c.args.number t c.is_active.result are.kept at (c.is_active.ensures.active w live c.args.number are.kept (ticket-target w.funding c.args.number t at)) in
     let worth = kept_worth (layout_of w) s.values.now in
     rw (c.active_amount-active.ensures.amount w live are.kept low) (share-user s.unit w.funding live worth c.args.number t at (is ∙ c.if-not-is_active.false) c.if-ticket-eq0.false)
 
@@ -77,6 +83,6 @@ returns c live are =
     let t = c.in-Some.ticket in
     let at = sym c.ticket.ensures.ticket ∙ c.in-Some.is in
     let low = ticket-here w c.args.number t c.ticket.ensures.fits c.requires.edge at in
-    let is = active-is s.active.now w live c.args.number t c.is_active.result are.kept at (c.is_active.ensures.active live are.kept) in
+    let is = active-is s.active.now w live c.args.number t c.is_active.result are.kept at (c.is_active.ensures.active w live c.args.number are.kept (ticket-target w.funding c.args.number t at)) in
     c.share_of.ensures ∙ ap (λ n. slice_index_or s.values.now t.issuer 0 * t.amount / n) (c.active_amount-active.ensures.amount w live are.kept low)
     ∙ share-user s.unit w.funding live (kept_worth (layout_of w) s.values.now) c.args.number t at (is ∙ c.if-not-is_active.false) c.if-ticket-eq0.false

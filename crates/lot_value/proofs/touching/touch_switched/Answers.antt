@@ -9,8 +9,8 @@ use Rattle.lot_value.proofs.Touches.{touched-none, touched-one, touched-then, ma
 use Rattle.lot_value.proofs.touching.touch_switched.Goals as goal
 
 pub loop-node-init : goal.loop-node-init
-loop-node-init c = record {
-  split = sym (c.into_iter-node-iterator.ensures.into_iter_gives ∙ c.switched-node-items.ensures.nodes);
+loop-node-init c = let (live, kept) = c.requires.kept in record {
+  split = sym (c.into_iter-node-iterator.ensures.into_iter_gives ∙ c.switched-node-items.ensures.nodes c.args.graph.now live kept);
   touched = touched-none c.args.graph.now c.args.values.now (λ node. Contains (switched_nodes c.args.graph.now c.args.active.now) node × HasEquation c.args.graph.now.funding node);
   marked = λ x c' has. absurd (contains-nothing x c');
 }

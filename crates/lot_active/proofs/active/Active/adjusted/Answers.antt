@@ -1,6 +1,15 @@
+use Rattle.std.proofs.Common.{◌∙◌, ap, map}
+use Rattle.lot_graph.specs.declared.layout.Layout.{Layout}
 use Rattle.lot_graph.specs.Places.{node_of}
 use Rattle.lot_graph.proofs.WalkLemmas.{walk-short}
+use Rattle.lot_active.specs.Activity.{Activity}
 use Rattle.lot_active.proofs.active.Active.adjusted.Goals as goal
 
+pub returns-clause-nodes : goal.returns-clause-nodes
+returns-clause-nodes c = λ w live kept.
+    ap (map (node_of c.self.inside.layout)) c.adjusted.ensures
+    ∙ ap (λ (v : Activity). map (node_of v.layout) v.adjusted) c.self.view_is
+    ∙ ap (λ (l : Layout). map (node_of l) c.args.self.now.adjusted) kept.layout
+
 pub returns-clause-count : goal.returns-clause-count
-returns-clause-count c = walk-short (node_of c.layout.result) c.self.inside.marks.lists 2 c.adjusted.result c.self.invariant.sized.consistent c.adjusted.ensures
+returns-clause-count c = walk-short (node_of c.self.inside.layout) c.self.inside.marks.lists 2 c.adjusted.result c.self.invariant.sized.consistent c.adjusted.ensures

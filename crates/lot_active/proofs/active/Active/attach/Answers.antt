@@ -29,13 +29,13 @@ attach_places-requires-clause-kept c =
 
 pub returns-clause-kept : goal.returns-clause-kept
 returns-clause-kept c = λ before ends live added kept.
-    kept-moves c.args.self.now c.attach_places.new.self before c.args.graph.now live kept added.layout c.ends_of_edge.ensures.sound c.ends_of_edge.ensures.fits c.attach_places.ensures.awake c.attach_places.ensures.kept
+    kept-moves c.args.self.now c.attach_places.new.self before c.args.graph.now live kept added.layout c.ends_of_edge.ensures.sound c.ends_of_edge.ensures.fits c.attach_places.ensures.layout c.attach_places.ensures.awake c.attach_places.ensures.kept
 
 pub returns-clause-changes : goal.returns-clause-changes
 returns-clause-changes c = λ before ends live added kept.
     let w = c.args.graph.now in
     let fits = c.ends_of_edge.ensures.fits in
-    let after = kept-moves c.args.self.now c.attach_places.new.self before w live kept added.layout c.ends_of_edge.ensures.sound fits c.attach_places.ensures.awake c.attach_places.ensures.kept in
+    let after = kept-moves c.args.self.now c.attach_places.new.self before w live kept added.layout c.ends_of_edge.ensures.sound fits c.attach_places.ensures.layout c.attach_places.ensures.awake c.attach_places.ensures.kept in
     let same : c.in-Some.ends ≡ ends = same-ends c.ends_of_edge.result c.in-Some.ends ends c.in-Some.is (c.ends_of_edge.ensures.ends ∙ added.here) in
     let places : c.places.result ≡ places_of_ends (layout_of w) ends = c.places.ensures ∙ ap (λ l. places_of_ends l c.in-Some.ends) c.layout.ensures.layout ∙ ap (places_of_ends (layout_of w)) same in
     changes-nodes c.args.self.now c.attach_places.new.self before w live live kept after added.layout ends.from (fits.from c.args.edge ends.from ends.to (ends-there w.funding c.args.edge ends added.here))

@@ -47,7 +47,7 @@ returns-then-is_on-clause-kept c =
     let from = c.requires.graph.from edge a adds.here in
     let low : a.from < length h.amounts = omega (arith, from, kept.amounts_length, size, adds.nodes) in
     let start = attach-spreads before g edge a adds h c.clear.ensures.empty c.requires.graph c.adjust.new.self c.clear.ensures.sized low (sym c.is_on.ensures.mark ∙ c.if-is_on.true) (local-by before now h awake amounts (kept-local before now kept)) c.adjust.ensures.adjusts in
-    end-kept g a.from true h c.propagate.new.self (c.propagate.ensures.spreads a.from h start) c.propagate.ensures.pending c.propagate.ensures.sized c.requires.graph c.requires.no_cycle
+    end-kept g a.from true h c.propagate.new.self (c.propagate.ensures.spreads a.from h start) c.propagate.ensures.pending c.propagate.ensures.sized c.self.inside.layout c.requires.graph c.requires.no_cycle
     (c.propagate.ensures.size ∙ adjust-length h c.adjust.new.self a.from a.amount true c.adjust.ensures.adjusts ∙ size ∙ kept.amounts_length ∙ sym adds.nodes)
 
 pub returns-then-is_on-clause-changes : goal.returns-then-is_on-clause-changes
@@ -63,7 +63,7 @@ returns-then-is_on-clause-changes c =
     let from = c.requires.graph.from edge a adds.here in
     let low : a.from < length h.amounts = omega (arith, from, kept.amounts_length, size, adds.nodes) in
     let start = attach-spreads before g edge a adds h c.clear.ensures.empty c.requires.graph c.adjust.new.self c.clear.ensures.sized low (sym c.is_on.ensures.mark ∙ c.if-is_on.true) (local-by before now h awake amounts (kept-local before now kept)) c.adjust.ensures.adjusts in
-    end-changes_from g a.from true h c.propagate.new.self (c.propagate.ensures.spreads a.from h start) c.propagate.ensures.pending c.propagate.ensures.sized now awake amounts
+    end-changes_from g a.from true h c.propagate.new.self (c.propagate.ensures.spreads a.from h start) c.propagate.ensures.pending c.propagate.ensures.sized c.self.inside.layout now awake amounts
 
 pub returns-else-is_on-clause-kept : goal.returns-else-is_on-clause-kept
 returns-else-is_on-clause-kept c =
@@ -77,7 +77,7 @@ returns-else-is_on-clause-kept c =
     let size = ap (length {A = ℕ}) amounts in
     let from = c.requires.graph.from edge a adds.here in
     let low : a.from < length h.amounts = omega (arith, from, kept.amounts_length, size, adds.nodes) in
-    end-kept g a.from true h h (attach-none before g edge a adds h c.clear.ensures.empty (local-by before now h awake amounts (kept-local before now kept)) (sym c.is_on.ensures.mark ∙ c.if-is_on.false)) (c.clear.ensures.empty 0) c.clear.ensures.sized c.requires.graph c.requires.no_cycle
+    end-kept g a.from true h h (attach-none before g edge a adds h c.clear.ensures.empty (local-by before now h awake amounts (kept-local before now kept)) (sym c.is_on.ensures.mark ∙ c.if-is_on.false)) (c.clear.ensures.empty 0) c.clear.ensures.sized c.self.inside.layout c.requires.graph c.requires.no_cycle
     (size ∙ kept.amounts_length ∙ sym adds.nodes)
 
 pub returns-else-is_on-clause-changes : goal.returns-else-is_on-clause-changes
@@ -92,4 +92,4 @@ returns-else-is_on-clause-changes c =
     let size = ap (length {A = ℕ}) amounts in
     let from = c.requires.graph.from edge a adds.here in
     let low : a.from < length h.amounts = omega (arith, from, kept.amounts_length, size, adds.nodes) in
-    end-changes_from g a.from true h h (attach-none before g edge a adds h c.clear.ensures.empty (local-by before now h awake amounts (kept-local before now kept)) (sym c.is_on.ensures.mark ∙ c.if-is_on.false)) (c.clear.ensures.empty 0) c.clear.ensures.sized now awake amounts
+    end-changes_from g a.from true h h (attach-none before g edge a adds h c.clear.ensures.empty (local-by before now h awake amounts (kept-local before now kept)) (sym c.is_on.ensures.mark ∙ c.if-is_on.false)) (c.clear.ensures.empty 0) c.clear.ensures.sized c.self.inside.layout now awake amounts

@@ -21,13 +21,13 @@ detach_places-requires-clause-kept c =
 
 pub returns-clause-kept : goal.returns-clause-kept
 returns-clause-kept c = λ before edge live added kept.
-    kept-moves c.args.self.now c.detach_places.new.self before c.args.graph.now live kept (sym added.layout) c.requires.sound c.requires.fits c.detach_places.ensures.awake c.detach_places.ensures.kept
+    kept-moves c.args.self.now c.detach_places.new.self before c.args.graph.now live kept (sym added.layout) c.requires.sound c.requires.fits c.detach_places.ensures.layout c.detach_places.ensures.awake c.detach_places.ensures.kept
 
 pub returns-clause-changes : goal.returns-clause-changes
 returns-clause-changes c = λ before edge live added kept.
     let w = c.args.graph.now in
     let ends = c.args.ends in
-    let after = kept-moves c.args.self.now c.detach_places.new.self before w live kept (sym added.layout) c.requires.sound c.requires.fits c.detach_places.ensures.awake c.detach_places.ensures.kept in
+    let after = kept-moves c.args.self.now c.detach_places.new.self before w live kept (sym added.layout) c.requires.sound c.requires.fits c.detach_places.ensures.layout c.detach_places.ensures.awake c.detach_places.ensures.kept in
     let within = kept.fits.from edge ends.from ends.to (ends-there before.funding edge ends added.here) in
     let places : c.places.result ≡ places_of_ends (layout_of w) ends = c.places.ensures ∙ ap (λ l. places_of_ends l ends) c.layout.ensures.layout in
     changes-nodes c.args.self.now c.detach_places.new.self before w live live kept after (sym added.layout) ends.from (subst (λ (l : Layout). IsNodeWithin l ends.from) added.layout within)

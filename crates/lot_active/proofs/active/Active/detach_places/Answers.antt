@@ -50,7 +50,7 @@ returns-then-is_on-clause-kept c =
     let low : a.from < length h.amounts = omega (arith, from, kept.amounts_length, size) in
     let local = local-by before now h awake amounts (kept-local before now kept) in
     let start = detach-spreads g before edge a adds h c.clear.ensures.empty net c.adjust.new.self c.clear.ensures.sized low (sym c.is_on.ensures.mark ∙ c.if-is_on.true) local c.adjust.ensures.adjusts in
-    end-kept g a.from false h c.propagate.new.self (c.propagate.ensures.spreads a.from h start) c.propagate.ensures.pending c.propagate.ensures.sized (net-less g before edge a adds net) c.requires.no_cycle
+    end-kept g a.from false h c.propagate.new.self (c.propagate.ensures.spreads a.from h start) c.propagate.ensures.pending c.propagate.ensures.sized c.self.inside.layout (net-less g before edge a adds net) c.requires.no_cycle
     (c.propagate.ensures.size ∙ adjust-length h c.adjust.new.self a.from a.amount false c.adjust.ensures.adjusts ∙ size ∙ kept.amounts_length ∙ adds.nodes)
 
 pub returns-then-is_on-clause-changes : goal.returns-then-is_on-clause-changes
@@ -67,7 +67,7 @@ returns-then-is_on-clause-changes c =
     let low : a.from < length h.amounts = omega (arith, from, kept.amounts_length, size) in
     let local = local-by before now h awake amounts (kept-local before now kept) in
     let start = detach-spreads g before edge a adds h c.clear.ensures.empty net c.adjust.new.self c.clear.ensures.sized low (sym c.is_on.ensures.mark ∙ c.if-is_on.true) local c.adjust.ensures.adjusts in
-    end-changes_from g a.from false h c.propagate.new.self (c.propagate.ensures.spreads a.from h start) c.propagate.ensures.pending c.propagate.ensures.sized now awake amounts
+    end-changes_from g a.from false h c.propagate.new.self (c.propagate.ensures.spreads a.from h start) c.propagate.ensures.pending c.propagate.ensures.sized c.self.inside.layout now awake amounts
 
 pub returns-else-is_on-clause-kept : goal.returns-else-is_on-clause-kept
 returns-else-is_on-clause-kept c =
@@ -82,7 +82,7 @@ returns-else-is_on-clause-kept c =
     let from = net.from edge a adds.here in
     let low : a.from < length h.amounts = omega (arith, from, kept.amounts_length, size) in
     let local = local-by before now h awake amounts (kept-local before now kept) in
-    end-kept g a.from false h h (detach-none g before edge a adds h c.clear.ensures.empty local (sym c.is_on.ensures.mark ∙ c.if-is_on.false)) (c.clear.ensures.empty 0) c.clear.ensures.sized (net-less g before edge a adds net) c.requires.no_cycle (size ∙ kept.amounts_length ∙ adds.nodes)
+    end-kept g a.from false h h (detach-none g before edge a adds h c.clear.ensures.empty local (sym c.is_on.ensures.mark ∙ c.if-is_on.false)) (c.clear.ensures.empty 0) c.clear.ensures.sized c.self.inside.layout (net-less g before edge a adds net) c.requires.no_cycle (size ∙ kept.amounts_length ∙ adds.nodes)
 
 pub returns-else-is_on-clause-changes : goal.returns-else-is_on-clause-changes
 returns-else-is_on-clause-changes c =
@@ -97,4 +97,4 @@ returns-else-is_on-clause-changes c =
     let from = net.from edge a adds.here in
     let low : a.from < length h.amounts = omega (arith, from, kept.amounts_length, size) in
     let local = local-by before now h awake amounts (kept-local before now kept) in
-    end-changes_from g a.from false h h (detach-none g before edge a adds h c.clear.ensures.empty local (sym c.is_on.ensures.mark ∙ c.if-is_on.false)) (c.clear.ensures.empty 0) c.clear.ensures.sized now awake amounts
+    end-changes_from g a.from false h h (detach-none g before edge a adds h c.clear.ensures.empty local (sym c.is_on.ensures.mark ∙ c.if-is_on.false)) (c.clear.ensures.empty 0) c.clear.ensures.sized c.self.inside.layout now awake amounts
