@@ -1,12 +1,13 @@
 //! Laws of the definitions, with nothing to run.
-ghost use Rattle.std.specs.Prelude.{◌≡◌, ℕ, ◌+◌, List, length, map, sum_by};
+ghost use Rattle.std.specs.Prelude.{◌≡◌, ◌≤◌, ℕ, ◌+◌, List, length, map, sum_by};
 ghost use Rattle.std.specs.List.{range_with_len};
 ghost use Rattle.std.specs.List.Sorted.{IsNonDecreasing};
-ghost use Rattle.lot_machine.specs.Bounds.{IsWithinBounds};
+ghost use Rattle.lot_machine.specs.Bounds.{IsBetween, IsWithinBounds};
 ghost use Rattle.lot_machine.specs.declared.reply.Reply.{Reply};
-ghost use Rattle.lot_simulation.specs.World.{Program, IsLegal};
-ghost use Rattle.lot_simulation.specs.Report.{turns_made, turns_of, total_of};
-ghost use Rattle.lot_simulation.specs.Timed.{timed_turns};
+ghost use Rattle.lot_simulation.specs.World.{Program, IsLegal, system_run};
+ghost use Rattle.lot_simulation.specs.Report.{turns_made, ticks_in, turns_of, total_of};
+ghost use Rattle.lot_simulation.specs.Timed.{clock_of, ended_at, last_moment, timed_room, timed_schedule, timed_turns};
+ghost use Rattle.lot_simulation.specs.TimedReport.{actor_turns, clock_at, idle_until};
 
 /// What is counted in each actor's turns adds up to what is counted in all turns of a legal history, and so do the
 /// numbers of turns.
@@ -21,4 +22,24 @@ pub fn actors_add_up()
 /// before the one before it.
 pub fn times_never_fall()
     ensures { (program : Program) → IsWithinBounds program.limits → IsNonDecreasing program.times → IsNonDecreasing (map (λ done. done.time) (timed_turns program)) }
+{}
+
+/// Turns in the order of time are a run of the system. Whose turns they are is a legal history, if each command has its
+/// time, as it has in every input that is read. They are the turns that the run over this history makes, and it leads to
+/// the same world.
+pub fn timed_turns_are_a_run()
+    ensures legal { (program : Program) → length program.times ≡ length program.commands → IsLegal program timed_room (timed_schedule program) }
+    ensures turns { (program : Program) → actor_turns (timed_turns program) ≡ turns_made program (timed_schedule program) }
+    ensures world { (program : Program) → (last_moment program).world ≡ system_run program (timed_schedule program) }
+{}
+
+/// What the report of turns in the order of time has of a processor adds up: the ticks used there and those in which it
+/// was idle are its clock, which never stands after the end, if sizes are within their bounds and no command is made
+/// before the one before it.
+pub fn clocks_add_up()
+    ensures sum { (program : Program) (p : ℕ) → IsWithinBounds program.limits → IsNonDecreasing program.times → IsBetween 1 program.limits.processors p
+        → total_of ticks_in (turns_of p (actor_turns (timed_turns program))) + idle_until (ended_at program (last_moment program)) (clock_of (last_moment program).clocks p)
+        ≡ clock_at (ended_at program (last_moment program)) (clock_of (last_moment program).clocks p) }
+    ensures within { (program : Program) (p : ℕ) → IsWithinBounds program.limits → IsNonDecreasing program.times → IsBetween 1 program.limits.processors p
+        → clock_at (ended_at program (last_moment program)) (clock_of (last_moment program).clocks p) ≤ ended_at program (last_moment program) }
 {}
