@@ -11,8 +11,8 @@ ghost use Rattle.lot_chart.specs.Ranking.{IsBefore};
 ghost use Rattle.lot_chart.specs.Standings.{ranked, selection};
 ghost use Rattle.lot_chart.specs.Tables.{table};
 
-/// Threads are ranked in order: each has had more than those after it, or as much with a lower number. Each thread of the
-/// row is among them once, with what the row says, and nobody else is.
+/// The ranking is in order: each thread has run longer than those after it, or as long with a lower number. Each thread
+/// of the row is in it once, with its own ticks, and nobody else is.
 pub fn rankings_are_in_order()
     ensures order { (row : List ℕ) → AllPairs IsBefore (ranked row) }
     ensures once { (row : List ℕ) (t : ℕ) → IsBetween 1 (length row) t

@@ -4,3 +4,6 @@ pub mod OtherTurns
 pub mod TimesRise
 pub mod TimedRuns
 pub mod ClocksAddUp
+pub mod DrawnThreads
+pub mod RecordCounts
+pub mod ProcessorCounts
