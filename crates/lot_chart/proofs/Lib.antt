@@ -5,3 +5,4 @@ pub mod Sizes
 pub mod Steps
 pub mod TableSizes
 pub mod Whole
+pub mod Ranked

@@ -2,6 +2,8 @@
 pub mod Tables
 -- Which threads have lines of their own.
 pub mod Standings
+-- In which order threads are ranked.
+pub mod Ranking
 -- Where lines end, and where their names stand.
 pub mod Lines
 -- The marks of axes.

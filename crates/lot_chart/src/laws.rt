@@ -1,13 +1,24 @@
 //! What pictures and tables come to: laws of the definitions, with nothing to run.
-ghost use Rattle.std.specs.Prelude.{◌≡◌, ◌≤◌, ◌<◌, ◌+◌, ◌*◌, ◌^◌, ℕ, All, List, length, map, slice_index};
+ghost use Rattle.std.specs.Prelude.{◌≡◌, ◌==◌, ◌≤◌, ◌<◌, ◌+◌, ◌-◌, ◌*◌, ◌^◌, ℕ, All, AllPairs, List, [], ◌∷◌, filter, length, map, slice_index};
+ghost use Rattle.lot_machine.specs.Bounds.{IsBetween};
 ghost use Rattle.lot_curves.specs.declared.stretch.Measure.{Measure as Measured};
 ghost use Rattle.lot_curves.specs.Curves as curves;
 ghost use Rattle.lot_curves.specs.Stretches.{last_end};
 ghost use Rattle.lot_chart.specs.declared.standings.Standing.{Standing as StandingRecord};
 ghost use Rattle.lot_chart.specs.Charts.{chart};
 ghost use Rattle.lot_chart.specs.Lines.{lines_of};
-ghost use Rattle.lot_chart.specs.Standings.{selection};
+ghost use Rattle.lot_chart.specs.Ranking.{IsBefore};
+ghost use Rattle.lot_chart.specs.Standings.{ranked, selection};
 ghost use Rattle.lot_chart.specs.Tables.{table};
+
+/// The ranking is in order: each thread has run longer than those after it, or as long with a lower number. Each thread
+/// of the row is in it once, with its own ticks, and nobody else is.
+pub fn rankings_are_in_order()
+    ensures order { (row : List ℕ) → AllPairs IsBefore (ranked row) }
+    ensures once { (row : List ℕ) (t : ℕ) → IsBetween 1 (length row) t
+        → filter (λ s. s.thread == t) (ranked row) ≡ record { thread = t; ticks = slice_index row (t - 1) } ∷ [] }
+    ensures len { (row : List ℕ) → length (ranked row) ≡ length row }
+{}
 
 /// A picture has at most twelve lines. Their names are at least 16 units apart, and none is below the plot.
 pub fn names_do_not_overlap()

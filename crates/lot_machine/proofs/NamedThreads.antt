@@ -40,7 +40,7 @@ first_above-within (w ∷ ws) before n high low =
     at false is next = omega (arith, next (ltb-false n (before + w) is))
 
 -- so the winner has one of the places
-winner-within : (ws : List ℕ) (d : ℕ) (w : Drawn) → winner ws d ≡ Some w → w.place < length ws
+pub winner-within : (ws : List ℕ) (d : ℕ) (w : Drawn) → winner ws d ≡ Some w → w.place < length ws
 winner-within ws d w = at (sum ws == 0) refl
   where
     at : (b : Bool) → (sum ws == 0) ≡ b

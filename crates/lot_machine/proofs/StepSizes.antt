@@ -96,7 +96,7 @@ effect-sizes s t (Unlock m d) = (refl, unlock-length s.records s.mutexes (value_
 effect-sizes s t Exit = (refl, refl)
 
 -- whether it is refused or not
-checked-sizes : (s : State) (t : ℕ) (action : Action) (o : Option TrapRefusal) → HasSizesOf s (checked_effect s o (trap_effect s t action)).state
+pub checked-sizes : (s : State) (t : ℕ) (action : Action) (o : Option TrapRefusal) → HasSizesOf s (checked_effect s o (trap_effect s t action)).state
 checked-sizes s t action None = effect-sizes s t action
 checked-sizes s t action (Some refusal) = (refl, refl)
 

@@ -2,3 +2,8 @@ pub mod ActorRuns
 pub mod ActorCounts
 pub mod OtherTurns
 pub mod TimesRise
+pub mod TimedRuns
+pub mod ClocksAddUp
+pub mod DrawnThreads
+pub mod RecordCounts
+pub mod ProcessorCounts

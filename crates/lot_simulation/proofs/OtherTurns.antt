@@ -30,11 +30,11 @@ use Rattle.lot_simulation.specs.Timed.{cost_of}
 -- ---- what a turn costs
 
 -- what a processor does if this thread runs there, or nobody
-abbrev event_for : World → ℕ → Option ℕ → Event
+abbrev pub event_for : World → ℕ → Option ℕ → Event
 event_for w p None = event.Draw p (number_of w p)
 event_for w p (Some t) = event_of_slice p (number_of w p) (slice_on w p t)
 
-event-for : (w : World) (p : ℕ) → processor_event w p ≡ event_for w p (thread_on w.state.records p)
+pub event-for : (w : World) (p : ℕ) → processor_event w p ≡ event_for w p (thread_on w.state.records p)
 event-for w p = at (thread_on w.state.records p) refl
   where
     at : (o : Option ℕ) → thread_on w.state.records p ≡ o → processor_event w p ≡ event_for w p (thread_on w.state.records p)
@@ -88,7 +88,7 @@ pub record IsOrderly (w : World) : Type 0 where
   pub contexts : length w.state.records ≤ length w.contexts
 
 -- what stands at another number stays
-set-kept : {A : Type 0} (xs : List A) (n k : ℕ) (x : A) → ¬ (k ≡ suc (n - 1)) → at_number (set_number xs n x) k ≡ at_number xs k
+pub set-kept : {A : Type 0} (xs : List A) (n k : ℕ) (x : A) → ¬ (k ≡ suc (n - 1)) → at_number (set_number xs n x) k ≡ at_number xs k
 set-kept xs n k x other = from (number-set xs n x k)
   where
     from : (at_number (set_number xs n x) k ≡ at_number xs k) ⊎ ((k ≡ suc (n - 1)) × (at_number (set_number xs n x) k ≡ Some x)) → at_number (set_number xs n x) k ≡ at_number xs k

@@ -51,7 +51,7 @@ Each P [] = Unit {0}
 Each P (due ∷ others) = P due × Each P others
 
 module _ (P : Due → Type 0) where
-  each-append : (xs ys : List Due) → Each P xs → Each P ys → Each P (xs ++ ys)
+  pub each-append : (xs ys : List Due) → Each P xs → Each P ys → Each P (xs ++ ys)
   each-append [] ys first second = second
   each-append (x ∷ xs) ys first second = (first.0, each-append xs ys first.1 second)
 
@@ -64,7 +64,7 @@ module _ (P : Due → Type 0) where
   each-second (x ∷ xs) ys all = each-second xs ys all.1
 
   -- of the turns of each number of a range
-  each-range : (f : ℕ → List Due) (a n : ℕ) → ((p : ℕ) → a ≤ p → p < a + n → Each P (f p)) → Each P (flat_map f (range_with_len a n))
+  pub each-range : (f : ℕ → List Due) (a n : ℕ) → ((p : ℕ) → a ≤ p → p < a + n → Each P (f p)) → Each P (flat_map f (range_with_len a n))
   each-range f a zero each = tt
   each-range f a (suc n) each =
       each-append (f a) (flat_map f (range_with_len (a + 1) n)) (each a (omega arith) (omega arith))
@@ -80,7 +80,7 @@ module _ (P : Due → Type 0) where
       from later (inr other) = later (omega (arith, low, other))
 
   -- what holds of each holds of the earliest
-  earliest-one : (dues : List Due) (due : Due) → Each P dues → earliest dues ≡ Some due → P due
+  pub earliest-one : (dues : List Due) (due : Due) → Each P dues → earliest dues ≡ Some due → P due
   earliest-one [] due all e = cc
   earliest-one (x ∷ xs) due all e = subst P (some-injective (sooner x (earliest xs)) due e) (from (λ y is. earliest-one xs y all.1 is) (earliest xs) refl)
     where
@@ -93,7 +93,7 @@ module _ (P : Due → Type 0) where
           at false other = other
 
   -- a processor's turn, unless it waits
-  due-of : (m : Moment) (p : ℕ) → Each P (processor_due m p) → (clock_of m.clocks p).waits ≡ false → P (record { time = (clock_of m.clocks p).time + cost_of m.world (processor_event m.world p); actor = p })
+  pub due-of : (m : Moment) (p : ℕ) → Each P (processor_due m p) → (clock_of m.clocks p).waits ≡ false → P (record { time = (clock_of m.clocks p).time + cost_of m.world (processor_event m.world p); actor = p })
   due-of m p all waits = at (clock_of m.clocks p).waits all waits
     where
       at : (b : Bool) → Each P (cond b [] (record { time = (clock_of m.clocks p).time + cost_of m.world (processor_event m.world p); actor = p } ∷ [])) → b ≡ false
@@ -101,7 +101,7 @@ module _ (P : Due → Type 0) where
       at true is e = cc
       at false is e = is.0
 
-  of-due : (m : Moment) (p : ℕ) → ((clock_of m.clocks p).waits ≡ false → P (record { time = (clock_of m.clocks p).time + cost_of m.world (processor_event m.world p); actor = p })) → Each P (processor_due m p)
+  pub of-due : (m : Moment) (p : ℕ) → ((clock_of m.clocks p).waits ≡ false → P (record { time = (clock_of m.clocks p).time + cost_of m.world (processor_event m.world p); actor = p })) → Each P (processor_due m p)
   of-due m p is = at (clock_of m.clocks p).waits is
     where
       at : (b : Bool) → (b ≡ false → P (record { time = (clock_of m.clocks p).time + cost_of m.world (processor_event m.world p); actor = p }))
@@ -140,10 +140,10 @@ earliest-least (x ∷ xs) due e = subst (λ d. Each (IsBy d) (x ∷ xs)) (some-i
 missing : (clocks : List Clock) (p : ℕ) → at_number clocks p ≡ None → (clock_of clocks p).waits ≡ true
 missing clocks p none = ap (λ o. (unwrap_or {T = Clock} o (record { time = 0; waits = true; idle = 0 })).waits) none
 
-there : (clocks : List Clock) (p : ℕ) (c : Clock) → at_number clocks p ≡ Some c → clock_of clocks p ≡ c
+pub there : (clocks : List Clock) (p : ℕ) (c : Clock) → at_number clocks p ≡ Some c → clock_of clocks p ≡ c
 there clocks p c is = ap (λ o. unwrap_or o (record { time = 0; waits = true; idle = 0 })) is
 
-number-map : (f : Clock → Clock) (clocks : List Clock) (p : ℕ) → at_number (map f clocks) p ≡ option_map f (at_number clocks p)
+pub number-map : (f : Clock → Clock) (clocks : List Clock) (p : ℕ) → at_number (map f clocks) p ≡ option_map f (at_number clocks p)
 number-map f clocks zero = refl
 number-map f clocks (suc i) = at_number-suc (map f clocks) i ∙ slice_get-map f clocks i ∙ ap (option_map f) (sym (at_number-suc clocks i))
 
@@ -260,7 +260,7 @@ pub record IsTimely (program : Program) (m : Moment) : Type 0 where
   pub due : (p : ℕ) → 1 ≤ p → p < 1 + program.limits.processors → (clock_of m.clocks p).waits ≡ false → m.time ≤ (clock_of m.clocks p).time + cost_of m.world (processor_event m.world p)
 
 -- a turn isn't done earlier than this, and the console's is when its next command is made
-abbrev IsNext : Moment → Due → Type 0
+abbrev pub IsNext : Moment → Due → Type 0
 IsNext m due = (m.time ≤ due.time) × (due.actor ≡ 0 → (rest : List ℕ) × (m.times ≡ due.time ∷ rest))
 
 console-next : (m : Moment) → Rises m.time m.times → Each (IsNext m) (console_due m)
@@ -283,7 +283,7 @@ module _ (program : Program) (m : Moment) (timely : IsTimely program m) where
       (λ p low high. of-due (IsNext m) m p (λ runs. (timely.due p low high runs, λ same. absurd (omega (arith, low, same))))))
 
   module _ (due : Due) (first : earliest (all_due program m) ≡ Some due) where
-    next : IsNext m due
+    pub next : IsNext m due
     next = earliest-one (IsNext m) (all_due program m) due all-next first
 
     least : Each (IsBy due) (all_due program m)
@@ -302,7 +302,7 @@ module _ (program : Program) (m : Moment) (timely : IsTimely program m) where
                 subst (λ times. Rises due.time (drop 1 times)) (sym these) up.1
         at false is = console-rises due.time m.time m.times (each-first (IsBy due) (console_due m) (flat_map (processor_due m) (range_with_len 1 program.limits.processors)) least) timely.times
 
-    kept : IsTimely program (moment_after m (turn_due program m due))
+    pub kept : IsTimely program (moment_after m (turn_due program m due))
     kept =
         let turns = turn-keeps program m.world due.actor timely.orderly in
         record {
@@ -331,7 +331,7 @@ module _ (program : Program) (m : Moment) (timely : IsTimely program m) where
 
 -- ---- all turns
 
-within-some : (end : ℕ) (o : Option Due) (due : Due) → within end o ≡ Some due → o ≡ Some due
+pub within-some : (end : ℕ) (o : Option Due) (due : Due) → within end o ≡ Some due → o ≡ Some due
 within-some end None due e = cc
 within-some end (Some x) due e = at (nat_lt end x.time) e
   where
@@ -349,7 +349,7 @@ turns-rise program (suc room) m timely = at (λ next. turns-rise program room ne
         let first = within-some (end_of program) (earliest (all_due program m)) due is in
         ((next program m timely due first).0, later (moment_after m (turn_due program m due)) (kept program m timely due first))
 
-opening-timely : (program : Program) → IsWithinBounds program.limits → IsNonDecreasing program.times → IsTimely program (opening_moment program)
+pub opening-timely : (program : Program) → IsWithinBounds program.limits → IsNonDecreasing program.times → IsTimely program (opening_moment program)
 opening-timely program bounds sorted = record {
   orderly = record { order = opening-order program.limits bounds; contexts = omega arith };
   times = sorted-from program.times sorted;

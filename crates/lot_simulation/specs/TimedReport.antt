@@ -101,6 +101,10 @@ actor_turns turns = map (λ done. record { actor = done.actor; answer = done.tur
 abbrev pub idle_until : ℕ → Clock → ℕ
 idle_until end clock = if clock.waits then clock.idle + (end - clock.time) else clock.idle
 
+-- Where a processor's clock stands at this time: at the time of its last turn, or at this one if the processor waits.
+abbrev pub clock_at : ℕ → Clock → ℕ
+clock_at end clock = if clock.waits then end else clock.time
+
 -- a processor's line: the draws that somebody won there, the others, the ticks used there, and how long it was idle
 abbrev pub timed_processor_total : Moment → ℕ → List ActorTurn → ℕ → List ℕ
 timed_processor_total m end turns p =

@@ -1,12 +1,13 @@
 //! Laws of the definitions, with nothing to run.
-ghost use Rattle.std.specs.Prelude.{◌≡◌, ℕ, ◌+◌, List, length, map, sum_by};
+ghost use Rattle.std.specs.Prelude.{◌≡◌, ◌≤◌, ℕ, ◌+◌, List, length, map, sum_by};
 ghost use Rattle.std.specs.List.{range_with_len};
 ghost use Rattle.std.specs.List.Sorted.{IsNonDecreasing};
-ghost use Rattle.lot_machine.specs.Bounds.{IsWithinBounds};
+ghost use Rattle.lot_machine.specs.Bounds.{IsBetween, IsWithinBounds};
 ghost use Rattle.lot_machine.specs.declared.reply.Reply.{Reply};
-ghost use Rattle.lot_simulation.specs.World.{Program, IsLegal};
-ghost use Rattle.lot_simulation.specs.Report.{turns_made, turns_of, total_of};
-ghost use Rattle.lot_simulation.specs.Timed.{timed_turns};
+ghost use Rattle.lot_simulation.specs.World.{Program, IsLegal, system_run};
+ghost use Rattle.lot_simulation.specs.Report.{idles_in, quanta_in, ticks_in, total_of, turns_made, turns_of};
+ghost use Rattle.lot_simulation.specs.Timed.{clock_of, ended_at, last_moment, timed_room, timed_schedule, timed_turns};
+ghost use Rattle.lot_simulation.specs.TimedReport.{actor_turns, clock_at, idle_until};
 
 /// What is counted in each actor's turns adds up to what is counted in all turns of a legal history, and so do the
 /// numbers of turns.
@@ -21,4 +22,51 @@ pub fn actors_add_up()
 /// before the one before it.
 pub fn times_never_fall()
     ensures { (program : Program) → IsWithinBounds program.limits → IsNonDecreasing program.times → IsNonDecreasing (map (λ done. done.time) (timed_turns program)) }
+{}
+
+/// Turns in the order of time are a run of the system. If each command has its time, their actors are a legal history.
+/// The run over this history makes the same turns, and it leads to the same world.
+pub fn timed_turns_are_a_run()
+    ensures legal { (program : Program) → length program.times ≡ length program.commands
+        → IsLegal program timed_room (timed_schedule program) }
+    ensures turns { (program : Program) → actor_turns (timed_turns program) ≡ turns_made program (timed_schedule program) }
+    ensures world { (program : Program) → (last_moment program).world ≡ system_run program (timed_schedule program) }
+{}
+
+/// In the report of turns in the order of time a processor's ticks and its unused ticks add up to its clock, and no clock
+/// stands after the end, if sizes are within their bounds and no command is made before the one before it.
+pub fn clocks_add_up()
+    ensures sum { (program : Program) (p : ℕ) → IsWithinBounds program.limits → IsNonDecreasing program.times
+        → IsBetween 1 program.limits.processors p
+        → total_of ticks_in (turns_of p (actor_turns (timed_turns program)))
+        + idle_until (ended_at program (last_moment program)) (clock_of (last_moment program).clocks p)
+        ≡ clock_at (ended_at program (last_moment program)) (clock_of (last_moment program).clocks p) }
+    ensures within { (program : Program) (p : ℕ) → IsWithinBounds program.limits → IsNonDecreasing program.times
+        → IsBetween 1 program.limits.processors p
+        → clock_at (ended_at program (last_moment program)) (clock_of (last_moment program).clocks p)
+        ≤ ended_at program (last_moment program) }
+{}
+
+/// In the report of turns in the order of time the threads' quanta and ticks add up to its totals, if sizes are within
+/// their bounds.
+pub fn timed_threads_add_up()
+    ensures quanta { (program : Program) → IsWithinBounds program.limits
+        → sum_by (λ r. r.quanta) (last_moment program).world.state.records
+        ≡ total_of quanta_in (actor_turns (timed_turns program)) }
+    ensures ticks { (program : Program) → IsWithinBounds program.limits
+        → sum_by (λ r. r.ticks) (last_moment program).world.state.records
+        ≡ total_of ticks_in (actor_turns (timed_turns program)) }
+{}
+
+/// In the same report the processors' quanta, idle draws and ticks add up to its totals, if each command has its time.
+pub fn timed_processors_add_up()
+    ensures quanta { (program : Program) → length program.times ≡ length program.commands
+        → sum_by (λ p. total_of quanta_in (turns_of p (actor_turns (timed_turns program)))) (range_with_len 1 program.limits.processors)
+        ≡ total_of quanta_in (actor_turns (timed_turns program)) }
+    ensures idles { (program : Program) → length program.times ≡ length program.commands
+        → sum_by (λ p. total_of idles_in (turns_of p (actor_turns (timed_turns program)))) (range_with_len 1 program.limits.processors)
+        ≡ total_of idles_in (actor_turns (timed_turns program)) }
+    ensures ticks { (program : Program) → length program.times ≡ length program.commands
+        → sum_by (λ p. total_of ticks_in (turns_of p (actor_turns (timed_turns program)))) (range_with_len 1 program.limits.processors)
+        ≡ total_of ticks_in (actor_turns (timed_turns program)) }
 {}

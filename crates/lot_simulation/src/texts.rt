@@ -54,7 +54,7 @@ pub fn trap_refusals()
         ≡ text (codes "thread 1 ticks 5 refused 36 LockCycle" ∷ []) }
 {}
 
-/// A trap that uses the quantum up while its thread runs on.
+/// A trap that uses the quantum up, though its thread neither yields nor waits.
 #[tactic(auto, unfolding(crate::specs::OnLiterals::texts_on_literals))]
 pub fn traps_that_end()
     ensures lock { trap_line (action.Lock 2) outcome.Locked true
