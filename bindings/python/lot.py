@@ -9,12 +9,14 @@ The calls are those of bindings/c/lot.h, which says what each does; docs/MACHINE
         kernel.event(lot.MAKE_FUNDED, amount=5, currency="base", name="second", script=1)
         print(kernel.event(lot.DRAW, processor=1, number=9).thread)
 
+An unknown field name raises TypeError, and a number out of its field's range OverflowError.
+
 One thread at a time may call a kernel.
 """
 
 import ctypes
 import os
-from ctypes import POINTER, Structure, byref, c_bool, c_size_t, c_uint8, c_uint32, c_uint64, c_void_p
+from ctypes import POINTER, Structure, byref, c_bool, c_size_t, c_uint8, c_uint32, c_uint64, c_void_p, sizeof
 
 # What a call answers.
 STATUSES = (
@@ -54,6 +56,27 @@ class Error(Exception):
         self.status = status
 
 
+def _check_range(number, end, name):
+    """ctypes would keep the lowest bits of a number that is out of its range."""
+    if not 0 <= number < end:
+        raise OverflowError(f"{name} is 0 to {end - 1}, and {number} was given")
+
+
+class Record(Structure):
+    """A structure that a caller fills. ctypes would accept unknown fields too."""
+
+    def __init_subclass__(cls):
+        cls._ends = {field: 1 << 8 * sizeof(kind) for field, kind in cls._fields_ if kind in (c_uint32, c_uint64)}
+        cls._others = {field for field, _ in cls._fields_} - cls._ends.keys()
+
+    def __setattr__(self, field, value):
+        if field in self._ends:
+            _check_range(value, self._ends[field], field)
+        elif field not in self._others:
+            raise TypeError(f"{type(self).__name__} has no field {field!r}")
+        super().__setattr__(field, value)
+
+
 class Name(Structure):
     _fields_ = [("length", c_uint32), ("bytes", c_uint8 * 16)]
 
@@ -61,7 +84,7 @@ class Name(Structure):
         return bytes(self.bytes[: self.length]).decode("ascii")
 
 
-class Wide(Structure):
+class Wide(Record):
     _fields_ = [("low", c_uint64), ("high", c_uint64)]
 
     def __int__(self):
@@ -69,8 +92,7 @@ class Wide(Structure):
 
     @classmethod
     def of(cls, number):
-        if not 0 <= number < 1 << 128:
-            raise ValueError("a wide number is 0 to 2 ** 128 - 1")
+        _check_range(number, 1 << 128, "a wide number")
         return cls(number & (1 << 64) - 1, number >> 64)
 
 
@@ -78,14 +100,14 @@ class Handle(Structure):
     _fields_ = [("at", c_void_p)]
 
 
-class Sizes(Structure):
+class Sizes(Record):
     """How large a kernel is; lot.h has the bounds."""
 
     _fields_ = [(field, c_uint32) for field in
                 ("tickets", "currencies", "threads", "ports", "mutexes", "processors", "scripts", "quantum", "unit")]
 
 
-class Event(Structure):
+class Event(Record):
     _fields_ = [("kind", c_uint32), ("processor", c_uint32), ("ticks", c_uint32), ("object", c_uint32), ("sent", c_uint32),
                 ("script", c_uint32), ("number", Wide), ("amount", c_uint64), ("ticket", c_uint64), ("currency", Name), ("name", Name)]
 
@@ -206,8 +228,10 @@ class Kernel:
         _done(_lot.lot_kernel_event(byref(self._handle), byref(event), byref(reply)))
         return reply
 
-    def _found(self, call, row, *arguments):
-        status = call(byref(self._handle), *arguments, byref(row))
+    def _found(self, call, row, *numbers):
+        for number in numbers:
+            _check_range(number, 1 << 32, "a number")
+        status = call(byref(self._handle), *numbers, byref(row))
         if status == NOT_THERE:
             return None
         _done(status)
@@ -252,6 +276,7 @@ class ParkMiller:
 
     def __init__(self, seed):
         self._generator = Generator()
+        _check_range(seed, 1 << 32, "a seed")
         _done(_lot.lot_generator_new(seed, byref(self._generator)))
 
     def next_value(self):
@@ -273,6 +298,9 @@ class ParkMiller:
 def weight(value, compensation, quantum):
     """What a value weighs in a draw; the compensation is in ticks, 0 for none."""
     answer = Wide()
+    _check_range(value, 1 << 64, "a value")
+    _check_range(compensation, 1 << 32, "a compensation")
+    _check_range(quantum, 1 << 32, "a quantum")
     _lot.lot_weight(value, compensation, quantum, byref(answer))
     return int(answer)
 

@@ -70,6 +70,43 @@ class Worked(unittest.TestCase):
         generator = lot.ParkMiller(1)
         self.assertEqual([generator.next_value() for _ in range(10000)][-1], 1043618065)
 
+    def test_unknown_fields(self):
+        with lot.Kernel() as kernel:
+            kernel.event(lot.MAKE_FUNDED, amount=5, currency="base", name="a", script=1)
+            for fields in [{"numbr": 7}, {"Processor": 1}, {"low": 1}]:
+                with self.assertRaises(TypeError, msg=fields):
+                    kernel.event(lot.DRAW, processor=1, **fields)
+            self.assertIsNone(kernel.runner(1))
+        for call in [lambda: lot.Event(numbr=7), lambda: lot.Sizes(thread=3), lambda: lot.Kernel(thread=3)]:
+            self.assertRaises(TypeError, call)
+
+    def test_numbers_out_of_range(self):
+        narrow, wide = 1 << 32, 1 << 64
+        ends = {"processor": narrow, "ticks": narrow, "object": narrow, "sent": narrow, "script": narrow}
+        ends |= {"amount": wide, "ticket": wide, "number": 1 << 128}
+        with lot.Kernel() as kernel:
+            for field, end in ends.items():
+                for number in [-1, end, end + 5]:
+                    with self.assertRaises(OverflowError, msg=(field, number)):
+                        kernel.event(lot.MAKE_TICKET, currency="base", **{field: number})
+            self.assertRaises(OverflowError, kernel.event, narrow + lot.LIST_TICKETS)
+            for row in [kernel.ticket_row, kernel.currency_row, kernel.thread_row, kernel.runner, kernel.script_of]:
+                self.assertRaises(OverflowError, row, narrow)
+                self.assertIsNone(row(narrow - 1))
+            self.assertEqual(kernel.ticket_count(), 0)
+            reply = kernel.event(lot.MAKE_TICKET, amount=wide - 1, currency="base")
+            self.assertEqual(reply.reason, lot.REFUSAL_BAD_AMOUNT)
+            reply = kernel.event(lot.DRAW, processor=narrow - 1, number=(1 << 128) - 1)
+            self.assertEqual(reply.reason, lot.REFUSAL_BAD_PROCESSOR)
+        for call, arguments in [
+            (lot.ParkMiller, [narrow + 1]), (lot.weight, [wide, 0, 100]), (lot.weight, [1, narrow, 100]),
+            (lot.weight, [1, 0, narrow + 100]), (lot.winner, [[1 << 128], 0]), (lot.winner, [[1], -1]),
+        ]:
+            with self.assertRaises(OverflowError, msg=(call, arguments)):
+                call(*arguments)
+        with self.assertRaises(OverflowError):
+            lot.Kernel(threads=narrow + 1)
+
     def test_what_no_call_takes(self):
         self.assertEqual(status_of(lambda: lot.Kernel(threads=4097)), "bad limits")
         self.assertEqual(status_of(lambda: lot.ParkMiller(0)), "bad seed")

@@ -15,8 +15,8 @@ mod told;
 use std::process::ExitCode;
 use std::{env, io};
 
-/// The exit status of a program that couldn't be run at all.
-const NOT_RUN: u8 = 3;
+/// The exit status if memory runs out before the words are read.
+const NO_MEMORY: u8 = 3;
 
 fn main(rt: HostRuntime) -> ExitCode {
     let status = match env::args(&rt) {
@@ -29,9 +29,9 @@ fn main(rt: HostRuntime) -> ExitCode {
                 io::writer(&rt),
                 rt.stderr(),
             ),
-            Err(_) => NOT_RUN,
+            Err(_) => NO_MEMORY,
         },
-        Err(_) => NOT_RUN,
+        Err(error) => status::unread_status(&error, rt.stderr()),
     };
     ExitCode::from(status)
 }

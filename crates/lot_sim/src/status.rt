@@ -26,6 +26,9 @@ const COMMAND_LINE: u8 = 2;
 /// Memory was refused, a read or a write failed, or workers stopped early.
 const FAILED: u8 = 3;
 
+/// The text for a command line that isn't UTF-8.
+const NOT_UTF8: &str = "error: invalid UTF-8 was detected in one or more arguments\n";
+
 /// How many bytes of output are written at a time.
 const BUFFER: usize = 65536;
 
@@ -45,6 +48,19 @@ pub(crate) fn status<
         Ok(request) => request_status(rt, alloc, request, reader, output, errors),
         Err(error) => say_error(&error, output, errors),
     }
+}
+
+/// The exit status if the words couldn't be read. A word that isn't UTF-8 is a refused command line; out of memory is a
+/// failure, without a text.
+pub(crate) fn unread_status<E: Write + Drop>(error: &io::Error, errors: E) -> u8 {
+    if error.kind() == io::ErrorKind::OutOfMemory {
+        return FAILED;
+    }
+    let mut errors = Watched::new(errors);
+    if errors.write_all(NOT_UTF8.as_bytes()).is_err() || errors.flush().is_err() {
+        return FAILED;
+    }
+    COMMAND_LINE
 }
 
 /// The exit status of what was asked for.

@@ -4,7 +4,7 @@ mod shown;
 mod timed;
 mod told;
 
-use crate::status::status;
+use crate::status::{status, unread_status};
 use lot_system::{PlayFault, Played, play};
 use lot_text::Watched;
 use std::alloc::Global;
@@ -377,6 +377,85 @@ processor 1 quanta 1 idle 0 ticks 0
 total turns 7 quanta 1 ticks 0
 ";
 
+/// Three threads share 100 of base at unit 256: 8533 each, listed as 33.
+const A_THIRD_EACH: &str = "lottery 2
+script s
+compute 100
+endscript
+mkcur g
+mktkt 100 base
+fund 1 g
+fundx 1 g a s
+fundx 1 g b s
+fundx 1 g c s
+lsthr
+schedule 0 0 0 0 0 0 0 1
+";
+
+const A_THIRD_EACH_PLAYED: &str = "0 currency 1
+0 ticket 1
+0 done
+0 funded 2 1
+0 funded 3 2
+0 funded 4 3
+0 lsthr 3
+thread 1 a ready value 33 weight 33 quanta 0 ticks 0
+thread 2 b ready value 33 weight 33 quanta 0 ticks 0
+thread 3 c ready value 33 weight 33 quanta 0 ticks 0
+1 draw 21489 of 25599 thread 3
+report
+thread 1 a quanta 0 ticks 0
+thread 2 b quanta 0 ticks 0
+thread 3 c quanta 1 ticks 0
+processor 1 quanta 1 idle 0 ticks 0
+total turns 8 quanta 1 ticks 0
+";
+
+/// A waiter lends to a mutex's owner, which lends to its server. With this seed the threads 3, 2 and 1 win the first
+/// draws.
+const CHAIN_OF_LENDS: &str = "lottery 1
+seed 1270
+port p
+mutex m
+script waiter
+lock m
+endscript
+script owner
+lock m
+call p
+endscript
+script server
+receive p
+endscript
+fundx 300 base w waiter
+fundx 100 base o owner
+fundx 50 base v server
+lsthr
+schedule 0 0 0 1 1 1 1 1 1 1 0
+";
+
+const CHAIN_OF_LENDS_PLAYED: &str = "0 funded 1 1
+0 funded 2 2
+0 funded 3 3
+1 draw 424 of 450 thread 3
+1 thread 3 ticks 1 receive 1 waits
+1 draw 361 of 400 thread 2
+1 thread 2 ticks 1 lock 1 taken
+1 thread 2 ticks 1 call 1 served by 3
+1 draw 215 of 15300 thread 1
+1 thread 1 ticks 1 lock 1 waits
+0 lsthr 3
+thread 1 w waiting 1 value 300 weight 30000 quanta 1 ticks 1
+thread 2 o served 3 value 400 weight 20000 quanta 1 ticks 2
+thread 3 v ready value 450 weight 45000 quanta 1 ticks 1
+report
+thread 1 w quanta 1 ticks 1
+thread 2 o quanta 1 ticks 2
+thread 3 v quanta 1 ticks 1
+processor 1 quanta 3 idle 0 ticks 4
+total turns 11 quanta 3 ticks 4
+";
+
 #[test]
 fn played(rt: HostRuntime) {
     let rows = [
@@ -391,6 +470,8 @@ fn played(rt: HostRuntime) {
         (LOOP_IN_TWO, 0, LOOP_IN_TWO_PLAYED),
         (LOOP_IN_ONE, 0, LOOP_IN_ONE_PLAYED),
         (LESS_THAN_ONE, 0, LESS_THAN_ONE_PLAYED),
+        (A_THIRD_EACH, 0, A_THIRD_EACH_PLAYED),
+        (CHAIN_OF_LENDS, 0, CHAIN_OF_LENDS_PLAYED),
     ];
     for (input, code, output) in rows {
         check_play(&rt, rt.alloc(), input, code, output);
@@ -481,6 +562,25 @@ fn command_lines(rt: HostRuntime) {
     check_words(&rt, rt.alloc(), &["lot_sim", "play", "--seed"], 2, false);
     check_words(&rt, rt.alloc(), &["lot_sim", "run", "x"], 2, false);
     check_words(&rt, rt.alloc(), &["lot_sim", "--help"], 0, true);
+}
+
+/// A word that isn't UTF-8 ends with 2, as a wrong word does, and out of memory with 3.
+#[test]
+fn unread_command_lines(rt: HostRuntime) {
+    for (kind, code, is_told) in [
+        (ErrorKind::InvalidData, 2, true),
+        (ErrorKind::OutOfMemory, 3, false),
+    ] {
+        let mut errors = Vec::new(rt.alloc());
+        let ended = unread_status(&io::Error::from(kind), &mut errors);
+        assert_eq!(rt; (ended, !errors.is_empty()), (code, is_told));
+    }
+    let failing = Failing {
+        given: false,
+        kind: ErrorKind::Other,
+    };
+    let ended = unread_status(&io::Error::from(ErrorKind::InvalidData), failing);
+    assert_eq!(rt; ended, 3);
 }
 
 /// A reader that gives some bytes and then fails, or a writer that fails at once.

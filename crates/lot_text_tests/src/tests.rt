@@ -1,5 +1,7 @@
 ghost use Rattle.std.specs.Prelude.{◌≤◌, IfOk};
 
+mod watched;
+
 use crate::fault_of;
 use lot_machine::{Command, Kind, Limits, Name, Sizes};
 use lot_script::Script;
@@ -213,12 +215,13 @@ fn reads_headers(rt: HostRuntime) -> Result<(), Fail> {
     check_said(&rt, rt.alloc(), HEADERS, &HEADERS_SAY)
 }
 
-/// Every kind of line of inputs whose turns follow a schedule.
+/// Every kind of line of inputs whose turns follow a schedule. Two names have 16 bytes, the longest.
 const WHOLE_GRAMMAR: &str =
-    "lottery 2\nprocessors 2\nquantum 7\nturns 10000\nseed 5 6\nlimits 9 8 7\n# ports\nport p\nport q\n\n\
-    mutex m\nmutex n\nscript s\nset 1\nloop 2\nadd 3\n# inner\ncompute 4\ncall p\nend\nreceive q\nreply\nlock m\nunlock n\n\
-    yield\nendscript\nscript t\nendscript\nmktkt 10 base\nrmtkt 1\nmkcur a\nrmcur a\nfund 3 a\nunfund 2\nmkthr u t\n\
-    fundx 9 a v s\nlstkt\nlscur\nlsthr\nruns 0 2 2 1\nschedule 1 0";
+    "lottery 2\nprocessors 2\nquantum 7\nturns 10000\nseed 5 6\nlimits 9 8 7\n# ports\nport p\n\
+    port abcdefghijklmnop\n\nmutex m\nmutex n\nscript s\nset 1\nloop 2\nadd 3\n# inner\ncompute 4\ncall p\nend\n\
+    receive abcdefghijklmnop\nreply\nlock m\nunlock n\nyield\nendscript\nscript t\nendscript\nmktkt 10 base\n\
+    rmtkt 1\nmkcur a\nrmcur a\nfund 3 a\nunfund 2\nmkthr abcdefghijklmnop t\nfundx 9 a v s\nlstkt\nlscur\nlsthr\n\
+    runs 0 2 2 1\nschedule 1 0";
 
 const WHOLE_GRAMMAR_SAYS: Said<'_> = Said {
     sizes: Sizes {
@@ -257,7 +260,7 @@ const WHOLE_GRAMMAR_SAYS: Said<'_> = Said {
         Asked::RemoveCurrency("a"),
         Asked::Fund(3, "a"),
         Asked::Unfund(2),
-        Asked::MakeThread("u", 2),
+        Asked::MakeThread("abcdefghijklmnop", 2),
         Asked::MakeFunded(9, "a", "v", 1),
         Asked::List(Kind::Tickets),
         Asked::List(Kind::Currencies),
