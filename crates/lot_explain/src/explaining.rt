@@ -30,12 +30,15 @@ pub fn explain<R: Read, W: Write>(
     ensures fault { IfErr result (λ fault. Leaves explained_output R.remaining reader.old reader.new W.contents writer.old writer.new fault) }
 {
     let mut bytes = read_input(alloc, reader)?;
-    let mut leftovers = Leftovers::none(alloc);
+    let Ok(mut leftovers) = Leftovers::none(alloc) else {
+        return Err(PlayFault::Memory);
+    };
     explain_bytes(alloc, &mut bytes, &mut leftovers, writer)
 }
 
 /// Explains what these bytes say, or writes why they are refused, as `explain` does, for callers who want to say more of it. The bytes
-/// stay if they are refused, and else go before the first turn; then what the run leaves to tell is put in `leftovers`.
+/// stay if they are refused, and else go before the first turn; then what the run leaves to tell is put in `leftovers`. It takes all its
+/// memory before the first turn.
 pub fn explain_bytes<W: Write>(
     alloc: Global,
     bytes: &mut Vec<u8>,

@@ -77,7 +77,9 @@ fn request_status<H: Threads + Wait + Sync, R: Read + Drop, W: Write + Drop, E: 
     };
     let mut reader = Watched::new(reader);
     let mut writer = Watched::new(buffered);
-    let mut told = Told::nothing(alloc);
+    let Ok(mut told) = Told::nothing(alloc) else {
+        return FAILED;
+    };
     let played = match request {
         Request::Play => play(alloc, &mut told, &mut reader, &mut writer).ok(),
         Request::Explain => explain(alloc, &mut told, &mut reader, &mut writer).ok(),

@@ -5,7 +5,7 @@ use lot_simulation::InputFault;
 use lot_system::Leftovers;
 use lot_text::{ParseFault, Watched, parse};
 use lot_words::{CommandLines, write_leftovers, write_words};
-use std::alloc::Global;
+use std::alloc::{AllocError, Global};
 use std::io;
 use std::io::Write;
 
@@ -21,13 +21,13 @@ pub(crate) struct Told {
 }
 
 impl Told {
-    /// Nothing is known.
-    pub(crate) fn nothing(alloc: Global) -> Self {
-        Told {
+    /// Nothing is known. It takes the memory for what a run leaves to tell.
+    pub(crate) fn nothing(alloc: Global) -> Result<Self, AllocError> {
+        Ok(Told {
             input: Vec::new(alloc),
             lines: CommandLines::none(alloc),
-            leftovers: Leftovers::none(alloc),
-        }
+            leftovers: Leftovers::none(alloc)?,
+        })
     }
 
     /// Takes up what was read: its bytes, and on which lines its commands stand.

@@ -10,3 +10,5 @@ pub mod Playing
 pub mod Reading
 pub mod Played
 pub mod Fitting
+pub mod Kept
+pub mod Leaving

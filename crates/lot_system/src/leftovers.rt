@@ -1,46 +1,13 @@
 //! What a run leaves to tell, beside what is written of it.
 
-use crate::System;
+ghost use Rattle.std.specs.Prelude.{◌≡◌, IfOk, length};
+ghost use Rattle.lot_system.specs.Kept.{none_kept};
+ghost use Rattle.lot_system.specs.Leaving.{command_noted, noted};
+ghost use Rattle.lot_system.specs.Seen.{world_of};
+
+use crate::{Few, System};
 use lot_machine::{Name, Refusal, Reply, Status, ThreadRow};
-use std::alloc::Global;
-
-/// How many of a kind are told one by one.
-const TOLD: usize = 8;
-
-/// The first few of a kind, and how many there are in all.
-#[derive(Debug, Drop)]
-pub struct Few<T: Drop> {
-    first: Vec<T>,
-    count: usize,
-}
-
-impl<T: Drop> Few<T> {
-    /// None yet.
-    fn none(alloc: Global) -> Self {
-        Few {
-            first: Vec::new(alloc),
-            count: 0,
-        }
-    }
-
-    /// One more. Without memory it is only counted.
-    fn add(&mut self, one: T) {
-        if self.first.len() < TOLD {
-            let _ = self.first.push(one);
-        }
-        self.count = self.count.saturating_add(1);
-    }
-
-    /// The first of them, in order.
-    pub fn first(&self) -> &[T] {
-        self.first.as_slice()
-    }
-
-    /// How many there are besides.
-    pub fn others(&self) -> usize {
-        self.count.saturating_sub(self.first.len())
-    }
-}
+use std::alloc::{AllocError, Global};
 
 /// A command that the kernel refused.
 #[derive(Clone, Copy, Debug, PartialEq, Eq)]
@@ -58,11 +25,11 @@ pub struct StuckThread {
     pub status: Status,
 }
 
-/// What a run leaves to tell, for words that stand beside its output. Nothing is proved of it but that it is safe.
+/// What a run leaves to tell, for words that stand beside its output.
 #[derive(Debug, Drop)]
 pub struct Leftovers {
     /// How many commands were made.
-    made: usize,
+    pub made: usize,
     /// Those of them that were refused.
     pub refused: Few<RefusedCommand>,
     /// How many commands were never made.
@@ -74,32 +41,33 @@ pub struct Leftovers {
 }
 
 impl Leftovers {
-    /// Nothing to tell.
-    pub fn none(alloc: Global) -> Self {
-        Leftovers {
+    /// Nothing to tell. It takes all the memory that noting will ever use.
+    pub fn none(alloc: Global) -> Result<Self, AllocError>
+        ensures { IfOk result (λ leftovers. leftovers ≡ record { made = 0; refused = none_kept; unmade = 0; weightless = none_kept; waiting = none_kept }) }
+    {
+        Ok(Leftovers {
             made: 0,
-            refused: Few::none(alloc),
+            refused: Few::none(alloc)?,
             unmade: 0,
-            weightless: Few::none(alloc),
-            waiting: Few::none(alloc),
-        }
-    }
-
-    /// How many commands were made.
-    pub fn made(&self) -> usize {
-        self.made
+            weightless: Few::none(alloc)?,
+            waiting: Few::none(alloc)?,
+        })
     }
 
     /// Takes up what the actor's turn answered.
     #[inline(always)]
-    pub fn note(&mut self, actor: u32, reply: &Reply) {
+    pub fn note(&mut self, actor: u32, reply: &Reply)
+        ensures { self.new ≡ noted self.old actor reply.now }
+    {
         if actor == 0 {
             self.note_command(reply);
         }
     }
 
     /// Takes up what the next command came to.
-    fn note_command(&mut self, reply: &Reply) {
+    fn note_command(&mut self, reply: &Reply)
+        ensures { self.new ≡ command_noted self.old reply.now }
+    {
         if let Reply::Refused(refusal) = *reply {
             let place = self.made;
             self.refused.add(RefusedCommand { place, refusal });
@@ -108,7 +76,11 @@ impl Leftovers {
     }
 
     /// Takes up what stands at the end of a run.
-    pub fn note_end(&mut self, system: &mut System) {
+    pub fn note_end(&mut self, system: &mut System)
+        ensures kept { (self.new.made ≡ self.old.made) × (self.new.refused ≡ self.old.refused) }
+        ensures unmade { self.new.unmade ≡ length (world_of system.old).commands }
+        ensures same { system.new ≡ system.old }
+    {
         self.unmade = system.commands_left();
         let is_over = is_over(system);
         for place in 0..system.thread_count() {
@@ -119,7 +91,10 @@ impl Leftovers {
     }
 
     /// Takes up a thread as it is at the end, when perhaps no thread can run any more.
-    fn note_thread(&mut self, system: &mut System, row: ThreadRow, is_over: bool) {
+    fn note_thread(&mut self, system: &mut System, row: ThreadRow, is_over: bool)
+        ensures kept { (self.new.made ≡ self.old.made) × (self.new.refused ≡ self.old.refused) × (self.new.unmade ≡ self.old.unmade) }
+        ensures same { system.new ≡ system.old }
+    {
         let ThreadRow {
             name,
             status,
@@ -135,7 +110,9 @@ impl Leftovers {
 }
 
 /// Whether no thread can run any more: none is Running, or Ready with a weight.
-fn is_over(system: &mut System) -> bool {
+fn is_over(system: &mut System) -> bool
+    ensures { system.new ≡ system.old }
+{
     for place in 0..system.thread_count() {
         if let Some(row) = system.thread_row(place + 1) {
             if can_run(&row) {
@@ -157,7 +134,9 @@ fn can_run(row: &ThreadRow) -> bool {
 
 /// Whether a thread with this status waits for good: for the reply of a server that has ended, or for whatever it may be
 /// if no thread can run. A server that waits for calls is none.
-fn is_stuck(system: &mut System, status: Status, is_over: bool) -> bool {
+fn is_stuck(system: &mut System, status: Status, is_over: bool) -> bool
+    ensures { system.new ≡ system.old }
+{
     match status {
         Status::Served(server) => is_over || has_ended(system, server),
         Status::Queued(_) | Status::Waiting(_) => is_over,
@@ -166,7 +145,9 @@ fn is_stuck(system: &mut System, status: Status, is_over: bool) -> bool {
 }
 
 /// Whether the thread with this number has ended.
-fn has_ended(system: &mut System, thread: u32) -> bool {
+fn has_ended(system: &mut System, thread: u32) -> bool
+    ensures { system.new ≡ system.old }
+{
     match system.thread_row(thread) {
         Some(row) => row.status == Status::Dead,
         None => false,

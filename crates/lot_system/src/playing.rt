@@ -57,12 +57,15 @@ pub fn play<R: Read, W: Write>(
     ensures fault { IfErr result (λ fault. Leaves output R.remaining reader.old reader.new W.contents writer.old writer.new fault) }
 {
     let mut bytes = read_input(alloc, reader)?;
-    let mut leftovers = Leftovers::none(alloc);
+    let Ok(mut leftovers) = Leftovers::none(alloc) else {
+        return Err(PlayFault::Memory);
+    };
     play_bytes(alloc, &mut bytes, &mut leftovers, writer)
 }
 
 /// Plays what these bytes say, or writes why they are refused, as `play` does, for callers who want to say more of it. The bytes stay if
-/// they are refused, and else go before the first turn; then what the run leaves to tell is put in `leftovers`.
+/// they are refused, and else go before the first turn; then what the run leaves to tell is put in `leftovers`. It takes all its memory
+/// before the first turn.
 pub fn play_bytes<W: Write>(
     alloc: Global,
     bytes: &mut Vec<u8>,

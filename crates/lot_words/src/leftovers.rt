@@ -49,7 +49,7 @@ fn write_unmade<W: Write>(
     leftovers: &Leftovers,
     lines: &CommandLines,
 ) -> io::Result<()> {
-    let line = Line(lines.line_of(leftovers.made()));
+    let line = Line(lines.line_of(leftovers.made));
     match leftovers.unmade {
         0 => Ok(()),
         1 => writeln!(
