@@ -1,9 +1,11 @@
 -- Events in order, a step at a time.
-use Rattle.std.proofs.Common.{◌≡◌, ℕ, ◌+◌, ◌<◌, List, [], ◌∷◌, ◌++◌, length, get_or, take, drop, set, Ok, ap, arith}
+use Rattle.std.proofs.Common.{◌≡◌, ℕ, ◌+◌, ◌<◌, List, [], ◌∷◌, ◌++◌, length, get_or, take, drop, set, Ok, ap, refl, subst, arith}
 use Rattle.std.proofs.lemmas.List.{drop_more, take_more_set, drop-set-lt, append_assoc}
 use Rattle.lot_machine.specs.declared.event.Event.{Event}
 use Rattle.lot_machine.specs.State.{State}
-use Rattle.lot_machine.specs.Step.{step}
+use Rattle.lot_machine.specs.Step.{step, replies}
+use Rattle.lot_kernel.specs.Counted.{AreDone, IsDone}
+use Rattle.lot_kernel.specs.Snapshots.{Snapshot}
 use Rattle.lot_c.specs.declared.event.PlainEvent.{PlainEvent}
 use Rattle.lot_c.specs.declared.reply.PlainReply.{PlainReply}
 use Rattle.lot_c.specs.Calls.{events_meant, first_fault, in_front, fault_or, replies_written, written_by}
@@ -19,6 +21,12 @@ module _ (es : List PlainEvent) (i : ℕ) (d : PlainEvent) (e : Event) (below : 
   pub fault-more : first_fault (drop i es) ≡ first_fault (drop (i + 1) es)
   fault-more = rw (drop_more es i d below) (ap (λ m. fault_or m (first_fault (drop (i + 1) es))) ok)
 
+  -- it is done, and then the others
+  pub done-more : (old mid end : Snapshot) → IsDone e (step old.state e).reply old mid → AreDone (events_meant (drop (i + 1) es)) (replies mid.state (events_meant (drop (i + 1) es))) mid end
+      → AreDone (events_meant (drop i es)) (replies old.state (events_meant (drop i es))) old end
+  done-more old mid end one others =
+      rw meant-more (mid, one, subst (λ s. AreDone (events_meant (drop (i + 1) es)) (replies s (events_meant (drop (i + 1) es))) mid end) one.state others)
+
   module _ (s : State) (rs : List PlainReply) (room : i < length rs) where
     abbrev r : PlainReply
     r = plain_reply (step s e).reply
@@ -32,3 +40,7 @@ module _ (es : List PlainEvent) (i : ℕ) (d : PlainEvent) (e : Event) (below : 
     pub written-step : take (i + 1) (set rs i r) ++ replies_written (step s e).state (drop (i + 1) es) (drop (i + 1) (set rs i r)) ≡ take i rs ++ replies_written s (drop i es) (drop i rs)
     written-step = rw (take_more_set rs i r room) (rw (drop-set-lt (i + 1) rs i r (omega arith)) (rw written-more
         (append_assoc (take i rs) (r ∷ []) (replies_written (step s e).state (drop (i + 1) es) (drop (i + 1) rs)))))
+
+-- no event is left
+pub done-none : (events : List Event) (k : Snapshot) → events ≡ [] → AreDone events (replies k.state events) k k
+done-none events k none = rw none refl

@@ -11,9 +11,10 @@ use Rattle.lot_machine.specs.Funding.{ticket_in}
 use Rattle.lot_machine.specs.Numbered.{at_number}
 use Rattle.lot_machine.specs.Rows as rows
 use Rattle.lot_machine.specs.State.{State, thread_on, used_by}
+use Rattle.lot_machine.specs.Step as machine
 use Rattle.lot_machine.specs.Step.{step, state_after}
 use Rattle.lot_value.specs.Caches.{HasNoneTwice}
-use Rattle.lot_kernel.specs.Counted.{Counts, settled, with_ticket_read}
+use Rattle.lot_kernel.specs.Counted.{AreDone, Counts, settled, with_ticket_read}
 use Rattle.lot_kernel.specs.Snapshots.{Snapshot, MakesStale, starting}
 use Rattle.lot_c.specs.declared.event.PlainEvent.{PlainEvent}
 use Rattle.lot_c.specs.declared.reply.PlainReply.{PlainReply}
@@ -88,12 +89,13 @@ abbrev pub replies_written : State → List PlainEvent → List PlainReply → L
 replies_written s (fields ∷ events) (reply ∷ others) = written_by s (event_meant fields) reply (λ after. replies_written after events others) others
 replies_written s events others = others
 
--- Fields are handed in for events in order.
+-- Fields are handed in for events in order. The events that are meant are done in turn, each as a kernel's own call does it.
 pub record AreAnswered (fields : List PlainEvent) (status done : ℕ) (old new : Snapshot) (before after : List PlainReply) : Type 0 where
   pub status_is : status ≡ code (first_fault fields)
   pub done_are : done ≡ length (events_meant fields)
   pub replies : after ≡ replies_written old.state fields before
   pub state : new.state ≡ state_after old.state (events_meant fields)
+  pub kernel : AreDone (events_meant fields) (machine.replies old.state (events_meant fields)) old new
 
 -- ---- what is shown
 

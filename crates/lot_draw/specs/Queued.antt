@@ -11,12 +11,13 @@ use Rattle.lot_draw.specs.declared.competing.Competitor.{Competitor}
 use Rattle.lot_draw.specs.Competing.{HasTicks, weight_among, competitor_at}
 
 -- How many ticks a quantum has; for each thread that there may be, what it competes with, if it does, and its weight in the
--- tree; and the places of the threads whose weight may have to change, thread 1 at place 0.
+-- tree; the places of the threads whose weight may have to change, thread 1 at place 0; and how many places of the tree were visited.
 pub record Queued : Type 0 where
   pub quantum : ℕ
   pub competitors : List (Option Competitor)
   pub weights : List ℕ
   pub changed : List ℕ
+  pub visits : ℕ
 
 -- the weight of the thread may have to change
 abbrev pub IsChanged : Queued → ℕ → Type 0

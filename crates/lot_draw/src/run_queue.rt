@@ -17,14 +17,15 @@ use crate::lottery::{reduced, weight};
 use lot_lists::Lists;
 use lot_machine::{Limits, Node};
 use lot_tree::SumTree;
-use lot_value::{Counter, ValuedGraph};
+use lot_value::ValuedGraph;
 use std::alloc::{AllocError, Global};
 use std::marker::Model;
 
 // The only list of the changed threads.
 const CHANGED: usize = 0;
 
-/// What each thread competes with, if it does, and the weights of those that compete.
+/// What each thread competes with, if it does, and the weights of those that compete; and how many places of the tree of weights were
+/// visited.
 ///
 /// Only a draw writes to the tree of weights. A thread whose weight may have to change before the next draw is listed.
 #[derive(Drop)]
@@ -33,6 +34,7 @@ pub struct RunQueue {
     changed: Lists,
     competitors: Vec<Option<Competitor>>,
     quantum: u32,
+    visits: u64,
 }
 
 impl Model for RunQueue {
@@ -41,15 +43,15 @@ impl Model for RunQueue {
 
     ghost Value = { Queued };
 
-    ghost view = { λ s. record { quantum = s.quantum; competitors = s.competitors.items; weights = s.tree; changed = nodes_of s.changed 0 } };
+    ghost view = { λ s. record { quantum = s.quantum; competitors = s.competitors.items; weights = s.tree; changed = nodes_of s.changed 0; visits = s.visits } };
 
     ghost invariant = { λ s. IsQueue s.tree s.changed s.competitors.items };
 }
 
 impl RunQueue {
-    /// Nobody competes.
+    /// Nobody competes, and nothing was visited.
     pub fn new(alloc: Global, limits: &Limits) -> Result<Self, AllocError>
-        ensures queue { IfOk result (λ made. made ≡ record { quantum = limits.now.quantum; competitors = replicate limits.now.threads None; weights = replicate limits.now.threads 0; changed = [] }) }
+        ensures queue { IfOk result (λ made. made ≡ record { quantum = limits.now.quantum; competitors = replicate limits.now.threads None; weights = replicate limits.now.threads 0; changed = []; visits = 0 }) }
         ensures weights { IfOk result (λ made. (c : Known) → AreWeights made c) }
     {
         let threads = limits.threads as usize;
@@ -58,6 +60,7 @@ impl RunQueue {
             changed: Lists::new(alloc, 1, threads)?,
             competitors: vec![in alloc; None; threads]?,
             quantum: limits.quantum,
+            visits: 0,
         })
     }
 
@@ -66,6 +69,13 @@ impl RunQueue {
         ensures { result ≡ self.now.quantum }
     {
         self.quantum
+    }
+
+    /// How many places of the tree of weights were visited. The count stops at the greatest `u64`.
+    pub fn visits(&self) -> u64
+        ensures { result ≡ self.now.visits }
+    {
+        self.visits
     }
 
     /// Says what a thread competes with from now on, or that it doesn't compete. Its weight is set at the next draw.
@@ -83,7 +93,7 @@ impl RunQueue {
 
     /// Computes the values of all stale nodes again, as `ValuedGraph::settle` does. The weights of the threads among them are set
     /// at the next draw.
-    pub fn settle(&mut self, graph: &mut ValuedGraph, meter: &mut Counter)
+    pub fn settle(&mut self, graph: &mut ValuedGraph)
         requires places { length self.old.competitors ≡ graph.old.now.thread_limit }
         requires weights { AreWeights self.old graph.old.known }
         ensures queue { self.new ≡ record self.old { changed = self.new.changed } }
@@ -94,9 +104,9 @@ impl RunQueue {
         ensures unit { graph.new.known.unit ≡ graph.old.known.unit }
         ensures settled { IsSettled graph.new }
         ensures once { IsOnce graph.old.known }
-        ensures counted { meter.new ≡ record meter.old { ticket_reads = counted_up meter.old.ticket_reads (edges_into_all graph.old.now.funding graph.old.known.stale) } }
+        ensures counted { graph.new.known.reads ≡ counted_up graph.old.known.reads (edges_into_all graph.old.now.funding graph.old.known.stale) }
     {
-        while let Some(node) = graph.settle_next(meter) {
+        while let Some(node) = graph.settle_next() {
             self.list_node(node);
         }
     }
@@ -104,24 +114,24 @@ impl RunQueue {
     /// Holds a draw with the number `d` (2, 4.2) among the threads that compete: `None` if their weights sum to 0.
     ///
     /// Settles what is stale, sets the weights that may have changed, and visits the tree once.
-    pub fn draw(&mut self, graph: &mut ValuedGraph, d: u128, meter: &mut Counter) -> Option<Winner>
+    pub fn draw(&mut self, graph: &mut ValuedGraph, d: u128) -> Option<Winner>
         requires competes { CompetesIn self.old.competitors graph.old }
         requires weights { AreWeights self.old graph.old.known }
         ensures winner { result ≡ drawn_among self.old.quantum self.old.competitors (thread_value graph.old.known.unit graph.old.now.funding graph.old.live) d }
         ensures competes { IfSome result (λ w. IsSome (competitor_at self.old.competitors w.thread)) }
-        ensures queue { self.new ≡ record self.old { weights = self.new.weights; changed = [] } }
+        ensures queue { self.new ≡ record self.old { weights = self.new.weights; changed = []; visits = self.new.visits } }
         ensures weights { AreWeights self.new graph.new.known }
         ensures now { graph.new.now ≡ graph.old.now }
         ensures live { graph.new.live ≡ graph.old.live }
         ensures unit { graph.new.known.unit ≡ graph.old.known.unit }
         ensures settled { IsSettled graph.new }
         ensures once { IsOnce graph.old.known }
-        ensures reads { meter.new.ticket_reads ≡ counted_up meter.old.ticket_reads (edges_into_all graph.old.now.funding graph.old.known.stale) }
-        ensures visits { MatchOption result (meter.new.tree_visits ≡ meter.old.tree_visits) (λ w. CountsReads (length self.old.competitors) meter.old.tree_visits meter.new.tree_visits) }
+        ensures reads { graph.new.known.reads ≡ counted_up graph.old.known.reads (edges_into_all graph.old.now.funding graph.old.known.stale) }
+        ensures visits { MatchOption result (self.new.visits ≡ self.old.visits) (λ w. CountsReads (length self.old.competitors) self.old.visits self.new.visits) }
     {
-        self.settle(graph, meter);
+        self.settle(graph);
         self.weigh_changed(graph);
-        self.hold_lottery(d, meter)
+        self.hold_lottery(d)
     }
 
     /// Lists the thread at a place, if it isn't listed.
@@ -187,19 +197,17 @@ impl RunQueue {
     }
 
     /// Holds the lottery over the weights in the tree.
-    fn hold_lottery(&self, d: u128, meter: &mut Counter) -> Option<Winner>
-        ensures winner { result ≡ winner_among (numbers self.now.competitors) (lottery.winner self.now.weights d) }
-        ensures reads { meter.new.ticket_reads ≡ meter.old.ticket_reads }
-        ensures visits { MatchOption result (meter.new.tree_visits ≡ meter.old.tree_visits) (λ w. CountsReads (length self.now.competitors) meter.old.tree_visits meter.new.tree_visits) }
+    fn hold_lottery(&mut self, d: u128) -> Option<Winner>
+        ensures winner { result ≡ winner_among (numbers self.old.competitors) (lottery.winner self.old.weights d) }
+        ensures queue { self.new ≡ record self.old { visits = self.new.visits } }
+        ensures visits { MatchOption result (self.new.visits ≡ self.old.visits) (λ w. CountsReads (length self.old.competitors) self.old.visits self.new.visits) }
     {
         let total = self.tree.total();
         if total == 0 {
             return None;
         }
         let number = reduced(d, total);
-        let mut visits = meter.meter().tree_visits;
-        let place = self.tree.find(number, &mut visits);
-        meter.set_tree_visits(visits);
+        let place = self.tree.find(number, &mut self.visits);
         Some(Winner {
             thread: place as u32 + 1,
             number,

@@ -5,7 +5,7 @@ ghost use Rattle.lot_graph.specs.Graphs.{IsThread, IsTarget};
 use super::*;
 use lot_graph::Graph;
 use lot_machine::{Limits, Sizes, Target};
-use lot_value::{Counter, Meter, ValuedGraph};
+use lot_value::ValuedGraph;
 use std::alloc::{AllocError, Global};
 use std::marker::Model;
 use std::process::Abort;
@@ -89,14 +89,15 @@ impl Room {
     }
 
     /// A draw, with the counts of what it read and visited.
-    fn draw(&mut self, alloc: Global, d: u128) -> (Option<Winner>, u64, u64) {
-        let mut meter = Counter::new(alloc);
-        let winner = self.queue.draw(&mut self.graph, d, &mut meter);
-        let Meter {
-            ticket_reads,
-            tree_visits,
-        } = meter.meter();
-        (winner, ticket_reads, tree_visits)
+    fn draw(&mut self, d: u128) -> (Option<Winner>, u64, u64) {
+        let reads = self.graph.reads();
+        let visits = self.queue.visits();
+        let winner = self.queue.draw(&mut self.graph, d);
+        (
+            winner,
+            self.graph.reads().saturating_sub(reads),
+            self.queue.visits().saturating_sub(visits),
+        )
     }
 }
 
@@ -159,30 +160,22 @@ fn is_won(winner: Option<Winner>, (thread, number, total): Won) -> bool {
 }
 
 /// Draws, and checks who wins.
-fn check_winner(rt: &impl Abort, alloc: Global, room: &mut Room, d: u128, won: Won) {
-    let (winner, _, _) = room.draw(alloc, d);
+fn check_winner(rt: &impl Abort, room: &mut Room, d: u128, won: Won) {
+    let (winner, _, _) = room.draw(d);
     assert!(rt; is_won(winner, won), "at {d}");
 }
 
 /// Draws, and checks who wins and the counts.
-fn check_counts(
-    rt: &impl Abort,
-    alloc: Global,
-    room: &mut Room,
-    d: u128,
-    won: Won,
-    reads: u64,
-    most: u64,
-) {
-    let (winner, read, visits) = room.draw(alloc, d);
+fn check_counts(rt: &impl Abort, room: &mut Room, d: u128, won: Won, reads: u64, most: u64) {
+    let (winner, read, visits) = room.draw(d);
     assert!(rt; is_won(winner, won), "at {d}");
     assert!(rt; read == reads, "{read} at {d}");
     assert!(rt; visits >= 1 && visits <= most, "{visits} at {d}");
 }
 
 /// Draws, and checks that nobody wins.
-fn check_idle(rt: &impl Abort, alloc: Global, room: &mut Room, d: u128) {
-    let (winner, read, visits) = room.draw(alloc, d);
+fn check_idle(rt: &impl Abort, room: &mut Room, d: u128) {
+    let (winner, read, visits) = room.draw(d);
     assert!(rt; winner.is_none(), "at {d}");
     assert!(rt; read == 0 && visits == 0, "at {d}");
 }
@@ -194,7 +187,7 @@ fn add_funded(rt: &impl Abort, room: &mut Room, amount: u32) {
 }
 
 /// Takes a step.
-fn take(rt: &impl Abort, alloc: Global, room: &mut Room, step: Step) {
+fn take(rt: &impl Abort, room: &mut Room, step: Step) {
     match step {
         Step::AddThread => {
             room.add_thread(rt);
@@ -206,16 +199,16 @@ fn take(rt: &impl Abort, alloc: Global, room: &mut Room, step: Step) {
         Step::Unfund(ticket) => room.unfund(rt, ticket),
         Step::Run(thread) => room.run(rt, thread),
         Step::Compete(thread, compensation) => room.compete(rt, thread, compensation),
-        Step::Wins(d, won) => check_winner(rt, alloc, room, d, won),
-        Step::Reads(d, won, reads, most) => check_counts(rt, alloc, room, d, won, reads, most),
-        Step::Idles(d) => check_idle(rt, alloc, room, d),
+        Step::Wins(d, won) => check_winner(rt, room, d, won),
+        Step::Reads(d, won, reads, most) => check_counts(rt, room, d, won, reads, most),
+        Step::Idles(d) => check_idle(rt, room, d),
     }
 }
 
 /// Takes the steps in turn.
-fn take_all(rt: &impl Abort, alloc: Global, room: &mut Room, steps: &[Step]) {
+fn take_all(rt: &impl Abort, room: &mut Room, steps: &[Step]) {
     for step in steps {
-        take(rt, alloc, room, *step);
+        take(rt, room, *step);
     }
 }
 
@@ -228,7 +221,7 @@ fn play(
 ) -> Result<(), Fail> {
     let limits = limits.ok_or("limits")?;
     let mut room = Room::new(alloc, &limits)?;
-    take_all(rt, alloc, &mut room, steps);
+    take_all(rt, &mut room, steps);
     Ok(())
 }
 
@@ -248,8 +241,8 @@ const THIRDS: [Step; 8] = [
 fn play_thirds(rt: &impl Abort, alloc: Global, steps: &[Step]) -> Result<(), Fail> {
     let limits = small_limits().ok_or("limits")?;
     let mut room = Room::new(alloc, &limits)?;
-    take_all(rt, alloc, &mut room, &THIRDS);
-    take_all(rt, alloc, &mut room, steps);
+    take_all(rt, &mut room, &THIRDS);
+    take_all(rt, &mut room, steps);
     Ok(())
 }
 
@@ -358,7 +351,7 @@ fn visits_a_place_a_digit(rt: HostRuntime) -> Result<(), Fail> {
         let reads = if d == 0 { 1000 } else { 0 };
         let number = u128::from(d);
         let won = (d + 1, number, 1000);
-        check_counts(&rt, rt.alloc(), &mut room, number, won, reads, 10);
+        check_counts(&rt, &mut room, number, won, reads, 10);
     }
     Ok(())
 }

@@ -148,11 +148,11 @@ module _ (old issued added funded : Snapshot) (amount issuer script n t : ℕ) (
 
   pub makes-funded : MakesStale issued added → MakesStale added funded → MakesStale old funded
   makes-funded makes_added makes_funded =
-      let start = makes-both-in (threads_of old.state old.stale) (threads_of issued.state issued.stale) (threads_of added.state added.stale)
+      let start = makes-both-in (threads_of old.state old.stale old.meter) (threads_of issued.state issued.stale issued.meter) (threads_of added.state added.stale added.meter)
       (edges-between (graph-of old) (graph-of issued) (graph-of added) (λ edge. inl (issued-ends edge)))
       (live-between (live_in old.state.records) (live_in issued.state.records) (live_in added.state.records) (λ u. inl (ap (λ (x : Snapshot). at_number (live_in x.state.records) u) first)))
       (λ x stale. inl (subst (λ (y : Snapshot). Contains y.stale x) first stale)) makes_added in
-      makes-both-in (threads_of old.state old.stale) (threads_of added.state added.stale) (threads_of funded.state funded.stale)
+      makes-both-in (threads_of old.state old.stale old.meter) (threads_of added.state added.stale added.meter) (threads_of funded.state funded.stale funded.meter)
       (edges-between (graph-of old) (graph-of added) (graph-of funded) (λ edge. inl (added-ends edge)))
       (live-between (live_in old.state.records) (live_in added.state.records) (live_in funded.state.records) (λ u. inr (sym (ap (λ (x : State). at_number (live_in x.records) u) third))))
       start makes_funded

@@ -15,6 +15,7 @@ use Rattle.lot_machine.specs.Step.{draw, is_bad_processor, started, step}
 use Rattle.lot_machine.proofs.Queues.{record-of}
 use Rattle.lot_machine.proofs.Tickets.{some-injective}
 use Rattle.lot_draw.specs.declared.competing.Winner.{Winner}
+use Rattle.lot_value.specs.declared.meter.Meter.{Meter}
 use Rattle.lot_threads.specs.Threaded.{Threaded, MakesStaleIn, drawn_in, funding_in, with_records}
 use Rattle.lot_kernel.specs.Snapshots.{threads_of}
 use Rattle.lot_kernel.proofs.Untouched.{same-seen, stays-fresh}
@@ -27,22 +28,22 @@ none-some w e = cc
 
 module _ (s : State) (p d : ℕ) (good : is_bad_processor s p ≡ false) (free : is_some (thread_on s.records p) ≡ false) where
   -- nobody wins
-  pub step-idle : (stale : List Node) → drawn_in (threads_of s stale) d ≡ None → step s (event.Draw p d) ≡ record { state = s; reply = answer.Idle }
-  step-idle stale none = rw (good, free) (by (winner (map (weight_of s) (ready_threads s.records)) d) refl none)
+  pub step-idle : (stale : List Node) (meter : Meter) → drawn_in (threads_of s stale meter) d ≡ None → step s (event.Draw p d) ≡ record { state = s; reply = answer.Idle }
+  step-idle stale meter none = rw (good, free) (by (winner (map (weight_of s) (ready_threads s.records)) d) refl none)
     where
-      by : (o : Option Drawn) → winner (map (weight_of s) (ready_threads s.records)) d ≡ o → drawn_in (threads_of s stale) d ≡ None → draw s p d ≡ record { state = s; reply = answer.Idle }
+      by : (o : Option Drawn) → winner (map (weight_of s) (ready_threads s.records)) d ≡ o → drawn_in (threads_of s stale meter) d ≡ None → draw s p d ≡ record { state = s; reply = answer.Idle }
       by None is e = rw is refl
       by (Some w) is e = let never : Some (record { thread = slice_index (ready_threads s.records) w.place; number = w.number; total = w.total }) ≡ None = rw is at e in absurd (some-none _ never)
 
   -- the winner runs
-  pub step-won : (stale : List Node) (w : Winner) → drawn_in (threads_of s stale) d ≡ Some w
+  pub step-won : (stale : List Node) (meter : Meter) (w : Winner) → drawn_in (threads_of s stale meter) d ≡ Some w
       → step s (event.Draw p d) ≡ record { state = record s { records = change_record (started p) s.records w.thread }; reply = answer.Winner w.thread w.number w.total (option_and_then (λ r. r.delivered) (at_number s.records w.thread)) }
-  step-won stale w some = rw (good, free) (by (winner (map (weight_of s) (ready_threads s.records)) d) refl some)
+  step-won stale meter w some = rw (good, free) (by (winner (map (weight_of s) (ready_threads s.records)) d) refl some)
     where
       seen : Winner → Step
       seen x = record { state = record s { records = change_record (started p) s.records x.thread }; reply = answer.Winner x.thread x.number x.total (option_and_then (λ r. r.delivered) (at_number s.records x.thread)) }
 
-      by : (o : Option Drawn) → winner (map (weight_of s) (ready_threads s.records)) d ≡ o → drawn_in (threads_of s stale) d ≡ Some w → draw s p d ≡ seen w
+      by : (o : Option Drawn) → winner (map (weight_of s) (ready_threads s.records)) d ≡ o → drawn_in (threads_of s stale meter) d ≡ Some w → draw s p d ≡ seen w
       by None is e = let never : None ≡ Some w = rw is at e in absurd (none-some w never)
       by (Some x) is e =
           let same : Some (record { thread = slice_index (ready_threads s.records) x.place; number = x.number; total = x.total }) ≡ Some w = rw is at e in

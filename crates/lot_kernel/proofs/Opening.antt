@@ -25,6 +25,7 @@ opening_threads sizes = record {
   threads = [];
   records = [];
   stale = [];
+  meter = record { ticket_reads = 0; tree_visits = 0 };
 }
 
 pub opening-held : (sizes : Sizes) (names : List (Option (List ℕ))) (v : Threaded) (q : QueueLists) → names ≡ Some (codes "base") ∷ [] → v ≡ opening_threads sizes → q ≡ empty_queues sizes.ports sizes.mutexes sizes.threads → IsHeld sizes names v q

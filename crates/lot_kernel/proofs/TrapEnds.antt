@@ -169,10 +169,10 @@ finished-reply s p t ticks used e came after ends same_outcome same is =
 pub makes-trap : (old mid new : Snapshot) (t : ℕ) (change : Record → Record) (was : Record) → at_number old.state.records t ≡ Some was → at_number mid.state.records t ≡ Some was
     → new.state ≡ record mid.state { records = change_record change mid.state.records t } → MakesStale old mid → MakesStale mid new → MakesStale old new
 makes-trap old mid new t change was left there is =
-    makes-last (threads_of old.state old.stale) (threads_of mid.state mid.stale) (threads_of new.state new.stale) t was (change was) left there last
+    makes-last (threads_of old.state old.stale old.meter) (threads_of mid.state mid.stale mid.meter) (threads_of new.state new.stale mid.meter) t was (change was) left there last
   where
     set : change_record change mid.state.records t ≡ set_number mid.state.records t (change was)
     set = rw there refl
 
-    last : threads_of new.state new.stale ≡ with_records (threads_of mid.state mid.stale) (set_number mid.state.records t (change was)) new.stale
-    last = ap (λ (x : State). threads_of x new.stale) is ∙ ap (λ (records : List Record). with_records (threads_of mid.state mid.stale) records new.stale) set
+    last : threads_of new.state new.stale mid.meter ≡ with_records (threads_of mid.state mid.stale mid.meter) (set_number mid.state.records t (change was)) new.stale
+    last = ap (λ (x : State). threads_of x new.stale mid.meter) is ∙ ap (λ (records : List Record). with_records (threads_of mid.state mid.stale mid.meter) records new.stale) set

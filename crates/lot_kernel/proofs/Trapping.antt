@@ -31,6 +31,7 @@ use Rattle.lot_queues.proofs.Callers.{nowhere-running}
 use Rattle.lot_threads.specs.Threaded.{Threaded, with_records, worth_in}
 use Rattle.lot_threads.proofs.Leads.{reaches-leads}
 use Rattle.lot_ports.specs.Traps.{with_ports}
+use Rattle.lot_value.specs.declared.meter.Meter.{Meter}
 use Rattle.lot_mutex.specs.Listed.{with_mutexes}
 use Rattle.lot_kernel.specs.Snapshots.{held}
 use Rattle.lot_kernel.specs.Trapped.{IsRunning, effect_of}
@@ -171,9 +172,9 @@ module _ (sizes : Sizes) (names : List (Option (List ℕ))) (v new : Threaded) (
   ports-state trap is left_is =
       subst (λ n. held sizes names n left ≡ (of_ports (held sizes names v q) trap).state) (sym is) (ap (λ (l : QueueLists). held sizes names (with_records v trap.records new.stale) l) left_is)
 
-  pub mutexes-state : (trap : MutexTrap) → new ≡ with_mutexes v trap new.stale → left ≡ record q { mutexes = trap.mutexes } → held sizes names new left ≡ (of_mutexes (held sizes names v q) trap).state
-  mutexes-state trap is left_is =
-      subst (λ n. held sizes names n left ≡ (of_mutexes (held sizes names v q) trap).state) (sym is) (ap (λ (l : QueueLists). held sizes names (with_mutexes v trap new.stale) l) left_is)
+  pub mutexes-state : (trap : MutexTrap) (meter : Meter) → new ≡ record (with_mutexes v trap new.stale) { meter = meter } → left ≡ record q { mutexes = trap.mutexes } → held sizes names new left ≡ (of_mutexes (held sizes names v q) trap).state
+  mutexes-state trap meter is left_is =
+      subst (λ n. held sizes names n left ≡ (of_mutexes (held sizes names v q) trap).state) (sym is) (ap (λ (l : QueueLists). held sizes names (record (with_mutexes v trap new.stale) { meter = meter }) l) left_is)
 
 -- ---- locks and unlocks
 

@@ -26,9 +26,9 @@ abbrev pub MakesStale : Snapshot → Snapshot → Type 0
 MakesStale old new =
     (x : Node) → Contains new.stale x → Contains old.stale x ⊎ ((node : Node) × Touches old.state new.state node × PathLeads (funding_of old.state) (funding_of new.state) node x)
 
--- the threads of a state, with these nodes stale
-abbrev pub threads_of : State → List Node → Threaded
-threads_of s stale = record {
+-- the threads of a state, with these nodes stale, and this counted
+abbrev pub threads_of : State → List Node → Meter → Threaded
+threads_of s stale meter = record {
   currencies = map is_some s.currencies;
   tickets = s.tickets;
   owners = map (λ (m : Mutex). m.owner) s.mutexes;
@@ -41,6 +41,7 @@ threads_of s stale = record {
   threads = s.threads;
   records = s.records;
   stale = stale;
+  meter = meter;
 }
 
 -- the state that the names of currencies, the threads and the queues hold

@@ -16,11 +16,11 @@ use lot_machine::{Event, Limits, Name, Reply};
 use lot_mutex::Lottery;
 use lot_queues::Queues;
 use lot_threads::Threads;
-use lot_value::{Counter, Meter};
+use lot_value::Meter;
 use std::alloc::{AllocError, Global};
 use std::marker::Model;
 
-/// The names of currencies, the threads with what is worth what, who waits where, and what was counted. Contracts see the state
+/// The names of currencies, the threads with what is worth what and what was counted, and who waits where. Contracts see the state
 /// that they hold.
 ///
 /// Each event also needs the state to be in order, and the kernel keeps it so.
@@ -33,7 +33,6 @@ pub(crate) struct Tables {
     queues: Queues,
     /// Room for the lottery of a mutex.
     lottery: Lottery,
-    meter: Counter,
 }
 
 impl Model for Tables {
@@ -43,10 +42,10 @@ impl Model for Tables {
 
     ghost Value = { Snapshot };
 
-    ghost view = { λ k. record { state = held (sizes_of k.limits) k.currencies.items k.threads k.queues; stale = k.threads.stale; meter = k.meter } };
+    ghost view = { λ k. record { state = held (sizes_of k.limits) k.currencies.items k.threads k.queues; stale = k.threads.stale; meter = k.threads.meter } };
 
     ghost invariant = { λ k. record {
-      threads : k.threads ≡ threads_of (held (sizes_of k.limits) k.currencies.items k.threads k.queues) k.threads.stale;
+      threads : k.threads ≡ threads_of (held (sizes_of k.limits) k.currencies.items k.threads k.queues) k.threads.stale k.threads.meter;
       count : length k.threads.threads ≡ length k.threads.records;
       few : length k.threads.records ≤ k.limits.threads;
       clients : length k.queues.clients ≡ length k.threads.records;
@@ -70,7 +69,6 @@ impl Tables {
             threads: Threads::new(alloc, &limits)?,
             queues: Queues::new(alloc, limits.ports, limits.mutexes, limits.threads)?,
             lottery: Lottery::new(alloc, limits.threads)?,
-            meter: Counter::new(alloc),
         })
     }
 
@@ -83,7 +81,7 @@ impl Tables {
     pub(crate) fn meter(&self) -> Meter
         ensures { result ≡ self.now.meter }
     {
-        self.meter.meter()
+        self.threads.meter()
     }
 
     pub(crate) fn ticket_count(&self) -> u32

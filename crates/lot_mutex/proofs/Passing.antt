@@ -18,7 +18,8 @@ use Rattle.lot_machine.proofs.EachOnce.{contains-nothing}
 use Rattle.lot_machine.proofs.Tickets.{some-injective}
 use Rattle.lot_machine.proofs.TrapCycles.{at_number-map}
 use Rattle.lot_machine.proofs.TwoSteps.{edges-between, live-between}
-use Rattle.lot_threads.specs.Threaded.{Threaded, IsStaleIn, MakesStaleIn, funding_in, lends_in, with_records}
+use Rattle.lot_value.specs.declared.meter.Meter.{Meter}
+use Rattle.lot_threads.specs.Threaded.{Threaded, IsStaleIn, MakesStaleIn, funding_in, lends_in, settled_in, with_records}
 use Rattle.lot_threads.proofs.TwoChanges.{makes-both-in}
 
 -- ---- edges
@@ -64,7 +65,7 @@ module _ (a b d : Threaded) (m p : ℕ) (records : List Record) (first : b ≡ w
       makes-both-in a b d edges-first (live-between (live_in a.records) (live_in b.records) (live_in d.records) (λ t. inr (ap (λ (x : Threaded). at_number (live_in x.records) t) (sym second)))) one two
 
 -- what a change makes stale where nothing was
-pub settled-makes : (v new : Threaded) → MakesStaleIn (record v { stale = [] }) new → MakesStaleIn v new
+pub settled-makes : (v new : Threaded) → MakesStaleIn (settled_in v) new → MakesStaleIn v new
 settled-makes v new makes x stale = by (makes x stale)
   where
     by : Contains [] x ⊎ ((touched : Node) × IsTouched (funding_in v) (funding_in new) (live_in v.records) (live_in new.records) touched × PathLeads (funding_in v) (funding_in new) touched x)
@@ -77,14 +78,16 @@ abbrev pub woken : Record → Record
 woken r = record r { status = Ready }
 
 -- the threads after a mutex passed, from those before they were settled
-pub pass-threads : (v now new : Threaded) (next picked m : ℕ) (owners : List (Option ℕ)) → now ≡ record v { stale = [] } → next ≡ picked → set_number v.owners m (Some picked) ≡ owners
+pub pass-threads : (v now new : Threaded) (next picked m : ℕ) (owners : List (Option ℕ)) → now ≡ settled_in v → next ≡ picked → set_number v.owners m (Some picked) ≡ owners
     → new ≡ record (with_records now (change_record woken now.records next) new.stale) { owners = set_number now.owners m (Some next) }
-    → new ≡ record (with_records v (change_record woken v.records picked) new.stale) { owners = owners }
-pass-threads v now new next picked m owners settled same after changed =
+    → new ≡ record (with_records v (change_record woken v.records picked) new.stale) { owners = owners; meter = new.meter }
+pass-threads v now new next picked m owners is_settled same after changed =
+    let is : new ≡ record (with_records (settled_in v) (change_record woken v.records picked) new.stale) { owners = owners } =
     changed
-    ∙ ap (λ (x : Threaded). record (with_records x (change_record woken x.records next) new.stale) { owners = set_number x.owners m (Some next) }) settled
-    ∙ ap (λ t. record (with_records v (change_record woken v.records t) new.stale) { owners = set_number v.owners m (Some t) }) same
-    ∙ ap (λ xs. record (with_records v (change_record woken v.records picked) new.stale) { owners = xs }) after
+    ∙ ap (λ (x : Threaded). record (with_records x (change_record woken x.records next) new.stale) { owners = set_number x.owners m (Some next) }) is_settled
+    ∙ ap (λ t. record (with_records (settled_in v) (change_record woken v.records t) new.stale) { owners = set_number v.owners m (Some t) }) same
+    ∙ ap (λ xs. record (with_records (settled_in v) (change_record woken v.records picked) new.stale) { owners = xs }) after in
+    is ∙ ap (λ (counts : Meter). record (with_records v (change_record woken v.records picked) new.stale) { owners = owners; meter = counts }) (sym (ap (λ (x : Threaded). x.meter) is))
 
 -- to whom a mutex passed
 abbrev pub next-owner : Outcome → ℕ

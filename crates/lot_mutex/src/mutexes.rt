@@ -10,16 +10,14 @@ ghost use Rattle.lot_machine.specs.Numbered.{set_number};
 ghost use Rattle.lot_machine.specs.Order.{IsQueue};
 ghost use Rattle.lot_machine.specs.State.{change_record, status_of};
 ghost use Rattle.lot_queues.specs.QueueLists.{IsThere, IsNowhere, IsWaiter};
-ghost use Rattle.lot_value.specs.Caches.{HasNoneTwice, edges_into_all};
-ghost use Rattle.lot_value.specs.Counts.{counted_up};
-ghost use Rattle.lot_threads.specs.Threaded.{IsLiveIn, IsStaleIn, MakesStaleIn, funding_in, with_records, worth_in};
+ghost use Rattle.lot_value.specs.Caches.{HasNoneTwice};
+ghost use Rattle.lot_threads.specs.Threaded.{IsLiveIn, IsStaleIn, MakesStaleIn, settled_in, with_records, worth_in};
 ghost use Rattle.lot_mutex.specs.Listed.{IsMutexTrap, owners_of, with_mutexes};
 
 use crate::lottery::Lottery;
 use lot_machine::{After, Drawn, Outcome, Status};
 use lot_queues::Queues;
 use lot_threads::{Effect, Threads};
-use lot_value::Counter;
 
 /// A lock by a thread that runs: a free mutex is taken; else the thread waits, after earlier ones.
 pub fn lock(threads: &mut Threads, queues: &mut Queues, thread: u32, mutex: u32) -> Effect
@@ -56,7 +54,6 @@ pub fn unlock(
     threads: &mut Threads,
     queues: &mut Queues,
     lottery: &mut Lottery,
-    meter: &mut Counter,
     owner: u32,
     mutex: u32,
     d: u128,
@@ -70,12 +67,12 @@ pub fn unlock(
     requires room { queues.old.room ≡ lottery.old.room }
     ensures outcome { result.outcome ≡ (machine.unlock threads.old.records queues.old.mutexes (worth_in threads.old) mutex d).outcome }
     ensures after { result.after ≡ (machine.unlock threads.old.records queues.old.mutexes (worth_in threads.old) mutex d).after }
-    ensures threads { threads.new ≡ with_mutexes threads.old (machine.unlock threads.old.records queues.old.mutexes (worth_in threads.old) mutex d) threads.new.stale }
+    ensures threads { threads.new ≡ record (with_mutexes threads.old (machine.unlock threads.old.records queues.old.mutexes (worth_in threads.old) mutex d) threads.new.stale) { meter = threads.new.meter } }
     ensures queues { queues.new ≡ record queues.old { mutexes = (machine.unlock threads.old.records queues.old.mutexes (worth_in threads.old) mutex d).mutexes } }
     ensures stale { MakesStaleIn threads.old threads.new }
     ensures kept { (mutex_at queues.old.mutexes mutex).waiters ≡ [] → (node : ANode) → IsStaleIn threads.old node → IsStaleIn threads.new node }
-    ensures uncounted { (mutex_at queues.old.mutexes mutex).waiters ≡ [] → meter.new ≡ meter.old }
-    ensures counted { (mutex_at queues.old.mutexes mutex).waiters ≢ [] → meter.new ≡ record meter.old { ticket_reads = counted_up meter.old.ticket_reads (edges_into_all (funding_in threads.old) threads.old.stale) } }
+    ensures uncounted { (mutex_at queues.old.mutexes mutex).waiters ≡ [] → threads.new.meter ≡ threads.old.meter }
+    ensures counted { (mutex_at queues.old.mutexes mutex).waiters ≢ [] → threads.new.meter ≡ (settled_in threads.old).meter }
     ensures once { (mutex_at queues.old.mutexes mutex).waiters ≢ [] → HasNoneTwice threads.old.stale }
     ensures owners { (next : ℕ) (draw : Option (ℕ × ℕ)) → result.outcome ≡ Passed next draw → IsStaleIn threads.new (ThreadNode owner) × IsStaleIn threads.new (ThreadNode next) }
     ensures room { lottery.new.room ≡ lottery.old.room }
@@ -84,7 +81,7 @@ pub fn unlock(
     if lottery.is_empty() {
         return free(threads, queues, mutex);
     }
-    threads.settle(meter);
+    threads.settle();
     let drawn = lottery.hold(threads, mutex, d);
     let next = lottery.picked(drawn);
     pass(threads, queues, owner, mutex, next);

@@ -4,7 +4,6 @@ use lot_draw::Winner;
 use lot_machine::{After, Limits, Name, Outcome, Record, Sizes, Status, Target, Thread};
 use lot_queues::Queues;
 use lot_threads::{Effect, Threads};
-use lot_value::Counter;
 use std::alloc::Global;
 use std::process::Abort;
 use std::test::Fail;
@@ -67,7 +66,6 @@ fn make_lock(
 /// An unlock, and how many edges it reads.
 fn make_unlock(
     rt: &impl Abort,
-    alloc: Global,
     scene: &mut Scene,
     owner: u32,
     mutex: u32,
@@ -87,9 +85,10 @@ fn make_unlock(
     assert!(rt; threads.records().len() == queues.threads() as usize);
     assert!(rt; have_same_owners(threads, queues));
     assert!(rt; lottery.room() == queues.room());
-    let mut meter = Counter::new(alloc);
-    let effect = unlock(threads, queues, lottery, &mut meter, owner, mutex, d);
-    (effect, meter.meter().ticket_reads)
+    let before = threads.meter().ticket_reads;
+    let effect = unlock(threads, queues, lottery, owner, mutex, d);
+    let read = threads.meter().ticket_reads.saturating_sub(before);
+    (effect, read)
 }
 
 /// The thread that made a trap goes on, or gets the status that it leaves with.
@@ -111,7 +110,7 @@ fn is_won(winner: Option<Winner>, (thread, number, total): Won) -> bool {
 }
 
 /// Makes a trap, and compares what comes of it.
-fn make_trap(rt: &impl Abort, alloc: Global, scene: &mut Scene, step: Step) {
+fn make_trap(rt: &impl Abort, scene: &mut Scene, step: Step) {
     match step {
         Step::AddThread(amount) => {
             add_thread(rt, &mut scene.threads, &mut scene.queues, amount);
@@ -122,7 +121,7 @@ fn make_trap(rt: &impl Abort, alloc: Global, scene: &mut Scene, step: Step) {
             finish(rt, &mut scene.threads, thread, effect.after);
         }
         Step::Unlock(owner, mutex, d, outcome, reads) => {
-            let (effect, read) = make_unlock(rt, alloc, scene, owner, mutex, d);
+            let (effect, read) = make_unlock(rt, scene, owner, mutex, d);
             assert!(rt; effect.outcome == outcome && read == reads);
             finish(rt, &mut scene.threads, owner, effect.after);
         }
@@ -131,10 +130,10 @@ fn make_trap(rt: &impl Abort, alloc: Global, scene: &mut Scene, step: Step) {
 }
 
 /// Asks, and compares the answer.
-fn check(rt: &impl Abort, alloc: Global, scene: &mut Scene, step: Step) {
+fn check(rt: &impl Abort, scene: &mut Scene, step: Step) {
     match step {
         Step::Wins(d, won) => {
-            let winner = scene.threads.draw(d, &mut Counter::new(alloc));
+            let winner = scene.threads.draw(d);
             assert!(rt; is_won(winner, won), "at {d}");
         }
         Step::Stands(thread, status) => {
@@ -166,8 +165,8 @@ fn play(
         waiters: Vec::with_capacity(alloc, limits.threads as usize)?,
     };
     for step in steps {
-        make_trap(rt, alloc, &mut scene, *step);
-        check(rt, alloc, &mut scene, *step);
+        make_trap(rt, &mut scene, *step);
+        check(rt, &mut scene, *step);
     }
     Ok(())
 }

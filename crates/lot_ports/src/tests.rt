@@ -4,7 +4,6 @@ use lot_draw::Winner;
 use lot_machine::{After, Limits, Name, Outcome, Record, Sizes, Status, Target, Thread};
 use lot_queues::Queues;
 use lot_threads::{Effect, Threads};
-use lot_value::Counter;
 use std::alloc::Global;
 use std::process::Abort;
 use std::test::Fail;
@@ -151,10 +150,10 @@ fn make_trap(rt: &impl Abort, threads: &mut Threads, queues: &mut Queues, step: 
 }
 
 /// Asks, and compares the answer.
-fn check(rt: &impl Abort, alloc: Global, threads: &mut Threads, step: Step) {
+fn check(rt: &impl Abort, threads: &mut Threads, step: Step) {
     match step {
         Step::Wins(d, won) => {
-            let winner = threads.draw(d, &mut Counter::new(alloc));
+            let winner = threads.draw(d);
             assert!(rt; is_won(winner, won), "at {d}");
         }
         Step::Stands(thread, status) => {
@@ -181,7 +180,7 @@ fn play(
     let mut queues = Queues::new(alloc, limits.ports, limits.mutexes, limits.threads)?;
     for step in steps {
         make_trap(rt, &mut threads, &mut queues, *step);
-        check(rt, alloc, &mut threads, *step);
+        check(rt, &mut threads, *step);
     }
     Ok(())
 }

@@ -114,7 +114,7 @@ graph-kept v new q threads records runners is lends limit live known =
 
 -- after a draw
 pub drawn-of : (v new : Valued) (q then : Queued) (threads : List Thread) (records : List Record) (runners : List (Option ℕ)) → AreOf v q threads records runners
-    → new.now ≡ v.now → new.live ≡ v.live → then ≡ record q { weights = then.weights; changed = [] } → AreWeights then new.known
+    → new.now ≡ v.now → new.live ≡ v.live → then ≡ record q { weights = then.weights; changed = []; visits = then.visits } → AreWeights then new.known
     → AreOf new then threads records runners
 drawn-of v new q then threads records runners is now live queue weights = record {
   names = is.names;

@@ -1,5 +1,5 @@
 -- What the clauses of `Threads` see.
-use Rattle.std.specs.Prelude.{◌≡◌, Bool, ⊤, ◌⊎◌, ℕ, Option, Some, None, List, All, Contains, length, map, option_and_then}
+use Rattle.std.specs.Prelude.{◌≡◌, Bool, ⊤, ◌⊎◌, ℕ, Option, Some, None, List, [], All, Contains, length, map, option_and_then}
 use Rattle.lot_machine.specs.declared.funding.Node.{Node}
 use Rattle.lot_machine.specs.declared.funding.Lend.{Lend}
 use Rattle.lot_machine.specs.declared.funding.Lend.TheVariants.{Nobody, ToThread, ToMutex}
@@ -17,6 +17,9 @@ use Rattle.lot_machine.specs.State.{lend_of, live_in, ready_threads, status_of}
 use Rattle.lot_machine.specs.Value.{thread_value}
 use Rattle.lot_machine.specs.Touched.{IsTouched, PathLeads}
 use Rattle.lot_graph.specs.Graphs.{LimitedFunding, IsBorrower, LendReaches}
+use Rattle.lot_value.specs.declared.meter.Meter.{Meter}
+use Rattle.lot_value.specs.Caches.{edges_into_all}
+use Rattle.lot_value.specs.Counts.{counted_up}
 use Rattle.lot_value.specs.Valued.{Valued}
 use Rattle.lot_draw.specs.declared.competing.Winner.{Winner}
 use Rattle.lot_draw.specs.Competing.{AreReady, winner_among}
@@ -26,7 +29,7 @@ use Rattle.lot_threads.specs.Runners.{AreRunners}
 
 -- The currencies that are there, tickets, and who owns each mutex; how many tickets, user currencies and threads there may be; how
 -- much one of base is worth, how many ticks a quantum has, and how many processors there are; each thread's name and script, and
--- its record; and the stale nodes.
+-- its record; the stale nodes; and what was counted.
 pub record Threaded : Type 0 where
   pub currencies : List Bool
   pub tickets : List (Option Ticket)
@@ -40,6 +43,7 @@ pub record Threaded : Type 0 where
   pub threads : List Thread
   pub records : List Record
   pub stale : List Node
+  pub meter : Meter
 
 -- what each thread with these records lends
 abbrev pub lends_in : List Record → List Lend
@@ -56,6 +60,10 @@ limited_in v = record { funding = funding_in v; ticket_limit = v.ticket_limit; c
 -- with these records, and these nodes stale
 abbrev pub with_records : Threaded → List Record → List Node → Threaded
 with_records v records stale = record v { records = records; stale = stale }
+
+-- nothing is stale, and each edge into what was stale was read once more
+abbrev pub settled_in : Threaded → Threaded
+settled_in v = record v { stale = []; meter = record v.meter { ticket_reads = counted_up v.meter.ticket_reads (edges_into_all (funding_in v) v.stale) } }
 
 -- the thread is there
 abbrev pub IsThreadOf : Threaded → ℕ → Type 0

@@ -6,7 +6,6 @@ use super::*;
 use lot_draw::Winner;
 use lot_graph::Graph;
 use lot_machine::{Limits, Name, Node, Record, Sizes, Status, Target, Thread};
-use lot_value::Counter;
 use std::alloc::{AllocError, Global};
 use std::process::Abort;
 use std::test::Fail;
@@ -151,15 +150,15 @@ fn is_won(winner: Option<Winner>, (thread, number, total): Won) -> bool {
 }
 
 /// A draw, and how many edges it read.
-fn draw(alloc: Global, threads: &mut Threads, d: u128) -> (Option<Winner>, u64) {
-    let mut meter = Counter::new(alloc);
-    let winner = threads.draw(d, &mut meter);
-    (winner, meter.meter().ticket_reads)
+fn draw(threads: &mut Threads, d: u128) -> (Option<Winner>, u64) {
+    let before = threads.meter().ticket_reads;
+    let winner = threads.draw(d);
+    (winner, threads.meter().ticket_reads.saturating_sub(before))
 }
 
 /// What the thread or mutex is worth after settling.
-fn worth(rt: &impl Abort, alloc: Global, threads: &mut Threads, node: Node) -> u64 {
-    threads.settle(&mut Counter::new(alloc));
+fn worth(rt: &impl Abort, threads: &mut Threads, node: Node) -> u64 {
+    threads.settle();
     assert!(rt; is_node(threads.graph(), node));
     assert!(rt; !threads.is_stale(node));
     threads.value_of(node)
@@ -186,24 +185,24 @@ fn make_change(rt: &impl Abort, threads: &mut Threads, step: Step) {
 }
 
 /// Asks, and checks what comes of it.
-fn check(rt: &impl Abort, alloc: Global, threads: &mut Threads, step: Step) {
+fn check(rt: &impl Abort, threads: &mut Threads, step: Step) {
     match step {
         Step::Refuses(thread, status) => {
             let next = record_with(rt, threads, thread, status, None);
             assert!(rt; !threads.can_change(thread, next), "{thread} can change");
         }
-        Step::Wins(d, won) => assert!(rt; is_won(draw(alloc, threads, d).0, won), "at {d}"),
+        Step::Wins(d, won) => assert!(rt; is_won(draw(threads, d).0, won), "at {d}"),
         Step::Reads(d, won, reads) => {
-            let (winner, read) = draw(alloc, threads, d);
+            let (winner, read) = draw(threads, d);
             assert!(rt; is_won(winner, won), "at {d}");
             assert!(rt; read == reads, "{read} at {d}");
         }
-        Step::Idles(d) => assert!(rt; draw(alloc, threads, d).0.is_none(), "at {d}"),
+        Step::Idles(d) => assert!(rt; draw(threads, d).0.is_none(), "at {d}"),
         Step::Runs(processor, runs) => {
             let runner = threads.runner(processor).map(|r| (r.thread, r.used));
             assert!(rt; runner == runs, "on {processor}");
         }
-        Step::Worth(node, value) => assert_eq!(rt; worth(rt, alloc, threads, node), value),
+        Step::Worth(node, value) => assert_eq!(rt; worth(rt, threads, node), value),
         Step::Active(currency, amount) => assert_eq!(rt; active(rt, threads, currency), amount),
         _ => {}
     }
@@ -220,7 +219,7 @@ fn play(
     let mut threads = Threads::new(alloc, &limits)?;
     for step in steps {
         make_change(rt, &mut threads, *step);
-        check(rt, alloc, &mut threads, *step);
+        check(rt, &mut threads, *step);
     }
     Ok(())
 }

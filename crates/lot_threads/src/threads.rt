@@ -17,7 +17,7 @@ ghost use Rattle.lot_graph.specs.Graphs.{IsNodeOf, IsThread, IsMutex, IsCurrency
 ghost use Rattle.lot_tree.specs.Visits.{CountsReads};
 ghost use Rattle.lot_value.specs.Counts.{counted_up};
 ghost use Rattle.lot_value.specs.Caches.{HasNoneTwice, edges_into_all};
-ghost use Rattle.lot_threads.specs.Threaded.{IsLiveIn, IsThreadOf, IsStaleIn, CanLend, CanRun, CanChange, MakesStaleIn, drawn_in, funding_in, limited_in, newborn, with_records, worth_in};
+ghost use Rattle.lot_threads.specs.Threaded.{IsLiveIn, IsThreadOf, IsStaleIn, CanLend, CanRun, CanChange, MakesStaleIn, drawn_in, funding_in, limited_in, newborn, settled_in, with_records, worth_in};
 ghost use Rattle.lot_threads.specs.Timely.{IsTimely};
 
 use crate::following::{
@@ -27,7 +27,7 @@ use crate::runners::{Runner, move_runner, runner_on};
 use lot_draw::{RunQueue, Winner};
 use lot_graph::{Cycle, Graph};
 use lot_machine::{Limits, Node, Record, Status, Target, Thread};
-use lot_value::{Counter, ValuedGraph};
+use lot_value::{Meter, ValuedGraph};
 use std::alloc::{AllocError, Global};
 use std::marker::Model;
 
@@ -83,6 +83,7 @@ impl Model for Threads {
       threads = s.threads.items;
       records = s.records.items;
       stale = s.graph.known.stale;
+      meter = record { ticket_reads = s.graph.known.reads; tree_visits = s.queue.visits };
     } };
 
     ghost invariant = { λ s. record {
@@ -93,7 +94,7 @@ impl Model for Threads {
 }
 
 impl Threads {
-    /// No thread yet, base alone, and free mutexes.
+    /// No thread yet, base alone, and free mutexes. Nothing was counted.
     pub fn new(alloc: Global, limits: &Limits) -> Result<Threads, AllocError>
         ensures opening { IfOk result (λ made. made ≡ record {
           currencies = true ∷ [];
@@ -108,6 +109,7 @@ impl Threads {
           threads = [];
           records = [];
           stale = [];
+          meter = record { ticket_reads = 0; tree_visits = 0 };
         }) }
     {
         let threads = limits.threads as usize;
@@ -297,24 +299,33 @@ impl Threads {
 
     /// Holds a draw with the number `d` among the Ready threads (2, 4.2): `None` if their weights sum to 0. Settles what is stale,
     /// and visits the tree of weights once.
-    pub fn draw(&mut self, d: u128, meter: &mut Counter) -> Option<Winner>
+    pub fn draw(&mut self, d: u128) -> Option<Winner>
         ensures winner { result ≡ drawn_in self.old d }
-        ensures settled { self.new ≡ record self.old { stale = [] } }
+        ensures settled { self.new ≡ record self.old { stale = []; meter = self.new.meter } }
         ensures ready { IfSome result (λ w. status_of self.old.records w.thread ≡ Some Ready) }
         ensures once { HasNoneTwice self.old.stale }
-        ensures reads { meter.new.ticket_reads ≡ counted_up meter.old.ticket_reads (edges_into_all (funding_in self.old) self.old.stale) }
-        ensures visits { MatchOption result (meter.new.tree_visits ≡ meter.old.tree_visits) (λ w. CountsReads self.old.thread_limit meter.old.tree_visits meter.new.tree_visits) }
+        ensures reads { self.new.meter.ticket_reads ≡ counted_up self.old.meter.ticket_reads (edges_into_all (funding_in self.old) self.old.stale) }
+        ensures visits { MatchOption result (self.new.meter.tree_visits ≡ self.old.meter.tree_visits) (λ w. CountsReads self.old.thread_limit self.old.meter.tree_visits self.new.meter.tree_visits) }
     {
-        self.queue.draw(&mut self.graph, d, meter)
+        self.queue.draw(&mut self.graph, d)
     }
 
     /// Computes the values of all stale nodes again. Counts each edge into a node that was stale once.
-    pub fn settle(&mut self, meter: &mut Counter)
-        ensures settled { self.new ≡ record self.old { stale = [] } }
+    pub fn settle(&mut self)
+        ensures settled { self.new ≡ settled_in self.old }
         ensures once { HasNoneTwice self.old.stale }
-        ensures counted { meter.new ≡ record meter.old { ticket_reads = counted_up meter.old.ticket_reads (edges_into_all (funding_in self.old) self.old.stale) } }
     {
-        self.queue.settle(&mut self.graph, meter);
+        self.queue.settle(&mut self.graph);
+    }
+
+    /// How many tickets, lends and owners were read for values, and how many places of the tree of weights were visited.
+    pub fn meter(&self) -> Meter
+        ensures { result ≡ self.now.meter }
+    {
+        Meter {
+            ticket_reads: self.graph.reads(),
+            tree_visits: self.queue.visits(),
+        }
     }
 
     /// Tickets, lends and owners, to read.
@@ -358,13 +369,13 @@ impl Threads {
 
     /// What a ticket is worth (4.4), in units of base, if the currency that issued it isn't stale. If the ticket funds something,
     /// that is one reading, which is counted; else it is worth nothing.
-    pub fn ticket_value(&self, ticket: u32, meter: &mut Counter) -> u64
-        requires fresh { (t : ATicket) → ticket_at (funding_in self.now) ticket ≡ Some t → ¬ IsStaleIn self.now (CurrencyNode t.issuer) }
-        ensures worth { (t : ATicket) → ticket_at (funding_in self.now) ticket ≡ Some t → result ≡ ticket_value self.now.unit (funding_in self.now) (live_in self.now.records) t }
-        ensures counted { IsFunding (funding_in self.now) ticket → meter.new ≡ record meter.old { ticket_reads = counted_up meter.old.ticket_reads 1 } }
-        ensures uncounted { ¬ IsFunding (funding_in self.now) ticket → meter.new ≡ meter.old }
+    pub fn ticket_value(&mut self, ticket: u32) -> u64
+        requires fresh { (t : ATicket) → ticket_at (funding_in self.old) ticket ≡ Some t → ¬ IsStaleIn self.old (CurrencyNode t.issuer) }
+        ensures worth { (t : ATicket) → ticket_at (funding_in self.old) ticket ≡ Some t → result ≡ ticket_value self.old.unit (funding_in self.old) (live_in self.old.records) t }
+        ensures counted { IsFunding (funding_in self.old) ticket → self.new ≡ record self.old { meter = record self.old.meter { ticket_reads = counted_up self.old.meter.ticket_reads 1 } } }
+        ensures uncounted { ¬ IsFunding (funding_in self.old) ticket → self.new ≡ self.old }
     {
-        self.graph.ticket_value(ticket, meter)
+        self.graph.ticket_value(ticket)
     }
 
     /// Whether a node is stale: its value is computed again before it is used.

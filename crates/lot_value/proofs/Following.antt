@@ -62,7 +62,7 @@ nothing-in (x ∷ xs) none = absurd (none x (contains-first x xs))
 
 -- values that are all 0 are right for a graph without edges
 pub fresh-right : (unit : ℕ) (w : LimitedFunding) (live : List Bool) → ((edge : Edge) (from to : Node) → ends_of w.funding edge ≡ Some (from, to) → ⊥)
-    → IsRight w live (record { unit = unit; layout = layout_of w; values = replicate (node_count (layout_of w)) 0; stale = [] })
+    → IsRight w live (record { unit = unit; layout = layout_of w; values = replicate (node_count (layout_of w)) 0; stale = []; reads = 0 })
 fresh-right unit w live none = record {
   layout = refl;
   places = length-replicate (node_count (layout_of w)) 0;
@@ -258,7 +258,7 @@ opening-none m (OfMutex k) from to at = by k (mutex-ends (opening_funding m) k f
 
 -- what is kept of a graph at its start
 pub together-new : (w : LimitedFunding) (v : Activity) (c : Known) (m unit : ℕ) → w.funding ≡ opening_funding m → w.ticket_limit ≤ 65535 → IsUnit unit → ((live : List Bool) → ((t : ℕ) → ¬ IsLive live t) → IsKeptFor v w live)
-    → c ≡ record { unit = unit; layout = layout_of w; values = replicate (node_count (layout_of w)) 0; stale = [] } → AreTogether w v c
+    → c ≡ record { unit = unit; layout = layout_of w; values = replicate (node_count (layout_of w)) 0; stale = []; reads = 0 } → AreTogether w v c
 together-new w v c m unit start limit is_unit kept known = record {
   kept = kept (live_of w v) (λ t alive. nothing-at t true (ap (λ (xs : List Bool). at_number xs t) (sym empty) ∙ alive));
   right = subst (IsRight w (live_of w v)) (sym known) (fresh-right unit w (live_of w v) (λ edge from to at. opening-none m edge from to (ap (λ (f : Funding). ends_of f edge) (sym start) ∙ at)));

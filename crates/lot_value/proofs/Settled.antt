@@ -16,7 +16,6 @@ use Rattle.lot_graph.specs.Graphs.{LimitedFunding, IsNodeOf}
 use Rattle.lot_graph.specs.Places.{node_place, node_of, node_count, IsNodeWithin, FitsIn, FitsLimits, layout_of}
 use Rattle.lot_graph.proofs.WalkLemmas.{mapped-at}
 use Rattle.lot_graph.proofs.SpreadLemmas.{same-list, node-back, list-back}
-use Rattle.lot_value.specs.declared.meter.Meter.{Meter}
 use Rattle.lot_value.specs.Counts.{counted_up}
 use Rattle.lot_value.specs.Caches.{Known, IsStale, IsRight, Settles, kept_worth, value_in, edges_into_all}
 use Rattle.lot_value.specs.Marking.{IsStaleList, IsReordered, IsFreshPlace, LeadsFromPlace}
@@ -49,6 +48,17 @@ reordered-right w live c stale reordered right = record {
   values = λ node within is off. right.values node within (λ d. is (reordered.all node d)) off;
 }
 
+-- nor is what was counted
+pub reads-right : (w : LimitedFunding) (live : List Bool) (c : Known) (reads : ℕ) → IsRight w live c → IsRight w live (record c { reads = reads })
+reads-right w live c reads right = record {
+  layout = right.layout;
+  places = right.places;
+  ends = right.ends;
+  stale = right.stale;
+  sources = right.sources;
+  values = right.values;
+}
+
 pub reordered-empty : {A : Type 0} (old : List A) → IsReordered old [] → old ≡ []
 reordered-empty [] reordered = refl
 reordered-empty (x ∷ xs) reordered = absurd (contains-nothing x (reordered.all x (contains-first x xs)))
@@ -66,10 +76,10 @@ pub length-reordered : {A : Type 0} (old new : List A) → IsReordered old new �
 length-reordered old new reordered = sym (length-ones new) ∙ reordered.sums (λ x. 1) ∙ length-ones old
 
 -- one node gets the sum of its shares, and isn't stale any more
-module _ (w : LimitedFunding) (live : List Bool) (c : Known) (fits : FitsLimits w) (right : IsRight w live c) (rest : List Node) (node : Node) (value : ℕ) (was : IsStale c node) (within : IsNodeWithin (layout_of w) node) (low : node_place c.layout node < length c.values)
+module _ (w : LimitedFunding) (live : List Bool) (c : Known) (fits : FitsLimits w) (right : IsRight w live c) (rest : List Node) (node : Node) (value reads : ℕ) (was : IsStale c node) (within : IsNodeWithin (layout_of w) node) (low : node_place c.layout node < length c.values)
     (fresh : (from : Node) → IsEdge w.funding from node → ¬ IsStale c from) (is : value ≡ shares_into c.unit w.funding live (value_in c) node) (each : (x : Node) → Contains rest x → IsStale c x) (others : (x : Node) → ¬ (x ≡ node) → IsStale c x → Contains rest x) where
   abbrev after : Known
-  after = record c { values = set c.values (node_place c.layout node) value; stale = rest }
+  after = record c { values = set c.values (node_place c.layout node) value; stale = rest; reads = reads }
 
   -- the value of another node is as it was
   kept : (x : Node) → IsNodeWithin (layout_of w) x → ¬ (x ≡ node) → value_in after x ≡ value_in c x
@@ -81,7 +91,7 @@ module _ (w : LimitedFunding) (live : List Bool) (c : Known) (fits : FitsLimits 
   source-kept : (from to : Node) → IsEdge w.funding from to → ¬ IsStale c from → value_in after from ≡ value_in c from
   source-kept from to edge off = kept from (fits.from edge.0 from to edge.1) (λ same. off (subst (IsStale c) (sym same) was))
 
-  pub settled-right : IsRight w live (record c { values = set c.values (node_place c.layout node) value; stale = rest })
+  pub settled-right : IsRight w live (record c { values = set c.values (node_place c.layout node) value; stale = rest; reads = reads })
   settled-right = record {
     layout = right.layout;
     places = length-set c.values (node_place c.layout node) value ∙ right.places;
@@ -105,7 +115,7 @@ module _ (w : LimitedFunding) (live : List Bool) (c : Known) (fits : FitsLimits 
           ∙ sym (same-shares c.unit w.funding live (value_in after) (value_in c) n (λ from edge differs. source-kept from n edge (right.sources from n edge n_fresh (contains-nothing n))))
 
 -- the place at the back is settled, if none of its sources is stale
-module _ (w : LimitedFunding) (live : List Bool) (fits : FitsLimits w) (old : Known) (right : IsRight w live old) (v u : NodeLists) (at place value : ℕ) (list : IsStaleList v (node_count old.layout)) (reordered : IsReordered old.stale (map (node_of old.layout) (nodes_of v 0))) (here : node_at v 0 at ≡ Some place)
+module _ (w : LimitedFunding) (live : List Bool) (fits : FitsLimits w) (old : Known) (right : IsRight w live old) (v u : NodeLists) (at place value reads : ℕ) (list : IsStaleList v (node_count old.layout)) (reordered : IsReordered old.stale (map (node_of old.layout) (nodes_of v 0))) (here : node_at v 0 at ≡ Some place)
     (u_is : u ≡ with_removed v 0 at) where
   abbrev at_node : Node
   at_node = node_of old.layout place
@@ -159,14 +169,14 @@ module _ (w : LimitedFunding) (live : List Bool) (fits : FitsLimits w) (old : Kn
         fresh from edge (mapped.1 (reordered.all from stale))
 
     module _ (values : List ℕ) (same : values ≡ old.values) (is : value ≡ shares_into old.unit w.funding live (value_in old) at_node) where
-      pub settle-right : IsRight w live (record old { values = set values place value; stale = rest })
+      pub settle-right : IsRight w live (record old { values = set values place value; stale = rest; reads = reads })
       settle-right =
           let back = (list-back old.layout place low).0 in
           let place_low : node_place old.layout at_node < length old.values = omega (arith, back, low, right.places) in
-          subst (λ (p : ℕ). IsRight w live (record old { values = set values p value; stale = rest })) back
-          (subst (λ (vs : List ℕ). IsRight w live (record old { values = set vs (node_place old.layout at_node) value; stale = rest })) (sym same) (settled-right w live old fits right rest at_node value was at-within place_low source-fresh is each others))
+          subst (λ (p : ℕ). IsRight w live (record old { values = set values p value; stale = rest; reads = reads })) back
+          (subst (λ (vs : List ℕ). IsRight w live (record old { values = set vs (node_place old.layout at_node) value; stale = rest; reads = reads })) (sym same) (settled-right w live old fits right rest at_node value reads was at-within place_low source-fresh is each others))
 
-    pub settle-settles : (values : List ℕ) → values ≡ old.values → IsFree u place → Settles old (record old { values = set values place value; stale = rest }) at_node
+    pub settle-settles : (values : List ℕ) → values ≡ old.values → IsFree u place → Settles old (record old { values = set values place value; stale = rest; reads = reads }) at_node
     settle-settles values same free = record {
       unit = refl;
       layout = refl;
@@ -192,15 +202,14 @@ pub nothing-stale : (l : Layout) (old : List Node) (v : NodeLists) → IsReorder
 nothing-stale l old v reordered empty = reordered-empty old (subst (IsReordered old) (ap (map (node_of l)) empty) reordered)
 
 -- one more node is settled: what was counted, and what is to come
-pub settle-more : (f : Funding) (start before after : Meter) (old : List Node) (was now : Known) (o : Option Node) (test : Bool) → test ≡ is_some o → test ≡ true
-    → IfSome o (Settles was now) → IfSome o (λ node. after ≡ record before { ticket_reads = counted_up before.ticket_reads (edge_count_into f node) })
-    → (count : ℕ) × (before ≡ record start { ticket_reads = counted_up start.ticket_reads count }) × (count + edges_into_all f was.stale ≡ edges_into_all f old)
-    → (count : ℕ) × (after ≡ record start { ticket_reads = counted_up start.ticket_reads count }) × (count + edges_into_all f now.stale ≡ edges_into_all f old)
+pub settle-more : (f : Funding) (start before after : ℕ) (old : List Node) (was now : Known) (o : Option Node) (test : Bool) → test ≡ is_some o → test ≡ true
+    → IfSome o (Settles was now) → IfSome o (λ node. after ≡ counted_up before (edge_count_into f node))
+    → (count : ℕ) × (before ≡ counted_up start count) × (count + edges_into_all f was.stale ≡ edges_into_all f old)
+    → (count : ℕ) × (after ≡ counted_up start count) × (count + edges_into_all f now.stale ≡ edges_into_all f old)
 settle-more f start before after old was now None test is e settles counted so_far = cc
 settle-more f start before after old was now (Some node) test is e settles counted (count, before_is, left) = (
   count + edge_count_into f node,
-  counted ∙ ap (λ (b : Meter). record b { ticket_reads = counted_up b.ticket_reads (edge_count_into f node) }) before_is
-      ∙ ap (λ n. record start { ticket_reads = n }) (counted-more start.ticket_reads count (edge_count_into f node)),
+  counted ∙ ap (λ b. counted_up b (edge_count_into f node)) before_is ∙ counted-more start count (edge_count_into f node),
   omega (arith, left, settles.sums (edge_count_into f)),
 )
 
@@ -223,12 +232,13 @@ once-mapped l v list node place other at at_other =
     (list.consistent.disjoint a.0 0 place 0 other a.1 (b.1 ∙ ap Some (sym same))).1
 
 -- what is known, field by field
-pub known-same : (a b : Known) → a.unit ≡ b.unit → a.layout ≡ b.layout → a.values ≡ b.values → a.stale ≡ b.stale → a ≡ b
-known-same a b unit layout values stale =
-    ap (λ x. known x a.layout a.values a.stale) unit ∙ ap (λ x. known b.unit x a.values a.stale) layout ∙ ap (λ x. known b.unit b.layout x a.stale) values ∙ ap (λ x. known b.unit b.layout b.values x) stale
+pub known-same : (a b : Known) → a.unit ≡ b.unit → a.layout ≡ b.layout → a.values ≡ b.values → a.stale ≡ b.stale → a.reads ≡ b.reads → a ≡ b
+known-same a b unit layout values stale reads =
+    ap (λ x. known x a.layout a.values a.stale a.reads) unit ∙ ap (λ x. known b.unit x a.values a.stale a.reads) layout ∙ ap (λ x. known b.unit b.layout x a.stale a.reads) values
+    ∙ ap (λ x. known b.unit b.layout b.values x a.reads) stale ∙ ap (λ x. known b.unit b.layout b.values b.stale x) reads
   where
-    known : ℕ → Layout → List ℕ → List Node → Known
-    known u l vs xs = record { unit = u; layout = l; values = vs; stale = xs }
+    known : ℕ → Layout → List ℕ → List Node → ℕ → Known
+    known u l vs xs n = record { unit = u; layout = l; values = vs; stale = xs; reads = n }
 
 -- what is passed on, by the places of another layout that is the same
 pub shares-at : (unit : ℕ) (f : Funding) (live : List Bool) (l m : Layout) (vs us : List ℕ) (node other : Node) → l ≡ m → vs ≡ us → node ≡ other → shares_into unit f live (kept_worth l vs) node ≡ shares_into unit f live (kept_worth m us) other

@@ -14,12 +14,14 @@ use Rattle.lot_active.specs.Activity.{Activity}
 use Rattle.lot_active.specs.Changes.{switched_nodes, adjusted_nodes}
 use Rattle.lot_active.specs.Fundings.{ends_of_edge}
 
--- how much one of base is worth, where nodes stand, the value that is kept of each node, and the stale nodes
+-- how much one of base is worth, where nodes stand, the value that is kept of each node, the stale nodes, and how many edges were
+-- read for values
 pub record Known : Type 0 where
   pub unit : ℕ
   pub layout : Layout
   pub values : List ℕ
   pub stale : List Node
+  pub reads : ℕ
 
 abbrev pub IsStale : Known → Node → Type 0
 IsStale c node = Contains c.stale node

@@ -19,6 +19,6 @@ mod touching;
 mod valued_graph;
 mod values;
 
-pub use meter::{Counter, Meter};
+pub use meter::Meter;
 pub use valued_graph::ValuedGraph;
 pub use values::Values;

@@ -10,7 +10,7 @@ ghost use Rattle.lot_value.specs.Counts.{counted_up};
 ghost use Rattle.lot_value.specs.Caches.{kept_worth};
 ghost use Rattle.lot_value.specs.Sources.{AreSources};
 
-use crate::meter::Counter;
+use crate::values::ReadCount;
 use lot_active::Active;
 use lot_graph::Graph;
 use lot_machine::{Edge, Node};
@@ -26,28 +26,28 @@ pub(crate) struct Sources<'a> {
 
 /// What the edges into a node pass on together, each of them read once.
 #[inline(always)]
-pub(crate) fn read_value(sources: Sources, node: Node, meter: &mut Counter) -> u64
+pub(crate) fn read_value(sources: Sources, node: Node, reads: &mut ReadCount) -> u64
     requires node { IsNodeOf sources.graph.now node }
     requires sources { (live : List Bool) × AreSources sources live × (shares_into sources.unit sources.graph.now.funding live (kept_worth (layout_of sources.graph.now) sources.values.now) node < 2 ^ 64) }
     ensures value { (live : List Bool) → AreSources sources.entry live → result ≡ shares_into sources.entry.unit sources.entry.graph.now.funding live (kept_worth (layout_of sources.entry.graph.now) sources.entry.values.now) node }
-    ensures counted { meter.new ≡ record meter.old { ticket_reads = counted_up meter.old.ticket_reads (edge_count_into sources.entry.graph.now.funding node) } }
+    ensures counted { reads.new ≡ counted_up reads.old (edge_count_into sources.entry.graph.now.funding node) }
 {
     let mut total = 0;
     for edge in sources.graph.edges_into(node) {
-        total += read_share(sources, edge, meter);
+        total += read_share(sources, edge, reads);
     }
     total
 }
 
 /// The share that an edge passes on, counted.
 #[inline(always)]
-pub(crate) fn read_share(sources: Sources, edge: Edge, meter: &mut Counter) -> u64
+pub(crate) fn read_share(sources: Sources, edge: Edge, reads: &mut ReadCount) -> u64
     requires edge { (to : ANode) × LeadsInto sources.graph.now.funding to edge }
     requires sources { (live : List Bool) × AreSources sources live × (share sources.unit sources.graph.now.funding live (kept_worth (layout_of sources.graph.now) sources.values.now) edge < 2 ^ 64) }
     ensures value { (live : List Bool) → AreSources sources.entry live → result ≡ share sources.entry.unit sources.entry.graph.now.funding live (kept_worth (layout_of sources.entry.graph.now) sources.entry.values.now) edge }
-    ensures counted { meter.new ≡ record meter.old { ticket_reads = counted_up meter.old.ticket_reads 1 } }
+    ensures counted { reads.new ≡ counted_up reads.old 1 }
 {
-    meter.count_read();
+    reads.count();
     let layout = sources.graph.layout();
     match edge {
         Edge::OfTicket(ticket) => ticket_share(sources, ticket),

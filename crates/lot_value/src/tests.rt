@@ -170,10 +170,10 @@ fn make(rt: &impl Abort, graph: &mut ValuedGraph, change: Change) {
 }
 
 /// How many edges a settling reads.
-fn settle(alloc: Global, graph: &mut ValuedGraph) -> u64 {
-    let mut meter = Counter::new(alloc);
-    graph.settle(&mut meter);
-    meter.meter().ticket_reads
+fn settle(graph: &mut ValuedGraph) -> u64 {
+    let before = graph.reads();
+    graph.settle();
+    graph.reads().saturating_sub(before)
 }
 
 fn opening(
@@ -221,7 +221,7 @@ fn is_worth(graph: &ValuedGraph, node: Node, value: u64) -> bool {
 }
 
 /// Whether a ticket's issuer isn't stale, and one reading says that the ticket is worth this much.
-fn is_ticket_worth(alloc: Global, graph: &ValuedGraph, number: u32, value: u64) -> bool {
+fn is_ticket_worth(graph: &mut ValuedGraph, number: u32, value: u64) -> bool {
     let Some(ticket) = graph.graph().ticket(number) else {
         return false;
     };
@@ -231,6 +231,6 @@ fn is_ticket_worth(alloc: Global, graph: &ValuedGraph, number: u32, value: u64) 
     if graph.is_stale(Node::Currency(ticket.issuer)) {
         return false;
     }
-    let mut meter = Counter::new(alloc);
-    graph.ticket_value(number, &mut meter) == value && meter.meter().ticket_reads == 1
+    let before = graph.reads();
+    graph.ticket_value(number) == value && graph.reads().saturating_sub(before) == 1
 }

@@ -22,7 +22,6 @@ ghost use Rattle.lot_value.specs.Valued.{MakesStale};
 ghost use Rattle.lot_graph.specs.Changes.{with_currencies, with_lends, with_owners, with_tickets};
 
 use crate::edges::{attach, detach};
-use crate::meter::Counter;
 use crate::touching::touch_listed;
 use crate::values::Values;
 use lot_active::{Active, ends_of_edge};
@@ -62,12 +61,13 @@ impl Model for ValuedGraph {
 }
 
 impl ValuedGraph {
-    /// Base alone, free mutexes, nobody live, and nothing stale.
+    /// Base alone, free mutexes, nobody live, nothing stale, and nothing read.
     pub fn new(alloc: Global, limits: &Limits) -> Result<Self, AllocError>
         ensures now { IfOk result (λ made. made.now ≡ record { funding = opening_funding limits.now.mutexes; ticket_limit = limits.now.tickets; currency_limit = limits.now.currencies; thread_limit = limits.now.threads }) }
         ensures live { IfOk result (λ made. made.live ≡ []) }
         ensures unit { IfOk result (λ made. made.known.unit ≡ limits.now.unit) }
         ensures stale { IfOk result (λ made. made.known.stale ≡ []) }
+        ensures reads { IfOk result (λ made. made.known.reads ≡ 0) }
     {
         let graph = Graph::new(alloc, limits)?;
         let active = Active::new(alloc, &graph)?;
@@ -325,32 +325,38 @@ impl ValuedGraph {
 
     /// What a ticket is worth (4.4), in units of base, if the currency that issued it isn't stale. If the ticket funds something,
     /// that is one reading, which is counted; else it is worth nothing.
-    pub fn ticket_value(&self, ticket: u32, meter: &mut Counter) -> u64
-        requires fresh { (t : ATicket) → ticket_at self.now.now.funding ticket ≡ Some t → ¬ IsStale self.now.known (CurrencyNode t.issuer) }
-        ensures worth { (t : ATicket) → ticket_at self.now.now.funding ticket ≡ Some t → result ≡ ticket_value self.now.known.unit self.now.now.funding self.now.live t }
-        ensures counted { IsFunding self.now.now.funding ticket → meter.new ≡ record meter.old { ticket_reads = counted_up meter.old.ticket_reads 1 } }
-        ensures uncounted { ¬ IsFunding self.now.now.funding ticket → meter.new ≡ meter.old }
+    pub fn ticket_value(&mut self, ticket: u32) -> u64
+        requires fresh { (t : ATicket) → ticket_at self.old.now.funding ticket ≡ Some t → ¬ IsStale self.old.known (CurrencyNode t.issuer) }
+        ensures worth { (t : ATicket) → ticket_at self.old.now.funding ticket ≡ Some t → result ≡ ticket_value self.old.known.unit self.old.now.funding self.old.live t }
+        ensures counted { IsFunding self.old.now.funding ticket → self.new ≡ record self.old { known = record self.old.known { reads = counted_up self.old.known.reads 1 } } }
+        ensures uncounted { ¬ IsFunding self.old.now.funding ticket → self.new ≡ self.old }
     {
-        self.values
-            .ticket_value(&self.graph, &self.active, ticket, meter)
+        self.values.ticket_value(&self.graph, &self.active, ticket)
+    }
+
+    /// How many edges were read for values. The count stops at the greatest `u64`.
+    pub fn reads(&self) -> u64
+        ensures { result ≡ self.now.known.reads }
+    {
+        self.values.reads()
     }
 
     /// Computes the values of all stale nodes again. Counts each edge into a node that was stale once.
-    pub fn settle(&mut self, meter: &mut Counter)
+    pub fn settle(&mut self)
         ensures now { self.new.now ≡ self.old.now }
         ensures live { self.new.live ≡ self.old.live }
         ensures unit { self.new.known.unit ≡ self.old.known.unit }
         ensures settled { self.new.known.stale ≡ [] }
         ensures once { IsOnce self.old.known }
-        ensures counted { meter.new ≡ record meter.old { ticket_reads = counted_up meter.old.ticket_reads (edges_into_all self.old.now.funding self.old.known.stale) } }
+        ensures counted { self.new.known.reads ≡ counted_up self.old.known.reads (edges_into_all self.old.now.funding self.old.known.stale) }
     {
-        self.values.settle(&self.graph, &self.active, meter);
+        self.values.settle(&self.graph, &self.active);
     }
 
     /// Computes the value of one stale node again and answers the node; `None` if none is stale. Counts each edge into
     /// it.
     #[inline(always)]
-    pub fn settle_next(&mut self, meter: &mut Counter) -> Option<Node>
+    pub fn settle_next(&mut self) -> Option<Node>
         ensures now { self.new.now ≡ self.old.now }
         ensures live { self.new.live ≡ self.old.live }
         ensures layout { self.new.known.layout ≡ layout_of self.new.now }
@@ -359,10 +365,10 @@ impl ValuedGraph {
         ensures within { IfSome result (IsNodeOf self.old.now) }
         ensures once { IsOnce self.old.known }
         ensures settles { IfSome result (Settles self.old.known self.new.known) }
-        ensures counted { IfSome result (λ node. meter.new ≡ record meter.old { ticket_reads = counted_up meter.old.ticket_reads (edge_count_into self.old.now.funding node) }) }
-        ensures none { IfNone result ((self.old.known.stale ≡ []) × (self.new ≡ self.old) × (meter.new ≡ meter.old)) }
+        ensures counted { IfSome result (λ node. self.new.known.reads ≡ counted_up self.old.known.reads (edge_count_into self.old.now.funding node)) }
+        ensures none { IfNone result ((self.old.known.stale ≡ []) × (self.new ≡ self.old)) }
     {
-        self.values.settle_next(&self.graph, &self.active, meter)
+        self.values.settle_next(&self.graph, &self.active)
     }
 }
 

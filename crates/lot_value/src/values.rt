@@ -15,7 +15,6 @@ ghost use Rattle.lot_value.specs.Counts.{counted_up};
 ghost use Rattle.lot_value.specs.Caches.{IsStale, IsOnce, IsRight, IsRightBut, IsSmall, Settles, edges_into_all, value_in};
 
 use crate::marking::mark;
-use crate::meter::Counter;
 use crate::readings::{Sources, read_share, read_value};
 use crate::settling::next_fresh;
 use lot_active::Active;
@@ -25,7 +24,30 @@ use lot_machine::{Edge, Node};
 use std::alloc::{AllocError, Global};
 use std::marker::Model;
 
-/// What each currency, thread and mutex is worth, in units of base, as far as it is known: a value for each, and which values are stale.
+/// How many edges were read for values. `Values::new` makes one, and no other module can; it can't be copied. So a reading is counted
+/// for the values that it is made for.
+#[derive(Drop)]
+pub(crate) struct ReadCount {
+    reads: u64,
+}
+
+impl Model for ReadCount {
+    ghost Value = { ℕ };
+
+    ghost view = { λ c. c.reads };
+}
+
+impl ReadCount {
+    /// Counts one reading of an edge.
+    pub(crate) fn count(&mut self)
+        ensures { self.new ≡ counted_up self.old 1 }
+    {
+        self.reads = self.reads.saturating_add(1);
+    }
+}
+
+/// What each currency, thread and mutex is worth, in units of base, as far as it is known: a value for each, and which values are stale;
+/// and how many edges were read for them.
 #[derive(Drop)]
 pub struct Values {
     values: Vec<u64>,
@@ -35,6 +57,7 @@ pub struct Values {
     turned: Option<usize>,
     layout: Layout,
     unit: u32,
+    reads: ReadCount,
 }
 
 impl Model for Values {
@@ -46,15 +69,15 @@ impl Model for Values {
 
     ghost Value = { Known };
 
-    ghost view = { λ s. record { unit = s.unit; layout = s.layout; values = s.values.items; stale = map (node_of s.layout) (nodes_of s.stale 0) } };
+    ghost view = { λ s. record { unit = s.unit; layout = s.layout; values = s.values.items; stale = map (node_of s.layout) (nodes_of s.stale 0); reads = s.reads } };
 
     ghost invariant = { λ s. IsStaleList s.stale (node_count s.layout) × (length s.values.items ≡ node_count s.layout) };
 }
 
 impl Values {
-    /// All nodes that a graph may have, worth nothing, and none of them stale.
+    /// All nodes that a graph may have, worth nothing, none of them stale, and nothing read.
     pub fn new(alloc: Global, graph: &Graph, unit: u32) -> Result<Self, AllocError>
-        ensures { IfOk result (λ made. made ≡ record { unit = unit; layout = layout_of graph.now; values = replicate (places.node_count (layout_of graph.now)) 0; stale = [] }) }
+        ensures { IfOk result (λ made. made ≡ record { unit = unit; layout = layout_of graph.now; values = replicate (places.node_count (layout_of graph.now)) 0; stale = []; reads = 0 }) }
     {
         let layout = graph.layout();
         let nodes = layout.node_count();
@@ -64,7 +87,15 @@ impl Values {
             turned: None,
             layout,
             unit,
+            reads: ReadCount { reads: 0 },
         })
+    }
+
+    /// How many edges were read for values. The count stops at the greatest `u64`.
+    pub fn reads(&self) -> u64
+        ensures { result ≡ self.now.reads }
+    {
+        self.reads.reads
     }
 
     /// Whether a node is stale.
@@ -86,18 +117,14 @@ impl Values {
 
     /// What a ticket is worth (4.4), in units of base, if the currency that issued it isn't stale. If the ticket funds something,
     /// that is one reading, which is counted; else it is worth nothing.
-    pub fn ticket_value(
-        &self,
-        graph: &Graph,
-        active: &Active,
-        ticket: u32,
-        meter: &mut Counter,
-    ) -> u64
-        requires right { (live : List Bool) × IsKeptFor active.now graph.now live × IsSmall self.now.unit graph.now live × IsRight graph.now live self.now }
-        requires fresh { (t : ATicket) → ticket_at graph.now.funding ticket ≡ Some t → ¬ IsStale self.now (CurrencyNode t.issuer) }
-        ensures worth { (live : List Bool) → IsKeptFor active.now graph.now live → IsRight graph.now live self.now → (t : ATicket) → ticket_at graph.now.funding ticket ≡ Some t → result ≡ ticket_value self.now.unit graph.now.funding live t }
-        ensures counted { IsFunding graph.now.funding ticket → meter.new ≡ record meter.old { ticket_reads = counted_up meter.old.ticket_reads 1 } }
-        ensures uncounted { ¬ IsFunding graph.now.funding ticket → meter.new ≡ meter.old }
+    pub fn ticket_value(&mut self, graph: &Graph, active: &Active, ticket: u32) -> u64
+        requires right { (live : List Bool) × IsKeptFor active.now graph.now live × IsSmall self.old.unit graph.now live × IsRight graph.now live self.old }
+        requires fresh { (t : ATicket) → ticket_at graph.now.funding ticket ≡ Some t → ¬ IsStale self.old (CurrencyNode t.issuer) }
+        ensures worth { (live : List Bool) → IsKeptFor active.now graph.now live → IsRight graph.now live self.old → (t : ATicket) → ticket_at graph.now.funding ticket ≡ Some t → result ≡ ticket_value self.old.unit graph.now.funding live t }
+        ensures counted { IsFunding graph.now.funding ticket → self.new ≡ record self.old { reads = counted_up self.old.reads 1 } }
+        ensures uncounted { ¬ IsFunding graph.now.funding ticket → self.new ≡ self.old }
+        ensures unit { self.new.unit ≡ self.old.unit }
+        ensures right { (live : List Bool) → IsRight graph.now live self.old → IsRight graph.now live self.new }
     {
         if !graph.is_funding(ticket) {
             return 0;
@@ -108,7 +135,7 @@ impl Values {
             values: &self.values,
             unit: self.unit,
         };
-        read_share(sources, Edge::OfTicket(ticket), meter)
+        read_share(sources, Edge::OfTicket(ticket), &mut self.reads)
     }
 
     /// Makes a node and all that it reaches stale. It reads each edge from a node that gets stale once, and nothing for a value.
@@ -128,36 +155,31 @@ impl Values {
     }
 
     /// Computes the values of all stale nodes again, in an order along the edges. Counts each edge into a node that was stale once.
-    pub fn settle(&mut self, graph: &Graph, active: &Active, meter: &mut Counter)
+    pub fn settle(&mut self, graph: &Graph, active: &Active)
         requires right { (live : List Bool) × IsKeptFor active.now graph.now live × IsSmall self.old.unit graph.now live × IsRight graph.now live self.old }
         ensures settled { self.new.stale ≡ [] }
         ensures unit { self.new.unit ≡ self.old.unit }
         ensures right { (live : List Bool) → IsKeptFor active.now graph.now live → IsRight graph.now live self.old → IsRight graph.now live self.new }
         ensures once { IsOnce self.old }
-        ensures counted { meter.new ≡ record meter.old { ticket_reads = counted_up meter.old.ticket_reads (edges_into_all graph.now.funding self.old.stale) } }
+        ensures counted { self.new.reads ≡ counted_up self.old.reads (edges_into_all graph.now.funding self.old.stale) }
     {
         // What every cache keeps is known here: no node is listed twice.
         let _ = &self.stale;
-        while self.settle_next(graph, active, meter).is_some() {}
+        while self.settle_next(graph, active).is_some() {}
     }
 
     /// Computes again the value of one stale node whose sources aren't stale, and answers that node; `None` if none is
     /// stale. Counts each edge into the node.
     #[inline(always)]
-    pub fn settle_next(
-        &mut self,
-        graph: &Graph,
-        active: &Active,
-        meter: &mut Counter,
-    ) -> Option<Node>
+    pub fn settle_next(&mut self, graph: &Graph, active: &Active) -> Option<Node>
         requires right { (live : List Bool) × IsKeptFor active.now graph.now live × IsSmall self.old.unit graph.now live × IsRight graph.now live self.old }
         ensures right { (live : List Bool) → IsKeptFor active.now graph.now live → IsRight graph.now live self.old → IsRight graph.now live self.new }
         ensures node { IfSome result (HasEquation graph.now.funding) }
         ensures within { IfSome result (IsNodeWithin self.old.layout) }
         ensures once { IsOnce self.old }
         ensures settles { IfSome result (Settles self.old self.new) }
-        ensures counted { IfSome result (λ node. meter.new ≡ record meter.old { ticket_reads = counted_up meter.old.ticket_reads (edge_count_into graph.now.funding node) }) }
-        ensures none { IfNone result ((self.old.stale ≡ []) × (self.new ≡ self.old) × (meter.new ≡ meter.old)) }
+        ensures counted { IfSome result (λ node. self.new.reads ≡ counted_up self.old.reads (edge_count_into graph.now.funding node)) }
+        ensures none { IfNone result ((self.old.stale ≡ []) × (self.new ≡ self.old)) }
     {
         let place = next_fresh(graph, &mut self.stale, &mut self.turned)?;
         let node = self.layout.node_of(place);
@@ -167,7 +189,7 @@ impl Values {
             values: &self.values,
             unit: self.unit,
         };
-        self.values[place] = read_value(sources, node, meter);
+        self.values[place] = read_value(sources, node, &mut self.reads);
         self.stale.remove(place);
         Some(node)
     }

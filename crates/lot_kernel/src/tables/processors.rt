@@ -53,7 +53,7 @@ impl Tables {
         if self.threads.runner(processor).is_some() {
             return Reply::Refused(Refusal::Busy);
         }
-        let Some(winner) = self.threads.draw(d, &mut self.meter) else {
+        let Some(winner) = self.threads.draw(d) else {
             return Reply::Idle;
         };
         let delivered = self.threads.start(winner.thread, processor);

@@ -29,13 +29,13 @@ impl Tables {
         // A currency that issues is there. Were it not, the definitions would show an empty name.
         let issuer = self.currency_name(found.issuer).or(Name::new(""))?;
         let target = self.target_name(found.target);
-        self.threads.settle(&mut self.meter);
+        self.threads.settle();
         Some(TicketRow {
             amount: found.amount,
             issuer,
             target,
             is_active: self.threads.is_active(ticket),
-            value: self.threads.ticket_value(ticket, &mut self.meter),
+            value: self.threads.ticket_value(ticket),
         })
     }
 
@@ -49,7 +49,7 @@ impl Tables {
         ensures unchanged { IfNone result (self.new ≡ self.old) }
     {
         let name = self.currency_name(currency)?;
-        self.threads.settle(&mut self.meter);
+        self.threads.settle();
         let graph = self.threads.graph();
         Some(CurrencyRow {
             name,
@@ -82,7 +82,7 @@ impl Tables {
     {
         let found = self.threads.record(thread)?;
         let name = self.thread_name(thread)?;
-        self.threads.settle(&mut self.meter);
+        self.threads.settle();
         let value = self.threads.worth_of(thread);
         Some(ThreadRow {
             name,

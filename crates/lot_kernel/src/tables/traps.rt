@@ -187,7 +187,6 @@ impl Tables {
             &mut self.threads,
             &mut self.queues,
             &mut self.lottery,
-            &mut self.meter,
             thread,
             mutex,
             d,

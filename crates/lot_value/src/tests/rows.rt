@@ -11,11 +11,11 @@ struct Row<'a> {
     worth: &'a [(Node, u64)],
 }
 
-fn play(rt: &impl Abort, alloc: Global, graph: &mut ValuedGraph, row: &Row) {
+fn play(rt: &impl Abort, graph: &mut ValuedGraph, row: &Row) {
     for step in row.changes {
         make(rt, graph, *step);
     }
-    assert!(rt; settle(alloc, graph) == row.reads, "reads");
+    assert!(rt; settle(graph) == row.reads, "reads");
     check(rt, graph, row.worth);
 }
 
@@ -25,9 +25,9 @@ fn check(rt: &impl Abort, graph: &ValuedGraph, worth: &[(Node, u64)]) {
     }
 }
 
-fn play_all(rt: &impl Abort, alloc: Global, graph: &mut ValuedGraph, rows: &[Row]) {
+fn play_all(rt: &impl Abort, graph: &mut ValuedGraph, rows: &[Row]) {
     for row in rows {
-        play(rt, alloc, graph, row);
+        play(rt, graph, row);
     }
 }
 
@@ -65,9 +65,9 @@ fn shared_currency(rt: HostRuntime) -> Result<(), Fail> {
         },
     ];
     let mut graph = opening(&rt, rt.alloc(), 3, 1)?;
-    play_all(&rt, rt.alloc(), &mut graph, &rows);
-    assert!(rt; is_ticket_worth(rt.alloc(), &graph, 1, 100));
-    assert!(rt; is_ticket_worth(rt.alloc(), &graph, 4, 50));
+    play_all(&rt, &mut graph, &rows);
+    assert!(rt; is_ticket_worth(&mut graph, 1, 100));
+    assert!(rt; is_ticket_worth(&mut graph, 4, 50));
     Ok(())
 }
 
@@ -93,7 +93,7 @@ fn unfunded_upstream(rt: HostRuntime) -> Result<(), Fail> {
         },
     ];
     let mut graph = opening(&rt, rt.alloc(), 1, 2)?;
-    play_all(&rt, rt.alloc(), &mut graph, &rows);
+    play_all(&rt, &mut graph, &rows);
     Ok(())
 }
 
@@ -132,7 +132,7 @@ fn the_last_goes_and_another_comes(rt: HostRuntime) -> Result<(), Fail> {
         },
     ];
     let mut graph = opening(&rt, rt.alloc(), 2, 1)?;
-    play_all(&rt, rt.alloc(), &mut graph, &rows);
+    play_all(&rt, &mut graph, &rows);
     Ok(())
 }
 
@@ -171,7 +171,7 @@ fn lent_and_inherited(rt: HostRuntime) -> Result<(), Fail> {
         },
     ];
     let mut graph = opening(&rt, rt.alloc(), 4, 0)?;
-    play_all(&rt, rt.alloc(), &mut graph, &rows);
+    play_all(&rt, &mut graph, &rows);
     Ok(())
 }
 
@@ -200,7 +200,7 @@ fn stale_before_its_source(rt: HostRuntime) -> Result<(), Fail> {
         },
     ];
     let mut graph = opening(&rt, rt.alloc(), 1, 1)?;
-    play_all(&rt, rt.alloc(), &mut graph, &rows);
+    play_all(&rt, &mut graph, &rows);
     Ok(())
 }
 
@@ -217,7 +217,7 @@ fn stale_before_many_sources(rt: HostRuntime) -> Result<(), Fail> {
         fund(&rt, &mut graph, currency, 1, Target::Thread(1));
         fund(&rt, &mut graph, 0, 1, Target::Currency(currency));
     }
-    assert!(rt; settle(rt.alloc(), &mut graph) == 140);
+    assert!(rt; settle(&mut graph) == 140);
     assert!(rt; is_worth(&graph, Node::Thread(1), 120));
     Ok(())
 }
@@ -241,7 +241,7 @@ fn ladder_of_diamonds(rt: HostRuntime) -> Result<(), Fail> {
     }
     fund(&rt, &mut graph, 192, 1, Target::Thread(1));
     set_live(&rt, &mut graph, 1, true);
-    assert!(rt; settle(rt.alloc(), &mut graph) == 257);
+    assert!(rt; settle(&mut graph) == 257);
     assert!(rt; is_worth(&graph, Node::Thread(1), 2));
     Ok(())
 }

@@ -1,9 +1,22 @@
-use Rattle.std.proofs.Common.{◌≡◌, ◌<◌, length, refl, sym, ap, ◌∙◌, arith}
+use Rattle.std.proofs.Common.{◌≡◌, ◌<◌, length, refl, subst, sym, ap, ◌∙◌, arith}
 use Rattle.std.proofs.lemmas.List.{length-set}
+use Rattle.lot_machine.specs.declared.reply.Reply.{Reply}
 use Rattle.lot_machine.specs.Step.{step, state_after}
+use Rattle.lot_kernel.specs.Counted.{Counts}
 use Rattle.lot_c.specs.Replies.{plain_reply}
-use Rattle.lot_c.proofs.Runs.{meant-more, fault-more, written-step}
+use Rattle.lot_c.proofs.Runs.{meant-more, fault-more, written-step, done-more, done-none}
 use Rattle.lot_c.proofs.events.answer_all.Goals as goal
+
+pub loop-i-init : goal.loop-i-init
+loop-i-init c = record {
+  told = refl;
+  state = refl;
+  fault = refl;
+  counted = refl;
+  done = refl;
+  lengths = c.requires;
+  each = λ end done. done;
+}
 
 pub loop-i-preserved : goal.loop-i-preserved
 loop-i-preserved c =
@@ -20,4 +33,11 @@ loop-i-preserved c =
       counted = omega (arith, kept.counted, ap length (meant-more es i _ e below ok));
       done = refl;
       lengths = kept.lengths ∙ sym (length-set rs i c.of.result);
+      each = λ end others. kept.each end (done-more es i _ e below ok c.loop-i.kernel c.event.new.self end (record {
+        reply = refl;
+        state = c.event.ensures.state;
+        sound = c.event.ensures.sound;
+        stale = c.event.ensures.stale;
+        counts = subst (λ (answer : Reply). Counts e answer c.loop-i.kernel c.event.new.self) c.event.ensures.reply c.event.ensures.counts;
+      }) others);
     }

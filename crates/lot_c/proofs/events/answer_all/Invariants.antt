@@ -1,5 +1,7 @@
 use Rattle.std.proofs.Common.{◌≡◌, ◌+◌, ◌++◌, length, take, drop}
-use Rattle.lot_machine.specs.Step.{state_after}
+use Rattle.lot_machine.specs.Step.{replies, state_after}
+use Rattle.lot_kernel.specs.Counted.{AreDone}
+use Rattle.lot_kernel.specs.Snapshots.{Snapshot}
 use Rattle.lot_c.specs.Calls.{events_meant, first_fault, replies_written}
 use Rattle.lot_c.proofs.events.answer_all.Given as goal
 
@@ -12,4 +14,5 @@ invariant-loop-i l = record {
   counted : l.i + length (events_meant (drop l.i l.events)) ≡ length (events_meant l.events);
   done : l.done ≡ l.i;
   lengths : length l.events ≡ length l.replies;
+  each : (end : Snapshot) → AreDone (events_meant (drop l.i l.events)) (replies l.kernel.state (events_meant (drop l.i l.events))) l.kernel end → AreDone (events_meant l.events) (replies l.fn.kernel.state (events_meant l.events)) l.fn.kernel end;
 }

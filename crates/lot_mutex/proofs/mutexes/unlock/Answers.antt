@@ -5,8 +5,9 @@ use Rattle.lot_machine.specs.declared.drawn.Drawn.{Drawn}
 use Rattle.lot_machine.specs.declared.funding.Node.TheVariants.{Thread}
 use Rattle.lot_machine.specs.declared.reply.Outcome.TheVariants.{Freed, Passed}
 use Rattle.lot_machine.specs.Lottery.{winner}
-use Rattle.lot_machine.specs.Mutexes.{MutexTrap, mutex_at}
+use Rattle.lot_machine.specs.Mutexes.{MutexTrap, mutex_at, unlock}
 use Rattle.lot_machine.specs.Numbered.{set_number}
+use Rattle.lot_value.specs.declared.meter.Meter.{Meter}
 use Rattle.lot_threads.specs.Threaded.{Threaded, IsStaleIn, MakesStaleIn, worth_in}
 use Rattle.lot_mutex.specs.Listed.{Listed, with_mutexes}
 use Rattle.lot_mutex.proofs.Owners.{owners-after, place-below, unlock-passes}
@@ -41,7 +42,20 @@ returns-clause-threads c =
     let next : c.picked-next.result ≡ slice_index ws place = c.picked-next.ensures ∙ ap (λ (l : Listed). slice_index l.waiters place) c.hold-drawn.ensures.same ∙ ap (λ xs. slice_index xs place) listed in
     let after = owners-after mutexes v.owners c.args.mutex (record { owner = Some (slice_index ws place); waiters = remove ws place }) c.requires.owners in
     let passes = pass-threads v c.settle.new.self c.pass.new.threads c.picked-next.result (slice_index ws place) c.args.mutex _ c.settle.ensures.settled next after c.pass.ensures.threads in
-    passes ∙ sym (ap (λ (e : MutexTrap). with_mutexes v e c.pass.new.threads.stale) step)
+    passes ∙ sym (ap (λ (e : MutexTrap). record (with_mutexes v e c.pass.new.threads.stale) { meter = c.pass.new.threads.meter }) step)
+
+pub returns-then-is_empty-clause-threads : goal.returns-then-is_empty-clause-threads
+returns-then-is_empty-clause-threads c =
+    let v = c.args.threads.now in
+    let step = unlock v.records c.args.queues.now.mutexes (worth_in v) c.args.mutex c.args.d in
+    let freed = (c.free.ensures.frees (worth_in v) c.args.d).threads in
+    freed ∙ ap (λ (counts : Meter). record (with_mutexes v step c.free.new.threads.stale) { meter = counts }) (sym (ap (λ (x : Threaded). x.meter) freed))
+
+pub returns-then-is_empty-clause-uncounted : goal.returns-then-is_empty-clause-uncounted
+returns-then-is_empty-clause-uncounted c none = ap (λ (x : Threaded). x.meter) (c.free.ensures.frees (worth_in c.args.threads.now) c.args.d).threads
+
+pub returns-clause-counted : goal.returns-clause-counted
+returns-clause-counted c some = ap (λ (x : Threaded). x.meter) c.pass.ensures.threads ∙ ap (λ (x : Threaded). x.meter) c.settle.ensures.settled
 
 pub returns-clause-queues : goal.returns-clause-queues
 returns-clause-queues c =

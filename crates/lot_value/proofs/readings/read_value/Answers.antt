@@ -5,7 +5,6 @@ use Rattle.lot_machine.specs.declared.funding.Edge.{Edge}
 use Rattle.lot_machine.specs.Equations.{HasEachOnce, LeadsInto, share}
 use Rattle.lot_graph.specs.Places.{layout_of}
 use Rattle.lot_value.specs.Caches.{kept_worth}
-use Rattle.lot_value.specs.declared.meter.Meter.{Meter}
 use Rattle.lot_value.specs.Counts.{counted_up}
 use Rattle.lot_value.proofs.Counting.{counted-more}
 use Rattle.lot_value.proofs.Reading.{next-sum, all-sum, all-count}
@@ -16,7 +15,7 @@ pub loop-edge-init : goal.loop-edge-init
 loop-edge-init c = record {
   split = subst (λ (edges : List Edge). HasEachOnce edges (LeadsInto c.args.sources.graph.now.funding c.args.node)) (sym c.into_iter-edge-iterator.ensures.into_iter_gives) c.edges_into-edge-items.ensures.edges;
   total = λ live are. refl;
-  meter = refl;
+  reads = refl;
 }
 
 pub read_share-total-requires-clause-edge : goal.read_share-total-requires-clause-edge
@@ -46,12 +45,11 @@ loop-edge-preserved c = record {
       let s = c.args.sources in
       let g = share s.unit s.graph.now.funding live (kept_worth (layout_of s.graph.now) s.values.now) in
       omega (arith, c.loop-edge.invariant.total live are, c.read_share-total.ensures.value live are, sum_by_push g c.loop-edge.yielded c.in-Some.edge);
-  meter =
-      let start = c.args.meter.now in
+  reads =
+      let start = c.args.reads.now in
       let done = c.loop-edge.yielded in
       let one : length done + 1 ≡ length (done ++ c.in-Some.edge ∷ []) = omega (arith, length_push done c.in-Some.edge) in
-      c.read_share-total.ensures.counted ∙ ap (λ (m : Meter). record m { ticket_reads = counted_up m.ticket_reads 1 }) c.loop-edge.invariant.meter
-      ∙ ap (λ n. record start { ticket_reads = n }) (counted-more start.ticket_reads (length done) 1 ∙ ap (counted_up start.ticket_reads) one);
+      c.read_share-total.ensures.counted ∙ ap (λ n. counted_up n 1) c.loop-edge.invariant.reads ∙ counted-more start (length done) 1 ∙ ap (counted_up start) one;
 }
 
 pub returns-clause-value : goal.returns-clause-value
@@ -64,4 +62,4 @@ pub returns-clause-counted : goal.returns-clause-counted
 returns-clause-counted c =
     let s = c.args.sources in
     let count = all-count s.graph.now.funding c.args.node c.loop-edge.yielded c.loop-edge.edge-iterator c.loop-edge.invariant.split c.in-None.ensures.steps.0 in
-    c.loop-edge.invariant.meter ∙ ap (λ n. record c.args.meter.now { ticket_reads = counted_up c.args.meter.now.ticket_reads n }) count
+    c.loop-edge.invariant.reads ∙ ap (counted_up c.args.reads.now) count

@@ -11,5 +11,5 @@ abbrev pub invariant-loop-edge : goal.invariant-loop-edge
 invariant-loop-edge l = record {
   split : HasEachOnce (l.yielded ++ l.edge-iterator) (LeadsInto l.sources.graph.now.funding l.fn.node);
   total : (live : List Bool) → AreSources l.sources live → l.total ≡ sum_by (share l.sources.unit l.sources.graph.now.funding live (kept_worth (layout_of l.sources.graph.now) l.sources.values.now)) l.yielded;
-  meter : l.meter ≡ record l.fn.meter { ticket_reads = counted_up l.fn.meter.ticket_reads (length l.yielded) };
+  reads : l.reads ≡ counted_up l.fn.reads (length l.yielded);
 }

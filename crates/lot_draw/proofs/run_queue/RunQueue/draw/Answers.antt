@@ -1,11 +1,14 @@
-use Rattle.std.proofs.Common.{◌≡◌, ◌∙◌, Option, IfSome, IsSome, ap, subst, sym}
+use Rattle.std.proofs.Common.{◌≡◌, ◌∙◌, ℕ, Option, IfSome, IsSome, List, [], length, ap, subst, sym}
+use Rattle.std.specs.Prelude.{MatchOption}
+use Rattle.lot_tree.specs.Visits.{CountsReads}
 use Rattle.lot_machine.specs.Value.{thread_value}
 use Rattle.lot_draw.specs.declared.competing.Winner.{Winner}
 use Rattle.lot_draw.specs.Competing.{competitor_at}
-use Rattle.lot_draw.specs.Queued.{Queued}
+use Rattle.lot_draw.specs.Queued.{Queued, AreWeights}
 use Rattle.lot_draw.proofs.Lotteries.{winner-competes}
 use Rattle.lot_draw.proofs.Weighing.{draws, same-drawn, still-competes}
 use Rattle.lot_draw.proofs.run_queue.RunQueue.draw.Goals as goal
+use Rattle.lot_draw.proofs.run_queue.RunQueue.draw.Goals.{After-weigh_changed}
 
 pub returns-clause-winner : goal.returns-clause-winner
 returns-clause-winner c =
@@ -23,3 +26,21 @@ returns-clause-competes c =
     let old = c.args.self.now in
     let v = c.args.graph.now in
     subst (λ (o : Option Winner). IfSome o (λ w. IsSome (competitor_at old.competitors w.thread))) (sym (returns-clause-winner c)) (winner-competes old.quantum old.competitors (thread_value v.known.unit v.now.funding v.live) c.args.d)
+
+-- the queue before the lottery
+settled-queue : (c : After-weigh_changed) → c.weigh_changed.new.self ≡ record c.args.self.now { weights = c.weigh_changed.new.self.weights; changed = [] }
+settled-queue c = c.weigh_changed.ensures.queue ∙ ap (λ (q : Queued). record q { weights = c.weigh_changed.new.self.weights; changed = [] }) c.settle.ensures.queue
+
+pub returns-clause-queue : goal.returns-clause-queue
+returns-clause-queue c =
+    let visits = c.hold_lottery.new.self.visits in
+    c.hold_lottery.ensures.queue ∙ ap (λ (q : Queued). record q { visits = visits }) (settled-queue (goal.at.returns-clause-queue c).After-weigh_changed)
+    ∙ ap (λ (ws : List ℕ). record c.args.self.now { weights = ws; changed = []; visits = visits }) (sym (ap (λ (q : Queued). q.weights) c.hold_lottery.ensures.queue))
+
+pub returns-clause-weights : goal.returns-clause-weights
+returns-clause-weights c = subst (λ (q : Queued). AreWeights q c.settle.new.graph.known) (sym c.hold_lottery.ensures.queue) c.weigh_changed.ensures.weights
+
+pub returns-clause-visits : goal.returns-clause-visits
+returns-clause-visits c =
+    let now = c.hold_lottery.new.self.visits in
+    subst (λ (q : Queued). MatchOption c.hold_lottery.result (now ≡ q.visits) (λ w. CountsReads (length q.competitors) q.visits now)) (settled-queue (goal.at.returns-clause-visits c).After-weigh_changed) c.hold_lottery.ensures.visits

@@ -38,7 +38,7 @@ loop-node-preserved c =
     let threads : was.known.layout.threads ≡ c.args.graph.now.now.thread_limit = ap (λ (l : Layout). l.threads) layout ∙ ap (λ (w : LimitedFunding). w.thread_limit) inv.now in
     let places : length old.competitors ≡ was.known.layout.threads = ap (λ (q : Queued). length q.competitors) inv.queue ∙ c.requires.places ∙ sym threads in
     let weights = weights-settled old new.changed was.known now.known node places within step.settles c.list_node.ensures.kept c.list_node.ensures.listed inv.weights in
-    let counted = subst (λ (w : LimitedFunding). c.settle_next.new.meter ≡ record c.loop-node.meter { ticket_reads = counted_up c.loop-node.meter.ticket_reads (edge_count_into w.funding node) }) inv.now step.counted in record {
+    let counted = subst (λ (w : LimitedFunding). now.known.reads ≡ counted_up was.known.reads (edge_count_into w.funding node)) inv.now step.counted in record {
       queue = c.list_node.ensures.others ∙ ap (λ (q : Queued). record q { changed = new.changed }) inv.queue;
       listed = λ place there. listed-more was.known c.args.graph.now.known node place step.settles.was inv.fewer (inv.listed place) (c.list_node.ensures.only place there);
       fewer = λ other stale. inv.fewer other (step.settles.each other stale);
@@ -47,7 +47,7 @@ loop-node-preserved c =
       live = step.live ∙ inv.live;
       unit = step.settles.unit ∙ inv.unit;
       once = inr (once-first c.args.graph.now was inv.once step.once);
-      counted = settle-more c.args.graph.now.now.funding c.args.meter.now c.loop-node.meter c.settle_next.new.meter c.args.graph.now.known.stale was.known now.known (Some node) true refl refl step.settles counted inv.counted;
+      counted = settle-more c.args.graph.now.now.funding c.args.graph.now.known.reads was.known.reads now.known.reads c.args.graph.now.known.stale was.known now.known (Some node) true refl refl step.settles counted inv.counted;
     }
 
 pub returns-clause-once : goal.returns-clause-once

@@ -17,7 +17,7 @@ invariant-loop-node l = record {
   live : l.graph.live ≡ l.fn.graph.live;
   unit : l.graph.known.unit ≡ l.fn.graph.known.unit;
   once : (l.graph ≡ l.fn.graph) ⊎ IsOnce l.fn.graph.known;
-  counted : (count : ℕ) × (l.meter ≡ record l.fn.meter { ticket_reads = counted_up l.fn.meter.ticket_reads count }) × (count + edges_into_all l.fn.graph.now.funding l.graph.known.stale ≡ edges_into_all l.fn.graph.now.funding l.fn.graph.known.stale);
+  counted : (count : ℕ) × (l.graph.known.reads ≡ counted_up l.fn.graph.known.reads count) × (count + edges_into_all l.fn.graph.now.funding l.graph.known.stale ≡ edges_into_all l.fn.graph.now.funding l.fn.graph.known.stale);
 }
 
 abbrev pub decreases-loop-node : goal.decreases-loop-node

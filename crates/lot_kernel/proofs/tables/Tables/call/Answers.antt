@@ -46,4 +46,4 @@ returns-clause-stale c =
     let i = c.self.inside in
     let trap = call i.threads.records i.queues.clients i.queues.ports c.args.thread c.args.port c.args.number in
     let threads = ports-held (sizes_of i.limits) i.currencies.items i.threads c.call.new.threads i.queues c.call.new.queues c.self.invariant.threads trap c.call.ensures.threads c.call.ensures.queues in
-    rw (← c.self.view_is) (makes-held (sizes_of i.limits) i.currencies.items i.currencies.items i.threads c.call.new.threads i.queues c.call.new.queues i.meter i.meter c.self.invariant.threads threads c.call.ensures.stale)
+    rw (← c.self.view_is) (makes-held (sizes_of i.limits) i.currencies.items i.currencies.items i.threads c.call.new.threads i.queues c.call.new.queues c.self.invariant.threads threads c.call.ensures.stale)

@@ -10,6 +10,7 @@ use Rattle.lot_machine.specs.Numbered.{at_number}
 use Rattle.lot_machine.specs.State.{change_record, sizes_of, status_of, thread_on}
 use Rattle.lot_machine.proofs.EachOnce.{contains-nothing}
 use Rattle.lot_value.specs.Counts.{counted_up}
+use Rattle.lot_value.specs.declared.meter.Meter.{Meter}
 use Rattle.lot_kernel.proofs.Drawing.{start-fresh, step-idle, step-won}
 use Rattle.lot_value.specs.Caches.{edges_into_all}
 use Rattle.lot_kernel.specs.Snapshots.{held}
@@ -29,7 +30,7 @@ returns-in_default-clause-reply c =
     let good : is_bad_processor s c.args.processor ≡ false = search rules in
     let free : is_some (thread_on s.records c.args.processor) ≡ false = search rules in
     let none = ap (λ (v : Threaded). drawn_in v c.args.d) (sym c.self.invariant.threads) ∙ sym c.draw.ensures.winner ∙ c.in_default.is in
-    rw (← c.self.view_is) (sym (ap (λ (x : Step). x.reply) (step-idle s c.args.processor c.args.d good free i.threads.stale none)))
+    rw (← c.self.view_is) (sym (ap (λ (x : Step). x.reply) (step-idle s c.args.processor c.args.d good free i.threads.stale i.threads.meter none)))
 
 pub returns-in_default-clause-state : goal.returns-in_default-clause-state
 returns-in_default-clause-state c =
@@ -38,12 +39,12 @@ returns-in_default-clause-state c =
     let good : is_bad_processor s c.args.processor ≡ false = search rules in
     let free : is_some (thread_on s.records c.args.processor) ≡ false = search rules in
     let none = ap (λ (v : Threaded). drawn_in v c.args.d) (sym c.self.invariant.threads) ∙ sym c.draw.ensures.winner ∙ c.in_default.is in
-    rw (← c.self.view_is) (ap (λ (v : Threaded). held (sizes_of i.limits) i.currencies.items v i.queues) c.draw.ensures.settled ∙ sym (ap (λ (x : Step). x.state) (step-idle s c.args.processor c.args.d good free i.threads.stale none)))
+    rw (← c.self.view_is) (ap (λ (v : Threaded). held (sizes_of i.limits) i.currencies.items v i.queues) c.draw.ensures.settled ∙ sym (ap (λ (x : Step). x.state) (step-idle s c.args.processor c.args.d good free i.threads.stale i.threads.meter none)))
 
 pub returns-in_default-clause-counts : goal.returns-in_default-clause-counts
 returns-in_default-clause-counts c =
     let i = c.self.inside in
-    let reads = ap (λ (v : Threaded). counted_up i.meter.ticket_reads (edges_into_all (funding_in v) v.stale)) c.self.invariant.threads in
+    let reads = ap (λ (v : Threaded). counted_up i.threads.meter.ticket_reads (edges_into_all (funding_in v) v.stale)) c.self.invariant.threads in
     rw (← c.self.view_is) (record { fresh = ap (λ (v : Threaded). v.stale) c.draw.ensures.settled; once = c.draw.ensures.once; reads = c.draw.ensures.reads ∙ reads }, c.in_default.ensures.visits)
 
 pub start-delivered-requires-clause-thread : goal.start-delivered-requires-clause-thread
@@ -60,7 +61,7 @@ returns-clause-reply c =
     let free : is_some (thread_on s.records c.args.processor) ≡ false = search rules in
     let some = ap (λ (v : Threaded). drawn_in v c.args.d) (sym c.self.invariant.threads) ∙ sym c.draw.ensures.winner ∙ c.in-Some.is in
     let delivered = c.start-delivered.ensures.delivered ∙ ap (λ (v : Threaded). option_and_then (λ (r : Record). r.delivered) (at_number v.records w.thread)) c.draw.ensures.settled in
-    rw (← c.self.view_is) (ap (answer.Winner w.thread w.number w.total) delivered ∙ sym (ap (λ (x : Step). x.reply) (step-won s c.args.processor c.args.d good free i.threads.stale w some)))
+    rw (← c.self.view_is) (ap (answer.Winner w.thread w.number w.total) delivered ∙ sym (ap (λ (x : Step). x.reply) (step-won s c.args.processor c.args.d good free i.threads.stale i.threads.meter w some)))
 
 pub returns-clause-state : goal.returns-clause-state
 returns-clause-state c =
@@ -72,9 +73,9 @@ returns-clause-state c =
     let some = ap (λ (v : Threaded). drawn_in v c.args.d) (sym c.self.invariant.threads) ∙ sym c.draw.ensures.winner ∙ c.in-Some.is in
     rw (← c.self.view_is) (ap (λ (v : Threaded). held (sizes_of i.limits) i.currencies.items v i.queues) c.start-delivered.ensures.started
     ∙ ap (λ (v : Threaded). held (sizes_of i.limits) i.currencies.items (with_records v (change_record (started c.args.processor) v.records w.thread) v.stale) i.queues) c.draw.ensures.settled
-    ∙ sym (ap (λ (x : Step). x.state) (step-won s c.args.processor c.args.d good free i.threads.stale w some)))
+    ∙ sym (ap (λ (x : Step). x.state) (step-won s c.args.processor c.args.d good free i.threads.stale i.threads.meter w some)))
 
-fresh : (v settled new : Threaded) (p t : ℕ) → settled ≡ record v { stale = [] } → status_of v.records t ≡ Some Ready → new ≡ with_records settled (change_record (started p) settled.records t) new.stale → MakesStaleIn settled new → new.stale ≡ []
+fresh : (v settled new : Threaded) (p t : ℕ) → settled ≡ record v { stale = []; meter = settled.meter } → status_of v.records t ≡ Some Ready → new ≡ with_records settled (change_record (started p) settled.records t) new.stale → MakesStaleIn settled new → new.stale ≡ []
 fresh v settled new p t is ready = start-fresh settled new p t (ap (λ (x : Threaded). x.stale) is) (ap (λ (x : Threaded). status_of x.records t) is ∙ ready)
 
 pub returns-clause-stale : goal.returns-clause-stale
@@ -85,7 +86,12 @@ returns-clause-stale c x stale =
 pub returns-clause-counts : goal.returns-clause-counts
 returns-clause-counts c =
     let i = c.self.inside in
-    let reads = ap (λ (v : Threaded). counted_up i.meter.ticket_reads (edges_into_all (funding_in v) v.stale)) c.self.invariant.threads in
+    let reads = ap (λ (v : Threaded). counted_up i.threads.meter.ticket_reads (edges_into_all (funding_in v) v.stale)) c.self.invariant.threads in
     let none = fresh i.threads c.draw.new.self c.start-delivered.new.self c.args.processor c.in-Some.winner.thread c.draw.ensures.settled c.in-Some.ensures.ready c.start-delivered.ensures.started c.start-delivered.ensures.stale in
     let limit = ap (λ (v : Threaded). v.thread_limit) c.self.invariant.threads in
-    rw (← c.self.view_is) (record { fresh = none; once = c.draw.ensures.once; reads = c.draw.ensures.reads ∙ reads }, subst (λ n. CountsReads n i.meter.tree_visits c.draw.new.meter.tree_visits) limit c.in-Some.ensures.visits)
+    let kept = ap (λ (v : Threaded). v.meter) c.start-delivered.ensures.started in
+    let visits = subst (λ n. CountsReads n i.threads.meter.tree_visits c.draw.new.self.meter.tree_visits) limit c.in-Some.ensures.visits in
+    rw (← c.self.view_is) (
+      record { fresh = none; once = c.draw.ensures.once; reads = ap (λ (m : Meter). m.ticket_reads) kept ∙ c.draw.ensures.reads ∙ reads },
+      subst (λ (m : Meter). CountsReads (the_view i).state.limits.threads i.threads.meter.tree_visits m.tree_visits) (sym kept) visits,
+    )

@@ -17,7 +17,7 @@ use Rattle.lot_kernel.proofs.tables.Tables.fund_target.Goals as goal
 use Rattle.lot_kernel.specs.contracts.tables.Tables.{the_view}
 use Rattle.lot_kernel.specs.contracts.tables.Tables.{the_view}
 
-tested : (s : State) (order : IsInOrder s) (n : ℕ) (to : Target) (v : Threaded) (found : Bool) → v ≡ threads_of s v.stale → target_of (funding_of s) n ≡ Some Unfunded → IsTarget (funding_of s) to → (IsTrue found ↔ IsCycle (funding_in v) n to) → is_cycle s n to ≡ found
+tested : (s : State) (order : IsInOrder s) (n : ℕ) (to : Target) (v : Threaded) (found : Bool) → v ≡ threads_of s v.stale v.meter → target_of (funding_of s) n ≡ Some Unfunded → IsTarget (funding_of s) to → (IsTrue found ↔ IsCycle (funding_in v) n to) → is_cycle s n to ≡ found
 tested s order n to v found same unfunded there is =
     let (t, here) = ticket-with (funding_of s) n Unfunded unfunded in
     cycle-tested s order n t here to there found (subst (λ (f : Funding). IsTrue found ↔ IsCycle f n to) (ap funding_in same) is)
@@ -62,7 +62,7 @@ returns-clause-stale c =
     let i = c.self.inside in
     let funded : c.fund.new.self ≡ record i.threads { tickets = with_target i.threads.tickets c.args.ticket c.args.to; stale = c.fund.new.self.stale } = search rules in
     let threads = held-tickets (sizes_of i.limits) i.currencies.items i.threads c.fund.new.self i.queues c.self.invariant.threads _ funded in
-    rw (← c.self.view_is) (makes-held (sizes_of i.limits) i.currencies.items i.currencies.items i.threads c.fund.new.self i.queues i.queues i.meter i.meter c.self.invariant.threads threads c.fund.ensures.stale)
+    rw (← c.self.view_is) (makes-held (sizes_of i.limits) i.currencies.items i.currencies.items i.threads c.fund.new.self i.queues i.queues c.self.invariant.threads threads c.fund.ensures.stale)
 
 pub returns-clause-kept : goal.returns-clause-kept
 returns-clause-kept c = rw (← c.self.view_is) c.fund.ensures.kept

@@ -18,7 +18,7 @@ invariant_of-self c =
     let i = c.self.inside in
     let left = lock i.threads.records i.queues.mutexes c.args.thread c.args.mutex in
     let count = lock-count i.threads.records i.queues.mutexes c.args.thread c.args.mutex in
-    let threads = held-mutexes (sizes_of i.limits) i.currencies.items i.threads c.lock.new.threads i.queues c.self.invariant.threads left c.lock.new.queues c.lock.ensures.threads c.lock.ensures.queues in
+    let threads = held-mutexes (sizes_of i.limits) i.currencies.items i.threads c.lock.new.threads i.queues c.self.invariant.threads left c.lock.new.queues i.threads.meter c.lock.ensures.threads c.lock.ensures.queues in
     search (rules, threads, count)
 
 pub returns-clause-stale : goal.returns-clause-stale
@@ -26,5 +26,5 @@ returns-clause-stale c =
     let i = c.self.inside in
     let same = c.self.view_is ∙ c.lock_refusal.ensures.unchanged in
     let left = lock i.threads.records i.queues.mutexes c.args.thread c.args.mutex in
-    let threads = held-mutexes (sizes_of i.limits) i.currencies.items i.threads c.lock.new.threads i.queues c.self.invariant.threads left c.lock.new.queues c.lock.ensures.threads c.lock.ensures.queues in
-    rw (← same) (makes-held (sizes_of i.limits) i.currencies.items i.currencies.items i.threads c.lock.new.threads i.queues c.lock.new.queues i.meter i.meter c.self.invariant.threads threads c.lock.ensures.stale)
+    let threads = held-mutexes (sizes_of i.limits) i.currencies.items i.threads c.lock.new.threads i.queues c.self.invariant.threads left c.lock.new.queues i.threads.meter c.lock.ensures.threads c.lock.ensures.queues in
+    rw (← same) (makes-held (sizes_of i.limits) i.currencies.items i.currencies.items i.threads c.lock.new.threads i.queues c.lock.new.queues c.self.invariant.threads threads c.lock.ensures.stale)

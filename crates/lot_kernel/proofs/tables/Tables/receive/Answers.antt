@@ -47,4 +47,4 @@ returns-clause-stale c =
     let i = c.self.inside in
     let trap = receive i.threads.records i.queues.clients i.queues.ports c.args.thread c.args.port in
     let threads = ports-held (sizes_of i.limits) i.currencies.items i.threads c.receive.new.threads i.queues c.receive.new.queues c.self.invariant.threads trap c.receive.ensures.threads c.receive.ensures.queues in
-    rw (← c.self.view_is) (makes-held (sizes_of i.limits) i.currencies.items i.currencies.items i.threads c.receive.new.threads i.queues c.receive.new.queues i.meter i.meter c.self.invariant.threads threads c.receive.ensures.stale)
+    rw (← c.self.view_is) (makes-held (sizes_of i.limits) i.currencies.items i.currencies.items i.threads c.receive.new.threads i.queues c.receive.new.queues c.self.invariant.threads threads c.receive.ensures.stale)

@@ -40,4 +40,4 @@ returns-clause-stale c =
     let i = c.self.inside in
     let left = reply i.threads.records i.queues.clients i.queues.ports c.args.thread c.args.number in
     let threads = ports-held (sizes_of i.limits) i.currencies.items i.threads c.reply.new.threads i.queues c.reply.new.queues c.self.invariant.threads left c.reply.ensures.threads c.reply.ensures.queues in
-    rw (← c.self.view_is) (makes-held (sizes_of i.limits) i.currencies.items i.currencies.items i.threads c.reply.new.threads i.queues c.reply.new.queues i.meter i.meter c.self.invariant.threads threads c.reply.ensures.stale)
+    rw (← c.self.view_is) (makes-held (sizes_of i.limits) i.currencies.items i.currencies.items i.threads c.reply.new.threads i.queues c.reply.new.queues c.self.invariant.threads threads c.reply.ensures.stale)

@@ -48,4 +48,4 @@ returns-clause-stale c =
     let i = c.self.inside in
     let left = serve i.threads.records i.queues.clients i.queues.ports c.args.thread c.args.port c.args.number in
     let threads = ports-held (sizes_of i.limits) i.currencies.items i.threads c.serve.new.threads i.queues c.serve.new.queues c.self.invariant.threads left c.serve.ensures.threads c.serve.ensures.queues in
-    rw (← c.self.view_is) (makes-held (sizes_of i.limits) i.currencies.items i.currencies.items i.threads c.serve.new.threads i.queues c.serve.new.queues i.meter i.meter c.self.invariant.threads threads c.serve.ensures.stale)
+    rw (← c.self.view_is) (makes-held (sizes_of i.limits) i.currencies.items i.currencies.items i.threads c.serve.new.threads i.queues c.serve.new.queues c.self.invariant.threads threads c.serve.ensures.stale)

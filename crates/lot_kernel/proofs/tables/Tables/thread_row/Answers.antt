@@ -1,5 +1,5 @@
-use Rattle.std.proofs.Common.{Some, [], ap, rules, ◌∙◌, ◌≡◌}
-use Rattle.lot_threads.specs.Threaded.{Threaded, worth_in}
+use Rattle.std.proofs.Common.{Some, ap, rules, ◌∙◌, ◌≡◌}
+use Rattle.lot_threads.specs.Threaded.{Threaded, settled_in, worth_in}
 use Rattle.lot_machine.specs.Numbered.{at_number}
 use Rattle.lot_kernel.specs.contracts.tables.Tables.{the_view}
 use Rattle.lot_kernel.proofs.Rows.{thread-row-of}
@@ -14,5 +14,5 @@ returns-clause-row c =
     let s = (the_view i).state in
     let found : at_number s.records c.args.thread ≡ Some c.in_ok-found.found = search rules in
     let named : thread_name s c.args.thread ≡ Some c.in_ok-name.name = search rules in
-    let value = c.worth_of-value.ensures ∙ ap (λ (v : Threaded). worth_in v c.args.thread) (c.settle.ensures.settled ∙ ap (λ (v : Threaded). record v { stale = [] }) c.self.invariant.threads) in
+    let value = c.worth_of-value.ensures ∙ ap (λ (v : Threaded). worth_in v c.args.thread) (c.settle.ensures.settled ∙ ap settled_in c.self.invariant.threads) in
     rw (← c.self.view_is) (thread-row-of s c.args.thread c.in_ok-found.found c.in_ok-name.name c.worth_of-value.result c.weight.result found named value c.weight.ensures.weight)

@@ -6,4 +6,4 @@ pub returns-clause-stale : goal.returns-clause-stale
 returns-clause-stale c =
     let i = c.self.inside in
     let threads = held-tickets (sizes_of i.limits) i.currencies.items i.threads c.unfund.new.self i.queues c.self.invariant.threads _ c.unfund.ensures.unfunded in
-    rw (← c.self.view_is) (makes-held (sizes_of i.limits) i.currencies.items i.currencies.items i.threads c.unfund.new.self i.queues i.queues i.meter i.meter c.self.invariant.threads threads c.unfund.ensures.stale)
+    rw (← c.self.view_is) (makes-held (sizes_of i.limits) i.currencies.items i.currencies.items i.threads c.unfund.new.self i.queues i.queues c.self.invariant.threads threads c.unfund.ensures.stale)

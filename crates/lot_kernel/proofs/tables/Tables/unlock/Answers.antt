@@ -2,9 +2,7 @@ use Rattle.std.proofs.Common.{Some, ap, arith, rules, sym, ◌∙◌, ◌≡◌}
 use Rattle.lot_machine.specs.Step.{Effect, of_mutexes}
 use Rattle.lot_queues.specs.QueueLists.{IsThere}
 use Rattle.lot_machine.specs.Mutexes.{MutexTrap, mutex_at, unlock}
-use Rattle.lot_threads.specs.Threaded.{Threaded, funding_in, worth_in}
-use Rattle.lot_value.specs.Counts.{counted_up}
-use Rattle.lot_value.specs.Caches.{edges_into_all}
+use Rattle.lot_threads.specs.Threaded.{Threaded, settled_in, worth_in}
 use Rattle.lot_kernel.proofs.Holding.{held-mutexes, makes-held}
 use Rattle.lot_kernel.proofs.Trapping.{mutexes-state, unlock-count, unlock-done, unlock-same}
 use Rattle.lot_kernel.proofs.Metering.{unlock-counts}
@@ -19,7 +17,7 @@ invariant_of-self c =
     let i = c.self.inside in
     let left = unlock i.threads.records i.queues.mutexes (worth_in i.threads) c.args.mutex c.args.d in
     let count = unlock-count i.threads.records i.queues.mutexes (worth_in i.threads) c.args.mutex c.args.d in
-    let threads = held-mutexes (sizes_of i.limits) i.currencies.items i.threads c.unlock.new.threads i.queues c.self.invariant.threads left c.unlock.new.queues c.unlock.ensures.threads c.unlock.ensures.queues in
+    let threads = held-mutexes (sizes_of i.limits) i.currencies.items i.threads c.unlock.new.threads i.queues c.self.invariant.threads left c.unlock.new.queues c.unlock.new.threads.meter c.unlock.ensures.threads c.unlock.ensures.queues in
     search (rules, threads, count)
 
 pub returns-clause-outcome : goal.returns-clause-outcome
@@ -47,7 +45,7 @@ returns-clause-state c =
     let left = unlock i.threads.records i.queues.mutexes (worth_in i.threads) c.args.mutex c.args.d in
     let there : IsThere i.queues.mutexes c.args.mutex = (omega (arith, c.if-mutex-eq0.false), omega (arith, c.if-mutex-mutexes.false, c.mutexes.ensures)) in
     let owned : (mutex_at i.queues.mutexes c.args.mutex).owner ≡ Some c.args.thread = search rules in
-    rw (← c.self.view_is) (mutexes-state (sizes_of i.limits) i.currencies.items i.threads c.unlock.new.threads i.queues c.unlock.new.queues c.self.invariant.threads left c.unlock.ensures.threads c.unlock.ensures.queues
+    rw (← c.self.view_is) (mutexes-state (sizes_of i.limits) i.currencies.items i.threads c.unlock.new.threads i.queues c.unlock.new.queues c.self.invariant.threads left c.unlock.new.threads.meter c.unlock.ensures.threads c.unlock.ensures.queues
     ∙ ap (λ (e : MutexTrap). (of_mutexes s e).state) (unlock-same (sizes_of i.limits) i.currencies.items i.threads i.queues c.self.invariant.threads c.args.mutex c.args.d)
     ∙ sym (ap (λ (e : Effect). e.state) (unlock-done s c.args.thread c.args.mutex c.args.d there owned)))
 
@@ -55,13 +53,13 @@ pub returns-clause-stale : goal.returns-clause-stale
 returns-clause-stale c =
     let i = c.self.inside in
     let left = unlock i.threads.records i.queues.mutexes (worth_in i.threads) c.args.mutex c.args.d in
-    let threads = held-mutexes (sizes_of i.limits) i.currencies.items i.threads c.unlock.new.threads i.queues c.self.invariant.threads left c.unlock.new.queues c.unlock.ensures.threads c.unlock.ensures.queues in
-    rw (← c.self.view_is) (makes-held (sizes_of i.limits) i.currencies.items i.currencies.items i.threads c.unlock.new.threads i.queues c.unlock.new.queues i.meter c.unlock.new.meter c.self.invariant.threads threads c.unlock.ensures.stale)
+    let threads = held-mutexes (sizes_of i.limits) i.currencies.items i.threads c.unlock.new.threads i.queues c.self.invariant.threads left c.unlock.new.queues c.unlock.new.threads.meter c.unlock.ensures.threads c.unlock.ensures.queues in
+    rw (← c.self.view_is) (makes-held (sizes_of i.limits) i.currencies.items i.currencies.items i.threads c.unlock.new.threads i.queues c.unlock.new.queues c.self.invariant.threads threads c.unlock.ensures.stale)
 
 pub returns-clause-counts : goal.returns-clause-counts
 returns-clause-counts c =
     let i = c.self.inside in
     let owned : (mutex_at i.queues.mutexes c.args.mutex).owner ≡ Some c.args.thread = search rules in
-    let reads = ap (λ (v : Threaded). record i.meter { ticket_reads = counted_up i.meter.ticket_reads (edges_into_all (funding_in v) v.stale) }) c.self.invariant.threads in
-    rw (← c.self.view_is) (unlock-counts i.threads.records i.queues.mutexes (worth_in i.threads) c.args.mutex c.args.d (the_view i) (record { state = held (sizes_of i.limits) i.currencies.items c.unlock.new.threads c.unlock.new.queues; stale = c.unlock.new.threads.stale; meter = c.unlock.new.meter }) c.unlock.result.outcome
+    let reads = ap (λ (v : Threaded). (settled_in v).meter) c.self.invariant.threads in
+    rw (← c.self.view_is) (unlock-counts i.threads.records i.queues.mutexes (worth_in i.threads) c.args.mutex c.args.d (the_view i) (record { state = held (sizes_of i.limits) i.currencies.items c.unlock.new.threads c.unlock.new.queues; stale = c.unlock.new.threads.stale; meter = c.unlock.new.threads.meter }) c.unlock.result.outcome
     c.unlock.ensures.outcome c.unlock.ensures.kept c.unlock.ensures.uncounted (λ some. c.unlock.ensures.counted some ∙ reads) c.unlock.ensures.once c.args.thread owned c.unlock.ensures.owners)

@@ -34,4 +34,4 @@ pub returns-clause-reads : goal.returns-clause-reads
 returns-clause-reads c =
     let i = c.self.inside in
     let was = graph-is i.graph i.queue i.threads.items i.records.items i.runners.items c.self.invariant.together in
-    rw (← c.self.view_is) (c.draw.ensures.reads ∙ ap (λ (w : LimitedFunding). counted_up c.args.meter.now.ticket_reads (edges_into_all w.funding i.graph.known.stale)) was)
+    rw (← c.self.view_is) (c.draw.ensures.reads ∙ ap (λ (w : LimitedFunding). counted_up i.graph.known.reads (edges_into_all w.funding i.graph.known.stale)) was)

@@ -1,9 +1,47 @@
-use Rattle.std.proofs.Common.{◌∙◌, Bool, List, ap}
+use Rattle.std.proofs.Common.{◌≡◌, ◌∙◌, ◌≤◌, ℕ, Bool, true, false, List, ap, refl, sym, subst}
+use Rattle.std.specs.Vec.{vec_capacity}
+use Rattle.lot_machine.specs.Commands.{is_funding}
+use Rattle.lot_machine.specs.Funding.{ticket_at}
+use Rattle.lot_machine.specs.Numbered.{option_any}
 use Rattle.lot_machine.specs.Value.{ticket_value}
 use Rattle.lot_machine.specs.State.{live_in}
-use Rattle.lot_graph.specs.Graphs.{LimitedFunding}
+use Rattle.lot_graph.specs.Graphs.{LimitedFunding, IsFunding}
+use Rattle.lot_value.specs.Counts.{counted_up}
+use Rattle.lot_value.specs.Valued.{Valued}
+use Rattle.lot_threads.specs.Threaded.{AreOf}
 use Rattle.lot_threads.proofs.Together.{graph-is}
 use Rattle.lot_threads.proofs.threads.Threads.ticket_value.Goals as goal
+
+-- nothing but what was counted is another
+read-alone : (v new : Valued) (n : ℕ) → (IsFunding v.now.funding n → new ≡ record v { known = record v.known { reads = counted_up v.known.reads 1 } }) → (¬ IsFunding v.now.funding n → new ≡ v) → new ≡ record v { known = record v.known { reads = new.known.reads } }
+read-alone v new n counted uncounted = by (option_any is_funding (ticket_at v.now.funding n)) refl
+  where
+    with : (reads : ℕ) → new ≡ record v { known = record v.known { reads = reads } } → new ≡ record v { known = record v.known { reads = new.known.reads } }
+    with reads is = is ∙ ap (λ k. record v { known = record v.known { reads = k } }) (sym (ap (λ (x : Valued). x.known.reads) is))
+
+    by : (b : Bool) → option_any is_funding (ticket_at v.now.funding n) ≡ b → new ≡ record v { known = record v.known { reads = new.known.reads } }
+    by true is = with (counted_up v.known.reads 1) (counted is)
+    by false is = with v.known.reads (uncounted (λ funds. let never : true ≡ false = sym funds ∙ is in cc))
+
+pub invariant_of-self : goal.invariant_of-self
+invariant_of-self c =
+    let i = c.self.inside in
+    let of = c.self.invariant.together in
+    let same = read-alone i.graph c.ticket_value.new.self c.args.ticket c.ticket_value.ensures.counted c.ticket_value.ensures.uncounted in
+    record {
+      together = subst (λ (v : Valued). AreOf v i.queue i.threads.items i.records.items i.runners.items) (sym same) (record {
+        names = of.names;
+        lends = of.lends;
+        live = of.live;
+        ready = of.ready;
+        competes = record { places = of.competes.places; there = of.competes.there };
+        weights = of.weights;
+        timely = of.timely;
+        runs = of.runs;
+      });
+      thread_room = subst (λ (v : Valued). v.now.thread_limit ≤ vec_capacity i.threads) (sym same) c.self.invariant.thread_room;
+      record_room = subst (λ (v : Valued). v.now.thread_limit ≤ vec_capacity i.records) (sym same) c.self.invariant.record_room;
+    }
 
 pub returns-clause-worth : goal.returns-clause-worth
 returns-clause-worth c =

@@ -5,16 +5,15 @@ use Rattle.lot_graph.specs.declared.layout.Layout.{Layout}
 use Rattle.lot_graph.specs.Graphs.{LimitedFunding, IsNodeOf}
 use Rattle.lot_graph.specs.Places.{IsNodeWithin, layout_of}
 use Rattle.lot_value.specs.Caches.{Known, Settles}
-use Rattle.lot_value.specs.declared.meter.Meter.{Meter}
 use Rattle.lot_value.specs.Valued.{Valued, live_of}
 use Rattle.lot_value.proofs.Following.{stays-small}
 use Rattle.lot_value.proofs.Nodes.{node-within, within-node}
 use Rattle.lot_value.proofs.Rightness.{right-worth}
 use Rattle.lot_value.proofs.valued_graph.ValuedGraph.settle_next.Goals as goal
 
-unit-stays : (old new : Known) (before after : Meter) (o : Option Node) → IfSome o (Settles old new) → IfNone o ((old.stale ≡ []) × (new ≡ old) × (after ≡ before)) → new.unit ≡ old.unit
-unit-stays old new before after (Some node) settles none = settles.unit
-unit-stays old new before after None settles none = ap (λ (k : Known). k.unit) none.1
+unit-stays : (old new : Known) (o : Option Node) → IfSome o (Settles old new) → IfNone o ((old.stale ≡ []) × (new ≡ old)) → new.unit ≡ old.unit
+unit-stays old new (Some node) settles none = settles.unit
+unit-stays old new None settles none = ap (λ (k : Known). k.unit) none.1
 
 is-of : (w : LimitedFunding) (known : Known) (o : Option Node) → known.layout ≡ layout_of w → IfSome o (IsNodeWithin known.layout) → IfSome o (IsNodeOf w)
 is-of w known (Some node) layout within = within-node w node (subst (λ (l : Layout). IsNodeWithin l node) layout within)
@@ -33,7 +32,7 @@ invariant_of-self c =
       kept = inv.kept;
       right = c.settle_next.ensures.right (live_of c.self.inside.graph c.self.inside.active) inv.kept inv.right;
       tickets = inv.tickets;
-      unit = subst IsUnit (sym (unit-stays c.self.inside.values c.settle_next.new.self c.args.meter.now c.settle_next.new.meter c.settle_next.result c.settle_next.ensures.settles c.settle_next.ensures.none)) inv.unit;
+      unit = subst IsUnit (sym (unit-stays c.self.inside.values c.settle_next.new.self c.settle_next.result c.settle_next.ensures.settles c.settle_next.ensures.none)) inv.unit;
     }
 
 pub returns-clause-worth : goal.returns-clause-worth

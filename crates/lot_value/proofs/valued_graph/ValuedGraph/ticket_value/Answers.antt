@@ -1,4 +1,5 @@
 use Rattle.std.proofs.Common.{◌≡◌, Some, subst, sym}
+use Rattle.lot_machine.specs.Bounds.{IsUnit}
 use Rattle.lot_machine.specs.declared.funding.Node.TheVariants.{Currency}
 use Rattle.lot_machine.specs.declared.ticket.Ticket.{Ticket}
 use Rattle.lot_machine.specs.Funding.{ticket_at}
@@ -19,3 +20,12 @@ ticket_value-requires c =
 
 pub returns-clause-worth : goal.returns-clause-worth
 returns-clause-worth c = rw (← c.self.view_is) (c.ticket_value.ensures.worth (live_of c.self.inside.graph c.self.inside.active) c.self.invariant.kept c.self.invariant.right)
+
+pub invariant_of-self : goal.invariant_of-self
+invariant_of-self c =
+    let inv = c.self.invariant in record {
+      kept = inv.kept;
+      right = c.ticket_value.ensures.right (live_of c.self.inside.graph c.self.inside.active) inv.right;
+      tickets = inv.tickets;
+      unit = subst IsUnit (sym c.ticket_value.ensures.unit) inv.unit;
+    }

@@ -9,7 +9,7 @@ abbrev pub invariant-loop : goal.invariant-loop
 invariant-loop l = record {
   unit : l.self.unit ≡ l.fn.self.unit;
   right : (live : List Bool) → IsKeptFor l.active l.graph live → IsRight l.graph live l.fn.self → IsRight l.graph live l.self;
-  counted : (count : ℕ) × (l.meter ≡ record l.fn.meter { ticket_reads = counted_up l.fn.meter.ticket_reads count }) × (count + edges_into_all l.graph.funding l.self.stale ≡ edges_into_all l.graph.funding l.fn.self.stale);
+  counted : (count : ℕ) × (l.self.reads ≡ counted_up l.fn.self.reads count) × (count + edges_into_all l.graph.funding l.self.stale ≡ edges_into_all l.graph.funding l.fn.self.stale);
 }
 
 abbrev pub decreases-loop : goal.decreases-loop

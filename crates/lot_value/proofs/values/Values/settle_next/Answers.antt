@@ -16,7 +16,7 @@ use Rattle.lot_value.proofs.values.Values.settle_next.Goals.{After-next_fresh}
 -- what is known as the call begins, field by field
 abbrev known : After-next_fresh → Known
 known c =
-    let i = c.self.inside in record { unit = i.unit; layout = i.layout; values = i.values.items; stale = map (node_of i.layout) (nodes_of i.stale 0) }
+    let i = c.self.inside in record { unit = i.unit; layout = i.layout; values = i.values.items; stale = map (node_of i.layout) (nodes_of i.stale 0); reads = i.reads }
 
 -- the places are those of the graph
 places-are : (c : After-next_fresh) → c.self.inside.layout ≡ layout_of c.args.graph.now
@@ -50,8 +50,8 @@ returns-in_err-place-clause-none c =
     let k = known before in
     let empty = c.in_err-place.ensures.none in
     let none = nothing-stale i.layout k.stale c.next_fresh.new.stale (reordered before) empty in
-    let same = known-same (record k { stale = map (node_of i.layout) (nodes_of c.next_fresh.new.stale 0) }) k refl refl refl (ap (map (node_of i.layout)) empty ∙ sym none) in
-    rw c.from_residual.ensures (sym (ap (λ (x : Known). x.stale) c.self.view_is) ∙ none, same ∙ c.self.view_is, refl)
+    let same = known-same (record k { stale = map (node_of i.layout) (nodes_of c.next_fresh.new.stale 0) }) k refl refl refl (ap (map (node_of i.layout)) empty ∙ sym none) refl in
+    rw c.from_residual.ensures (sym (ap (λ (x : Known). x.stale) c.self.view_is) ∙ none, same ∙ c.self.view_is)
 
 pub read_value-requires-clause-sources : goal.read_value-requires-clause-sources
 read_value-requires-clause-sources c =
@@ -65,7 +65,7 @@ read_value-requires-clause-sources c =
     let small_k = subst (λ (x : Known). IsSmall x.unit w live) (sym c.self.view_is) small in
     let is_fresh = fresh before c.in_ok-place.place c.in_ok-place.ensures.fresh in
     let here = place-in (nodes_of c.next_fresh.new.stale 0) place is_fresh.listed in
-    let no_source = source-fresh w live kept.fits k right_k c.next_fresh.new.stale _ here.0 place 0 (list before) (reordered before) here.1 refl is_fresh.sources in
+    let no_source = source-fresh w live kept.fits k right_k c.next_fresh.new.stale _ here.0 place 0 0 (list before) (reordered before) here.1 refl is_fresh.sources in
     let there = right_k.stale (node_of i.layout place) ((reordered before).each (node_of i.layout place) (mapped-contains (node_of i.layout) (nodes_of c.next_fresh.new.stale 0) place is_fresh.listed)) in
     let is_small = sources-small w live k kept.sound kept.fits right_k (node_of i.layout place) no_source there small_k in
     let same_shares = shares-at i.unit w.funding live (layout_of w) i.layout c.deref.result.now i.values.items c.node_of-node.result (node_of i.layout place) (sym (places-are before)) c.deref.ensures.value c.node_of-node.ensures in
@@ -84,7 +84,7 @@ returns-clause-right c live kept right =
     let removed = c.remove.ensures.removed 0 here.0 here.1 in
     let same_shares = shares-at i.unit w.funding live (layout_of w) i.layout c.deref.result.now i.values.items c.node_of-node.result (node_of i.layout place) (sym (places-are before)) c.deref.ensures.value c.node_of-node.ensures in
     let are : AreSources (record { graph = c.args.graph; active = c.args.active; values = c.deref.result; unit = i.unit }) live = record { kept = kept; places = ap (length {A = ℕ}) c.deref.ensures.value ∙ c.self.invariant.1 ∙ ap node_count (places-are before) } in
-    settle-right w live kept.fits k right_k c.next_fresh.new.stale c.remove.new.self here.0 place c.read_value.result (list before) (reordered before) here.1 removed is_fresh.sources i.values.items refl (c.read_value.ensures.value live are ∙ same_shares)
+    settle-right w live kept.fits k right_k c.next_fresh.new.stale c.remove.new.self here.0 place c.read_value.result c.read_value.new.reads (list before) (reordered before) here.1 removed is_fresh.sources i.values.items refl (c.read_value.ensures.value live are ∙ same_shares)
 
 pub returns-clause-node : goal.returns-clause-node
 returns-clause-node c =
@@ -108,6 +108,6 @@ returns-clause-settles c =
     let is_fresh = fresh before c.in_ok-place.place c.in_ok-place.ensures.fresh in
     let here = place-in (nodes_of c.next_fresh.new.stale 0) place is_fresh.listed in
     let removed = c.remove.ensures.removed 0 here.0 here.1 in
-    let settles = settle-settles w live kept.fits k right_k c.next_fresh.new.stale c.remove.new.self here.0 place c.read_value.result (list before) (reordered before) here.1 removed is_fresh.sources i.values.items refl c.remove.ensures.free in
-    let new : Known = record { unit = i.unit; layout = i.layout; values = slice_set i.values.items place c.read_value.result; stale = map (node_of i.layout) (nodes_of c.remove.new.self 0) } in
+    let settles = settle-settles w live kept.fits k right_k c.next_fresh.new.stale c.remove.new.self here.0 place c.read_value.result c.read_value.new.reads (list before) (reordered before) here.1 removed is_fresh.sources i.values.items refl c.remove.ensures.free in
+    let new : Known = record { unit = i.unit; layout = i.layout; values = slice_set i.values.items place c.read_value.result; stale = map (node_of i.layout) (nodes_of c.remove.new.self 0); reads = c.read_value.new.reads } in
     subst (Settles c.args.self.now new) (sym c.node_of-node.ensures) (subst (λ (old : Known). Settles old new (node_of i.layout place)) c.self.view_is settles)

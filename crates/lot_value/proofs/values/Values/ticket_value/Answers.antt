@@ -1,10 +1,12 @@
-use Rattle.std.proofs.Common.{◌∙◌, length, ap, sym, arith}
+use Rattle.std.proofs.Common.{◌∙◌, length, ap, sym, subst, arith}
 use Rattle.lot_machine.specs.declared.funding.Node.TheVariants.{Currency}
 use Rattle.lot_machine.specs.declared.funding.Edge.TheVariants.{OfTicket}
 use Rattle.lot_graph.specs.Places.{layout_of, node_count}
 use Rattle.lot_graph.proofs.EndLemmas.{ends-ticket}
 use Rattle.lot_graph.proofs.FieldLemmas.{funding-ticket}
-use Rattle.lot_value.specs.Caches.{Known}
+use Rattle.lot_value.specs.Caches.{Known, IsRight}
+use Rattle.lot_value.specs.contracts.values.Values.{the_view}
+use Rattle.lot_value.proofs.Settled.{reads-right}
 use Rattle.lot_value.proofs.TicketWorth.{share-at, kept-share, ticket-small}
 use Rattle.lot_value.proofs.values.Values.ticket_value.Goals as goal
 
@@ -31,3 +33,6 @@ returns-clause-worth c live kept right t at =
     let k = c.args.self.now in
     let same = share-at c.self.inside.unit k.unit w.funding live (layout_of w) k.layout c.deref.result.now k.values (OfTicket c.args.ticket) (ap (λ (x : Known). x.unit) c.self.view_is) (sym right.layout) (c.deref.ensures.value ∙ ap (λ (x : Known). x.values) c.self.view_is) in
     c.read_share.ensures.value live (record { kept = kept; places = ap length (c.deref.ensures.value ∙ ap (λ (x : Known). x.values) c.self.view_is) ∙ right.places ∙ ap node_count right.layout }) ∙ same ∙ kept-share w live k kept.sound kept.fits right c.args.ticket t at (c.is_funding.ensures.0 c.if-not-is_funding.false) (c.requires.fresh t at)
+
+pub returns-clause-right : goal.returns-clause-right
+returns-clause-right c live right = reads-right c.args.graph.now live (the_view c.self.inside) c.read_share.new.reads (subst (IsRight c.args.graph.now live) (sym c.self.view_is) right)
