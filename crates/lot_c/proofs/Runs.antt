@@ -1,5 +1,5 @@
 -- Events in order, a step at a time.
-use Rattle.std.proofs.Common.{◌≡◌, ℕ, ◌+◌, ◌<◌, List, [], ◌∷◌, ◌++◌, length, get_or, take, drop, set, Ok, ap, refl, subst, arith}
+use Rattle.std.proofs.Common.{◌≡◌, ℕ, ◌+◌, ◌<◌, List, [], ◌∷◌, ◌++◌, length, get_or, take, drop, set, Ok, ap, subst, arith}
 use Rattle.std.proofs.lemmas.List.{drop_more, take_more_set, drop-set-lt, append_assoc}
 use Rattle.lot_machine.specs.declared.event.Event.{Event}
 use Rattle.lot_machine.specs.State.{State}
@@ -40,7 +40,3 @@ module _ (es : List PlainEvent) (i : ℕ) (d : PlainEvent) (e : Event) (below : 
     pub written-step : take (i + 1) (set rs i r) ++ replies_written (step s e).state (drop (i + 1) es) (drop (i + 1) (set rs i r)) ≡ take i rs ++ replies_written s (drop i es) (drop i rs)
     written-step = rw (take_more_set rs i r room) (rw (drop-set-lt (i + 1) rs i r (omega arith)) (rw written-more
         (append_assoc (take i rs) (r ∷ []) (replies_written (step s e).state (drop (i + 1) es) (drop (i + 1) rs)))))
-
--- no event is left
-pub done-none : (events : List Event) (k : Snapshot) → events ≡ [] → AreDone events (replies k.state events) k k
-done-none events k none = rw none refl

@@ -4,7 +4,7 @@ use Rattle.lot_machine.specs.declared.reply.Reply.{Reply}
 use Rattle.lot_machine.specs.Step.{step, state_after}
 use Rattle.lot_kernel.specs.Counted.{Counts}
 use Rattle.lot_c.specs.Replies.{plain_reply}
-use Rattle.lot_c.proofs.Runs.{meant-more, fault-more, written-step, done-more, done-none}
+use Rattle.lot_c.proofs.Runs.{meant-more, fault-more, written-step, done-more}
 use Rattle.lot_c.proofs.events.answer_all.Goals as goal
 
 pub loop-i-init : goal.loop-i-init
@@ -12,7 +12,7 @@ loop-i-init c = record {
   told = refl;
   state = refl;
   fault = refl;
-  counted = refl;
+  counted = omega arith;
   done = refl;
   lengths = c.requires;
   each = λ end done. done;
