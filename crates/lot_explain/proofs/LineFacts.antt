@@ -12,7 +12,7 @@ use Rattle.lot_explain.specs.declared.won.Won.{Won}
 use Rattle.lot_explain.specs.Lots.{lot_lines, total_of}
 
 module _ (manner : Manner) (unit actor : ℕ) (won : Won) where
-  lines-both : (first : ℕ) (xs ys : List Lot) → lot_lines manner unit actor won first (xs ++ ys) ≡ lot_lines manner unit actor won first xs ++ lot_lines manner unit actor won (first + total_of xs) ys
+  pub lines-both : (first : ℕ) (xs ys : List Lot) → lot_lines manner unit actor won first (xs ++ ys) ≡ lot_lines manner unit actor won first xs ++ lot_lines manner unit actor won (first + total_of xs) ys
   lines-both first [] ys = let e : first ≡ first + 0 = omega arith in ap (λ n. lot_lines manner unit actor won n ys) e
   lines-both first (x ∷ xs) ys =
       let e : first + x.weight + total_of xs ≡ first + total_of (x ∷ xs) = omega (arith, sum_by-cons (λ (lot : Lot). lot.weight) x xs) in

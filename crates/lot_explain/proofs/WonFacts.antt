@@ -1,6 +1,7 @@
--- What all lots of a lottery weigh together is what its number was drawn from.
-use Rattle.std.proofs.Common.{◌≡◌, ℕ, ◌+◌, ◌==◌, Bool, true, false, Option, Some, None, List, [], ◌∷◌, map, sum, refl, ◌∙◌, subst, arith}
+-- What all lots of a lottery weigh together is what its number was drawn from, and the winner's lot has that number, and no other's.
+use Rattle.std.proofs.Common.{◌≡◌, ℕ, ◌+◌, ◌<◌, ◌≤◌, ◌%◌, ◌==◌, nat_lt, Bool, true, false, Option, Some, None, List, [], ◌∷◌, ◌++◌, map, sum, slice_index, refl, sym, ◌∙◌, ap, subst, arith, cond}
 use Rattle.std.specs.Option.{IfSome}
+use Rattle.std.proofs.lemmas.Bool.{le-ltb, lt-ltb, ltb-false, ltb-true}
 use Rattle.std.proofs.lemmas.List.Sums.{sum-map, sum_by-cons}
 use Rattle.lot_machine.specs.declared.action.Action.TheVariants as action
 use Rattle.lot_machine.specs.declared.command.Command.{Command}
@@ -12,7 +13,7 @@ use Rattle.lot_machine.specs.declared.refusal.TrapRefusal.{TrapRefusal}
 use Rattle.lot_machine.specs.declared.reply.Reply.{Reply}
 use Rattle.lot_machine.specs.declared.reply.Reply.TheVariants as reply
 use Rattle.lot_machine.specs.Commands.{Step, unless_refused}
-use Rattle.lot_machine.specs.Lottery.{winner}
+use Rattle.lot_machine.specs.Lottery.{first_above, running_sums, winner}
 use Rattle.lot_machine.specs.Mutexes.{mutex_at, unlock}
 use Rattle.lot_machine.specs.State.{State, ready_threads, value_of, weight_of}
 use Rattle.lot_machine.specs.Step.{checked_effect, draw, ends_quantum, event_effect, event_refusal, step, thread_there, trap_effect, trap_refusal, used_there}
@@ -23,11 +24,16 @@ use Rattle.lot_simulation.specs.World.Answer.{Answered}
 use Rattle.lot_system.specs.Playing.{turn_in}
 use Rattle.lot_system.specs.Seen.{Seen, world_of}
 use Rattle.lot_explain.specs.declared.won.Won.{Won}
+use Rattle.lot_explain.specs.Numbers.{HasNumber, number_in}
 use Rattle.lot_explain.specs.Lots.{draw_lots, lot_of, lots_of, mutex_lots, total_of, won_in}
 
--- a lottery that was won is one of these lots
-abbrev HasTotal : List Lot → Option Won → Type 0
-HasTotal lots won = IfSome won (λ w. w.total ≡ total_of lots)
+-- a lot of the thread has the number, and no lot of another does
+abbrev pub IsOnly : List Lot → ℕ → ℕ → Type 0
+IsOnly lots t number = ((lot : Lot) × HasNumber lots number lot × (lot.thread ≡ t)) × ((lot : Lot) → HasNumber lots number lot → lot.thread ≡ t)
+
+-- a lottery that was won is one of these lots, and the winner's has the number
+abbrev HasWon : List Lot → Event → Reply → Type 0
+HasWon lots e r = IfSome (won_in e r) (λ w. (w.total ≡ total_of lots) × IfSome (number_in r) (IsOnly lots w.winner))
 
 -- the lots of threads weigh together what the threads weigh
 weighs : (s : State) (v : ℕ → ℕ) (ts : List ℕ) → sum (map v ts) ≡ total_of (map (λ t. lot_of s t (v t)) ts)
@@ -40,63 +46,145 @@ weighs s v (t ∷ ts) =
 winner-total : (ws : List ℕ) (d : ℕ) (w : Drawn) → winner ws d ≡ Some w → w.total ≡ sum ws
 winner-total ws d w is = let facts = rw is at (winner-is ws d) in facts.3
 
+-- the winner's place
+winner-place : (ws : List ℕ) (d : ℕ) (w : Drawn) → winner ws d ≡ Some w → w.place ≡ first_above w.number (running_sums 0 ws)
+winner-place ws d w = at (sum ws == 0)
+  where
+    drawn : Drawn
+    drawn = record { place = first_above (d % sum ws) (running_sums 0 ws); number = d % sum ws; total = sum ws }
+
+    at : (b : Bool) → cond {A = Option Drawn} b None (Some drawn) ≡ Some w → w.place ≡ first_above w.number (running_sums 0 ws)
+    at true is = cc
+    at false is =
+        let same : drawn ≡ w = cc in
+        subst (λ (x : Drawn). x.place ≡ first_above x.number (running_sums 0 ws)) same refl
+
+-- ---- whose number it is
+
+module _ (s : State) (v : ℕ → ℕ) where
+  abbrev lots_for : List ℕ → List Lot
+  lots_for ts = map (λ t. lot_of s t (v t)) ts
+
+  -- If the numbers of these lots begin with this one, the lot that has a number is that of the first thread whose running sum is above it.
+  thread-above : (first n : ℕ) (ts : List ℕ) (before : List Lot) (lot : Lot) (after : List Lot) → lots_for ts ≡ before ++ lot ∷ after
+      → first + total_of before ≤ n → n < first + total_of before + lot.weight → lot.thread ≡ slice_index ts (first_above n (running_sums first (map v ts)))
+  thread-above first n [] [] lot after place low high = cc
+  thread-above first n [] (b ∷ before) lot after place low high = cc
+  thread-above first n (t ∷ ts) [] lot after place low high =
+      let same : lot_of s t (v t) ≡ lot = cc in
+      let none : total_of [] ≡ 0 = refl in
+      let above : nat_lt n (first + v t) ≡ true = lt-ltb n (first + v t) (omega (arith, high, none, ap (λ (x : Lot). x.weight) same)) in
+      rw above (sym (ap (λ (x : Lot). x.thread) same))
+  thread-above first n (t ∷ ts) (b ∷ before) lot after place low high =
+      let same : lot_of s t (v t) ≡ b = cc in
+      let rest : lots_for ts ≡ before ++ lot ∷ after = cc in
+      let more = sum_by-cons (λ (x : Lot). x.weight) b before in
+      let weighs = ap (λ (x : Lot). x.weight) same in
+      let above : nat_lt n (first + v t) ≡ false = le-ltb n (first + v t) (omega (arith, low, more, weighs)) in
+      rw above (thread-above (first + v t) n ts before lot after rest (omega (arith, low, more, weighs)) (omega (arith, high, more, weighs)))
+
+  -- the numbers of these lots begin with this one, and this is the lot that has the number
+  record HasFrom (first : ℕ) (lots : List Lot) (n : ℕ) : Type 0 where
+    lot : Lot
+    before : List Lot
+    after : List Lot
+    place : lots ≡ before ++ lot ∷ after
+    from : first + total_of before ≤ n
+    below : n < first + total_of before + lot.weight
+
+  lot-above : (first n : ℕ) (ts : List ℕ) → first ≤ n → n < first + sum (map v ts) → HasFrom first (lots_for ts) n
+  lot-above first n [] low high = let none : sum [] ≡ 0 = refl in absurd (omega (arith, low, high, none))
+  lot-above first n (t ∷ ts) low high = at (nat_lt n (first + v t)) refl (lot-above (first + v t) n ts)
+    where
+      here : Lot
+      here = lot_of s t (v t)
+
+      at : (b : Bool) → nat_lt n (first + v t) ≡ b → (first + v t ≤ n → n < first + v t + sum (map v ts) → HasFrom (first + v t) (lots_for ts) n) → HasFrom first (lots_for (t ∷ ts)) n
+      at true is later =
+          let none : total_of [] ≡ 0 = refl in
+          record { lot = here; before = []; after = lots_for ts; place = refl; from = omega (arith, low, none); below = omega (arith, ltb-true n (first + v t) is, none) }
+      at false is later =
+          let least = ltb-false n (first + v t) is in
+          let rest = later least (omega (arith, high, sum-map v (t ∷ ts), sum_by-cons v t ts, sum-map v ts)) in
+          let more = sum_by-cons (λ (x : Lot). x.weight) here rest.before in
+          record {
+            lot = rest.lot;
+            before = here ∷ rest.before;
+            after = rest.after;
+            place = ap (λ xs. here ∷ xs) rest.place;
+            from = omega (arith, rest.from, more);
+            below = omega (arith, rest.below, more);
+          }
+
+  only-winner : (ts : List ℕ) (d : ℕ) (w : Drawn) → winner (map v ts) d ≡ Some w → IsOnly (lots_for ts) (slice_index ts w.place) w.number
+  only-winner ts d w is =
+      let facts = rw is at (winner-is (map v ts) d) in
+      let found = lot-above 0 w.number ts (omega arith) (omega (arith, facts.2)) in
+      let has : HasNumber (lots_for ts) w.number found.lot = record { before = found.before; after = found.after; place = found.place; from = omega (arith, found.from); below = omega (arith, found.below) } in
+      ((found.lot, has, owner found.lot has), owner)
+    where
+      owner : (lot : Lot) → HasNumber (lots_for ts) w.number lot → lot.thread ≡ slice_index ts w.place
+      owner lot has =
+          thread-above 0 w.number ts has.before lot has.after has.place (omega (arith, has.from)) (omega (arith, has.below))
+          ∙ ap (slice_index ts) (sym (winner-place (map v ts) d w is))
+
 -- ---- draws
 
-drawn-total : (s : State) (p d : ℕ) → HasTotal (draw_lots s) (won_in (event.Draw p d) (draw s p d).reply)
-drawn-total s p d = at (winner weights d) refl
+drawn-won : (s : State) (p d : ℕ) → HasWon (draw_lots s) (event.Draw p d) (draw s p d).reply
+drawn-won s p d = at (winner weights d) refl
   where
     weights : List ℕ
     weights = map (weight_of s) (ready_threads s.records)
 
-    at : (o : Option Drawn) → winner weights d ≡ o → HasTotal (draw_lots s) (won_in (event.Draw p d) (draw s p d).reply)
+    at : (o : Option Drawn) → winner weights d ≡ o → HasWon (draw_lots s) (event.Draw p d) (draw s p d).reply
     at None is = rw is tt
-    at (Some w) is = rw is (winner-total weights d w is ∙ weighs s (weight_of s) (ready_threads s.records))
+    at (Some w) is = rw is (winner-total weights d w is ∙ weighs s (weight_of s) (ready_threads s.records), only-winner s (weight_of s) (ready_threads s.records) d w is)
 
-refused-draw : (s : State) (p d : ℕ) (o : Option Refusal) (next : Step) → HasTotal (draw_lots s) (won_in (event.Draw p d) next.reply) → HasTotal (draw_lots s) (won_in (event.Draw p d) (unless_refused s o next).reply)
+refused-draw : (s : State) (p d : ℕ) (o : Option Refusal) (next : Step) → HasWon (draw_lots s) (event.Draw p d) next.reply → HasWon (draw_lots s) (event.Draw p d) (unless_refused s o next).reply
 refused-draw s p d None next is = is
 refused-draw s p d (Some refusal) next is = tt
 
 -- ---- unlocks
 
 module _ (s : State) (p ran m d : ℕ) where
-  abbrev HasWon : Reply → Type 0
-  HasWon r = HasTotal (mutex_lots s m) (won_in (event.Trap p ran (action.Unlock m d)) r)
+  abbrev IsWon : Reply → Type 0
+  IsWon r = HasWon (mutex_lots s m) (event.Trap p ran (action.Unlock m d)) r
 
-  unlocked-total : (ws : List ℕ) → (mutex_at s.mutexes m).waiters ≡ ws → (t ticks : ℕ) (ends : Bool) → HasWon (reply.Trapped t ticks (unlock s.records s.mutexes (value_of s) m d).outcome ends)
-  unlocked-total [] is t ticks ends = rw is tt
-  unlocked-total (w ∷ ws) is t ticks ends = at (winner (map (value_of s) (w ∷ ws)) d) refl
+  unlocked-won : (ws : List ℕ) → (mutex_at s.mutexes m).waiters ≡ ws → (t ticks : ℕ) (ends : Bool) → IsWon (reply.Trapped t ticks (unlock s.records s.mutexes (value_of s) m d).outcome ends)
+  unlocked-won [] is t ticks ends = rw is tt
+  unlocked-won (w ∷ ws) is t ticks ends = at (winner (map (value_of s) (w ∷ ws)) d) refl
     where
-      at : (o : Option Drawn) → winner (map (value_of s) (w ∷ ws)) d ≡ o → HasWon (reply.Trapped t ticks (unlock s.records s.mutexes (value_of s) m d).outcome ends)
+      at : (o : Option Drawn) → winner (map (value_of s) (w ∷ ws)) d ≡ o → IsWon (reply.Trapped t ticks (unlock s.records s.mutexes (value_of s) m d).outcome ends)
       at None won = rw (is, won) tt
-      at (Some x) won = rw (is, won) (winner-total (map (value_of s) (w ∷ ws)) d x won ∙ weighs s (value_of s) (w ∷ ws))
+      at (Some x) won = rw (is, won) (winner-total (map (value_of s) (w ∷ ws)) d x won ∙ weighs s (value_of s) (w ∷ ws), only-winner s (value_of s) (w ∷ ws) d x won)
 
-  checked-total : (o : Option TrapRefusal) (t u ticks : ℕ) (ends : Bool) → HasWon (reply.Trapped t ticks (checked_effect s o (trap_effect s u (action.Unlock m d))).outcome ends)
-  checked-total None t u ticks ends = unlocked-total (mutex_at s.mutexes m).waiters refl t ticks ends
-  checked-total (Some why) t u ticks ends = tt
+  checked-won : (o : Option TrapRefusal) (t u ticks : ℕ) (ends : Bool) → IsWon (reply.Trapped t ticks (checked_effect s o (trap_effect s u (action.Unlock m d))).outcome ends)
+  checked-won None t u ticks ends = unlocked-won (mutex_at s.mutexes m).waiters refl t ticks ends
+  checked-won (Some why) t u ticks ends = tt
 
-  refused-unlock : (o : Option Refusal) (next : Step) → HasWon next.reply → HasWon (unless_refused s o next).reply
+  refused-unlock : (o : Option Refusal) (next : Step) → IsWon next.reply → IsWon (unless_refused s o next).reply
   refused-unlock None next is = is
   refused-unlock (Some refusal) next is = tt
 
 -- ---- each event
 
-step-total : (s : State) (e : Event) → HasTotal (lots_of s e) (won_in e (step s e).reply)
-step-total s (event.Command c) = tt
-step-total s (event.Expire p) = tt
-step-total s (event.Draw p d) = refused-draw s p d (event_refusal s (event.Draw p d)) (draw s p d) (drawn-total s p d)
-step-total s (event.Trap p ran (action.Unlock m d)) =
+step-won : (s : State) (e : Event) → HasWon (lots_of s e) e (step s e).reply
+step-won s (event.Command c) = tt
+step-won s (event.Expire p) = tt
+step-won s (event.Draw p d) = refused-draw s p d (event_refusal s (event.Draw p d)) (draw s p d) (drawn-won s p d)
+step-won s (event.Trap p ran (action.Unlock m d)) =
     let e = event.Trap p ran (action.Unlock m d) in
     let t = thread_there s p in
     let effect = checked_effect s (trap_refusal s t (action.Unlock m d)) (trap_effect s t (action.Unlock m d)) in
     let ends = ends_quantum effect.after (used_there s p + ran + 1) s.limits.quantum in
-    refused-unlock s p ran m d (event_refusal s e) (event_effect s e) (checked-total s p ran m d (trap_refusal s t (action.Unlock m d)) t t (ran + 1) ends)
-step-total s (event.Trap p ran action.Yield) = tt
-step-total s (event.Trap p ran (action.Call port number)) = tt
-step-total s (event.Trap p ran (action.Receive port)) = tt
-step-total s (event.Trap p ran (action.Reply number)) = tt
-step-total s (event.Trap p ran (action.Serve port number)) = tt
-step-total s (event.Trap p ran (action.Lock mutex)) = tt
-step-total s (event.Trap p ran action.Exit) = tt
+    refused-unlock s p ran m d (event_refusal s e) (event_effect s e) (checked-won s p ran m d (trap_refusal s t (action.Unlock m d)) t t (ran + 1) ends)
+step-won s (event.Trap p ran action.Yield) = tt
+step-won s (event.Trap p ran (action.Call port number)) = tt
+step-won s (event.Trap p ran (action.Receive port)) = tt
+step-won s (event.Trap p ran (action.Reply number)) = tt
+step-won s (event.Trap p ran (action.Serve port number)) = tt
+step-won s (event.Trap p ran (action.Lock mutex)) = tt
+step-won s (event.Trap p ran action.Exit) = tt
 
 -- ---- each turn
 
@@ -114,7 +202,15 @@ turn-reply program w actor e r is = at (actor == 0) refl
         let one : Answered (processor_event w actor) (step w.state (processor_event w actor)).reply ≡ Answered e r = rw zero at is in
         cc
 
+pub turn-won : (program : Program) (w : World) (actor : ℕ) (e : Event) (r : Reply) → (system_turn program w actor).answer ≡ Answered e r → HasWon (lots_of w.state e) e r
+turn-won program w actor e r is = subst (HasWon (lots_of w.state e) e) (turn-reply program w actor e r is) (step-won w.state e)
+
 pub won-total : (seen : Seen) (actor : ℕ) (e : Event) (r : Reply) → (turn_in seen actor).answer ≡ Answered e r → IfSome (won_in e r) (λ won. won.total ≡ total_of (lots_of (world_of seen).state e))
-won-total seen actor e r is =
-    let s = (world_of seen).state in
-    subst (λ x. HasTotal (lots_of s e) (won_in e x)) (turn-reply seen.setting.program (world_of seen) actor e r is) (step-total s e)
+won-total seen actor e r is = from (won_in e r) (turn-won seen.setting.program (world_of seen) actor e r is)
+  where
+    lots : List Lot
+    lots = lots_of (world_of seen).state e
+
+    from : (o : Option Won) → IfSome o (λ won. (won.total ≡ total_of lots) × IfSome (number_in r) (IsOnly lots won.winner)) → IfSome o (λ won. won.total ≡ total_of lots)
+    from None is = tt
+    from (Some won) is = is.0

@@ -1,4 +1,5 @@
 pub mod Lots
+pub mod Numbers
 pub mod Explained
 pub mod Gathering
 pub mod OnLiterals

@@ -1,12 +1,21 @@
 //! What explanations come to: laws of the definitions, with nothing to run.
-ghost use Rattle.std.specs.Prelude.{◌≡◌, ◌≤◌, ◌<◌, ◌+◌, ◌*◌, ◌^◌, ℕ, All, List, Ok, length};
+ghost use Rattle.std.specs.Prelude.{◌≡◌, ◌≤◌, ◌<◌, ◌+◌, ◌*◌, ◌^◌, ℕ, All, List, ◌∷◌, ◌++◌, Ok, Some, length};
 ghost use Rattle.lot_machine.specs.Bounds.{IsWithinBounds};
+ghost use Rattle.lot_machine.specs.declared.event.Event.{Event};
+ghost use Rattle.lot_machine.specs.declared.reply.Reply.{Reply};
+ghost use Rattle.lot_print.specs.Lots.{lot_line};
+ghost use Rattle.lot_print.specs.declared.lots.Lot.{Lot};
 ghost use Rattle.lot_simulation.specs.Grammar.{program_in};
 ghost use Rattle.lot_simulation.specs.Output.{output, scheduled_output, timed_output};
 ghost use Rattle.lot_simulation.specs.Timed.{end_of, timed_turns};
-ghost use Rattle.lot_simulation.specs.World.{Program};
+ghost use Rattle.lot_simulation.specs.World.{Program, World, system_turn};
+ghost use Rattle.lot_simulation.specs.World.Answer.{Answered};
+ghost use Rattle.lot_simulation.specs.declared.manner.Manner.{Manner};
 ghost use Rattle.lot_explain.specs.Explained.{explained_in_time, explained_output, explained_schedule};
+ghost use Rattle.lot_explain.specs.Lots.{lot_lines, lots_of, total_of, won_in};
+ghost use Rattle.lot_explain.specs.Numbers.{HasNumber, number_in};
 ghost use Rattle.lot_explain.specs.Short.{HasShortName, turn_count};
+ghost use Rattle.lot_explain.specs.declared.won.Won.{Won};
 
 /// What explains a program's turns is longer than what `play` writes of them by at most 139 bytes for each turn and each thread that there
 /// may be, if sizes are within their bounds, names of threads have at most 16 bytes, and times have 32 bits. So it is for every input that
@@ -18,4 +27,18 @@ pub fn explanations_are_short()
         → length (explained_in_time program) ≤ length (timed_output program) + length (timed_turns program) * (program.limits.threads * 139) }
     ensures read { (bytes : List ℕ) (program : Program) → program_in bytes ≡ Ok program
         → length (explained_output bytes) ≤ length (output bytes) + turn_count program program.duration * (program.limits.threads * 139) }
+{}
+
+/// A lot's printed numbers begin with the total weight of the lots before it, and are as many as its own weight. The
+/// number drawn in a turn's lottery is among those of the winner, and among no other thread's.
+pub fn winners_have_the_number()
+    ensures printed { (manner : Manner) (unit actor : ℕ) (won : Won) (before after : List Lot) (lot : Lot) → lot_lines manner unit actor won 0 (before ++ lot ∷ after)
+        ≡ lot_lines manner unit actor won 0 before ++ (lot_line manner unit actor won.lottery won.winner (total_of before) lot
+        ++ lot_lines manner unit actor won (total_of before + lot.weight) after) }
+    ensures winner { (program : Program) (w : World) (actor : ℕ) (e : Event) (r : Reply) (won : Won) (number : ℕ)
+        → (system_turn program w actor).answer ≡ Answered e r → won_in e r ≡ Some won → number_in r ≡ Some number
+        → (lot : Lot) × HasNumber (lots_of w.state e) number lot × (lot.thread ≡ won.winner) }
+    ensures no_other { (program : Program) (w : World) (actor : ℕ) (e : Event) (r : Reply) (won : Won) (number : ℕ)
+        → (system_turn program w actor).answer ≡ Answered e r → won_in e r ≡ Some won → number_in r ≡ Some number
+        → (lot : Lot) → HasNumber (lots_of w.state e) number lot → lot.thread ≡ won.winner }
 {}

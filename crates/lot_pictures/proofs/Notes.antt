@@ -17,7 +17,7 @@ use Rattle.lot_system.specs.InTime.{next_turns, turn_told}
 use Rattle.lot_system.specs.Playing.{HasPlayed, IsPlayed, turn_in}
 use Rattle.lot_system.specs.Seen.{Seen, after_turn, world_of}
 use Rattle.lot_system.proofs.CountFacts.{turns_made-answered}
-use Rattle.lot_system.proofs.FollowFacts.{room-small, turns-few}
+use Rattle.lot_simulation.proofs.TimedRuns.{room-small, turns-few}
 use Rattle.lot_system.proofs.PlayingFacts.{played-more}
 use Rattle.lot_curves.proofs.Ends.{last_end-push}
 

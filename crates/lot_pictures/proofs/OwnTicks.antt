@@ -38,12 +38,11 @@ use Rattle.lot_machine.proofs.RecordsKept.{found-runs}
 use Rattle.lot_machine.proofs.Tickets.{at_number-suc}
 use Rattle.lot_simulation.specs.World.{Program, World, Turn, Answer, IsLegal, console_turn, processor_turn, processor_event, opening_world, system_turn, system_after, system_answers, system_run}
 use Rattle.lot_simulation.specs.World.Answer.{Answered}
-use Rattle.lot_simulation.specs.declared.timed.Due.{Due}
-use Rattle.lot_simulation.specs.Timed.{Moment, TimedTurn, due_first, last_moment, moment_after, moment_after_all, next_due, opening_moment, timed_room, timed_schedule, timed_turns, turn_due, turns_from}
+use Rattle.lot_simulation.specs.Timed.{TimedTurn, last_moment, timed_schedule, timed_turns}
 use Rattle.lot_simulation.specs.TimedReport.{actor_turns}
 use Rattle.lot_simulation.specs.Report.{ActorTurn, beside, turns_made, turns_of, count_in, ticks_in, total_of}
-use Rattle.lot_system.proofs.FollowFacts.{actors-made}
-use Rattle.lot_system.proofs.PlaceFacts.{number-some}
+use Rattle.lot_simulation.proofs.TimedRuns.{timed-made, timed-world}
+use Rattle.lot_simulation.proofs.DrawnThreads.{number-some}
 use Rattle.lot_system.proofs.ReplyFacts.{numbered}
 use Rattle.lot_system.proofs.StepFacts.{effect-same, checked-same}
 use Rattle.lot_curves.specs.declared.stretch.Stretch.{Stretch}
@@ -355,23 +354,8 @@ module _ (program : Program) (bounds : IsWithinBounds program.limits) (i : ℕ) 
   timed-ticks =
       let few : length (timed_schedule program) < 2 ^ 32 = omega (arith, length-map (timed_turns program) (λ (turn : TimedTurn). turn.actor), timed-few program) in
       let run = run-adds program i (opening_world program) 0 (timed_schedule program) (opening-order program.limits bounds) (omega arith) (omega (arith, few)) in
-      let made = ap (sum_by (λ (turn : ActorTurn). part_of i turn.answer)) (actors-made program timed_room (opening_moment program)) in
+      let made = ap (sum_by (λ (turn : ActorTurn). part_of i turn.answer)) (timed-made program) in
       omega (arith, run, timed-sum i (timed_turns program), made)
-
--- ---- the world after all turns in the order of time
-
-world-after : (program : Program) (room : ℕ) (m : Moment) → (moment_after_all m (turns_from program room m)).world ≡ system_after program m.world (map (λ (turn : TimedTurn). turn.actor) (turns_from program room m))
-world-after program zero m = refl
-world-after program (suc room) m = from (next_due program m) (λ done. world-after program room (moment_after m done))
-  where
-    from : (o : Option Due)
-        → ((done : TimedTurn) → (moment_after_all (moment_after m done) (turns_from program room (moment_after m done))).world ≡ system_after program (moment_after m done).world (map (λ (turn : TimedTurn). turn.actor) (turns_from program room (moment_after m done))))
-        → (moment_after_all m (due_first program m (λ done. turns_from program room (moment_after m done)) o)).world ≡ system_after program m.world (map (λ (turn : TimedTurn). turn.actor) (due_first program m (λ done. turns_from program room (moment_after m done)) o))
-    from None more = refl
-    from (Some due) more = more (turn_due program m due)
-
-last-world : (program : Program) → (last_moment program).world ≡ system_run program (timed_schedule program)
-last-world program = world-after program timed_room (opening_moment program)
 
 -- ---- the report
 
@@ -405,5 +389,5 @@ ends-at_report program room history t row bounds legal small is =
 pub timed-ends-at_report : (program : Program) (t : ℕ) (row : ThreadRow) → IsWithinBounds program.limits → thread_row (last_moment program).world.state t ≡ Some row
     → had_at Ticks (last_end (timed_stretches program)) (stretches_of t (timed_stretches program)) ≡ row.ticks
 timed-ends-at_report program t row bounds is =
-    let there = ap (λ (w : World). thread_row w.state t) (sym (last-world program)) ∙ is in
+    let there = ap (λ (w : World). thread_row w.state t) (sym (timed-world program)) ∙ is in
     ends-at (system_run program (timed_schedule program)).state (timed_stretches program) (timed-ticks program bounds) t row there

@@ -1,5 +1,5 @@
 -- One more of a program's turns in time.
-use Rattle.std.proofs.Common.{◌≡◌, ℕ, zero, suc, ◌+◌, ◌-◌, ◌<◌, ◌≤◌, ◌==◌, Bool, true, false, Option, Some, None, List, [], ◌∷◌, ◌++◌, length, take, drop, codes, refl, sym, ◌∙◌, ap, subst, arith, append_assoc, append-nil, length-append, length-drop, ne_eqb, lit<}
+use Rattle.std.proofs.Common.{◌≡◌, ℕ, zero, suc, ◌+◌, ◌-◌, ◌<◌, ◌≤◌, ◌==◌, Bool, true, false, Option, Some, None, List, [], ◌∷◌, ◌++◌, length, take, drop, codes, refl, sym, ◌∙◌, ap, subst, arith, append_assoc, append-nil, length-append, length-drop, ne_eqb}
 use Rattle.std.specs.Prelude.{map, count_by, replicate, if◌then◌else◌}
 use Rattle.std.specs.List.{flat_map}
 use Rattle.std.proofs.lemmas.Grind.{flat_map-append}
@@ -20,8 +20,9 @@ use Rattle.lot_simulation.specs.Texts.{front, reply_text}
 use Rattle.std.specs.Fmt.{decimal}
 use Rattle.lot_simulation.specs.Timed.{Moment, TimedTurn, turns_from, timed_schedule, timed_turns, timed_room, next_due, due_first, turn_due, moment_after, moment_after_all, opening_moment, clocks_after, is_idle_draw}
 use Rattle.lot_simulation.specs.TimedReport.{actor_turns, refusals_in}
-use Rattle.lot_simulation.specs.World.{Program, World, Answer, console_turn, system_turn, system_answers}
+use Rattle.lot_simulation.specs.World.{Program, World, Answer, console_turn, system_turn}
 use Rattle.lot_simulation.specs.World.Answer.{Answered}
+use Rattle.lot_simulation.proofs.TimedRuns.{turns-few}
 use Rattle.lot_system.specs.declared.following.Following.{Following}
 use Rattle.lot_system.specs.declared.following.TimedReply.{TimedReply}
 use Rattle.lot_system.specs.InTime.{HasFollowed, HasRoomFor, IsAtEnd, IsFollowed, MadeNext, commands_made, moment_in, next_turns, turn_told, turns_done}
@@ -43,30 +44,6 @@ none-made program (suc room) m is = ap (due_first program m (λ done. turns_from
 pub moment-one_more : (m : Moment) (turns : List TimedTurn) (turn : TimedTurn) → moment_after_all m (turns ++ turn ∷ []) ≡ moment_after (moment_after_all m turns) turn
 moment-one_more m [] turn = refl
 moment-one_more m (t ∷ turns) turn = moment-one_more (moment_after m t) turns turn
-
--- the turns' actors beside their answers are the turns that these actors make
-pub actors-made : (program : Program) (room : ℕ) (m : Moment) → actor_turns (turns_from program room m) ≡ beside (map (λ done. done.actor) (turns_from program room m)) (system_answers program m.world (map (λ done. done.actor) (turns_from program room m)))
-actors-made program zero m = refl
-actors-made program (suc room) m = from (next_due program m) (λ done. actors-made program room (moment_after m done))
-  where
-    from : (o : Option Due)
-        → ((done : TimedTurn) → actor_turns (turns_from program room (moment_after m done)) ≡ beside (map (λ t. t.actor) (turns_from program room (moment_after m done))) (system_answers program (moment_after m done).world (map (λ t. t.actor) (turns_from program room (moment_after m done)))))
-        → actor_turns (due_first program m (λ done. turns_from program room (moment_after m done)) o) ≡ beside (map (λ done. done.actor) (due_first program m (λ done. turns_from program room (moment_after m done)) o)) (system_answers program m.world (map (λ done. done.actor) (due_first program m (λ done. turns_from program room (moment_after m done)) o)))
-    from None more = refl
-    from (Some due) more = ap (λ (ts : List ActorTurn). record { actor = due.actor; answer = (system_turn program m.world due.actor).answer } ∷ ts) (more (turn_due program m due))
-
-pub turns-few : (program : Program) (room : ℕ) (m : Moment) → length (turns_from program room m) ≤ room
-turns-few program zero m = omega arith
-turns-few program (suc room) m = from (next_due program m) (λ done. turns-few program room (moment_after m done))
-  where
-    from : (o : Option Due) → ((done : TimedTurn) → length (turns_from program room (moment_after m done)) ≤ room) → length (due_first program m (λ done. turns_from program room (moment_after m done)) o) ≤ suc room
-    from None more = omega arith
-    from (Some due) more = omega (arith, more (turn_due program m due))
-
--- there are fewer turns than a counter can hold
-pub room-small : timed_room < 2147483648
-unfolding timed_room
-room-small = lit< tt
 
 -- a turn of the console takes the first command that is left
 commands-turn : (program : Program) (w : World) (actor : ℕ) → length (system_turn program w actor).world.commands ≡ (if actor == 0 then length w.commands - 1 else length w.commands)

@@ -8,8 +8,6 @@ pub mod WaitFacts
 pub mod FollowFacts
 pub mod TimedReportFacts
 pub mod CountFacts
-pub mod RecordCounts
-pub mod ProcessorCounts
 pub mod WritingFacts
 pub mod ListingFacts
 pub mod PlayingFacts

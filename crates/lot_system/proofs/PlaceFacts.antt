@@ -3,12 +3,11 @@ use Rattle.std.proofs.Common.{◌≡◌, ℕ, zero, suc, Option, ◌+◌, ◌-�
 use Rattle.std.proofs.Math.Seq.{drop-append_seam}
 use Rattle.std.specs.List.{slice_get, slice_set}
 use Rattle.std.specs.Option.{unwrap_or}
-use Rattle.std.proofs.lemmas.Option.{unwrap_or-slice_get, slice_get-get_or}
+use Rattle.std.proofs.lemmas.Option.{unwrap_or-slice_get}
 use Rattle.lot_machine.specs.declared.record.Thread.{Thread}
 use Rattle.lot_simulation.specs.Script.{Context, start}
 use Rattle.lot_simulation.specs.World.{Program}
 use Rattle.lot_machine.specs.State.{State}
-use Rattle.lot_machine.specs.Bounds.{IsBetween}
 use Rattle.lot_machine.specs.Numbered.{at_number}
 use Rattle.lot_simulation.specs.World.{delivered_to, new_contexts}
 use Rattle.lot_machine.proofs.Tickets.{at_number-suc}
@@ -20,11 +19,6 @@ use Rattle.lot_system.specs.Steps.{OneMore, delivered_to_place}
 pub number-or : {A : Type 0} (xs : List A) (n : ℕ) (d : A) → 1 ≤ n → unwrap_or (at_number xs n) d ≡ get_or xs (n - 1) d
 number-or xs zero d some = absurd (omega arith)
 number-or xs (suc i) d some = let place : suc i - 1 ≡ i = omega arith in ap (λ o. unwrap_or o d) (at_number-suc xs i) ∙ unwrap_or-slice_get xs i d ∙ ap (λ k. get_or xs k d) (sym place)
-
-pub number-some : {A : Type 0} (xs : List A) (n : ℕ) (d : A) → IsBetween 1 (length xs) n → at_number xs n ≡ Some (get_or xs (n - 1) d)
-number-some xs zero d within = absurd (omega arith)
-number-some xs (suc i) d within =
-    let place : suc i - 1 ≡ i = omega arith in at_number-suc xs i ∙ slice_get-get_or xs i d (omega (arith, within)) ∙ ap (λ k. Some (get_or xs k d)) (sym place)
 
 -- a number that is handed over changes the accumulator alone
 pub at-delivered_to : (program : Program) (t : Thread) (p : Place) (c : Context) (number : Option ℕ) → IsAt program t p c → IsAt program t (delivered_to_place number p) (delivered_to number c)

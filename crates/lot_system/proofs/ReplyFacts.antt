@@ -1,10 +1,8 @@
 -- Whom a reply names.
-use Rattle.std.proofs.Common.{◌≡◌, ℕ, zero, suc, ◌+◌, ◌%◌, ◌<◌, ◌≤◌, ◌==◌, Bool, true, false, not, ◌||◌, ◌⊎◌, inl, inr, Option, Some, None, is_none, List, [], ◌∷◌, length, map, sum, take, get_or, option_map, slice_index, nat_lt, refl, sym, ◌∙◌, ap, arith, length-append, filter}
-use Rattle.std.specs.Option.{MatchOption}
+use Rattle.std.proofs.Common.{◌≡◌, ℕ, zero, suc, ◌+◌, ◌==◌, false, not, ◌||◌, Option, Some, None, is_none, List, [], ◌∷◌, length, map, option_map, nat_lt, refl, sym, ◌∙◌, ap, arith, length-append}
 use Rattle.std.specs.List.{slice_get}
-use Rattle.std.proofs.lemmas.List.{length-map}
 use Rattle.std.proofs.lemmas.Bool.{ltb-false, leb-false, or_parts, eqb-false}
-use Rattle.std.proofs.lemmas.Option.{slice_get_cases, slice_get_within, get_or_from_slice_get}
+use Rattle.std.proofs.lemmas.Option.{slice_get_within}
 use Rattle.lot_machine.specs.declared.record.Record.{Record}
 use Rattle.lot_machine.specs.declared.record.Status.{Status}
 use Rattle.lot_machine.specs.declared.action.Action.{Action}
@@ -15,14 +13,13 @@ use Rattle.lot_machine.specs.declared.refusal.Refusal.{Refusal}
 use Rattle.lot_machine.specs.declared.refusal.Refusal.TheVariants.{BadName, NameTaken, NoCurrency, BadAmount, Full, NoScript}
 use Rattle.lot_machine.specs.declared.drawn.Drawn.{Drawn}
 use Rattle.lot_machine.specs.Bounds.{IsBetween}
-use Rattle.lot_machine.specs.Numbered.{numbers, option_any}
-use Rattle.lot_machine.specs.Lottery.{winner, IsFirstAbove}
-use Rattle.lot_machine.specs.State.{State, status_of, is_ready, ready_threads, weight_of}
+use Rattle.lot_machine.specs.Lottery.{winner}
+use Rattle.lot_machine.specs.State.{State, status_of, ready_threads, weight_of}
 use Rattle.lot_machine.specs.Commands.{Step, is_bad_amount, is_good_name, is_taken, is_no_script, are_tickets_full, are_threads_full, currency_named, with_thread, command_effect, command_step, unless_refused}
 use Rattle.lot_machine.specs.Step.{draw, thread_there, event_refusal, event_effect, step}
 use Rattle.lot_machine.proofs.CommandsKept.{all-pass}
-use Rattle.lot_machine.proofs.Draws.{winner-is}
 use Rattle.lot_machine.proofs.Tickets.{at_number-suc}
+use Rattle.lot_simulation.proofs.DrawnThreads.{drawn-numbered}
 use Rattle.lot_system.specs.Steps.{KeepsThreads, OneMore, MakesThread, OfDraw, OfRun}
 
 -- ---- commands
@@ -77,62 +74,12 @@ numbered records (suc i) status e = from (slice_get records i) refl (sym (ap (op
     from None is h = cc
     from (Some r) is h = (omega arith, omega (arith, slice_get_within records i r is))
 
-some-status : (o : Option Status) → option_any is_ready o ≡ true → (status : Status) × (o ≡ Some status)
-some-status None e = cc
-some-status (Some status) e = (status, refl)
-
--- what a filter keeps passes
-filter-passes : (test : ℕ → Bool) (xs : List ℕ) (i x : ℕ) → slice_get (filter test xs) i ≡ Some x → test x ≡ true
-filter-passes test [] i x e = cc
-filter-passes test (y ∷ ys) i x e = at (λ j. filter-passes test ys j x) (test y) refl
+drawn-names : (s : State) (p d : ℕ) → OfDraw (length s.records) (draw s p d).reply
+drawn-names s p d = at (winner (map (weight_of s) (ready_threads s.records)) d) refl
   where
-    at : ((j : ℕ) → slice_get (filter test ys) j ≡ Some x → test x ≡ true) → (b : Bool) → test y ≡ b → test x ≡ true
-    at more false is = let shorter : filter test (y ∷ ys) ≡ filter test ys = rw is refl in more i (sym (ap (λ zs. slice_get zs i) shorter) ∙ e)
-    at more true is = let shorter : filter test (y ∷ ys) ≡ y ∷ filter test ys = rw is refl in from i (sym (ap (λ zs. slice_get zs i) shorter) ∙ e)
-      where
-        from : (j : ℕ) → slice_get (y ∷ filter test ys) j ≡ Some x → test x ≡ true
-        from zero here = let first : y ≡ x = cc in ap test (sym first) ∙ is
-        from (suc j) here = more j here
-
--- a place of the Ready threads holds a thread
-ready-there : (records : List Record) (place : ℕ) → place < length (ready_threads records) → IsBetween 1 (length records) (slice_index (ready_threads records) place)
-ready-there records place below = from (slice_get_cases (ready_threads records) place).1
-  where
-    from : ((x : ℕ) × (place < length (ready_threads records)) × (slice_get (ready_threads records) place ≡ Some x) × (get_or (ready_threads records) place x ≡ x))
-        ⊎ ((length (ready_threads records) ≤ place) × (slice_get (ready_threads records) place ≡ None)) → IsBetween 1 (length records) (slice_index (ready_threads records) place)
-    from (inl (x, within, is, there)) =
-        let passes = filter-passes (λ u. option_any is_ready (status_of records u)) (numbers records) place x is in
-        let some = some-status (status_of records x) passes in
-        let drawn : slice_index (ready_threads records) place ≡ x = get_or_from_slice_get (ready_threads records) place x 0 is in
-        rw drawn (numbered records x some.0 some.1)
-    from (inr (past, none)) = absurd (omega arith)
-
-pub take-all : (xs : List ℕ) (n : ℕ) → length xs ≤ n → take n xs ≡ xs
-take-all [] zero e = refl
-take-all [] (suc n) e = refl
-take-all (x ∷ xs) zero e = absurd (omega arith)
-take-all (x ∷ xs) (suc n) e = ap (λ ys. x ∷ ys) (take-all xs n (omega (arith, e)))
-
--- the winner's place is one of the list
-winner-within : (ws : List ℕ) (number place : ℕ) → IsFirstAbove ws number place → number < sum ws → place < length ws
-winner-within ws number place first below = from (length ws) refl
-  where
-    from : (n : ℕ) → length ws ≡ n → place < length ws
-    from zero is = absurd (omega (arith, below, ap sum (sym (take-all ws 0 (omega (arith, is))))))
-    from (suc n) is = grind (arith, first.first n, ap sum (take-all ws (suc n) (omega (arith, is))), below, is)
-
-pub drawn-names : (s : State) (p d : ℕ) → OfDraw (length s.records) (draw s p d).reply
-drawn-names s p d = at (winner weights d) refl (winner-is weights d)
-  where
-    weights : List ℕ
-    weights = map (weight_of s) (ready_threads s.records)
-
-    at : (o : Option Drawn) → winner weights d ≡ o → MatchOption (winner weights d) (sum weights ≡ 0) (λ w. IsFirstAbove weights w.number w.place × (w.number ≡ d % sum weights) × (w.number < sum weights) × (w.total ≡ sum weights)) → OfDraw (length s.records) (draw s p d).reply
-    at None is h = rw is tt
-    at (Some w) is h =
-        let facts = rw is at h in
-        let place = winner-within weights w.number w.place facts.0 facts.2 in
-        rw is (ready-there s.records w.place (omega (arith, place, length-map (ready_threads s.records) (weight_of s))))
+    at : (o : Option Drawn) → winner (map (weight_of s) (ready_threads s.records)) d ≡ o → OfDraw (length s.records) (draw s p d).reply
+    at None is = rw is tt
+    at (Some w) is = rw is (drawn-numbered s d w is)
 
 refused-draw : (s : State) (count : ℕ) (o : Option Refusal) (next : Step) → OfDraw count next.reply → OfDraw count (unless_refused s o next).reply
 refused-draw s count None next is = is

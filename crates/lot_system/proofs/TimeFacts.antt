@@ -1,12 +1,12 @@
 -- Whose turn is next in time.
 use Rattle.std.proofs.Common.{◌≡◌, ℕ, zero, suc, ◌+◌, ◌*◌, ◌<◌, ◌≤◌, Bool, true, false, Option, Some, None, List, [], ◌∷◌, ◌++◌, length, get_or, set, take, drop, refl, sym, ◌∙◌, ap, subst, arith, append_assoc}
-use Rattle.std.specs.Prelude.{IfSome, nat_le, nat_lt, map, option_map, replicate, slice_get, unwrap_or, if◌then◌else◌}
+use Rattle.std.specs.Prelude.{nat_le, map, option_map, replicate, slice_get, unwrap_or}
 use Rattle.std.specs.List.{flat_map, range_with_len}
 use Rattle.std.proofs.lemmas.Bool.{leb-true, leb-false, le-leb}
 use Rattle.lot_simulation.specs.declared.timed.Due.{Due}
 use Rattle.lot_simulation.specs.declared.timed.Clock.{Clock}
-use Rattle.lot_simulation.specs.Timed.{Moment, all_due, clock_of, console_due, cost_of, earliest, end_of, next_due, processor_due, sooner, within, woken}
-use Rattle.lot_simulation.specs.World.{Program, processor_event}
+use Rattle.lot_simulation.specs.Timed.{Moment, clock_of, cost_of, earliest, processor_due, sooner, within, woken}
+use Rattle.lot_simulation.specs.World.{processor_event}
 use Rattle.lot_machine.proofs.Tickets.{at_number-suc}
 use Rattle.lot_system.specs.InTime.{HaveIdled, sooner_of}
 use Rattle.lot_system.proofs.WritingFacts.{range-push}
@@ -73,62 +73,6 @@ pub processor-first : (m : Moment) (p cost : ℕ) (clock : Clock) → clock ≡ 
 processor-first m p cost clock is goes costs =
     let runs : (clock_of m.clocks p).waits ≡ false = ap (λ (c : Clock). c.waits) (sym is) ∙ goes in
     rw (is, costs, runs) refl
-
--- ---- what holds of each turn that may come next holds of the one that does
-
-abbrev Each : (Due → Type 0) → List Due → Type 0
-Each P [] = Unit {0}
-Each P (d ∷ ds) = P d × Each P ds
-
-each-both : (P : Due → Type 0) (xs ys : List Due) → Each P xs → Each P ys → Each P (xs ++ ys)
-each-both P [] ys one two = two
-each-both P (x ∷ xs) ys one two = (one.0, each-both P xs ys one.1 two)
-
-earliest-holds : (P : Due → Type 0) (xs : List Due) → Each P xs → IfSome (earliest xs) P
-earliest-holds P [] each = tt
-earliest-holds P (x ∷ xs) each = at (earliest xs) (earliest-holds P xs each.1)
-  where
-    test : (y : Due) (b : Bool) → P y → P (if b then x else y)
-    test y true here = each.0
-    test y false here = here
-
-    at : (o : Option Due) → IfSome o P → P (sooner x o)
-    at None here = each.0
-    at (Some y) here = test y (nat_le x.time y.time) here
-
-within-holds : (P : Due → Type 0) (end : ℕ) (o : Option Due) → IfSome o P → IfSome (within end o) P
-within-holds P end None here = tt
-within-holds P end (Some due) here = at (nat_lt end due.time)
-  where
-    at : (b : Bool) → IfSome (if b then None else Some due) P
-    at true = tt
-    at false = here
-
-module _ (program : Program) (m : Moment) where
-  -- its actor is there, and if it is the console a command is left
-  abbrev pub IsThere : Due → Type 0
-  IsThere due = (due.actor ≤ program.limits.processors) × (due.actor ≡ 0 → 0 < length m.times)
-
-  console-there : (times : List ℕ) → (0 < length times → 0 < length m.times) → Each IsThere (map (λ time. record { time = time; actor = 0 }) (take 1 times))
-  console-there [] some = tt
-  console-there (t ∷ times) some = ((omega arith, λ e. some (omega arith)), tt)
-
-  processor-there : (p : ℕ) → 1 ≤ p → p ≤ program.limits.processors → Each IsThere (processor_due m p)
-  processor-there p above within = at (clock_of m.clocks p).waits
-    where
-      at : (b : Bool) → Each IsThere (if b then [] else record { time = (clock_of m.clocks p).time + cost_of m.world (processor_event m.world p); actor = p } ∷ [])
-      at true = tt
-      at false = ((within, λ e. absurd (omega arith)), tt)
-
-  processors-there : (a k : ℕ) → 1 ≤ a → a + k ≤ program.limits.processors + 1 → Each IsThere (flat_map (processor_due m) (range_with_len a k))
-  processors-there a zero above within = tt
-  processors-there a (suc k) above within =
-      each-both IsThere (processor_due m a) (flat_map (processor_due m) (range_with_len (a + 1) k)) (processor-there a above (omega (arith, within))) (processors-there (a + 1) k (omega arith) (omega (arith, within)))
-
-  pub due-there : (due : Due) → next_due program m ≡ Some due → IsThere due
-  due-there due is =
-      let each = each-both IsThere (console_due m) (flat_map (processor_due m) (range_with_len 1 program.limits.processors)) (console-there m.times (λ some. some)) (processors-there 1 program.limits.processors (omega arith) (omega arith)) in
-      subst (λ o. IfSome o IsThere) is (within-holds IsThere (end_of program) (earliest (all_due program m)) (earliest-holds IsThere (all_due program m) each))
 
 -- ---- clocks that are woken in turn
 

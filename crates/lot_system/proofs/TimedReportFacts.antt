@@ -14,7 +14,7 @@ use Rattle.lot_machine.specs.State.{State, live_of, value_of}
 use Rattle.lot_print.specs.Totals.{timed_processor_line, timed_thread_line, timed_total_line}
 use Rattle.lot_simulation.specs.declared.timed.Waits.{Waits}
 use Rattle.lot_simulation.specs.Report.{ActorTurn, ticks_in, total_of, turns_made, turns_of}
-use Rattle.lot_simulation.specs.Timed.{Moment, TimedTurn, clock_of, ended_at, last_moment, moment_after_all, opening_moment, timed_room, timed_turns}
+use Rattle.lot_simulation.specs.Timed.{Moment, TimedTurn, clock_of, ended_at, last_moment, moment_after_all, opening_moment, timed_turns}
 use Rattle.lot_simulation.specs.TimedReport.{actor_turns, idle_until, live_part, mutex_change, refusals_in, reply_change, timed_processor_total, timed_report, timed_report_of, timed_thread_total, timed_whole_total, waits_in}
 use Rattle.lot_simulation.specs.World.{Program}
 use Rattle.lot_system.specs.declared.counts.Counts.{Counts}
@@ -22,7 +22,8 @@ use Rattle.lot_system.specs.declared.following.Following.{Following}
 use Rattle.lot_system.specs.Counted.{counted}
 use Rattle.lot_system.specs.InTime.{AreWaits, IsAtEnd, moment_in}
 use Rattle.lot_system.specs.Seen.{Seen, world_of}
-use Rattle.lot_system.proofs.FollowFacts.{actors-made, room-small, within-room}
+use Rattle.lot_simulation.proofs.TimedRuns.{room-small, timed-made}
+use Rattle.lot_system.proofs.FollowFacts.{within-room}
 
 -- ---- all of the program's turns
 
@@ -38,7 +39,7 @@ module _ (seen : Seen) (following : Following) (end : IsAtEnd seen following) wh
 
   -- the turns that the system has made are the program's
   pub turns-are : turns_made seen.setting.program seen.history ≡ actor_turns all
-  turns-are = ap (turns_made seen.setting.program) history-is ∙ sym (actors-made seen.setting.program timed_room (opening_moment seen.setting.program))
+  turns-are = ap (turns_made seen.setting.program) history-is ∙ sym (timed-made seen.setting.program)
 
   -- so many commands were refused
   pub refused-are : following.refused ≡ total_of refusals_in (actor_turns all)

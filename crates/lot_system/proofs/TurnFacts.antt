@@ -35,7 +35,8 @@ use Rattle.lot_system.specs.Steps.{KeepsThreads, MakesIn, MakesThread, made_thre
 use Rattle.lot_system.specs.Turns.{IsWork, IsWorkIn, IsSliceOf, Matches}
 use Rattle.lot_system.proofs.StepFacts.{draws-same, expires-same, traps-same}
 use Rattle.lot_system.proofs.ReplyFacts.{command-makes, numbered, draw-names, expire-names, trap-names}
-use Rattle.lot_system.proofs.PlaceFacts.{number-or, number-some, at-delivered_to, at-lengths, at-place, at-set}
+use Rattle.lot_simulation.proofs.DrawnThreads.{number-some}
+use Rattle.lot_system.proofs.PlaceFacts.{number-or, at-delivered_to, at-lengths, at-place, at-set}
 
 -- ---- what is kept
 

@@ -3,8 +3,8 @@ use Rattle.lot_simulation.specs.Timed.{timed_room, turn_due}
 use Rattle.lot_simulation.specs.World.{Program, system_turn}
 use Rattle.lot_system.specs.InTime.{IsFollowed, moment_in, turn_told, turns_done}
 use Rattle.lot_system.specs.Seen.{after_turn, world_of}
-use Rattle.lot_system.proofs.FollowFacts.{answer-is, followed-more, one-next, room-small, within-room}
-use Rattle.lot_system.proofs.TimeFacts.{due-there}
+use Rattle.lot_simulation.proofs.TimedRuns.{due-there, room-small}
+use Rattle.lot_system.proofs.FollowFacts.{answer-is, followed-more, one-next, within-room}
 use Rattle.lot_system.proofs.following.make_due.Goals as goal
 
 pub fresh_turn-requires-clause-there : goal.fresh_turn-requires-clause-there

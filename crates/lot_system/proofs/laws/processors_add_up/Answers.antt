@@ -1,4 +1,4 @@
-use Rattle.lot_system.proofs.ProcessorCounts.{quanta-of_processors, idles-of_processors, ticks-of_processors}
+use Rattle.lot_simulation.proofs.ProcessorCounts.{quanta-of_processors, idles-of_processors, ticks-of_processors}
 use Rattle.lot_system.proofs.laws.processors_add_up.Goals as goal
 
 pub returns-clause-quanta : goal.returns-clause-quanta

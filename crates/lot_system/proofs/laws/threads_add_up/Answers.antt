@@ -1,5 +1,5 @@
 use Rattle.std.proofs.Common.{arith}
-use Rattle.lot_system.proofs.RecordCounts.{quanta-add_up, ticks-add_up}
+use Rattle.lot_simulation.proofs.RecordCounts.{quanta-add_up, ticks-add_up}
 use Rattle.lot_system.proofs.laws.threads_add_up.Goals as goal
 
 pub returns-clause-quanta : goal.returns-clause-quanta

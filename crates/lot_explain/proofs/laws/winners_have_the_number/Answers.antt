@@ -1,0 +1,30 @@
+use Rattle.std.proofs.Common.{◌≡◌, ℕ, ◌+◌, Option, Some, ◌++◌, ◌∷◌, ◌∙◌, ap, arith, subst}
+use Rattle.std.specs.Option.{IfSome}
+use Rattle.lot_machine.specs.declared.event.Event.{Event}
+use Rattle.lot_machine.specs.declared.reply.Reply.{Reply}
+use Rattle.lot_simulation.specs.World.{Program, World, system_turn}
+use Rattle.lot_simulation.specs.World.Answer.{Answered}
+use Rattle.lot_explain.specs.declared.won.Won.{Won}
+use Rattle.lot_explain.specs.Lots.{lot_lines, lots_of, total_of, won_in}
+use Rattle.lot_explain.specs.Numbers.{number_in}
+use Rattle.lot_explain.proofs.LineFacts.{lines-both}
+use Rattle.lot_explain.proofs.WonFacts.{IsOnly, turn-won}
+use Rattle.lot_explain.proofs.laws.winners_have_the_number.Goals as goal
+
+-- the winner is the only one
+only : (program : Program) (w : World) (actor : ℕ) (e : Event) (r : Reply) (won : Won) (number : ℕ)
+    → (system_turn program w actor).answer ≡ Answered e r → won_in e r ≡ Some won → number_in r ≡ Some number → IsOnly (lots_of w.state e) won.winner number
+only program w actor e r won number answered is drawn =
+    let facts = subst (λ (o : Option Won). IfSome o (λ x. (x.total ≡ total_of (lots_of w.state e)) × IfSome (number_in r) (IsOnly (lots_of w.state e) x.winner))) is (turn-won program w actor e r answered) in
+    subst (λ (o : Option ℕ). IfSome o (IsOnly (lots_of w.state e) won.winner)) drawn facts.1
+
+pub returns-clause-printed : goal.returns-clause-printed
+returns-clause-printed c manner unit actor won before after lot =
+    let none : 0 + total_of before ≡ total_of before = omega arith in
+    lines-both manner unit actor won 0 before (lot ∷ after) ∙ ap (λ n. lot_lines manner unit actor won 0 before ++ lot_lines manner unit actor won n (lot ∷ after)) none
+
+pub returns-clause-winner : goal.returns-clause-winner
+returns-clause-winner c program w actor e r won number answered is drawn = (only program w actor e r won number answered is drawn).0
+
+pub returns-clause-no_other : goal.returns-clause-no_other
+returns-clause-no_other c program w actor e r won number answered is drawn = (only program w actor e r won number answered is drawn).1
