@@ -16,7 +16,7 @@ mod slice;
 pub use builder::ScriptBuilder;
 pub use place::Place;
 pub use script::Script;
-pub use slice::Slice;
+pub use slice::{Slice, SliceDone};
 
 #[cfg(test)]
 mod tests;

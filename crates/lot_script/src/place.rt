@@ -61,17 +61,12 @@ impl Place {
         self.accumulator
     }
 
-    /// The same place with this accumulator, as for a thread that was handed a number.
+    /// Makes the accumulator this number, as for a thread that was handed it.
     #[inline(always)]
-    pub fn with_accumulator(self, accumulator: u32) -> Self
-        ensures { result ≡ record self { accumulator = accumulator } }
+    pub fn set_accumulator(&mut self, number: u32)
+        ensures { self.new ≡ record self.old { accumulator = number } }
     {
-        Place {
-            line: self.line,
-            done: self.done,
-            loops: self.loops,
-            accumulator,
-        }
+        self.accumulator = number;
     }
 
     /// Goes on with the next line.
@@ -107,7 +102,7 @@ impl Place {
         requires { self.old.line < 1024 }
         ensures { self.new ≡ record self.old { line = self.old.line + 1; done = 0; accumulator = number } }
     {
-        self.accumulator = number;
+        self.set_accumulator(number);
         self.leave_line();
     }
 

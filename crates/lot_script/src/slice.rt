@@ -87,7 +87,39 @@ impl<'a> Slice<'a> {
     }
 }
 
+/// What a thread did of its script with a budget of ticks: ticks of work, and then a trap or the end of the budget.
+#[derive(Clone, Copy, Debug, PartialEq, Eq)]
+pub struct SliceDone {
+    /// The ticks of work. A trap's own tick isn't counted.
+    pub ticks: u32,
+    /// The trap, or `None` if the budget was used up before one.
+    pub trap: Option<ScriptTrap>,
+}
+
 impl Script {
+    /// Moves a place of this script on, as a slice with a budget of 1 to 1000 ticks does: after the trap, but an exit is
+    /// never passed. It takes no memory, and as many steps as lines are passed.
+    #[inline(always)]
+    pub fn pass_slice(&self, place: &mut Place, budget: u32) -> SliceDone
+        requires fits { Fits self.now place.old }
+        requires budget { IsBetween 1 1000 budget }
+        ensures { IsSlice (record { lines = self.now; start = place.old; budget = budget; ticks = result.ticks; trap = result.trap; end = place.new }) }
+    {
+        let mut ticks = 0;
+        while ticks < budget {
+            match self.advance(place, budget - ticks) {
+                Advance::Marks(passed) => ticks += passed,
+                Advance::Trap(trap) => {
+                    return SliceDone {
+                        ticks,
+                        trap: Some(trap),
+                    };
+                }
+            }
+        }
+        SliceDone { ticks, trap: None }
+    }
+
     /// What a thread of this script does from `start` with a budget of 1 to 1000 ticks. It takes no memory, and as many
     /// steps as lines are passed.
     #[inline(always)]
@@ -100,28 +132,13 @@ impl Script {
         ensures exact { IsSlice result }
     {
         let mut end = start.copied();
-        let mut ticks = 0;
-        while ticks < budget {
-            match self.advance(&mut end, budget - ticks) {
-                Advance::Marks(passed) => ticks += passed,
-                Advance::Trap(trap) => {
-                    return Slice {
-                        script: self,
-                        start,
-                        budget,
-                        ticks,
-                        trap: Some(trap),
-                        end,
-                    };
-                }
-            }
-        }
+        let done = self.pass_slice(&mut end, budget);
         Slice {
             script: self,
             start,
             budget,
-            ticks,
-            trap: None,
+            ticks: done.ticks,
+            trap: done.trap,
             end,
         }
     }

@@ -257,7 +257,8 @@ fn the_same_again(rt: HostRuntime) -> Result<(), Fail> {
     let more = script.slice(script.start(), 2);
     assert!(&rt; slice.is_same(&again) && !slice.is_same(&more));
     assert!(&rt; slice.start().is_same(&copy.start()) && !slice.end().is_same(slice.start()));
-    let handed = slice.end().copied().with_accumulator(9);
+    let mut handed = slice.end().copied();
+    handed.set_accumulator(9);
     assert_eq!(&rt; handed.accumulator(), 9);
     Ok(())
 }

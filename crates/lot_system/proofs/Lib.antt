@@ -3,6 +3,7 @@ pub mod ReplyFacts
 pub mod Runs
 pub mod PlaceFacts
 pub mod TurnFacts
+pub mod RunFacts
 pub mod TimeFacts
 pub mod WaitFacts
 pub mod FollowFacts

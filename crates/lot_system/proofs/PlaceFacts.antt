@@ -3,22 +3,42 @@ use Rattle.std.proofs.Common.{◌≡◌, ℕ, zero, suc, Option, ◌+◌, ◌-�
 use Rattle.std.proofs.Math.Seq.{drop-append_seam}
 use Rattle.std.specs.List.{slice_get, slice_set}
 use Rattle.std.specs.Option.{unwrap_or}
+use Rattle.std.proofs.lemmas.List.{get_or-set_same, set-set, set-get_or}
 use Rattle.std.proofs.lemmas.Option.{unwrap_or-slice_get}
 use Rattle.lot_machine.specs.declared.record.Thread.{Thread}
 use Rattle.lot_simulation.specs.Script.{Context, start}
 use Rattle.lot_simulation.specs.World.{Program}
 use Rattle.lot_machine.specs.State.{State}
-use Rattle.lot_machine.specs.Numbered.{at_number}
+use Rattle.lot_machine.specs.Bounds.{IsBetween}
+use Rattle.lot_machine.specs.Numbered.{at_number, set_number}
 use Rattle.lot_simulation.specs.World.{delivered_to, new_contexts}
 use Rattle.lot_machine.proofs.Tickets.{at_number-suc}
-use Rattle.lot_script.specs.Places.{Place}
+use Rattle.lot_simulation.proofs.DrawnThreads.{number-some}
+use Rattle.lot_script.specs.Places.{Place, first_place}
 use Rattle.lot_system.specs.Held.{script_lines, IsAt, AreAt}
-use Rattle.lot_system.specs.Steps.{OneMore, delivered_to_place}
+use Rattle.lot_system.specs.Steps.{OneMore, delivered_to_place, place_of}
 
 -- the element with a number stands at the place before it
 pub number-or : {A : Type 0} (xs : List A) (n : ℕ) (d : A) → 1 ≤ n → unwrap_or (at_number xs n) d ≡ get_or xs (n - 1) d
 number-or xs zero d some = absurd (omega arith)
 number-or xs (suc i) d some = let place : suc i - 1 ≡ i = omega arith in ap (λ o. unwrap_or o d) (at_number-suc xs i) ∙ unwrap_or-slice_get xs i d ∙ ap (λ k. get_or xs k d) (sym place)
+
+-- a place that is put where it stands changes nothing
+pub place-same : (places : List Place) (t : ℕ) → IsBetween 1 (length places) t → set_number places t (place_of places t) ≡ places
+place-same places t within = ap (set_number places t) (number-or places t first_place within.0) ∙ set-get_or places (t - 1) first_place
+
+-- where the thread is that was moved
+pub place-set : (places : List Place) (t : ℕ) (place : Place) → IsBetween 1 (length places) t → place_of (set_number places t place) t ≡ place
+place-set places t place within = number-or (set_number places t place) t first_place within.0 ∙ get_or-set_same places (t - 1) place first_place (omega (arith, within))
+
+pub place-is : (places : List Place) (t : ℕ) (place : Place) → IsBetween 1 (length places) t → place ≡ get_or places (t - 1) place → place ≡ place_of places t
+place-is places t place within is = is ∙ sym (ap (λ o. unwrap_or o first_place) (number-some places t place within))
+
+-- what is handed over to a thread that was moved
+pub delivered-set : (places : List Place) (t : ℕ) (place : Place) (number : Option ℕ) → IsBetween 1 (length places) t
+    → set_number (set_number places t place) t (delivered_to_place number (place_of (set_number places t place) t)) ≡ set_number places t (delivered_to_place number place)
+delivered-set places t place number within =
+    ap (λ (p : Place). set_number (set_number places t place) t (delivered_to_place number p)) (place-set places t place within) ∙ set-set places (t - 1) place (delivered_to_place number place)
 
 -- a number that is handed over changes the accumulator alone
 pub at-delivered_to : (program : Program) (t : Thread) (p : Place) (c : Context) (number : Option ℕ) → IsAt program t p c → IsAt program t (delivered_to_place number p) (delivered_to number c)

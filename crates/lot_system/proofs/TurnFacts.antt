@@ -126,7 +126,7 @@ event-is program w p drawn (Some work) None some is matches exact e = absurd mat
 event-is program w p drawn (Some work) (Some given) some is matches exact e = rw (is.1.runs, slice-done program w p work given is.1 matches exact, e) refl
 
 -- the thread on a processor has a number
-there-between : (records : List Record) (p t : ℕ) → thread_on records p ≡ Some t → IsBetween 1 (length records) t
+pub there-between : (records : List Record) (p t : ℕ) → thread_on records p ≡ Some t → IsBetween 1 (length records) t
 there-between records p t runs = let found = found-runs records p t runs in numbered records t (Running p found.0) found.1
 
 slice-same : (s : State) (p drawn : ℕ) (given : Parts) (trap : Option ScriptTrap) → given.trap ≡ trap → KeepsThreads s (step s (event_of_slice p drawn (done_of given))).state

@@ -7,6 +7,7 @@ use Rattle.lot_machine.specs.declared.reply.Reply.{Reply}
 use Rattle.lot_machine.specs.declared.reply.Reply.TheVariants as reply
 use Rattle.lot_machine.specs.Bounds.{IsBetween}
 use Rattle.lot_machine.specs.Numbered.{at_number, set_number}
+use Rattle.lot_simulation.specs.declared.script.Line.{Line}
 use Rattle.lot_simulation.specs.declared.script.ScriptTrap.{ScriptTrap}
 use Rattle.lot_simulation.specs.declared.script.ScriptTrap.TheVariants as script_trap
 use Rattle.lot_simulation.specs.Script.{Slice}
@@ -14,6 +15,7 @@ use Rattle.lot_machine.specs.State.{State}
 use Rattle.lot_simulation.specs.World.{event_of_slice, number_delivered}
 use Rattle.lot_script.specs.Places.{Place, first_place, context_at}
 use Rattle.lot_script.specs.Slices.{Parts}
+use Rattle.lot_system.specs.declared.turn.Done.{Done}
 
 -- ---- the threads after an event
 
@@ -68,6 +70,15 @@ OfRun t other = ⊥
 abbrev pub done_of : Parts → Slice
 done_of given = record { ticks = given.ticks; trap = given.trap; end = context_at given.lines given.end }
 
+-- what the slice did, and the accumulator at its end
+abbrev pub did : Parts → Done
+did given = record { ticks = given.ticks; trap = given.trap; accumulator = given.end.accumulator }
+
+-- the event of a turn whose slice did this; without a slice the processor draws
+abbrev pub event_done : ℕ → ℕ → Option Done → Event
+event_done p drawn None = event.Draw p drawn
+event_done p drawn (Some done) = event_of_slice p drawn (record { ticks = done.ticks; trap = done.trap; end = record { rest = []; accumulator = done.accumulator } })
+
 -- without a slice the processor draws
 abbrev pub event_given : ℕ → ℕ → Option Parts → Event
 event_given p drawn None = event.Draw p drawn
@@ -79,9 +90,9 @@ unlocks (Some (script_trap.Unlock mutex)) = true
 unlocks other = false
 
 -- whether the event takes a drawn number: a draw does, and a slice that unlocks
-abbrev pub needs_number : Option Parts → Bool
+abbrev pub needs_number : Option Done → Bool
 needs_number None = true
-needs_number (Some given) = unlocks given.trap
+needs_number (Some done) = unlocks done.trap
 
 -- the reply is one to such an event: to a draw among this many threads, or to the slice of one of them
 abbrev pub OfGiven : ℕ → ℕ → Option Parts → Reply → Type 0
@@ -106,3 +117,12 @@ places_after places None (reply.Winner t number total delivered) = set_number pl
 places_after places (Some given) (reply.Trapped t ticks outcome ends) = set_number places t (delivered_to_place (number_delivered outcome) given.end)
 places_after places (Some given) (reply.Expired t ticks) = set_number places t given.end
 places_after places given other = places
+
+-- the slice of these lines with this budget that did this on the way from one place to the other
+abbrev pub slice_between : List Line → Place → ℕ → Done → Place → Parts
+slice_between lines start budget done end = record { lines = lines; start = start; budget = budget; ticks = done.ticks; trap = done.trap; end = end }
+
+-- the places once the thread that ran has what it received
+abbrev pub places_received : List Place → Reply → List Place
+places_received places (reply.Trapped t ticks outcome ends) = set_number places t (delivered_to_place (number_delivered outcome) (place_of places t))
+places_received places other = places

@@ -7,8 +7,9 @@ use Rattle.lot_machine.specs.Step.{used_there}
 use Rattle.lot_simulation.specs.World.{Program, World, context_of, system_turn}
 use Rattle.lot_simulation.specs.World.Answer.{Answered}
 use Rattle.lot_script.specs.Drafts.{IsScript}
-use Rattle.lot_script.specs.Places.{Fits, context_at}
+use Rattle.lot_script.specs.Places.{Place, Fits, context_at}
 use Rattle.lot_script.specs.Slices.{Parts}
+use Rattle.lot_system.specs.declared.turn.Running.{Running}
 use Rattle.lot_system.specs.declared.turn.Work.{Work}
 use Rattle.lot_system.specs.declared.turn.Answer.{Answer}
 use Rattle.lot_system.specs.declared.fault.TurnFault.{TurnFault}
@@ -31,6 +32,10 @@ pub record IsWork (program : Program) (w : World) (p : ℕ) (work : Work) : Type
   pub means : context_at (script_lines program work.script) work.place ≡ context_of w work.thread
   pub budget : work.budget ≡ w.state.limits.quantum - used_there w.state p
   pub some_left : IsBetween 1 1000 work.budget
+
+-- the same with its place
+abbrev pub work_at : Running → Place → Work
+work_at running place = record { thread = running.thread; script = running.script; place = place; budget = running.budget }
 
 -- the actor's work, or that it has none: the console never has one, and a processor has one if a thread runs there
 abbrev pub IsWorkIn : Program → World → ℕ → Option Work → Type 0

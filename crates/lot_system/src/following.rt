@@ -10,7 +10,6 @@ ghost use Rattle.lot_system.specs.Seen.{after_turn};
 ghost use Rattle.lot_text.specs.Programs.{IsProgram};
 
 use crate::System;
-use crate::playing::slice_in;
 use crate::timeline::Timeline;
 use crate::waits::{WaitTable, mutex_change, reply_change};
 use lot_machine::{Event, Reply};
@@ -135,8 +134,8 @@ pub fn make_due(
     ensures answer { (turn_in system.old result.actor).answer ≡ Answered event.new result.reply }
     ensures after { system.new ≡ after_turn system.old result.actor }
 {
-    let slice = slice_in(system, program, due.actor);
-    let Some(reply) = system.fresh_turn(due.actor, &slice, event) else {
+    let _ = program;
+    let Some(reply) = system.fresh_turn(due.actor, event) else {
         unreachable!()
     };
     let told = TimedReply {

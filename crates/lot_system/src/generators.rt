@@ -1,16 +1,14 @@
 //! The processors' generators.
-ghost use Rattle.std.specs.Prelude.{◌≡◌, IfOk, IfSome, length, unwrap_or, vec_len, if◌then◌else◌};
+ghost use Rattle.std.specs.Prelude.{◌≡◌, IfOk, length, unwrap_or, vec_len, if◌then◌else◌};
 ghost use Rattle.lot_machine.specs.Bounds.{IsBetween};
 ghost use Rattle.lot_machine.specs.Numbered.{at_number, set_number};
 ghost use Rattle.lot_simulation.specs.World as world;
 ghost use Rattle.lot_simulation.specs.World.{number_from, seed_from};
-ghost use Rattle.lot_script.specs.Slices.{IsSlice};
-ghost use Rattle.lot_system.specs.Steps.{event_given};
+ghost use Rattle.lot_system.specs.Steps.{event_done};
 
-use crate::turn::{event_of, needs_number};
+use crate::turn::{Done, event_of, needs_number};
 use lot_draw::ParkMiller;
 use lot_machine::Event;
-use lot_script::Slice;
 use lot_text::Program;
 use std::alloc::{AllocError, Global};
 
@@ -49,27 +47,26 @@ fn next_number(generators: &[ParkMiller], processor: u32, is_wide: bool) -> Next
     NextNumber { number, after }
 }
 
-/// Puts the event of a processor's turn with this slice, or of its draw without one, where it is kept. Only a turn that takes a number
-/// moves the processor's generator on.
+/// Puts the event of a processor's turn whose slice did this, or of its draw without one, where it is kept. Only a turn that takes a
+/// number moves the processor's generator on.
 #[inline(always)]
 pub(crate) fn next_event(
     generators: &mut Vec<ParkMiller>,
     processor: u32,
     is_wide: bool,
-    slice: &Option<Slice>,
+    done: Option<Done>,
     event: &mut Event,
 )
     requires processor { IsBetween 1 (vec_len generators.old) processor }
-    ensures event { event.new ≡ event_given processor (number_from is_wide (unwrap_or (at_number generators.old.items processor) 0)) slice.now }
+    ensures event { event.new ≡ event_done processor (number_from is_wide (unwrap_or (at_number generators.old.items processor) 0)) done }
     ensures values { generators.new.items ≡ (if world.takes_number event.new then set_number generators.old.items processor (seed_from is_wide (unwrap_or (at_number generators.old.items processor) 0)) else generators.old.items) }
     ensures count { vec_len generators.new ≡ vec_len generators.old }
-    ensures exact { IfSome slice.now IsSlice }
 {
-    if !needs_number(slice) {
-        *event = event_of(processor, slice, 0);
+    if !needs_number(done) {
+        *event = event_of(processor, done, 0);
         return;
     }
     let next = next_number(generators, processor, is_wide);
-    *event = event_of(processor, slice, next.number);
+    *event = event_of(processor, done, next.number);
     generators[processor as usize - 1] = next.after;
 }

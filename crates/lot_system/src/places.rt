@@ -2,16 +2,20 @@
 ghost use Rattle.std.specs.Prelude.{◌≡◌, ◌+◌, ◌≤◌, ◌++◌, ℕ, List, [], Some, None, IfOk, length, vec_capacity};
 ghost use Rattle.lot_machine.specs.declared.record.Thread.{Thread};
 ghost use Rattle.lot_machine.specs.Bounds.{IsBetween};
+ghost use Rattle.lot_machine.specs.Numbered.{set_number};
+ghost use Rattle.lot_script.specs.Places.{Fits};
+ghost use Rattle.lot_script.specs.Slices.{IsSlice};
 ghost use Rattle.lot_simulation.specs.Script.{Context, start};
 ghost use Rattle.lot_machine.specs.State.{State};
 ghost use Rattle.lot_simulation.specs.World.{new_contexts, number_delivered as number_delivered_in};
 ghost use Rattle.lot_system.specs.Held.{AreAt, IsAt, script_lines};
 ghost use Rattle.lot_system.specs.Steps as steps;
-ghost use Rattle.lot_system.specs.Steps.{MakesThread, OfDraw, OfRun, OfGiven, delivered_to_place, places_after};
+ghost use Rattle.lot_system.specs.Steps.{MakesThread, OfDraw, OfRun, OfGiven, delivered_to_place, place_of, places_after, places_received, slice_between};
 
+use crate::turn::Done;
 use lot_kernel::Kernel;
 use lot_machine::{Outcome, Reply};
-use lot_script::{Place, Slice};
+use lot_script::{Place, Script, Slice};
 use lot_text::Program;
 use std::alloc::{AllocError, Global};
 
@@ -86,8 +90,7 @@ fn follow_draw(places: &mut Vec<Place>, reply: Reply)
         ..
     } = reply
     {
-        let here = places[thread as usize - 1].copied();
-        places[thread as usize - 1] = delivered_to(here, delivered);
+        deliver(places, thread, delivered);
     }
 }
 
@@ -105,10 +108,47 @@ fn follow_slice(places: &mut Vec<Place>, slice: &Slice, reply: Reply)
             outcome,
             ..
         } => {
-            let delivered = number_delivered(outcome);
-            places[thread as usize - 1] = delivered_to(slice.end().copied(), delivered);
+            places[thread as usize - 1] = slice.end().copied();
+            deliver(places, thread, number_delivered(outcome));
         }
         _ => {}
+    }
+}
+
+/// Moves the thread's place on where it stands, as a slice of its script with this budget does. Answers what the slice did.
+#[inline(always)]
+pub(crate) fn pass_slice(places: &mut Vec<Place>, script: &Script, thread: u32, budget: u32) -> Done
+    requires there { IsBetween 1 (length places.old.items) thread }
+    requires fits { Fits script.now (place_of places.old.items thread) }
+    requires budget { IsBetween 1 1000 budget }
+    ensures slice { IsSlice (slice_between script.now (place_of places.old.items thread) budget result (place_of places.new.items thread)) }
+    ensures places { places.new.items ≡ set_number places.old.items thread (place_of places.new.items thread) }
+    ensures accumulator { result.accumulator ≡ (place_of places.new.items thread).accumulator }
+    ensures room { vec_capacity places.new ≡ vec_capacity places.old }
+{
+    let place = &mut places[thread as usize - 1];
+    let done = script.pass_slice(place, budget);
+    Done {
+        ticks: done.ticks,
+        trap: done.trap,
+        accumulator: place.accumulator(),
+    }
+}
+
+/// The thread that ran, and is at its slice's end, has what it received.
+#[inline(always)]
+pub(crate) fn receive(places: &mut Vec<Place>, reply: Reply)
+    requires { (t : ℕ) × (IsBetween 1 (length places.old.items) t × OfRun t reply) }
+    ensures received { places.new.items ≡ places_received places.old.items reply }
+    ensures room { vec_capacity places.new ≡ vec_capacity places.old }
+{
+    if let Reply::Trapped {
+        thread,
+        outcome,
+        ..
+    } = reply
+    {
+        deliver(places, thread, number_delivered(outcome));
     }
 }
 
@@ -124,13 +164,14 @@ fn number_delivered(outcome: Outcome) -> Option<u32>
     }
 }
 
-/// The place, with the number that was handed over as its accumulator.
+/// The thread has the number that was handed over, if one was, as its accumulator.
 #[inline(always)]
-fn delivered_to(place: Place, number: Option<u32>) -> Place
-    ensures { result ≡ delivered_to_place number place }
+fn deliver(places: &mut Vec<Place>, thread: u32, number: Option<u32>)
+    requires { IsBetween 1 (length places.old.items) thread }
+    ensures delivered { places.new.items ≡ set_number places.old.items thread (delivered_to_place number (place_of places.old.items thread)) }
+    ensures room { vec_capacity places.new ≡ vec_capacity places.old }
 {
-    match number {
-        None => place,
-        Some(number) => place.with_accumulator(number),
+    if let Some(number) = number {
+        places[thread as usize - 1].set_accumulator(number);
     }
 }

@@ -196,14 +196,7 @@ fn play_turns<W: Write>(
 {
     let mut page = Page::new();
     for actor in program.schedule() {
-        play_turn(
-            program,
-            system,
-            u32::from(*actor),
-            leftovers,
-            writer,
-            &mut page,
-        )?;
+        play_turn(system, u32::from(*actor), leftovers, writer, &mut page)?;
     }
     Ok(page.write_out(writer)?)
 }
@@ -211,7 +204,6 @@ fn play_turns<W: Write>(
 /// Makes one turn, with the slice of the actor's work, and puts on the page what it answers.
 #[inline(always)]
 fn play_turn<W: Write>(
-    program: &Program,
     system: &mut System,
     actor: u32,
     leftovers: &mut Leftovers,
@@ -219,31 +211,6 @@ fn play_turn<W: Write>(
     page: &mut Page,
 ) -> Result<(), PlayFault>
     requires there { actor ≤ system.old.setting.program.limits.processors }
-    requires program { system.old.setting.program ≡ program.now }
-    requires room { length system.old.history < system.old.setting.room }
-    requires working { writer.old.failed ≡ false }
-    ensures played { IsPlayed system.old actor system.new }
-    ensures text { Puts W.contents writer.old writer.new page.old page.new result (turn_text manners.Whole actor (turn_in system.old actor)) }
-{
-    // Two calls, since with a slice and without one a turn does different things, each of which is compiled for itself.
-    match slice_in(system, program, actor) {
-        Some(slice) => play_slice(system, actor, Some(slice), leftovers, writer, page),
-        None => play_slice(system, actor, None, leftovers, writer, page),
-    }
-}
-
-/// Makes one turn with this slice, which is that of the actor's work, and puts on the page what it answers.
-#[inline(always)]
-fn play_slice<W: Write>(
-    system: &mut System,
-    actor: u32,
-    slice: Option<Slice>,
-    leftovers: &mut Leftovers,
-    writer: &mut Watched<W>,
-    page: &mut Page,
-) -> Result<(), PlayFault>
-    requires there { actor ≤ system.old.setting.program.limits.processors }
-    requires fresh { IsFresh system.old actor slice }
     requires room { length system.old.history < system.old.setting.room }
     requires working { writer.old.failed ≡ false }
     ensures played { IsPlayed system.old actor system.new }
@@ -254,7 +221,7 @@ fn play_slice<W: Write>(
     }
     let mut event = Event::Expire(actor);
     let mut reply = Reply::Idle;
-    system.make_turn(actor, &slice, &mut event, &mut reply);
+    system.own_turn(actor, &mut event, &mut reply);
     leftovers.note(actor, &reply);
     put_answer(system, Manner::Whole, actor, &event, &reply, writer, page)
 }

@@ -5,7 +5,6 @@ ghost use Rattle.lot_system.specs.Playing.{IsPlayed, turn_in};
 ghost use Rattle.lot_system.specs.Seen.{after_turn};
 
 use crate::System;
-use crate::playing::slice_in;
 use lot_machine::{Event, Reply};
 use lot_text::Program;
 
@@ -24,6 +23,6 @@ pub fn next_turn(
     ensures made { IfSome result (λ reply. (system.new ≡ after_turn system.old actor) × ((turn_in system.old actor).answer ≡ Answered event.new reply)) }
     ensures ended { IfNone result ((system.new ≡ system.old) × ((turn_in system.old actor).answer ≡ Ended)) }
 {
-    let slice = slice_in(system, program, actor);
-    system.fresh_turn(actor, &slice, event)
+    let _ = program;
+    system.fresh_turn(actor, event)
 }

@@ -1,5 +1,5 @@
 //! The system.
-ghost use Rattle.std.specs.Prelude.{◌≡◌, ◌↔◌, ◌<◌, ◌≤◌, ◌*◌, ◌^◌, [], ◌∷◌, ◌++◌, All, IfOk, IfErr, IfNone, IfSome, IsTrue, length, vec_len, vec_capacity};
+ghost use Rattle.std.specs.Prelude.{◌≡◌, ◌↔◌, ◌<◌, ◌≤◌, ◌*◌, ◌^◌, [], ◌∷◌, ◌++◌, All, IfOk, IfErr, IfNone, IfSome, IsTrue, Some, length, vec_len, vec_capacity};
 ghost use Rattle.lot_machine.specs.Bounds.{IsBetween};
 ghost use Rattle.lot_machine.specs.Mutexes.{mutex_at};
 ghost use Rattle.lot_machine.specs.Rows as rows;
@@ -12,14 +12,15 @@ ghost use Rattle.lot_system.specs.Listing.{given_count};
 ghost use Rattle.lot_system.specs.InTime.{commands_made};
 ghost use Rattle.lot_system.specs.Playing.{IsPlayed};
 ghost use Rattle.lot_system.specs.Seen.{after_turn, world_of};
-ghost use Rattle.lot_system.specs.Turns.{Answers, Faults, Goes, IfStale, IsEnded, IsFresh, IsWorkOf, Prevents};
+ghost use Rattle.lot_script.specs.Places.{Place as PlaceRecord};
+ghost use Rattle.lot_system.specs.Turns.{Answers, Faults, Goes, IfStale, IsEnded, IsFresh, IsWorkOf, Prevents, work_at};
 
 use crate::TurnFault;
 use crate::counts::{Counts, count_turn, no_counts};
 use crate::generators::{generators_of, next_event};
-use crate::places::{follow_command, follow_turn, places_for};
+use crate::places::{follow_command, follow_turn, pass_slice, places_for, receive};
 use crate::slices::script_numbered;
-use crate::turn::{Answer, KeptWork, Unmade, Work, event_of, matches_work};
+use crate::turn::{Answer, KeptWork, Running, Unmade, Work, done_in, matches_work};
 use lot_draw::ParkMiller;
 use lot_kernel::Kernel;
 use lot_machine::{CurrencyRow, Event, Kind, Limits, Reply, ThreadRow, TicketRow};
@@ -218,17 +219,11 @@ impl System {
         Ok(reply)
     }
 
-    /// The same with the slice that the actor's work asks for, while the history has room: `None` if the actor is the console and no
+    /// The same with the slice of the actor's own work, while the history has room: `None` if the actor is the console and no
     /// command is left. Then nothing changes.
     #[inline(always)]
-    pub(crate) fn fresh_turn(
-        &mut self,
-        actor: u32,
-        slice: &Option<Slice>,
-        event: &mut Event,
-    ) -> Option<Reply>
+    pub(crate) fn fresh_turn(&mut self, actor: u32, event: &mut Event) -> Option<Reply>
         requires there { actor ≤ self.old.setting.program.limits.processors }
-        requires fresh { IsFresh self.old actor slice.now }
         requires room { length self.old.history < self.old.setting.room }
         ensures made { IfSome result (λ reply. (self.new ≡ after_turn self.old actor) × ((system_turn self.old.setting.program (world_of self.old) actor).answer ≡ Answered event.new reply)) }
         ensures ended { IfNone result (IsEnded self.old actor × (self.new ≡ self.old)) }
@@ -238,7 +233,7 @@ impl System {
             return None;
         }
         let mut reply = Reply::Idle;
-        self.make_turn(actor, slice, event, &mut reply);
+        self.own_turn(actor, event, &mut reply);
         Some(reply)
     }
 
@@ -256,6 +251,25 @@ impl System {
         ensures { IsTrue result ↔ (self.now.setting.room ≤ length self.now.history) }
     {
         self.history.len() >= self.room as usize
+    }
+
+    /// The actor's turn with the slice of its own work, whose thread's place moves on where it stands: what it was, and what the
+    /// kernel replied, each put where it is kept.
+    #[inline(always)]
+    pub(crate) fn own_turn(&mut self, actor: u32, event: &mut Event, reply: &mut Reply)
+        requires there { actor ≤ self.old.setting.program.limits.processors }
+        requires left { ¬ IsEnded self.old actor }
+        requires room { length self.old.history < self.old.setting.room }
+        ensures seen { self.new ≡ after_turn self.old actor }
+        ensures answer { (system_turn self.old.setting.program (world_of self.old) actor).answer ≡ Answered event.new reply.new }
+    {
+        match self.kept_work(actor) {
+            None => self.make_turn(actor, &None, event, reply),
+            Some(work) => {
+                let running = work.running();
+                self.run_turn(actor, running, event, reply);
+            }
+        }
     }
 
     /// A turn that is made: what it was, and what the kernel replied, each put where it is kept.
@@ -311,9 +325,29 @@ impl System {
         ensures seen { self.new ≡ after_turn self.old actor }
         ensures answer { (system_turn self.old.setting.program (world_of self.old) actor).answer ≡ Answered event.new reply.new }
     {
-        next_event(&mut self.generators, actor, self.is_wide, slice, event);
+        let done = done_in(slice);
+        next_event(&mut self.generators, actor, self.is_wide, done, event);
         *reply = self.kernel.event(event);
         follow_turn(&mut self.places, slice, *reply);
+        count_turn(&mut self.counts, actor, *reply);
+        self.total = self.total.with_turn(*reply);
+        remember(&mut self.history, actor);
+    }
+
+    /// The slice of the thread that runs on the processor. Its place moves on where it stands.
+    #[inline(always)]
+    fn run_turn(&mut self, actor: u32, running: Running, event: &mut Event, reply: &mut Reply)
+        requires actor { IsBetween 1 self.old.setting.program.limits.processors actor }
+        requires runs { (place : PlaceRecord) × IsWorkOf self.old actor (Some (work_at running place)) }
+        requires room { length self.old.history < self.old.setting.room }
+        ensures seen { self.new ≡ after_turn self.old actor }
+        ensures answer { (system_turn self.old.setting.program (world_of self.old) actor).answer ≡ Answered event.new reply.new }
+    {
+        let script = script_numbered(&self.program, running.script);
+        let done = pass_slice(&mut self.places, script, running.thread, running.budget);
+        next_event(&mut self.generators, actor, self.is_wide, Some(done), event);
+        *reply = self.kernel.event(event);
+        receive(&mut self.places, *reply);
         count_turn(&mut self.counts, actor, *reply);
         self.total = self.total.with_turn(*reply);
         remember(&mut self.history, actor);

@@ -1,11 +1,10 @@
 //! What an actor has to do, and what its turn answers.
-ghost use Rattle.std.specs.Prelude.{◌≡◌, ◌↔◌, ℕ, IfSome, IsTrue, length};
+ghost use Rattle.std.specs.Prelude.{◌≡◌, ◌↔◌, ℕ, IfSome, IsTrue, Some, length, option_map};
 ghost use Rattle.lot_machine.specs.Bounds.{IsBetween};
 ghost use Rattle.lot_simulation.specs.World as world;
 ghost use Rattle.lot_script.specs.Slices.{IsSlice};
 ghost use Rattle.lot_system.specs.Steps as steps;
-ghost use Rattle.lot_system.specs.Steps.{done_of, event_given};
-ghost use Rattle.lot_system.specs.Turns.{IsSliceOf, Matches};
+ghost use Rattle.lot_system.specs.Turns.{IsSliceOf, Matches, work_at};
 
 use crate::slices::script_numbered;
 use lot_machine::{Action, Event, Reply};
@@ -35,6 +34,14 @@ pub(crate) struct KeptWork<'a> {
     pub(crate) budget: u32,
 }
 
+/// What the thread on a processor is to do next, but for its place.
+#[derive(Clone, Copy, Debug)]
+pub(crate) struct Running {
+    pub(crate) thread: u32,
+    pub(crate) script: u32,
+    pub(crate) budget: u32,
+}
+
 impl<'a> Model for KeptWork<'a> {
     ghost use Rattle.lot_system.specs.declared.turn.Work.{Work};
 
@@ -44,6 +51,18 @@ impl<'a> Model for KeptWork<'a> {
 }
 
 impl KeptWork<'_> {
+    /// The work but for its place.
+    #[inline(always)]
+    pub(crate) fn running(&self) -> Running
+        ensures { work_at result self.now.place ≡ self.now }
+    {
+        Running {
+            thread: self.thread,
+            script: self.script,
+            budget: self.budget,
+        }
+    }
+
     /// The work itself. It takes no memory.
     #[inline(always)]
     pub(crate) fn copied(&self) -> Work
@@ -103,31 +122,50 @@ fn is_slice_of(program: &Program, work: &KeptWork<'_>, slice: &Slice) -> bool
         && slice.budget() == work.budget
 }
 
-/// The event of a processor's turn with this slice, or a draw without one, if this is the processor's next number.
+/// What a slice did, as the event of its turn says it.
+#[derive(Clone, Copy, Debug)]
+pub(crate) struct Done {
+    pub(crate) ticks: u32,
+    pub(crate) trap: Option<ScriptTrap>,
+    /// The accumulator at its end.
+    pub(crate) accumulator: u32,
+}
+
+/// What the slice did, if there is one.
 #[inline(always)]
-pub(crate) fn event_of(actor: u32, slice: &Option<Slice>, drawn: u128) -> Event
-    ensures event { result ≡ event_given actor drawn slice.now }
+pub(crate) fn done_in(slice: &Option<Slice>) -> Option<Done>
+    ensures done { result ≡ option_map steps.did slice.now }
     ensures exact { IfSome slice.now IsSlice }
 {
     match slice {
-        None => Event::Draw(actor, drawn),
-        Some(slice) => slice_event(actor, slice, drawn),
+        None => None,
+        Some(slice) => Some(Done {
+            ticks: slice.ticks(),
+            trap: slice.trap(),
+            accumulator: slice.end().accumulator(),
+        }),
     }
 }
 
-/// The slice as an event: an expiry, or its ticks and then its trap.
+/// The event of a processor's turn whose slice did this, or a draw without one, if this is the processor's next number.
 #[inline(always)]
-fn slice_event(actor: u32, slice: &Slice, drawn: u128) -> Event
-    ensures event { result ≡ world.event_of_slice actor drawn (done_of slice.now) }
-    ensures exact { IsSlice slice.now }
+pub(crate) fn event_of(actor: u32, done: Option<Done>, drawn: u128) -> Event
+    ensures { result ≡ steps.event_done actor drawn done }
 {
-    match slice.trap() {
+    match done {
+        None => Event::Draw(actor, drawn),
+        Some(done) => slice_event(actor, done, drawn),
+    }
+}
+
+/// What a slice did as an event: an expiry, or its ticks and then its trap.
+#[inline(always)]
+fn slice_event(actor: u32, done: Done, drawn: u128) -> Event
+    ensures { result ≡ steps.event_done actor drawn (Some done) }
+{
+    match done.trap {
         None => Event::Expire(actor),
-        Some(trap) => Event::Trap(
-            actor,
-            slice.ticks(),
-            action_of(trap, slice.end().accumulator(), drawn),
-        ),
+        Some(trap) => Event::Trap(actor, done.ticks, action_of(trap, done.accumulator, drawn)),
     }
 }
 
@@ -149,14 +187,14 @@ fn action_of(trap: ScriptTrap, accumulator: u32, drawn: u128) -> Action
     }
 }
 
-/// Whether a turn with this slice takes a drawn number: a draw and an unlock do.
+/// Whether a turn whose slice did this takes a drawn number: a draw and an unlock do.
 #[inline(always)]
-pub(crate) fn needs_number(slice: &Option<Slice>) -> bool
-    ensures { result ≡ steps.needs_number slice.now }
+pub(crate) fn needs_number(done: Option<Done>) -> bool
+    ensures { result ≡ steps.needs_number done }
 {
-    match slice {
+    match done {
         None => true,
-        Some(slice) => unlocks(slice.trap()),
+        Some(done) => unlocks(done.trap),
     }
 }
 

@@ -6,5 +6,5 @@ use Rattle.lot_system.proofs.system.System.fresh_turn.Goals as goal
 pub returns-clause-played : goal.returns-clause-played
 returns-clause-played c =
     let old = c.args.self.now in
-    let told = c.make_turn.ensures in
-    subst (IsPlayed old c.args.actor) (sym told.seen) (played-after old c.args.actor c.make_turn.new.event c.make_turn.new.reply told.answer)
+    let told = c.own_turn.ensures in
+    subst (IsPlayed old c.args.actor) (sym told.seen) (played-after old c.args.actor c.own_turn.new.event c.own_turn.new.reply told.answer)

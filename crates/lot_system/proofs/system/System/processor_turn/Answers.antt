@@ -9,6 +9,7 @@ use Rattle.lot_system.proofs.Runs.{system_run-one_more, past-more}
 use Rattle.lot_simulation.specs.Report.{turns_made}
 use Rattle.lot_system.proofs.CountFacts.{each-after, total-after}
 use Rattle.lot_system.proofs.TurnFacts.{turn-answer, turn-names, turn-held, count-processor, legal-more}
+use Rattle.lot_system.proofs.RunFacts.{given-event}
 use Rattle.lot_system.proofs.system.System.processor_turn.Goals as goal
 
 pub follow_turn-requires : goal.follow_turn-requires
@@ -18,8 +19,8 @@ follow_turn-requires c =
     let fresh = requires.fresh in
     let seed = unwrap_or (at_number s.generators.items c.args.actor) 0 in
     let number = ap (λ wide. number_from wide seed) c.self.invariant.wide in
-    turn-names s.program (system_run s.program s.history.items) s.kernel.state s.places.items s.generators.items s.spent c.self.invariant.held c.args.actor (omega (arith, requires.actor.0)) (number_from s.is_wide seed) fresh.0 c.args.slice.now fresh.1 fresh.2 c.next_event.ensures.exact number
-    c.next_event.new.event c.next_event.ensures.event c.event.new.self.state c.event.result c.event.ensures.state c.event.ensures.reply
+    turn-names s.program (system_run s.program s.history.items) s.kernel.state s.places.items s.generators.items s.spent c.self.invariant.held c.args.actor (omega (arith, requires.actor.0)) (number_from s.is_wide seed) fresh.0 c.args.slice.now fresh.1 fresh.2 c.done_in-done.ensures.exact number
+    c.next_event.new.event (given-event c.args.actor _ c.next_event.new.event c.args.slice.now c.done_in-done.result c.done_in-done.ensures.done c.next_event.ensures.event) c.event.new.self.state c.event.result c.event.ensures.state c.event.ensures.reply
 
 pub count_turn-requires-clause-bounded : goal.count_turn-requires-clause-bounded
 count_turn-requires-clause-bounded c =
@@ -38,12 +39,12 @@ invariant_of-self c =
     let number = ap (λ wide. number_from wide seed) c.self.invariant.wide in
     let passed = c.next_event.ensures.values ∙ ap (λ wide. if takes_number c.next_event.new.event then set_number s.generators.items c.args.actor (seed_from wide seed) else s.generators.items) i.wide in
     let held =
-    turn-held s.program (system_run s.program s.history.items) s.kernel.state s.places.items s.generators.items s.spent i.held c.args.actor some (number_from s.is_wide seed) fresh.0 c.args.slice.now fresh.1 fresh.2 c.next_event.ensures.exact number
-    c.next_event.new.event c.next_event.ensures.event c.event.new.self.state c.event.result c.event.ensures.state c.event.ensures.reply
+    turn-held s.program (system_run s.program s.history.items) s.kernel.state s.places.items s.generators.items s.spent i.held c.args.actor some (number_from s.is_wide seed) fresh.0 c.args.slice.now fresh.1 fresh.2 c.done_in-done.ensures.exact number
+    c.next_event.new.event (given-event c.args.actor _ c.next_event.new.event c.args.slice.now c.done_in-done.result c.done_in-done.ensures.done c.next_event.ensures.event) c.event.new.self.state c.event.result c.event.ensures.state c.event.ensures.reply
     c.follow_turn.new.places.items c.next_event.new.generators.items c.follow_turn.ensures.follows passed in
     let answer =
-    turn-answer s.program (system_run s.program s.history.items) s.kernel.state s.places.items s.generators.items s.spent i.held c.args.actor some (number_from s.is_wide seed) fresh.0 c.args.slice.now fresh.1 fresh.2 c.next_event.ensures.exact number
-    c.next_event.new.event c.next_event.ensures.event c.event.new.self.state c.event.result c.event.ensures.state c.event.ensures.reply in
+    turn-answer s.program (system_run s.program s.history.items) s.kernel.state s.places.items s.generators.items s.spent i.held c.args.actor some (number_from s.is_wide seed) fresh.0 c.args.slice.now fresh.1 fresh.2 c.done_in-done.ensures.exact number
+    c.next_event.new.event (given-event c.args.actor _ c.next_event.new.event c.args.slice.now c.done_in-done.result c.done_in-done.ensures.done c.next_event.ensures.event) c.event.new.self.state c.event.result c.event.ensures.state c.event.ensures.reply in
     let count = count-processor s.history.items c.args.actor some in
     let legal : IsLegal s.program s.room (s.history.items ++ c.args.actor ∷ []) = legal-more s.program s.room s.history.items c.args.actor i.legal requires.actor.1 requires.room (omega (arith, count, i.legal.console)) in
     rw c.remember.ensures.items (record {
@@ -70,4 +71,4 @@ returns-clause-answer c =
     let number = ap (λ wide. number_from wide seed) c.self.invariant.wide in
     subst (λ (x : Seen). (system_turn x.setting.program (world_of x) c.args.actor).answer ≡ Answered c.next_event.new.event c.event.result) c.self.view_is
     (turn-answer s.program (system_run s.program s.history.items) s.kernel.state s.places.items s.generators.items s.spent c.self.invariant.held c.args.actor (omega (arith, requires.actor.0)) (number_from s.is_wide seed) fresh.0 c.args.slice.now fresh.1 fresh.2
-    c.next_event.ensures.exact number c.next_event.new.event c.next_event.ensures.event c.event.new.self.state c.event.result c.event.ensures.state c.event.ensures.reply)
+    c.done_in-done.ensures.exact number c.next_event.new.event (given-event c.args.actor _ c.next_event.new.event c.args.slice.now c.done_in-done.result c.done_in-done.ensures.done c.next_event.ensures.event) c.event.new.self.state c.event.result c.event.ensures.state c.event.ensures.reply)

@@ -11,23 +11,23 @@ use Rattle.lot_system.specs.Playing.{IsPlayed, turn_in}
 use Rattle.lot_system.specs.Seen.{Seen, world_of, after_turn}
 use Rattle.lot_system.specs.Writing.{Put}
 use Rattle.lot_system.proofs.PlayingFacts.{played-after, text-after}
-use Rattle.lot_system.proofs.playing.play_slice.Goals as goal
+use Rattle.lot_system.proofs.playing.play_turn.Goals as goal
 
 pub returns-clause-played : goal.returns-clause-played
 returns-clause-played g c =
     let old = c.args.system.now in
     let actor = c.args.actor in
-    let told = c.make_turn.ensures in
+    let told = c.own_turn.ensures in
     let now : c.put_answer.new.system ≡ after_turn old actor = c.put_answer.ensures.same ∙ told.seen in
-    subst (IsPlayed old actor) (sym now) (played-after old actor c.make_turn.new.event c.make_turn.new.reply told.answer)
+    subst (IsPlayed old actor) (sym now) (played-after old actor c.own_turn.new.event c.own_turn.new.reply told.answer)
 
 pub returns-clause-text : goal.returns-clause-text
 returns-clause-text g c =
     let old = c.args.system.now in
     let actor = c.args.actor in
-    let e = c.make_turn.new.event in
-    let r = c.make_turn.new.reply in
-    let told = c.make_turn.ensures in
+    let e = c.own_turn.new.event in
+    let r = c.own_turn.new.reply in
+    let told = c.own_turn.ensures in
     let text = ap (λ (x : Seen). decimal actor ++ (codes " " ++ reply_text Whole (world_of x).state e r)) told.seen ∙ text-after old actor e r told.answer Whole in
     subst (Put (g.W.Write.contents c.args.writer.now.inner) (g.W.Write.contents c.put_answer.new.writer.inner) c.args.page.now c.put_answer.new.page c.put_answer.new.writer.failed c.put_answer.result) text c.put_answer.ensures.text
 
