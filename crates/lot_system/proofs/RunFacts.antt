@@ -45,8 +45,8 @@ done-event p drawn (Some given) = at given.trap refl
     at None is = rw is refl
     at (Some trap) is = rw is refl
 
-pub given-event : (p drawn : ℕ) (e : Event) (given : Option Parts) (done : Option Done) → done ≡ option_map did given → e ≡ event_done p drawn done → e ≡ event_given p drawn given
-given-event p drawn e given done is event_is = event_is ∙ ap (event_done p drawn) is ∙ done-event p drawn given
+pub given-event : (p drawn : ℕ) (e : Event) (given : Option Parts) (passed : Option Done) → passed ≡ option_map did given → e ≡ event_done p drawn passed → e ≡ event_given p drawn given
+given-event p drawn e given passed is event_is = event_is ∙ ap (event_done p drawn) is ∙ done-event p drawn given
 
 -- ---- replies
 
