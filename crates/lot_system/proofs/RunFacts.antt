@@ -1,5 +1,5 @@
 -- The slice of the thread on a processor is never refused, and leaves its place where it moved on.
-use Rattle.std.proofs.Common.{◌≡◌, ℕ, ◌+◌, ◌-◌, ◌<◌, ◌≤◌, ◌==◌, min, Bool, true, false, Option, Some, None, List, [], length, get_or, option_map, unwrap_or, subst, refl, sym, ◌∙◌, ap, arith, ne_eqb, le-ltb}
+use Rattle.std.proofs.Common.{◌≡◌, ℕ, ◌+◌, ◌-◌, ◌<◌, ◌==◌, min, Bool, true, false, Option, Some, None, List, [], length, get_or, option_map, unwrap_or, subst, refl, sym, ◌∙◌, ap, arith, ne_eqb, le-ltb}
 use Rattle.std.specs.Prelude.{nat_lt, is_some, if◌then◌else◌}
 use Rattle.std.specs.Option.{IfSome}
 use Rattle.std.specs.List.{prefix_len}
@@ -29,7 +29,7 @@ use Rattle.lot_system.specs.declared.turn.Done.{Done}
 use Rattle.lot_system.specs.declared.turn.Running.{Running}
 use Rattle.lot_system.specs.declared.turn.Work.{Work}
 use Rattle.lot_system.specs.Held.{script_lines, IsAt, IsHeld}
-use Rattle.lot_system.specs.Steps.{OfRun, delivered_to_place, did, done_of, event_done, event_given, place_of, places_after, places_received, slice_between}
+use Rattle.lot_system.specs.Steps.{OfRun, did, event_done, event_given, place_of, places_after, places_received, slice_between}
 use Rattle.lot_system.specs.Turns.{IsWork, IsWorkIn, IsSliceOf, work_at}
 use Rattle.lot_simulation.proofs.DrawnThreads.{number-some}
 use Rattle.lot_system.proofs.PlaceFacts.{number-or, at-lengths, at-place, delivered-set}

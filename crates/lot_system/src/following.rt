@@ -1,5 +1,5 @@
 //! Making a program's turns in the order of time, and following what their report needs beside the system.
-ghost use Rattle.std.specs.Prelude.{◌≡◌, ℕ, ◌<◌, ◌≤◌, ◌+◌, ◌^◌, ◌++◌, List, [], ◌∷◌, Some, false, length, replicate, vec_len, IfNone, IfOk, IfSome};
+ghost use Rattle.std.specs.Prelude.{◌≡◌, ℕ, ◌<◌, ◌≤◌, ◌+◌, ◌^◌, ◌++◌, List, [], ◌∷◌, Some, false, replicate, vec_len, IfNone, IfOk, IfSome};
 ghost use Rattle.lot_simulation.specs.TimedReport as reports;
 ghost use Rattle.lot_simulation.specs.Timed.{TimedTurn, clocks_after, is_idle_draw};
 ghost use Rattle.lot_simulation.specs.World.{Program as ProgramRecord};

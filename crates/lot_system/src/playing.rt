@@ -2,14 +2,11 @@
 ghost use Rattle.std.specs.Prelude.{◌≡◌, ℕ, ◌<◌, ◌≤◌, List, ◌++◌, codes, false, true, length, IfErr, IfOk, IsSome, OnOk};
 ghost use Rattle.std.specs.Fmt.{decimal};
 ghost use Rattle.std.specs.Io.KnownBytes.{Appends};
-ghost use Rattle.lot_machine.specs.Bounds.{IsBetween};
 ghost use Rattle.lot_simulation.specs.Grammar.{program_in};
 ghost use Rattle.lot_simulation.specs.Output.{output, played_output, scheduled_output, timed_output, turn_text, turn_texts};
 ghost use Rattle.lot_simulation.specs.Texts.{fault_line, front, reply_text};
 ghost use Rattle.lot_simulation.specs.declared.manner.Manner.TheVariants as manners;
 ghost use Rattle.lot_simulation.specs.World.{opening_world};
-ghost use Rattle.lot_script.specs.Places.{Fits};
-ghost use Rattle.lot_system.specs.Held.{script_lines};
 ghost use Rattle.lot_system.specs.Playing.{HasPlayed, IsOpened, IsPlayed, turn_in};
 ghost use Rattle.lot_system.specs.Played.{Leaves, Plays, came_of};
 ghost use Rattle.lot_system.specs.declared.playing.Played.TheVariants.{Done, Refused};

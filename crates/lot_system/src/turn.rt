@@ -1,5 +1,5 @@
 //! What an actor has to do, and what its turn answers.
-ghost use Rattle.std.specs.Prelude.{◌≡◌, ◌↔◌, ℕ, IfSome, IsTrue, Some, length, option_map};
+ghost use Rattle.std.specs.Prelude.{◌≡◌, ◌↔◌, IfSome, IsTrue, Some, length, option_map};
 ghost use Rattle.lot_machine.specs.Bounds.{IsBetween};
 ghost use Rattle.lot_simulation.specs.World as world;
 ghost use Rattle.lot_script.specs.Slices.{IsSlice};

@@ -1,5 +1,5 @@
 -- The place that moves on is the thread's.
-use Rattle.std.proofs.Common.{◌≡◌, ap, sym, subst, ◌∙◌}
+use Rattle.std.proofs.Common.{ap, sym, subst, ◌∙◌}
 use Rattle.lot_machine.specs.Numbered.{set_number}
 use Rattle.lot_script.specs.Places.{Place}
 use Rattle.lot_script.specs.Slices.{IsSlice}

@@ -1,5 +1,5 @@
 -- The event is the one of the slice of the work, and what is held then is what the world comes to.
-use Rattle.std.proofs.Common.{◌≡◌, ℕ, ◌<◌, ◌++◌, [], ◌∷◌, length, ap, ◌∙◌, subst, unwrap_or, is_some, arith}
+use Rattle.std.proofs.Common.{◌≡◌, ◌<◌, ◌++◌, [], ◌∷◌, length, ap, ◌∙◌, subst, unwrap_or, arith}
 use Rattle.std.specs.Prelude.{if◌then◌else◌}
 use Rattle.lot_machine.specs.Numbered.{at_number, set_number}
 use Rattle.lot_simulation.specs.World.{IsLegal, number_from, seed_from, system_turn, system_run, takes_number}
