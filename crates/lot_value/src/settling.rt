@@ -37,28 +37,16 @@ pub(crate) fn next_fresh(
     ensures none { IfNone result (nodes_of stale.new 0 ≡ []) }
 {
     if turned.is_none() {
-        if let Some(place) = fresh_front(graph, stale) {
+        let place = stale.first(STALE)?;
+        if !has_stale_source(graph, stale, graph.layout().node_of(place)) {
             return Some(place);
         }
     }
     raise_fresh(graph, stale, turned)
 }
 
-/// The place of the node at the front of the list, if there is one and it has no stale source.
-#[inline(always)]
-fn fresh_front(graph: &Graph, stale: &Lists) -> Option<usize>
-    requires list { IsStaleList stale.now (places.node_count (layout_of graph.now)) }
-    ensures fresh { IfSome result (IsFreshPlace (layout_of graph.now) graph.now.funding (nodes_of stale.now 0)) }
-{
-    let place = stale.first(STALE)?;
-    let node = graph.layout().node_of(place);
-    if has_stale_source(graph, stale, node) {
-        return None;
-    }
-    Some(place)
-}
-
-/// Whether a source of a node is stale.
+/// Whether a source of a node is stale. It looks at each edge into the node once, also after it found one: a loop with one way out
+/// takes fewer instructions for the few edges that most nodes have.
 #[inline(always)]
 fn has_stale_source(graph: &Graph, stale: &Lists, node: Node) -> bool
     requires list { IsStaleList stale.now (places.node_count (layout_of graph.now)) }
@@ -67,20 +55,23 @@ fn has_stale_source(graph: &Graph, stale: &Lists, node: Node) -> bool
     ensures none { OnFalse result ((from : ANode) → IsEdge graph.now.funding from node → ¬ Contains (nodes_of stale.now 0) (node_place (layout_of graph.now) from)) }
 {
     let layout = graph.layout();
+    let mut found = false;
     for edge in graph.edges_into(node) {
         let Some(ends) = ends_of_edge(graph, edge) else {
             unreachable!()
         };
         let place = layout.list_of(ends.from);
         if stale.list_of(place).is_some() {
-            return true;
+            found = true;
         }
     }
-    false
+    found
 }
 
 /// Turns the node at the front over, unless one was turned over before that isn't done yet, and answers what comes first of it and
-/// what is stale upstream of it.
+/// what is stale upstream of it. Kept out of `next_fresh`, since it is seldom called.
+#[cold]
+#[inline(never)]
 fn raise_fresh(graph: &Graph, stale: &mut Lists, turned: &mut Option<usize>) -> Option<usize>
     requires list { IsStaleList stale.old (places.node_count (layout_of graph.now)) }
     ensures list { IsStaleList stale.new (places.node_count (layout_of graph.now)) }
