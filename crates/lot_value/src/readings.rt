@@ -1,11 +1,11 @@
 //! How edges are read for values: in no other way, and each reading is counted.
-ghost use Rattle.std.specs.Prelude.{◌≡◌, ◌^◌, ◌*◌, ◌/◌, ◌<◌, ℕ, Bool, List, length};
+ghost use Rattle.std.specs.Prelude.{◌≡◌, ◌^◌, ◌*◌, ◌/◌, ◌<◌, ℕ, Bool, List};
 ghost use Rattle.lot_machine.specs.declared.funding.Node.{Node as ANode};
 ghost use Rattle.lot_machine.specs.declared.funding.Edge.TheVariants.{OfTicket as OfTicketEdge};
 ghost use Rattle.lot_machine.specs.Funding.{edge_count_into};
 ghost use Rattle.lot_machine.specs.Equations.{LeadsInto, share, shares_into};
 ghost use Rattle.lot_graph.specs.Graphs.{IsNodeOf};
-ghost use Rattle.lot_graph.specs.Places.{layout_of, node_place};
+ghost use Rattle.lot_graph.specs.Places.{layout_of};
 ghost use Rattle.lot_value.specs.Counts.{counted_up};
 ghost use Rattle.lot_value.specs.Caches.{kept_worth};
 ghost use Rattle.lot_value.specs.Sources.{AreSources};
@@ -48,21 +48,12 @@ pub(crate) fn read_share(sources: Sources, edge: Edge, reads: &mut ReadCount) ->
     ensures counted { reads.new ≡ counted_up reads.old 1 }
 {
     reads.count();
+    let layout = sources.graph.layout();
     match edge {
         Edge::OfTicket(ticket) => ticket_share(sources, ticket),
-        Edge::OfLender(thread) => lent_share(sources.graph, sources.values, Node::Thread(thread)),
-        Edge::OfMutex(mutex) => lent_share(sources.graph, sources.values, Node::Mutex(mutex)),
+        Edge::OfLender(thread) => sources.values[layout.list_of(Node::Thread(thread))],
+        Edge::OfMutex(mutex) => sources.values[layout.list_of(Node::Mutex(mutex))],
     }
-}
-
-/// What a thread lends, or a mutex passes on: all that it is worth. A call, so that the loop over the tickets, of which there are
-/// most, keeps its numbers in registers.
-#[inline(never)]
-fn lent_share(graph: &Graph, values: &[u64], from: Node) -> u64
-    requires from { node_place (layout_of graph.now) from < length values.now }
-    ensures { result ≡ kept_worth (layout_of graph.now) values.now from }
-{
-    values[graph.layout().list_of(from)]
 }
 
 /// The share of a ticket that funds something.
