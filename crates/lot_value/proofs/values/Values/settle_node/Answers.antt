@@ -1,10 +1,10 @@
-use Rattle.std.proofs.Common.{◌≡◌, ◌∙◌, ℕ, Bool, List, Some, length, map, slice_set, ap, sym, subst, refl, arith}
+use Rattle.std.proofs.Common.{◌≡◌, ◌∙◌, ℕ, Bool, List, Some, length, map, ap, sym, subst, refl, arith}
 use Rattle.lot_lists.specs.NodeLists.{nodes_of, node_at}
 use Rattle.lot_machine.specs.Equations.{shares_into}
 use Rattle.lot_machine.proofs.EachOnce.{place-in, mapped-contains}
 use Rattle.lot_graph.specs.declared.layout.Layout.{Layout}
 use Rattle.lot_graph.specs.Places.{node_of, node_count, layout_of}
-use Rattle.lot_value.specs.Caches.{Known, IsRight, IsSmall, Settles, kept_worth}
+use Rattle.lot_value.specs.Caches.{Known, IsRight, IsSmall, kept_worth}
 use Rattle.lot_value.specs.Sources.{AreSources}
 use Rattle.lot_value.specs.Marking.{IsFreshPlace, stale_places}
 use Rattle.lot_value.proofs.Listed.{list-within, reordered-same}
@@ -73,7 +73,7 @@ returns-clause-right c live kept right =
     let right_k = subst (IsRight w live) (sym c.self.view_is) right in
     let at = here before in
     let are : AreSources (record { graph = c.args.graph; active = c.args.active; values = c.deref.result; unit = i.unit }) live = record { kept = kept; places = ap (length {A = ℕ}) c.deref.ensures.value ∙ c.self.invariant.1 ∙ ap node_count (places-are before) } in
-    settle-right w live kept.fits k right_k i.stale c.remove.new.self at.0 c.args.place c.read_value.result c.read_value.new.reads c.self.invariant.0 (reordered-same k.stale) at.1 (c.remove.ensures.removed 0 at.0 at.1) (fresh before).sources i.values.items refl
+    settle-right w live kept.fits k right_k i.stale c.remove.new.self at.0 c.args.place c.read_value.result _ c.self.invariant.0 (reordered-same k.stale) at.1 (c.remove.ensures.removed 0 at.0 at.1) (fresh before).sources i.values.items refl
     (c.read_value.ensures.value live are ∙ same-shares before live)
 
 pub returns-clause-settles : goal.returns-clause-settles
@@ -85,6 +85,5 @@ returns-clause-settles c =
     let (live, kept, small, right) = c.requires.right in
     let right_k = subst (IsRight w live) (sym c.self.view_is) right in
     let at = here before in
-    let settles = settle-settles w live kept.fits k right_k i.stale c.remove.new.self at.0 c.args.place c.read_value.result c.read_value.new.reads c.self.invariant.0 (reordered-same k.stale) at.1 (c.remove.ensures.removed 0 at.0 at.1) (fresh before).sources i.values.items refl c.remove.ensures.free in
-    let new : Known = record { unit = i.unit; layout = i.layout; values = slice_set i.values.items c.args.place c.read_value.result; stale = map (node_of i.layout) (nodes_of c.remove.new.self 0); reads = c.read_value.new.reads } in
-    subst (Settles c.args.self.now new) (sym (node-is before)) (subst (λ (old : Known). Settles old new (node_of i.layout c.args.place)) c.self.view_is settles)
+    rw (← c.self.view_is, node-is before)
+    (settle-settles w live kept.fits k right_k i.stale c.remove.new.self at.0 c.args.place c.read_value.result _ c.self.invariant.0 (reordered-same k.stale) at.1 (c.remove.ensures.removed 0 at.0 at.1) (fresh before).sources i.values.items refl c.remove.ensures.free)
