@@ -1,13 +1,14 @@
-//! Which stale node is settled next. What is here sees neither values nor counts, so it reads no edge for a value: whether a node is
-//! stale isn't a value.
+//! Which stale node is settled next. What is here sees neither values nor counts, so it reads no edge for a value:
+//! whether a node is stale isn't a value.
 //!
-//! Most often it is the node at the front of the list. If that one has a stale source, it is turned over, and then all that is stale
-//! upstream of it comes first, and it too, from the back of the list.
+//! Most often it is the node at the front of the list. If that one has a stale source, it is turned over, and then all
+//! that is stale upstream of it comes first, and it too, from the back of the list.
 //!
-//! While all stale nodes are settled one after the other, and none gets stale between, the edges into each of them are walked here
-//! three times at most: once as it is looked at at the front, once as its stale sources are raised, and once as it has none left. For
-//! those that are raised above a node lie upstream of it, so that they never raise it again, and they are all answered before it.
-//! With the reading of its value that makes four times, and two for a node whose sources come before it in the list.
+//! While all stale nodes are settled one after the other, and none gets stale between, the edges into each of them are
+//! walked here three times at most: once as it is looked at at the front, once as its stale sources are raised, and
+//! once as it has none left. For those that are raised above a node lie upstream of it, so that they never raise it
+//! again, and they are all answered before it. With the reading of its value that makes four times, and two for a node
+//! whose sources come before it in the list.
 ghost use Rattle.std.specs.Prelude.{◌≡◌, ℕ, [], Contains, Some, IfSome, IfNone};
 ghost use Rattle.std.specs.Bool.{OnTrue, OnFalse};
 ghost use Rattle.lot_lists.specs.NodeLists.{nodes_of};
@@ -24,8 +25,8 @@ use lot_graph::Graph;
 use lot_lists::Lists;
 use lot_machine::Node;
 
-/// Whether a source of a node is stale. It looks at each edge into the node once, also after it has found one: a node has few edges
-/// most often, and a loop with one way out takes fewer instructions.
+/// Whether a source of a node is stale. It looks at each edge into the node once, also after it has found one: a node
+/// has few edges most often, and a loop with one way out takes fewer instructions.
 #[inline(always)]
 pub(crate) fn has_stale_source(graph: &Graph, stale: &Lists, node: Node) -> bool
     requires list { IsStaleList stale.now (places.node_count (layout_of graph.now)) }
@@ -47,9 +48,9 @@ pub(crate) fn has_stale_source(graph: &Graph, stale: &Lists, node: Node) -> bool
     found
 }
 
-/// Turns the node at the front over, unless one was turned over before that isn't done yet, and answers the place of what comes first
-/// of it and what is stale upstream of it: of a stale node that has no stale source. `None` if none is stale. `turned` is the place of
-/// the node that was turned over, until it was answered.
+/// Turns the node at the front over, unless one was turned over before that isn't done yet, and answers the place of
+/// what comes first of it and what is stale upstream of it: of a stale node that has no stale source. `None` if none
+/// is stale. `turned` is the place of the node that was turned over, until it was answered.
 pub(crate) fn raise_fresh(
     graph: &Graph,
     stale: &mut Lists,

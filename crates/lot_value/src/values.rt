@@ -193,8 +193,8 @@ impl Values {
         self.settle_raised(graph, active)
     }
 
-    /// The same from the back of the list, for when the node at the front has a stale source, or one that was turned over isn't settled
-    /// yet. That is seldom so.
+    /// The same from the back of the list, for when the node at the front has a stale source, or one that was turned
+    /// over isn't settled yet. That is seldom so.
     fn settle_raised(&mut self, graph: &Graph, active: &Active) -> Option<Node>
         requires right { (live : List Bool) × IsKeptFor active.now graph.now live × IsSmall self.old.unit graph.now live × IsRight graph.now live self.old }
         ensures right { (live : List Bool) → IsKeptFor active.now graph.now live → IsRight graph.now live self.old → IsRight graph.now live self.new }
