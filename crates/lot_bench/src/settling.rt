@@ -1,4 +1,5 @@
 //! How the time of a draw grows with the edges that it reads, where a stale node stands before all of its stale sources.
+ghost use Rattle.std.specs.Prelude.{◌<◌};
 
 use crate::opening::{currency_name, name};
 use crate::timing::PerEvent;
