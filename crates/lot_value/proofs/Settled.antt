@@ -9,7 +9,7 @@ use Rattle.lot_machine.specs.declared.funding.Node.{Node}
 use Rattle.lot_machine.specs.Funding.{Funding, IsEdge, edge_count_into}
 use Rattle.lot_machine.specs.Facts.{HasNoCycle}
 use Rattle.lot_machine.specs.Equations.{shares_into}
-use Rattle.lot_machine.proofs.EachOnce.{contains-nothing, contains-mapped, mapped-contains, contains-at, left-before, still-left}
+use Rattle.lot_machine.proofs.EachOnce.{contains-nothing, contains-later, contains-mapped, mapped-contains, contains-at, left-before, still-left}
 use Rattle.lot_machine.proofs.NodeShares.{same-shares}
 use Rattle.lot_graph.specs.declared.layout.Layout.{Layout}
 use Rattle.lot_graph.specs.Graphs.{LimitedFunding, IsNodeOf}
@@ -62,6 +62,10 @@ reads-right w live c reads right = record {
 pub reordered-empty : {A : Type 0} (old : List A) → IsReordered old [] → old ≡ []
 reordered-empty [] reordered = refl
 reordered-empty (x ∷ xs) reordered = absurd (contains-nothing x (reordered.all x (contains-first x xs)))
+
+pub first-none : (xs : List ℕ) → None ≡ slice_get xs 0 → xs ≡ []
+first-none [] is = refl
+first-none (x ∷ xs) is = cc
 
 pub last-none : (xs : List ℕ) (o : Option ℕ) → o ≡ slice_get xs (length xs - 1) → o ≡ None → xs ≡ []
 last-none [] o is none = refl
@@ -195,6 +199,27 @@ pub fresh-place : (l : Layout) (f : Funding) (v : NodeLists) (at place : ℕ) (n
 fresh-place l f v at place node here node_is fresh = record {
   listed = contains-at (nodes_of v 0) at place here;
   sources = subst (λ (x : Node). (from : Node) → IsEdge f from x → ¬ Contains (nodes_of v 0) (node_place l from)) node_is fresh;
+}
+
+-- the places of the stale nodes are those that are listed
+pub places-back : (l : Layout) (places : List ℕ) → ((place : ℕ) → Contains places place → place < node_count l) → map (node_place l) (map (node_of l) places) ≡ places
+places-back l [] within = refl
+places-back l (place ∷ rest) within =
+    ap (λ (x : ℕ). x ∷ map (node_place l) (map (node_of l) rest)) (list-back l place (within place (contains-first place rest))).0
+    ∙ ap (λ (xs : List ℕ). place ∷ xs) (places-back l rest (λ x c. within x (contains-later place rest x c)))
+
+-- a node is settled from another order of the stale nodes
+pub reordered-settles : (old new : Known) (stale : List Node) (node : Node) → IsReordered old.stale stale → Settles (record old { stale = stale }) new node → Settles old new node
+reordered-settles old new stale node reordered is = record {
+  unit = is.unit;
+  layout = is.layout;
+  was = reordered.each node is.was;
+  done = is.done;
+  fewer = is.fewer ∙ length-reordered old.stale stale reordered;
+  each = λ other c. reordered.each other (is.each other c);
+  others = λ other off c. is.others other off (reordered.all other c);
+  sums = λ f. is.sums f ∙ reordered.sums f;
+  values = is.values;
 }
 
 -- nothing is stale

@@ -1,5 +1,5 @@
 -- How the list of stale nodes changes within calls; no public clause cites this file.
-use Rattle.std.specs.Prelude.{◌≡◌, ◌⊎◌, ℕ, ◌-◌, Bool, true, false, Option, Some, Contains, List, length, sum_by}
+use Rattle.std.specs.Prelude.{◌≡◌, ◌⊎◌, ℕ, ◌-◌, Bool, true, false, Option, Some, Contains, List, length, map, sum_by}
 use Rattle.lot_lists.specs.NodeLists.{NodeLists, nodes_of, node_at, IsConsistent}
 use Rattle.lot_machine.specs.declared.funding.Node.{Node}
 use Rattle.lot_machine.specs.declared.funding.Edge.{Edge}
@@ -7,6 +7,7 @@ use Rattle.lot_machine.specs.Funding.{Funding, IsEdge, ends_of}
 use Rattle.lot_machine.specs.Equations.{Reaches}
 use Rattle.lot_graph.specs.declared.layout.Layout.{Layout}
 use Rattle.lot_graph.specs.Places.{node_place, node_of}
+use Rattle.lot_value.specs.Caches.{Known}
 
 -- one list over the places of all nodes
 pub record IsStaleList (v : NodeLists) (count : ℕ) : Type 0 where
@@ -21,6 +22,10 @@ LeadsToPlace l f from place = (to : Node) × IsEdge f from to × (node_place l t
 -- an edge leads from the node of this place to the other
 abbrev pub LeadsFromPlace : Layout → Funding → ℕ → Node → Type 0
 LeadsFromPlace l f place to = (from : Node) × IsEdge f from to × (node_place l from ≡ place)
+
+-- the places of the stale nodes
+abbrev pub stale_places : Known → List ℕ
+stale_places c = map (node_place c.layout) c.stale
 
 -- the place is listed, and that of no source of its node
 pub record IsFreshPlace (l : Layout) (f : Funding) (places : List ℕ) (place : ℕ) : Type 0 where

@@ -64,7 +64,7 @@ fn ticket_share(sources: Sources, number: u32) -> u64
     ensures { (live : List Bool) → AreSources sources.entry live → result ≡ share sources.entry.unit sources.entry.graph.now.funding live (kept_worth (layout_of sources.entry.graph.now) sources.entry.values.now) (OfTicketEdge number) }
 {
     let Some(ticket) = sources.graph.ticket(number) else {
-        return 0;
+        unreachable!()
     };
     if !sources.active.is_active(ticket.target) {
         return 0;

@@ -1,5 +1,14 @@
-//! Which stale node is settled next. What is here sees neither values nor counts, so it reads no edge for a value: whether a node is
-//! stale isn't a value.
+//! Which stale node is settled next. What is here sees neither values nor counts, so it reads no edge for a value:
+//! whether a node is stale isn't a value.
+//!
+//! Most often it is the node at the front of the list. If that one has a stale source, it is turned over, and then all
+//! that is stale upstream of it comes first, and it too, from the back of the list.
+//!
+//! While all stale nodes are settled one after the other, and none gets stale between, the edges into each of them are
+//! walked here three times at most: once as it is looked at at the front, once as its stale sources are raised, and
+//! once as it has none left. For those that are raised above a node lie upstream of it, so that they never raise it
+//! again, and they are all answered before it. With the reading of its value that makes four times, and two for a node
+//! whose sources come before it in the list.
 ghost use Rattle.std.specs.Prelude.{◌≡◌, ℕ, [], Contains, Some, IfSome, IfNone};
 ghost use Rattle.std.specs.Bool.{OnTrue, OnFalse};
 ghost use Rattle.lot_lists.specs.NodeLists.{nodes_of};
@@ -16,72 +25,37 @@ use lot_graph::Graph;
 use lot_lists::Lists;
 use lot_machine::Node;
 
-/// The place of a stale node that has no stale source; `None` if none is stale. Most often that is the node at the front of the
-/// list. If the one at the front has a stale source, it is turned over, and then all that is stale upstream of it comes first, and
-/// it too, from the back of the list: `turned` is its place until it was answered.
-///
-/// While all stale nodes are settled one after the other, and none gets stale between, the edges into each of them are walked here
-/// three times at most: once as it is looked at at the front, once as its stale sources are raised, and once as it has none left. For
-/// those that are raised above a node lie upstream of it, so that they never raise it again, and they are all answered before it.
-/// With the reading of its value that makes four times, and two for a node whose sources come before it in the list.
+/// Whether a source of a node is stale. It looks at each edge into the node once, also after it has found one: a node
+/// has few edges most often, and a loop with one way out takes fewer instructions.
 #[inline(always)]
-pub(crate) fn next_fresh(
-    graph: &Graph,
-    stale: &mut Lists,
-    turned: &mut Option<usize>,
-) -> Option<usize>
-    requires list { IsStaleList stale.old (places.node_count (layout_of graph.now)) }
-    ensures list { IsStaleList stale.new (places.node_count (layout_of graph.now)) }
-    ensures reordered { IsReordered (nodes_of stale.old 0) (nodes_of stale.new 0) }
-    ensures fresh { IfSome result (IsFreshPlace (layout_of graph.now) graph.now.funding (nodes_of stale.new 0)) }
-    ensures none { IfNone result (nodes_of stale.new 0 ≡ []) }
-{
-    if turned.is_none() {
-        if let Some(place) = fresh_front(graph, stale) {
-            return Some(place);
-        }
-    }
-    raise_fresh(graph, stale, turned)
-}
-
-/// The place of the node at the front of the list, if there is one and it has no stale source.
-#[inline(always)]
-fn fresh_front(graph: &Graph, stale: &Lists) -> Option<usize>
-    requires list { IsStaleList stale.now (places.node_count (layout_of graph.now)) }
-    ensures fresh { IfSome result (IsFreshPlace (layout_of graph.now) graph.now.funding (nodes_of stale.now 0)) }
-{
-    let place = stale.first(STALE)?;
-    let node = graph.layout().node_of(place);
-    if has_stale_source(graph, stale, node) {
-        return None;
-    }
-    Some(place)
-}
-
-/// Whether a source of a node is stale.
-#[inline(always)]
-fn has_stale_source(graph: &Graph, stale: &Lists, node: Node) -> bool
+pub(crate) fn has_stale_source(graph: &Graph, stale: &Lists, node: Node) -> bool
     requires list { IsStaleList stale.now (places.node_count (layout_of graph.now)) }
     requires node { IsNodeOf graph.now node }
     ensures found { OnTrue result ((place : ℕ) × Contains (nodes_of stale.now 0) place × LeadsFromPlace (layout_of graph.now) graph.now.funding place node) }
     ensures none { OnFalse result ((from : ANode) → IsEdge graph.now.funding from node → ¬ Contains (nodes_of stale.now 0) (node_place (layout_of graph.now) from)) }
 {
     let layout = graph.layout();
+    let mut found = false;
     for edge in graph.edges_into(node) {
         let Some(ends) = ends_of_edge(graph, edge) else {
             unreachable!()
         };
         let place = layout.list_of(ends.from);
         if stale.list_of(place).is_some() {
-            return true;
+            found = true;
         }
     }
-    false
+    found
 }
 
-/// Turns the node at the front over, unless one was turned over before that isn't done yet, and answers what comes first of it and
-/// what is stale upstream of it.
-fn raise_fresh(graph: &Graph, stale: &mut Lists, turned: &mut Option<usize>) -> Option<usize>
+/// Turns the node at the front over, unless one was turned over before that isn't done yet, and answers the place of
+/// what comes first of it and what is stale upstream of it: of a stale node that has no stale source. `None` if none
+/// is stale. `turned` is the place of the node that was turned over, until it was answered.
+pub(crate) fn raise_fresh(
+    graph: &Graph,
+    stale: &mut Lists,
+    turned: &mut Option<usize>,
+) -> Option<usize>
     requires list { IsStaleList stale.old (places.node_count (layout_of graph.now)) }
     ensures list { IsStaleList stale.new (places.node_count (layout_of graph.now)) }
     ensures reordered { IsReordered (nodes_of stale.old 0) (nodes_of stale.new 0) }

@@ -1,5 +1,5 @@
 //! Values that are kept, and those that are stale.
-ghost use Rattle.std.specs.Prelude.{◌≡◌, ◌⊎◌, ◌↔◌, ℕ, Bool, List, [], ◌∷◌, Contains, Some, IfOk, IfSome, IfNone, IsTrue, replicate};
+ghost use Rattle.std.specs.Prelude.{◌≡◌, ◌<◌, ◌⊎◌, ◌↔◌, ℕ, Bool, List, [], ◌∷◌, Contains, Some, IfOk, IfSome, IfNone, IsTrue, replicate};
 ghost use Rattle.lot_machine.specs.declared.funding.Node.{Node as ANode};
 ghost use Rattle.lot_machine.specs.declared.funding.Node.TheVariants.{Currency as CurrencyNode};
 ghost use Rattle.lot_machine.specs.declared.ticket.Ticket.{Ticket as ATicket};
@@ -13,10 +13,11 @@ ghost use Rattle.lot_graph.specs.Places.{FitsLimits, IsNodeWithin, layout_of};
 ghost use Rattle.lot_active.specs.Fundings.{IsKeptFor};
 ghost use Rattle.lot_value.specs.Counts.{counted_up};
 ghost use Rattle.lot_value.specs.Caches.{IsStale, IsOnce, IsRight, IsRightBut, IsSmall, Settles, edges_into_all, value_in};
+ghost use Rattle.lot_value.specs.Marking.{IsFreshPlace, stale_places};
 
-use crate::marking::mark;
+use crate::marking::{STALE, mark};
 use crate::readings::{Sources, read_share, read_value};
-use crate::settling::next_fresh;
+use crate::settling::{has_stale_source, raise_fresh};
 use lot_active::Active;
 use lot_graph::{Graph, Layout};
 use lot_lists::Lists;
@@ -53,7 +54,7 @@ pub struct Values {
     values: Vec<u64>,
     // One list, of the places of the stale nodes.
     stale: Lists,
-    // The place of a node that `next_fresh` turned over, until it is settled.
+    // The place of a node that `raise_fresh` turned over, until it is settled.
     turned: Option<usize>,
     layout: Layout,
     unit: u32,
@@ -181,8 +182,44 @@ impl Values {
         ensures counted { IfSome result (λ node. self.new.reads ≡ counted_up self.old.reads (edge_count_into graph.now.funding node)) }
         ensures none { IfNone result ((self.old.stale ≡ []) × (self.new ≡ self.old)) }
     {
-        let place = next_fresh(graph, &mut self.stale, &mut self.turned)?;
-        let node = self.layout.node_of(place);
+        if self.turned.is_none() {
+            let place = self.stale.first(STALE)?;
+            let node = graph.layout().node_of(place);
+            if !has_stale_source(graph, &self.stale, node) {
+                self.settle_node(graph, active, place, node);
+                return Some(node);
+            }
+        }
+        self.settle_raised(graph, active)
+    }
+
+    /// The same from the back of the list, for when the node at the front has a stale source, or one that was turned
+    /// over isn't settled yet. That is seldom so.
+    fn settle_raised(&mut self, graph: &Graph, active: &Active) -> Option<Node>
+        requires right { (live : List Bool) × IsKeptFor active.now graph.now live × IsSmall self.old.unit graph.now live × IsRight graph.now live self.old }
+        ensures right { (live : List Bool) → IsKeptFor active.now graph.now live → IsRight graph.now live self.old → IsRight graph.now live self.new }
+        ensures within { IfSome result (IsNodeWithin self.old.layout) }
+        ensures settles { IfSome result (Settles self.old self.new) }
+        ensures counted { IfSome result (λ node. self.new.reads ≡ counted_up self.old.reads (edge_count_into graph.now.funding node)) }
+        ensures none { IfNone result ((self.old.stale ≡ []) × (self.new ≡ self.old)) }
+    {
+        let place = raise_fresh(graph, &mut self.stale, &mut self.turned)?;
+        let node = graph.layout().node_of(place);
+        self.settle_node(graph, active, place, node);
+        Some(node)
+    }
+
+    /// Computes again the value of a stale node none of whose sources is stale. Counts each edge into the node.
+    #[inline(always)]
+    fn settle_node(&mut self, graph: &Graph, active: &Active, place: usize, node: Node)
+        requires right { (live : List Bool) × IsKeptFor active.now graph.now live × IsSmall self.old.unit graph.now live × IsRight graph.now live self.old }
+        requires place { place < places.node_count (layout_of graph.now) }
+        requires node { node ≡ places.node_of (layout_of graph.now) place }
+        requires fresh { IsFreshPlace (layout_of graph.now) graph.now.funding (stale_places self.old) place }
+        ensures right { (live : List Bool) → IsKeptFor active.now graph.now live → IsRight graph.now live self.old → IsRight graph.now live self.new }
+        ensures settles { Settles self.old self.new node }
+        ensures counted { self.new.reads ≡ counted_up self.old.reads (edge_count_into graph.now.funding node) }
+    {
         let sources = Sources {
             graph,
             active,
@@ -191,6 +228,5 @@ impl Values {
         };
         self.values[place] = read_value(sources, node, &mut self.reads);
         self.stale.remove(place);
-        Some(node)
     }
 }

@@ -1,8 +1,9 @@
 use Rattle.std.proofs.Common.{◌≡◌, ◌∙◌, ap, sym, subst, arith, false, Some, List, Contains}
+use Rattle.std.proofs.lemmas.Bool.{OnFalse_from}
 use Rattle.lot_lists.specs.NodeLists.{nodes_of}
 use Rattle.lot_machine.specs.declared.funding.Edge.{Edge}
 use Rattle.lot_machine.specs.declared.funding.Node.{Node}
-use Rattle.lot_machine.specs.Funding.{ends_of}
+use Rattle.lot_machine.specs.Funding.{IsEdge, ends_of}
 use Rattle.lot_machine.specs.Equations.{HasEachOnce, LeadsInto}
 use Rattle.lot_graph.specs.declared.layout.Layout.{Layout}
 use Rattle.lot_graph.specs.Places.{layout_of, node_place}
@@ -18,7 +19,8 @@ pub loop-edge-init : goal.loop-edge-init
 loop-edge-init c =
     let w = c.args.graph.now in record {
       split = subst (λ (edges : List Edge). HasEachOnce edges (LeadsInto w.funding c.args.node)) (sym c.into_iter-edge-iterator.ensures.into_iter_gives) c.edges_into-edge-items.ensures.edges;
-      fresh = raising-start (layout_of w) w.funding c.args.node c.args.stale.now;
+      found = tt;
+      fresh = λ none. raising-start (layout_of w) w.funding c.args.node c.args.stale.now;
     }
 
 pub unreachable-requires : goal.unreachable-requires
@@ -46,12 +48,17 @@ list_of-requires c =
     let low = list-low (layout_of c.args.graph.now) from (c.layout-layout.ensures.fits.from c.in-Some.edge from c.args.node ends) in
     omega (arith, place, low, c.requires.list.nodes)
 
-pub returns-then-is_some-clause-found : goal.returns-then-is_some-clause-found
-returns-then-is_some-clause-found c =
-    let (from, ends, place) = next-source (goal.at.returns-then-is_some-clause-found c).After-list_of-place in
+pub loop-edge-preserved-then-is_some : goal.loop-edge-preserved-then-is_some
+loop-edge-preserved-then-is_some c =
+    let w = c.args.graph.now in
     let v = c.args.stale.now in
-    let there = listed-some v c.list_of-place.result c.list_of.result c.is_some.result c.requires.list.one c.is_some.ensures c.if-is_some.true c.list_of.ensures.found in
-    (c.list_of-place.result, there, (from, (c.in-Some.edge, ends), sym place))
+    let edge = c.in-Some.edge in
+    let (from, ends, place) = next-source (goal.at.loop-edge-preserved-then-is_some c).After-list_of-place in
+    let there = listed-some v c.list_of-place.result c.list_of.result c.is_some.result c.requires.list.one c.is_some.ensures c.if-is_some.true c.list_of.ensures.found in record {
+      split = each-next (LeadsInto w.funding c.args.node) c.loop-edge.yielded _ _ edge c.in-Some.ensures.steps c.loop-edge.invariant.split;
+      found = (c.list_of-place.result, there, (from, (edge, ends), sym place));
+      fresh = λ none. cc;
+    }
 
 pub loop-edge-preserved : goal.loop-edge-preserved
 loop-edge-preserved c =
@@ -62,11 +69,15 @@ loop-edge-preserved c =
     let free = free-none v c.list_of-place.result c.list_of.result c.is_some.result c.is_some.ensures c.if-is_some.false c.list_of.ensures.free in
     let off = subst (λ x. ¬ Contains (nodes_of v 0) x) place free in record {
       split = each-next (LeadsInto w.funding c.args.node) c.loop-edge.yielded _ _ edge c.in-Some.ensures.steps c.loop-edge.invariant.split;
-      fresh = raising-kept (layout_of w) w.funding c.args.node v v c.loop-edge.yielded false c.loop-edge.invariant.fresh edge from ends off;
+      found = c.loop-edge.invariant.found;
+      fresh = λ none. raising-kept (layout_of w) w.funding c.args.node v v c.loop-edge.yielded false (c.loop-edge.invariant.fresh none) edge from ends off;
     }
 
 pub returns-clause-none : goal.returns-clause-none
 returns-clause-none c =
     let w = c.args.graph.now in
+    let l = layout_of w in
+    let v = c.args.stale.now in
     let all = each-done (LeadsInto w.funding c.args.node) c.loop-edge.yielded _ c.in-None.ensures.steps.0 c.loop-edge.invariant.split in
-    (raising-none (layout_of w) w.funding c.args.node c.args.stale.now c.args.stale.now c.loop-edge.yielded false c.loop-edge.invariant.fresh all).1
+    OnFalse_from c.loop-edge.found ((from : Node) → IsEdge w.funding from c.args.node → ¬ Contains (nodes_of v 0) (node_place l from))
+    (λ none. (raising-none l w.funding c.args.node v v c.loop-edge.yielded false (c.loop-edge.invariant.fresh none) all).1)

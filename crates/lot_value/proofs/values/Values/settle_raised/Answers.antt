@@ -1,0 +1,71 @@
+use Rattle.std.proofs.Common.{◌≡◌, ◌∙◌, ℕ, Bool, List, map, ap, sym, subst, refl}
+use Rattle.lot_lists.specs.NodeLists.{nodes_of}
+use Rattle.lot_machine.specs.declared.funding.Node.{Node}
+use Rattle.lot_graph.specs.declared.layout.Layout.{Layout}
+use Rattle.lot_graph.specs.Places.{node_of, node_count, layout_of}
+use Rattle.lot_value.specs.Caches.{Known, IsRight, IsSmall, Settles}
+use Rattle.lot_value.specs.Marking.{IsStaleList, IsReordered, IsFreshPlace}
+use Rattle.lot_value.proofs.Listed.{list-within}
+use Rattle.lot_value.proofs.Mapped.{reordered-mapped}
+use Rattle.lot_value.proofs.Settled.{reordered-right, reordered-settles, nothing-stale, known-same, places-back}
+use Rattle.lot_value.proofs.values.Values.settle_raised.Goals as goal
+use Rattle.lot_value.proofs.values.Values.settle_raised.Goals.{After-raise_fresh}
+
+-- what is known as the call begins, field by field
+abbrev known : After-raise_fresh → Known
+known c =
+    let i = c.self.inside in record { unit = i.unit; layout = i.layout; values = i.values.items; stale = map (node_of i.layout) (nodes_of i.stale 0); reads = i.reads }
+
+-- the stale nodes in the order of now
+abbrev stale : After-raise_fresh → List Node
+stale c = map (node_of c.self.inside.layout) (nodes_of c.raise_fresh.new.stale 0)
+
+-- the places are those of the graph
+places-are : (c : After-raise_fresh) → c.self.inside.layout ≡ layout_of c.args.graph.now
+places-are c = let (live, kept, small, right) = c.requires.right in ap (λ (k : Known). k.layout) c.self.view_is ∙ right.layout
+
+-- what is stale is listed in another order
+reordered : (c : After-raise_fresh) → IsReordered (known c).stale (stale c)
+reordered c = reordered-mapped (node_of c.self.inside.layout) (nodes_of c.self.inside.stale 0) (nodes_of c.raise_fresh.new.stale 0) c.raise_fresh.ensures.reordered
+
+-- and is as right in it
+right-in : (c : After-raise_fresh) (live : List Bool) → IsRight c.args.graph.now live c.args.self.now → IsRight c.args.graph.now live (record (known c) { stale = stale c })
+right-in c live right = reordered-right c.args.graph.now live (known c) (stale c) (reordered c) (subst (IsRight c.args.graph.now live) (sym c.self.view_is) right)
+
+pub returns-in_err-place-clause-right : goal.returns-in_err-place-clause-right
+returns-in_err-place-clause-right c live kept right = right-in (goal.at.returns-in_err-place-clause-right c).After-raise_fresh live right
+
+pub returns-in_err-place-clause-none : goal.returns-in_err-place-clause-none
+returns-in_err-place-clause-none c =
+    let before = (goal.at.returns-in_err-place-clause-none c).After-raise_fresh in
+    let i = c.self.inside in
+    let k = known before in
+    let empty = c.in_err-place.ensures.none in
+    let none = nothing-stale i.layout k.stale c.raise_fresh.new.stale (reordered before) empty in
+    let same = known-same (record k { stale = stale before }) k refl refl refl (ap (map (node_of i.layout)) empty ∙ sym none) refl in
+    rw c.from_residual.ensures (sym (ap (λ (x : Known). x.stale) c.self.view_is) ∙ none, same ∙ c.self.view_is)
+
+pub settle_node-requires-clause-right : goal.settle_node-requires-clause-right
+settle_node-requires-clause-right c =
+    let before = (goal.at.settle_node-requires-clause-right c).After-raise_fresh in
+    let (live, kept, small, right) = c.requires.right in
+    (live, kept, subst (λ (x : Known). IsSmall x.unit c.args.graph.now live) (sym c.self.view_is) small, right-in before live right)
+
+pub settle_node-requires-clause-fresh : goal.settle_node-requires-clause-fresh
+settle_node-requires-clause-fresh c =
+    let before = (goal.at.settle_node-requires-clause-fresh c).After-raise_fresh in
+    let l = c.self.inside.layout in
+    let w = c.args.graph.now in
+    let now = c.raise_fresh.new.stale in
+    let list = subst (λ (x : Layout). IsStaleList now (node_count x)) (sym (places-are before)) c.raise_fresh.ensures.list in
+    let back = places-back l (nodes_of now 0) (list-within now (node_count l) list) in
+    subst (λ (xs : List ℕ). IsFreshPlace (layout_of w) w.funding xs c.in_ok-place.place) (sym back) c.in_ok-place.ensures.fresh
+
+pub returns-clause-right : goal.returns-clause-right
+returns-clause-right c live kept right = c.settle_node.ensures.right live kept (right-in (goal.at.returns-clause-right c).After-raise_fresh live right)
+
+pub returns-clause-settles : goal.returns-clause-settles
+returns-clause-settles c =
+    let before = (goal.at.returns-clause-settles c).After-raise_fresh in
+    let settles = reordered-settles (known before) c.settle_node.new.self (stale before) c.node_of-node.result (reordered before) c.settle_node.ensures.settles in
+    subst (λ (old : Known). Settles old c.settle_node.new.self c.node_of-node.result) c.self.view_is settles
