@@ -33,7 +33,7 @@ places_of_edge l f edge = option_map (λ ends. record { from = node_place l ends
 abbrev pub net_of : Layout → Funding → Net
 net_of l f = record { nodes = node_count l; edges = edge_count l; places = λ place. places_of_edge l f (edge_at l place) }
 
--- the live threads are awake, and nothing else is
+-- the live threads are awake, and no other node is
 pub record AwakeAre (l : Layout) (live : List Bool) (awake : List Bool) : Type 0 where
   pub lives : (x : ℕ) → IsAwake awake x → (t : ℕ) × (x ≡ node_place l (Thread t)) × IsNodeWithin l (Thread t) × IsLive live t
   pub wakes : (t : ℕ) → IsNodeWithin l (Thread t) → IsLive live t → IsAwake awake (node_place l (Thread t))

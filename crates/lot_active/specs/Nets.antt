@@ -8,7 +8,7 @@ pub record Net : Type 0 where
   pub edges : ℕ
   pub places : ℕ → Option EdgePlaces
 
--- edges lead between nodes that there are, and their amounts are from 1 to 4294967295
+-- edges lead between existing nodes, and their amounts are from 1 to 4294967295
 pub record IsNet (g : Net) : Type 0 where
   pub from : (e : ℕ) (a : EdgePlaces) → g.places e ≡ Some a → a.from < g.nodes
   pub to : (e : ℕ) (a : EdgePlaces) → g.places e ≡ Some a → a.to < g.nodes

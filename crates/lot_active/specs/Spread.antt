@@ -11,7 +11,7 @@ abbrev pub HasMoved : Bool → ℕ → ℕ → Type 0
 HasMoved true x y = x < y
 HasMoved false x y = y < x
 
--- the test with another answer at one number
+-- the test with another result at one number
 abbrev pub set_at : (ℕ → Bool) → ℕ → Bool → ℕ → Bool
 set_at f k b n = if n == k then b else f n
 

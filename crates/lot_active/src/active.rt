@@ -1,5 +1,5 @@
 //! What is active, by the live threads.
-ghost use Rattle.std.specs.Prelude.{◌≡◌, ℕ, ◌<◌, ◌≤◌, ◌^◌, ◌↔◌, Bool, List, IfOk, IsTrue, Some, length, replicate, slice_set, false, true};
+ghost use Rattle.std.specs.Prelude.{◌≡◌, ℕ, ◌<◌, ◌≤◌, ◌^◌, ◌↔◌, Bool, List, IfOk, IsTrue, Some, length, slice_set, false, true};
 ghost use Rattle.lot_machine.specs.declared.funding.Edge.{Edge};
 ghost use Rattle.lot_machine.specs.declared.funding.Node.TheVariants.{Thread as ThreadNode};
 ghost use Rattle.lot_machine.specs.Numbered.{set_number};
@@ -22,8 +22,8 @@ use lot_machine::{Edge, Node, Target};
 use std::alloc::{AllocError, Global};
 use std::marker::Model;
 
-/// Which threads are live, and what follows from it: which tickets and threads are active, and the sums of the amounts
-/// of the active tickets that each currency issues.
+/// Which threads are live, which tickets and threads are therefore active, and the sums of the amounts of the active
+/// tickets that each currency issues.
 #[derive(Drop)]
 pub struct Active {
     marks: Marks,
@@ -31,10 +31,9 @@ pub struct Active {
 }
 
 impl Model for Active {
-    ghost use Rattle.std.specs.Prelude.{◌≡◌, []};
     ghost use Rattle.lot_lists.specs.NodeLists.{nodes_of};
     ghost use Rattle.lot_active.specs.Activity.{Activity};
-    ghost use Rattle.lot_active.specs.Held.{IsSized, IsQuiet};
+    ghost use Rattle.lot_active.specs.Held.{IsQuiet};
 
     ghost Value = { Activity };
 
@@ -44,7 +43,7 @@ impl Model for Active {
 }
 
 impl Active {
-    /// What is kept for a graph in which no thread is live.
+    /// The activity of a graph in which no thread is live.
     pub fn new(alloc: Global, graph: &Graph) -> Result<Self, AllocError>
         ensures kept { IfOk result (λ made. (live : List Bool) → ((t : ℕ) → ¬ IsLive live t) → IsKeptFor made graph.now live) }
     {

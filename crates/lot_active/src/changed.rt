@@ -6,7 +6,7 @@ use lot_lists::Nodes;
 use lot_machine::Node;
 use std::marker::Model;
 
-/// What is left of the nodes that a call changed.
+/// The remaining nodes that a call changed.
 #[derive(Drop)]
 pub struct ChangedNodes<'a> {
     pub(crate) places: Nodes<'a>,

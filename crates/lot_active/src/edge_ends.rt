@@ -1,5 +1,5 @@
 //! An edge of the graph, by the nodes that it leads from and to.
-ghost use Rattle.std.specs.Prelude.{◌≡◌, option_and_then, option_map};
+ghost use Rattle.std.specs.Prelude.{◌≡◌};
 ghost use Rattle.lot_machine.specs.Funding as funding;
 ghost use Rattle.lot_graph.specs.Graphs.{IsSound};
 ghost use Rattle.lot_graph.specs.Places.{FitsLimits, layout_of};
@@ -8,7 +8,7 @@ ghost use Rattle.lot_active.specs.Fundings as fundings;
 use lot_graph::{Graph, Layout};
 use lot_machine::{Edge, Lend, Node, Target};
 
-/// An edge that is there: where it leads from and to, and its amount, which is its ticket's, or 1 if it has no ticket.
+/// An existing edge: where it leads from and to, and its amount, which is its ticket's, or 1 if it has no ticket.
 #[derive(Clone, Copy, Debug, PartialEq, Eq)]
 pub struct EdgeEnds {
     pub from: Node,
@@ -77,8 +77,8 @@ pub(crate) fn places_of_edge(graph: &Graph, edge: Edge) -> Option<EdgePlaces>
     Some(ends.places(graph.layout()))
 }
 
-/// The node that is funded, if there is one.
-pub(crate) fn funded_node(target: Target) -> Option<Node>
+/// The node of a ticket's target, if it has one.
+pub fn funded_node(target: Target) -> Option<Node>
     ensures { result ≡ funding.target_node target }
 {
     match target {
@@ -88,7 +88,7 @@ pub(crate) fn funded_node(target: Target) -> Option<Node>
     }
 }
 
-/// The node that is lent to, if there is one.
+/// The node of the thread or mutex that a lend goes to, if any.
 fn lent_node(lend: Lend) -> Option<Node>
     ensures { result ≡ funding.lend_node lend }
 {

@@ -1,6 +1,6 @@
 //! What a caller needs of the calls of the graph: which make one edge more or less, and which change nothing that is
-//! kept. Laws of the definitions, with nothing to run.
-ghost use Rattle.std.specs.Prelude.{◌≡◌, ◌≢◌, ◌⊎◌, ℕ, ◌<◌, ◌≤◌, ◌↔◌, ◌++◌, ◌∷◌, [], Bool, List, Contains, None, Some, length, false};
+//! kept. Laws of the definitions, with no code to run.
+ghost use Rattle.std.specs.Prelude.{◌≡◌, ◌≢◌, ◌⊎◌, ℕ, ◌<◌, ◌≤◌, ◌↔◌, ◌++◌, ◌∷◌, [], Bool, List, Contains, None, Some, false};
 ghost use Rattle.lot_machine.specs.declared.ticket.Ticket.{Ticket};
 ghost use Rattle.lot_machine.specs.declared.ticket.Target.{Target};
 ghost use Rattle.lot_machine.specs.declared.ticket.Target.TheVariants.{Unfunded};

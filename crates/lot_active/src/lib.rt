@@ -2,7 +2,7 @@
 //!
 //! A node of the graph is active if a path of edges, perhaps empty, leads from it to a live thread. An edge is active
 //! if the node that it leads to is. A change is passed on along the edges into a node, node by node, from a worklist of
-//! linked lists. So no call but `new` takes memory, and each reads the edges into a node at most once.
+//! linked lists. So no call except `new` takes memory, and each reads the edges into a node at most once.
 #![tactic(auto)]
 
 mod active;
@@ -15,4 +15,4 @@ mod tests;
 
 pub use active::Active;
 pub use changed::ChangedNodes;
-pub use edge_ends::{EdgeEnds, ends_of_edge};
+pub use edge_ends::{EdgeEnds, ends_of_edge, funded_node};

@@ -1,9 +1,9 @@
 //! The marks, the amounts and the worklist.
-ghost use Rattle.std.specs.Prelude.{◌≡◌, ℕ, ◌<◌, ◌↔◌, ◌⊎◌, IfOk, IfSome, IfNone, IsTrue, [], length, replicate, Some, None, Bool, true, false};
+ghost use Rattle.std.specs.Prelude.{◌≡◌, ℕ, ◌<◌, IfOk, IfSome, IfNone, [], length, replicate, false};
 ghost use Rattle.lot_lists.specs.NodeLists.{nodes_of, HasSameSize, IsConsistent, empty_lists};
 ghost use Rattle.lot_graph.specs.Places.{layout_of, node_count};
 ghost use Rattle.lot_active.specs.Fundings.{graph_net};
-ghost use Rattle.lot_active.specs.Held.{Held, IsSized, IsQuiet, AllEmpty, Relists, NotesChange, MayMove, moved, Adjusts, SetsAwake, Settles, on_at, held_at};
+ghost use Rattle.lot_active.specs.Held.{Held, IsSized, AllEmpty, Relists, NotesChange, MayMove, moved, Adjusts, SetsAwake, Settles, on_at, held_at};
 ghost use Rattle.lot_active.specs.Spread.{Spreading, Crossing};
 
 use crate::edge_ends::places_of_edge;

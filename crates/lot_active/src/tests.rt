@@ -481,7 +481,7 @@ fn chain_of_4096_on_and_off(rt: HostRuntime) -> Result<(), Fail> {
     Ok(())
 }
 
-/// All tickets that there may be, each of the largest amount, fund one thread.
+/// As many tickets as the limit allows, each of the largest amount, fund one thread.
 #[test]
 fn largest_sizes(rt: HostRuntime) -> Result<(), Fail> {
     let limits = Limits::new(Sizes::LARGEST);

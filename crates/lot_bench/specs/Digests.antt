@@ -5,7 +5,7 @@ use Rattle.lot_machine.specs.declared.reply.Reply.TheVariants as answer
 use Rattle.lot_machine.specs.declared.reply.Outcome.{Outcome}
 use Rattle.lot_machine.specs.declared.reply.Outcome.TheVariants as outcome
 
--- what a trap came to, as a number
+-- the outcome of a trap, as a number
 abbrev pub outcome_word : Outcome → ℕ
 outcome_word outcome.Yielded = 1
 outcome_word (outcome.ServedBy server) = 2

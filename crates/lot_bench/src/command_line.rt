@@ -12,7 +12,7 @@ const MANY_EVENTS: u32 = 10_000_000;
 const ABOUT: &str =
     "Gives events to the kernel by itself, and prints what it answered, which is the same each time";
 
-/// The options that ask for something else, and what they ask for.
+/// The options for other output, and that output.
 const FLAGS: [(&str, &str); 4] = [
     ("time", "Nanoseconds for each event"),
     (
@@ -29,7 +29,7 @@ const FLAGS: [(&str, &str); 4] = [
     ),
 ];
 
-/// What the program is asked for.
+/// The output that a command line requests.
 #[derive(Clone, Copy)]
 pub(crate) enum Request {
     Digests,
@@ -39,7 +39,8 @@ pub(crate) enum Request {
     Workers,
 }
 
-/// What the program is asked for, with about how many events of each workload, and of which one alone, if one is named.
+/// The request of a command line, with about how many events of each workload, and the one workload that it names, if
+/// any.
 #[derive(Clone, Copy)]
 pub(crate) struct Wish<'a> {
     pub(crate) request: Request,

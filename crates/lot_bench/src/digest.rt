@@ -66,7 +66,7 @@ fn low_word(number: u128) -> u64
     (number % 18446744073709551616) as u64
 }
 
-/// What a trap came to, as a number.
+/// The outcome of a trap, as a number.
 fn outcome_word(outcome: Outcome) -> u64
     ensures { result ≡ digests.outcome_word outcome }
 {

@@ -1,4 +1,4 @@
-//! What makes the events of a workload.
+//! Generating the events of a workload.
 
 use crate::opening::{LOOSE_TICKET, currency_name};
 use crate::place::Place;
@@ -35,8 +35,8 @@ impl Driver {
         })
     }
 
-    /// The next event, to be given to a kernel that has got all before it. Processors take turns; in a chain each third event is
-    /// the console's.
+    /// The next event, to be given to a kernel that has got all before it. Processors take turns; in a chain each
+    /// third event is the console's.
     pub(crate) fn next_event(&mut self, kernel: &Kernel) -> Event {
         let turn = self.made;
         self.made = turn.wrapping_add(1);

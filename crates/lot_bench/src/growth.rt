@@ -9,8 +9,8 @@ use std::rt::Clock;
 /// How many threads there are in each line of the table.
 const THREADS: [u32; 5] = [16, 64, 256, 1024, 4096];
 
-/// Prints a line for each number of threads: the nanoseconds of an event with tables that just suffice and with the largest, where
-/// threads compute and where they yield.
+/// Prints a line for each number of threads: the nanoseconds of an event with tables that just suffice and with the
+/// largest, where threads compute and where they yield.
 pub(crate) fn print_growth(rt: &(impl Print + Clock), alloc: Global, events: u32) -> Result<()> {
     println!(rt; "threads draw-small draw-large yield-small yield-large")?;
     for threads in THREADS {

@@ -1,4 +1,4 @@
-//! `lot_bench` gives events to the kernel by itself, with no texts between: to compare what it answers, and to time it.
+//! `lot_bench` gives events to the kernel by itself, with no texts between, to compare its replies and to time it.
 #![tactic(auto)]
 
 mod command_line;

@@ -86,7 +86,7 @@ fn ticket_command(alloc: Global, amount: u64, currency: u32) -> Result<Command>
     })
 }
 
-/// Makes the ticket that funds the currency after this one. In a chain this one issues it, and else base.
+/// Makes the ticket that funds the currency after this one. In a chain this one issues it, otherwise base does.
 fn link_command(alloc: Global, workload: Workload, currency: u32) -> Result<Command>
     ensures { IfOk result (λ command. thread_made command ≡ 0) }
 {

@@ -23,8 +23,8 @@ impl Place {
         }
     }
 
-    /// Goes on for at most so many ticks of its quantum. Answers the trap that is made, after how many ticks of work, or `None` if
-    /// the quantum ends first.
+    /// Goes on for at most so many ticks of its quantum. Returns the trap that is made, after how many ticks of work,
+    /// or `None` if the quantum ends first.
     pub(crate) fn go_on(&mut self, role: Role, budget: u32) -> Option<(u32, Action)>
         ensures { IfSome result (λ trap. trap.0 < budget) }
     {

@@ -1,4 +1,4 @@
-//! What the threads of a workload do.
+//! The roles of a workload's threads.
 
 use crate::workload::Workload;
 use lot_machine::Action;
@@ -18,7 +18,7 @@ pub(crate) enum Role {
     Calls,
 }
 
-/// What the thread with this number does.
+/// The role of the thread with this number.
 pub(crate) fn role_of(workload: Workload, thread: u32) -> Role {
     match workload {
         Workload::Draws(_) | Workload::Chain | Workload::Processors => Role::Computes,
@@ -30,8 +30,8 @@ pub(crate) fn role_of(workload: Workload, thread: u32) -> Role {
     }
 }
 
-/// The ticks of work before a thread's next trap, which is the second of its round or the first, and the trap; none if it never
-/// makes one. An unlock has yet to get a drawn number.
+/// The ticks of work before a thread's next trap, which is the second of its round or the first, and the trap; none
+/// if it never makes one. An unlock has yet to get a drawn number.
 pub(crate) fn trap_of(role: Role, is_second: bool) -> Option<(u32, Action)> {
     match role {
         Role::Computes => None,

@@ -1,4 +1,4 @@
-//! Each workload in turn: what it answers, or how long it takes.
+//! Each workload in turn: its replies, or how long it takes.
 
 use crate::command_line::Wish;
 use crate::driver::Driver;
@@ -11,8 +11,8 @@ use lot_kernel::Meter;
 use std::alloc::Global;
 use std::rt::Clock;
 
-/// Prints for each workload that is wanted what its events came to: the replies of each kind, their digest, and what was read for
-/// values and draws.
+/// Prints for each selected workload the counts of the replies of each kind, their digest, and the reads for values
+/// and draws.
 pub(crate) fn print_digests(rt: &impl Print, alloc: Global, wish: Wish<'_>) -> Result<()> {
     for (name, workload) in WORKLOADS {
         if !is_wanted(name, wish.only) {
@@ -28,7 +28,7 @@ pub(crate) fn print_digests(rt: &impl Print, alloc: Global, wish: Wish<'_>) -> R
     Ok(())
 }
 
-/// What so many events of a workload come to.
+/// The replies to this many events of a workload, and the kernel's meter.
 fn tally_of(alloc: Global, workload: Workload, events: u32) -> Result<(Tally, Meter)> {
     let limits = largest_limits(workload).context("limits")?;
     let mut kernel = opened_kernel(alloc, workload, limits)?;
@@ -49,7 +49,7 @@ fn is_wanted(name: &str, only: Option<&str>) -> bool {
     }
 }
 
-/// Fails if a workload is named that there is none of.
+/// Fails if no workload has the selected name.
 pub(crate) fn check_name(only: Option<&str>) -> Result<()> {
     ensure!(
         WORKLOADS.iter().any(|(name, _)| is_wanted(name, only)),

@@ -1,4 +1,5 @@
-//! How the time of a draw grows with the edges that it reads, where a stale node stands before all of its stale sources.
+//! How the time of a draw grows with the edges that it reads, where a stale node stands before all of its stale
+//! sources.
 ghost use Rattle.std.specs.Prelude.{◌<◌};
 
 use crate::opening::{currency_name, name};
@@ -42,8 +43,8 @@ impl Fan {
     }
 }
 
-/// Prints a line for each size: the edges that a draw reads, its nanoseconds, and its nanoseconds for each edge. The time
-/// grows as the edges if the last number stays about the same.
+/// Prints a line for each size: the edges that a draw reads, its nanoseconds, and its nanoseconds for each edge. The
+/// time grows as the edges if the last number stays about the same.
 pub(crate) fn print_settling(rt: &(impl Print + Clock), alloc: Global) -> Result<()> {
     println!(rt; "edges draw edge")?;
     for part in PARTS {
@@ -66,8 +67,8 @@ fn time_fan(rt: &impl Clock, alloc: Global, fan: Fan) -> Result<u64> {
     Ok(fastest)
 }
 
-/// A kernel with the fan, after a first draw and its expiry. Tickets are numbered as they are made: those of base that fund the
-/// thread, and then for each currency the one that funds it and the one that it issues.
+/// A kernel with the fan, after a first draw and its expiry. Tickets are numbered as they are made: those of base
+/// that fund the thread, and then for each currency the one that funds it and the one that it issues.
 fn opened_fan(alloc: Global, fan: Fan) -> Result<Kernel> {
     let limits = Limits::new(Sizes {
         processors: 1,

@@ -1,4 +1,4 @@
-//! What replies there were.
+//! Counting replies.
 ghost use Rattle.std.specs.Prelude.{◌≡◌};
 ghost use Rattle.lot_bench.specs.Digests as digests;
 

@@ -58,7 +58,7 @@ impl Track {
         Ok(())
     }
 
-    /// Gives the events to the kernel that is timed, and answers the nanoseconds.
+    /// Gives the events to the kernel that is timed, and returns the nanoseconds.
     fn time_part(&mut self, rt: &impl Clock) -> Result<u64> {
         let start = Instant::now(rt)?;
         let refused = give(&mut self.follower, self.events.as_slice());
@@ -68,7 +68,7 @@ impl Track {
     }
 }
 
-/// Gives events to a kernel, and answers how many it refuses.
+/// Gives events to a kernel, and returns how many it refuses.
 fn give(kernel: &mut Kernel, events: &[Event]) -> usize {
     let mut refused: usize = 0;
     for event in events {

@@ -39,8 +39,8 @@ enum Sharing {
     Baton,
 }
 
-/// Prints a line for each script and each number of processors: the turns of a second by the lock and by the baton, each the most
-/// of several runs. Each processor has a worker, and the console has one.
+/// Prints a line for each script and each number of processors: the turns of a second by the lock and by the baton,
+/// each the most of several runs. Each processor has a worker, and the console has one.
 pub(crate) fn print_workers<R: Print + Clock + Threads + Wait + Sync>(
     rt: &R,
     alloc: Global,

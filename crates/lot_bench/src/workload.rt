@@ -47,7 +47,7 @@ pub(crate) fn threads_of(workload: Workload) -> u32
     }
 }
 
-/// How many currencies it has besides base. Each is funded by one ticket.
+/// How many currencies it has in addition to base. Each is funded by one ticket.
 pub(crate) fn currencies_of(workload: Workload) -> u32
     ensures { result ≤ 64 }
 {

@@ -1,4 +1,4 @@
--- What calls do to a kernel that C holds.
+-- The effect of calls on a kernel that C holds.
 use Rattle.std.specs.Prelude.{◌≡◌, ◌⊎◌, ℕ, Option, None, Some, IfSome, IsSomeAnd, Ok, Err, List, [], ◌∷◌, Result, length, ◌<◌, ◌≤◌}
 use Rattle.lot_machine.specs.declared.event.Event.{Event}
 use Rattle.lot_machine.specs.declared.row.TicketRow.{TicketRow}
@@ -31,27 +31,29 @@ use Rattle.lot_c.specs.Replies.{plain_reply}
 use Rattle.lot_c.specs.Rows.{plain_ticket_row, plain_currency_row, plain_thread_row}
 use Rattle.lot_c.specs.Statuses.{code}
 
--- A call of a handle that holds what is before it, and then what is after it: of one that holds no kernel the first is true, and it
--- still holds none; of one that holds a kernel the second is true of it before and after.
+-- A call of a handle that holds what is before it, and then what is after it: of one that holds no kernel the first
+-- is true, and it still holds none; of one that holds a kernel the second is true of it before and after.
 abbrev pub Through : Option Snapshot → Option Snapshot → Type 0 → (Snapshot → Snapshot → Type 0) → Type 0
 Through None after none found = (after ≡ None) × none
 Through (Some before) after none found = IsSomeAnd after (found before)
 
--- How a kernel is made: not if one is there, not with limits out of their bounds, and else as a machine at its start, or for want of
--- memory not at all.
+-- How a kernel is made: not if one exists, not with limits out of their bounds, otherwise as a machine at its start,
+-- or not at all if out of memory.
 pub record Opens (sizes : PlainSizes) (status : ℕ) (old new : Option Snapshot) : Type 0 where
   pub there : (k : Snapshot) → old ≡ Some k → (status ≡ code KernelThere) × (new ≡ Some k)
   pub limits : old ≡ None → ¬ IsWithinBounds (sizes_meant sizes) → (status ≡ code BadLimits) × (new ≡ None)
   pub made : old ≡ None → IsWithinBounds (sizes_meant sizes) → ((status ≡ code Done) × (new ≡ Some (starting (sizes_meant sizes)))) ⊎ ((status ≡ code NoMemory) × (new ≡ None))
 
--- the kernel after an event: the machine's state, which is sound, and what is stale and was counted as a kernel's own call says
+-- the kernel after an event: the machine's state, which is sound, and what is stale and was counted as a kernel's own
+-- call says
 pub record Answers (e : Event) (old new : Snapshot) : Type 0 where
   pub state : new.state ≡ (step old.state e).state
   pub sound : IsSound new.state
   pub stale : MakesStale old new
   pub counts : Counts e (step old.state e).reply old new
 
--- Fields are handed in for an event. If they mean one, its reply is written; else nothing is changed, and the status says why.
+-- The fields are those of an event that the caller passes. If they mean one, its reply is written; otherwise nothing
+-- is changed, and the status says why.
 pub record IsAnswered (fields : PlainEvent) (status : ℕ) (old new : Snapshot) (before after : PlainReply) : Type 0 where
   pub reply : (e : Event) → event_meant fields ≡ Ok e → (status ≡ code Done) × (after ≡ plain_reply (step old.state e).reply)
   pub kernel : (e : Event) → event_meant fields ≡ Ok e → Answers e old new
@@ -69,7 +71,7 @@ abbrev pub events_meant : List PlainEvent → List Event
 events_meant [] = []
 events_meant (fields ∷ others) = in_front (event_meant fields) (events_meant others)
 
--- why it is none, or else this
+-- why it is none, otherwise this
 abbrev pub fault_or : Result Event Status → Status → Status
 fault_or (Ok e) other = other
 fault_or (Err why) other = why
@@ -89,7 +91,8 @@ abbrev pub replies_written : State → List PlainEvent → List PlainReply → L
 replies_written s (fields ∷ events) (reply ∷ others) = written_by s (event_meant fields) reply (λ after. replies_written after events others) others
 replies_written s events others = others
 
--- Fields are handed in for events in order. The events that are meant are done in turn, each as a kernel's own call does it.
+-- The fields are those of events that the caller passes in order. The events that are meant are done in turn, each as
+-- a kernel's own call does it.
 pub record AreAnswered (fields : List PlainEvent) (status done : ℕ) (old new : Snapshot) (before after : List PlainReply) : Type 0 where
   pub status_is : status ≡ code (first_fault fields)
   pub done_are : done ≡ length (events_meant fields)
@@ -118,7 +121,7 @@ pub record ShowsThread (thread status : ℕ) (old new : Snapshot) (before after 
   pub not_there : rows.thread_row old.state thread ≡ None → (status ≡ code NotThere) × (new ≡ old) × (after ≡ before)
   pub state : new.state ≡ old.state
 
--- who runs on a processor, if somebody does
+-- the thread that runs on a processor, if one does
 pub record ShowsRunner (processor status : ℕ) (k : Snapshot) (before after : PlainRunner) : Type 0 where
   pub nobody : thread_on k.state.records processor ≡ None → (status ≡ code NotThere) × (after ≡ before)
   pub runs : (t : ℕ) → thread_on k.state.records processor ≡ Some t → (status ≡ code Done) × (after.thread ≡ t) × (used_by k.state.records processor t ≡ Some after.used)

@@ -1,4 +1,4 @@
--- What plain fields mean as an event.
+-- The event that plain fields mean.
 use Rattle.std.specs.Prelude.{ℕ, Result, Ok, Err, List, [], ◌∷◌, slice_get, unwrap_or}
 use Rattle.lot_machine.specs.declared.action.Action.{Action}
 use Rattle.lot_machine.specs.declared.action.Action.TheVariants as action
@@ -14,12 +14,12 @@ use Rattle.lot_c.specs.declared.status.Status.TheVariants.{BadKind}
 use Rattle.lot_c.specs.Names.{name_meant}
 use Rattle.lot_c.specs.Wides.{wide_meant}
 
--- what is right, changed
+-- the result with its Ok value mapped
 abbrev pub result_map : {X Y : Type 0} → (X → Y) → Result X Status → Result Y Status
 result_map change (Ok x) = Ok (change x)
 result_map change (Err status) = Err status
 
--- what is right, used
+-- the Ok value passed on
 abbrev pub result_and_then : {X Y : Type 0} → Result X Status → (X → Result Y Status) → Result Y Status
 result_and_then (Ok x) use_it = use_it x
 result_and_then (Err status) use_it = Err status

@@ -12,7 +12,7 @@ use Rattle.lot_kernel.specs.contracts.kernel.Kernel.{the_row}
 abbrev pub KernelValue : Type 0
 KernelValue = Option the_row.Denot
 
--- at null nothing, and else a box
+-- at null nothing, otherwise a box
 abbrev pub handle_owns : Global → Ptr → KernelValue → Fml
 handle_owns alloc p None = feq Ptr p null_ptr
 handle_owns alloc p (Some x) = box_owns (ghosts.dealloc_token alloc) the_row p x

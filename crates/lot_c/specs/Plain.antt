@@ -1,4 +1,4 @@
--- How an event is handed in.
+-- The plain fields of an event.
 use Rattle.std.specs.Prelude.{◌≡◌, ◌≤◌, ℕ, List, [], true, length}
 use Rattle.lot_machine.specs.Commands.{is_good_name}
 use Rattle.lot_machine.specs.declared.action.Action.{Action}

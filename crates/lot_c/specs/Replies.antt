@@ -79,7 +79,7 @@ plain_passed to None = record blank_reply { outcome = 9; other = to }
 plain_passed to (Some draw) =
     record blank_reply { outcome = 9; other = to; has_draw = true; number = record { low = draw.0; high = 0 }; total = record { low = draw.1; high = 0 } }
 
--- what a trap came to
+-- the outcome of a trap
 abbrev pub plain_outcome : Outcome → PlainReply
 plain_outcome outcome.Yielded = record blank_reply { outcome = 1 }
 plain_outcome (outcome.ServedBy server) = record blank_reply { outcome = 2; other = server }

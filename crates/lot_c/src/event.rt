@@ -75,7 +75,7 @@ pub struct PlainEvent {
     pub ticket: u64,
     /// The currency that issues a ticket, or that is removed.
     pub currency: PlainName,
-    /// The name of a new currency or thread, or of what is to be funded.
+    /// The name of a new currency or thread, or of the target to fund.
     pub name: PlainName,
 }
 
@@ -131,7 +131,7 @@ impl PlainEvent {
         }
     }
 
-    /// The thread with its ticket that is asked for, or why none is.
+    /// The command for a thread with its ticket, or why the fields mean none.
     fn read_funded(&self) -> Result<Command, Status>
         requires kind { self.now.kind ≡ 8 }
         ensures { event_meant self.now ≡ result_map event.Command result }

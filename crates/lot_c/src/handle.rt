@@ -1,4 +1,4 @@
-//! What C holds of a kernel.
+//! C's handle of a kernel.
 ghost use Rattle.std.specs.Prelude.{◌≡◌, None, Some, MatchOption};
 ghost use Rattle.lot_c.specs.Handles.{KernelValue, handle_owns, kernel_coded};
 
@@ -9,7 +9,7 @@ use std::marker::{Model, Send};
 use std::mem;
 use std::ptr::null_mut;
 
-/// What C holds of a kernel: a pointer that C never looks behind, null if there is no kernel.
+/// C's handle of a kernel: an opaque pointer, null if there is no kernel.
 #[repr(C)]
 pub struct Handle {
     at: *mut u8,

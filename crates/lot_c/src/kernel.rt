@@ -1,4 +1,4 @@
-//! A kernel through a handle: made, freed, and asked what changes nothing.
+//! A kernel through a handle: making it, freeing it, and queries that change nothing.
 ghost use Rattle.std.specs.Prelude.{◌≡◌, ◌⊎◌, IfOk, IfSome, IfErr, MatchOption, None, Some, length};
 ghost use Rattle.lot_machine.specs.Bounds.{IsWithinBounds};
 ghost use Rattle.lot_machine.specs.Facts.{IsSound};
@@ -14,7 +14,8 @@ use crate::status::Status;
 use lot_kernel::Kernel;
 use std::alloc::Global;
 
-/// Makes a kernel with these sizes, for a handle that holds none. It takes all the memory that the kernel will ever use.
+/// Makes a kernel with these sizes, for a handle that holds none. It allocates all the memory that the kernel will
+/// ever use.
 #[unsafe(no_mangle)]
 pub extern "C" fn lot_kernel_new(alloc: Global, sizes: &PlainSizes, kernel: &mut Handle) -> u32
     ensures opens { Opens sizes.now result kernel.old.kernel kernel.new.kernel }
@@ -148,7 +149,7 @@ pub extern "C" fn lot_kernel_runner(
     code
 }
 
-/// Who runs on the processor, if somebody does.
+/// The thread that runs on the processor, if one does.
 fn show_runner(kernel: &Kernel, processor: u32, runner: &mut PlainRunner) -> u32
     ensures { ShowsRunner processor result kernel.now runner.old runner.new }
 {

@@ -1,4 +1,4 @@
-//! What the plain fields come to: laws of the boundary, with nothing to run.
+//! The meanings of the plain fields: laws of the boundary, with nothing to run.
 ghost use Rattle.std.specs.Prelude.{◌≡◌, ◌≤◌, ℕ, List, Ok, true, length};
 ghost use Rattle.lot_machine.specs.Commands as names;
 ghost use Rattle.lot_machine.specs.declared.event.Event.{Event};
@@ -11,17 +11,17 @@ ghost use Rattle.lot_c.specs.Replies.{plain_reply};
 ghost use Rattle.lot_c.specs.Rows.{plain_status};
 ghost use Rattle.lot_c.specs.Wides.{plain_wide, wide_meant};
 
-/// A name that is handed out means the same when it is handed in.
+/// A name that C gets means the same when C passes it back.
 pub fn names_come_back()
     ensures { (name : List ℕ) → length name ≤ 16 → names.is_good_name name ≡ true → name_meant (plain_name name) ≡ Ok name }
 {}
 
-/// A number of 128 bits that is handed out means the same when it is handed in.
+/// A number of 128 bits that C gets means the same when C passes it back.
 pub fn wides_come_back()
     ensures { (n : ℕ) → wide_meant (plain_wide n) ≡ n }
 {}
 
-/// Each event with good names can be handed in.
+/// C can pass each event with good names.
 pub fn each_event_can_be_meant()
     ensures { (e : Event) → HasNames e → event_meant (plain_event e) ≡ Ok e }
 {}

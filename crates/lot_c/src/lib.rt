@@ -1,7 +1,7 @@
 //! The kernel for C: an export for each of its calls, and for the lottery alone.
 //!
-//! What C hands in is read before anything is done, and a call that reads no sense in it changes nothing and says why by its
-//! status. `bindings/c/lot.h` says what each call asks of C.
+//! An export reads what C passes before it does anything. A call that makes no sense changes nothing and returns the
+//! reason as its status. `bindings/c/lot.h` says what each call requires of C.
 #![tactic(auto)]
 
 mod event;

@@ -15,7 +15,7 @@ use lot_draw::ParkMiller;
 use lot_machine::Drawn;
 use std::alloc::Global;
 
-/// What a value weighs in a draw. The compensation is in ticks, and 0 is none.
+/// The weight of a value in a draw. The compensation is in ticks, and 0 is none.
 #[unsafe(no_mangle)]
 pub extern "C" fn lot_weight(value: u64, compensation: u32, quantum: u32, weight: &mut Wide)
     ensures weight { weight.new ≡ plain_wide (lottery.weight value (compensation_meant compensation) quantum) }

@@ -33,7 +33,7 @@ const TRAPPED: u32 = 12;
 
 const REFUSED: u32 = 13;
 
-/// What a trap comes to.
+/// The outcomes of a trap.
 const YIELDED: u32 = 1;
 
 const SERVED_BY: u32 = 2;
@@ -74,9 +74,9 @@ pub struct PlainReply {
     pub ticket: u32,
     pub currency: u32,
     pub thread: u32,
-    /// What the thread ran, in ticks.
+    /// The ticks that the thread ran.
     pub ticks: u32,
-    /// What a trap came to.
+    /// The outcome of a trap.
     pub outcome: u32,
     /// The server, the client or the new owner of an outcome.
     pub other: u32,
@@ -165,7 +165,7 @@ impl PlainReply {
         }
     }
 
-    /// What a trap came to, in plain fields.
+    /// The outcome of a trap, in plain fields.
     fn of_outcome(outcome: Outcome) -> PlainReply
         ensures { result ≡ plain_outcome outcome }
     {

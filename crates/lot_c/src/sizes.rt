@@ -59,7 +59,7 @@ impl PlainSizes {
     }
 }
 
-/// What was counted, in plain fields.
+/// The counters, in plain fields.
 #[repr(C)]
 #[derive(Clone, Copy)]
 pub struct PlainMeter {

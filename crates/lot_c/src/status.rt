@@ -1,8 +1,8 @@
-//! What came of a call.
+//! The status of a call.
 ghost use Rattle.std.specs.Prelude.{◌≡◌};
 ghost use Rattle.lot_c.specs.Statuses as statuses;
 
-/// What came of a call. Any other than `Done` means that the call has changed nothing.
+/// The status of a call. Any other than `Done` means that the call has changed nothing.
 #[derive(Clone, Copy, Debug, PartialEq, Eq)]
 pub(crate) enum Status {
     Done,
@@ -12,9 +12,9 @@ pub(crate) enum Status {
     KernelThere,
     /// A limit is out of its bounds.
     BadLimits,
-    /// There was no memory left.
+    /// Out of memory.
     NoMemory,
-    /// An event of a kind that there isn't.
+    /// The event's kind doesn't exist.
     BadKind,
     /// A name of more than 16 bytes.
     LongName,

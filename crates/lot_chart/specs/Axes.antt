@@ -8,7 +8,8 @@ steps =
     1 ∷ 2 ∷ 5 ∷ 10 ∷ 20 ∷ 50 ∷ 100 ∷ 200 ∷ 500 ∷ 1000 ∷ 2000 ∷ 5000 ∷ 10000 ∷ 20000 ∷ 50000 ∷ 100000 ∷ 200000 ∷ 500000 ∷ 1000000 ∷ 2000000 ∷ 5000000
     ∷ 10000000 ∷ 20000000 ∷ 50000000 ∷ 100000000 ∷ 200000000 ∷ 500000000 ∷ 1000000000 ∷ []
 
--- how far the marks of an axis are apart that ends at the most: the first step with which there are at most five after 0
+-- how far the marks of an axis are apart that ends at the most: the first step with which there are at most five
+-- after 0
 abbrev pub axis_step : ℕ → ℕ
 axis_step most = unwrap_or (find (λ step. nat_lt most (6 * step)) steps) 2000000000
 

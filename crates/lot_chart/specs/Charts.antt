@@ -1,4 +1,5 @@
--- Curves as a picture, which is an SVG. Lengths are in tenths of its unit; the plot reaches from 1000 to 7700 across, and from 600 to 4600 down.
+-- Curves as a picture, which is an SVG. Lengths are in tenths of its unit; the plot reaches from 1000 to 7700 across,
+-- and from 600 to 4600 down.
 use Rattle.std.specs.Prelude.{ℕ, ◌+◌, ◌*◌, ◌/◌, ◌%◌, min, max, ◌==◌, nat_le, List, [], ◌++◌, codes, unwrap_or, if◌then◌else◌}
 use Rattle.std.specs.List.{flat_map}
 use Rattle.std.specs.Fmt.{decimal}

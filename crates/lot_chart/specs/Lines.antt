@@ -1,4 +1,5 @@
--- Where lines end, and where their names stand. All lengths are in tenths of a unit of the picture, heights from its top.
+-- Where lines end, and where their names stand. All lengths are in tenths of a unit of the picture, heights from its
+-- top.
 use Rattle.std.specs.Prelude.{ℕ, ◌+◌, ◌-◌, ◌*◌, ◌/◌, min, max, List, [], ◌∷◌, length}
 use Rattle.lot_chart.specs.declared.standings.Standing.{Standing}
 use Rattle.lot_chart.specs.declared.lines.Line.{Line}

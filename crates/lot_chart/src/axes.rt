@@ -23,7 +23,7 @@ pub(crate) fn axis_step(most: u64) -> u64
     2000000000
 }
 
-/// How many marks there are besides 0.
+/// How many marks there are in addition to 0.
 pub(crate) fn mark_count(most: u64) -> u64
     ensures exact { result ≡ definitions.mark_count most }
     ensures few { result ≤ 5 }

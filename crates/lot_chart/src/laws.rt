@@ -1,4 +1,4 @@
-//! What pictures and tables come to: laws of the definitions, with nothing to run.
+//! Bounds and order of pictures and tables: laws of the definitions, with nothing to run.
 ghost use Rattle.std.specs.Prelude.{◌≡◌, ◌==◌, ◌≤◌, ◌<◌, ◌+◌, ◌-◌, ◌*◌, ◌^◌, ℕ, All, AllPairs, List, [], ◌∷◌, filter, length, map, slice_index};
 ghost use Rattle.lot_machine.specs.Bounds.{IsBetween};
 ghost use Rattle.lot_curves.specs.declared.stretch.Measure.{Measure as Measured};
@@ -11,8 +11,8 @@ ghost use Rattle.lot_chart.specs.Ranking.{IsBefore};
 ghost use Rattle.lot_chart.specs.Standings.{ranked, selection};
 ghost use Rattle.lot_chart.specs.Tables.{table};
 
-/// The ranking is in order: each thread has run longer than those after it, or as long with a lower number. Each thread
-/// of the row is in it once, with its own ticks, and nobody else is.
+/// The ranking is in order: each thread has run longer than those after it, or as long with a lower number. Each
+/// thread of the row is in it once, with its own ticks, and no other thread is.
 pub fn rankings_are_in_order()
     ensures order { (row : List ℕ) → AllPairs IsBefore (ranked row) }
     ensures once { (row : List ℕ) (t : ℕ) → IsBetween 1 (length row) t
@@ -27,15 +27,15 @@ pub fn names_do_not_overlap()
     ensures within { (shown : List StandingRecord) → length shown ≤ 12 → All (λ line. line.place ≤ 4600) (lines_of shown) }
 {}
 
-/// A picture of threads whose names have at most 16 bytes, as all names have, has at most 34000 bytes and ten for each of its
-/// title.
+/// A picture of threads whose names have at most 16 bytes, as all names have, has at most 34000 bytes and ten for
+/// each of its title.
 pub fn pictures_are_short()
     ensures { (title : List ℕ) (curves : curves.Curves) → All (λ name. length name ≤ 16) curves.names → length (chart title curves) ≤ 34000 + 10 * length title }
 {}
 
-/// A table of threads whose names have at most 16 bytes, as all names have, has at most 4226 bytes, and 4238 for each thread. Any
-/// `Curves` meets the other premises too: it has fewer than 2 ^ 32 stretches, their ticks and draws are `u32`, and the last ends
-/// before 2 ^ 56.
+/// A table of threads whose names have at most 16 bytes, as all names have, has at most 4226 bytes, and 4238 for each
+/// thread. Any `Curves` meets the other premises too: it has fewer than 2 ^ 32 stretches, their ticks and draws are
+/// `u32`, and the last ends before 2 ^ 56.
 pub fn tables_are_short()
     ensures { (measure : Measured) (curves : curves.Curves) → All (λ name. length name ≤ 16) curves.names → length curves.stretches < 2 ^ 32
         → All (λ s. s.ticks < 2 ^ 32) curves.stretches → All (λ s. s.draws < 2 ^ 32) curves.stretches → last_end curves.stretches < 2 ^ 64

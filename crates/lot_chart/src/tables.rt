@@ -11,7 +11,8 @@ use lot_curves::{Curves, Measure};
 use lot_machine::Name;
 use std::alloc::{AllocError, Global};
 
-/// The table of the curves: a line with the threads' names, and one for each sample with what each thread has had at its tick.
+/// The table of the curves: a line with the threads' names, and one for each sample with what each thread has had at
+/// its tick.
 pub fn table(alloc: Global, curves: &Curves, measure: Measure) -> Result<Vec<u8>, AllocError>
     ensures { IfOk result (λ text. text.items ≡ tables.table measure curves.now) }
 {

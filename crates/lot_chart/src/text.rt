@@ -1,4 +1,4 @@
-//! A text that is put together.
+//! Building a text.
 ghost use Rattle.std.specs.Prelude.{◌≡◌, ◌++◌, [], OnOk};
 ghost use Rattle.std.specs.Fmt.{decimal};
 
@@ -6,7 +6,7 @@ use itoa::Buffer;
 use std::alloc::{AllocError, Global};
 use std::marker::Model;
 
-/// A text, at whose end parts are put. If there is no memory for a part, the text is given up.
+/// A text that grows by parts at its end. If there is no memory for a part, the text is given up.
 #[derive(Debug, Drop)]
 pub(crate) struct Text {
     bytes: Vec<u8>,

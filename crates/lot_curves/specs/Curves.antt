@@ -1,4 +1,4 @@
--- What each thread has had at each sample.
+-- Each thread's ticks or draws at each sample.
 use Rattle.std.specs.Prelude.{ℕ, ◌+◌, ◌*◌, ◌/◌, min, max, Option, Some, None, List, [], map, unwrap_or}
 use Rattle.std.specs.List.{range_with_len}
 use Rattle.lot_machine.specs.Numbered.{numbers}
@@ -11,7 +11,7 @@ use Rattle.lot_curves.specs.declared.stretch.Stretch.{Stretch}
 use Rattle.lot_curves.specs.OwnTimes.{own_turns}
 use Rattle.lot_curves.specs.Stretches.{had_at, stretch_of, stretches_of}
 
--- the threads' names by rising number, and what turns were for them
+-- the threads' names by rising number, and the stretches of the turns
 pub record Curves : Type 0 where
   pub names : List (List ℕ)
   pub stretches : List Stretch
@@ -24,11 +24,11 @@ name_in s thread = unwrap_or (thread_name s thread) []
 abbrev pub names_in : State → List (List ℕ)
 names_in s = map (name_in s) (numbers s.records)
 
--- what the turns of the program's run over this history were, each at its actor's own time
+-- the stretches of the program's run over this history, each turn at its actor's own time
 abbrev pub stretches_made : Program → List ℕ → List Stretch
 stretches_made program history = map stretch_of (own_turns program history)
 
--- what the program's turns in the order of time were
+-- the stretches of the program's turns in the order of time
 abbrev pub timed_stretches : Program → List Stretch
 timed_stretches program = map (λ done. stretch_of (record { time = done.time; answer = done.turn.answer })) (timed_turns program)
 
@@ -44,7 +44,8 @@ scheduled_curves program = curves_in program (system_run program program.schedul
 abbrev pub timed_curves : Program → Curves
 timed_curves program = record { names = names_in (system_run program (timed_schedule program)).state; stretches = timed_stretches program }
 
--- the curves of the program: those of its turns in the order of time if it has a duration, and else those of its schedule
+-- the curves of the program: those of its turns in the order of time if it has a duration, otherwise those of its
+-- schedule
 abbrev pub curves_of : Program → Curves
 curves_of program = by program.duration
   where
@@ -52,11 +53,11 @@ curves_of program = by program.duration
     by None = scheduled_curves program
     by (Some ticks) = timed_curves program
 
--- what the thread has had at this tick
+-- the thread's ticks or draws up to this tick
 abbrev pub share_at : Measure → Curves → ℕ → ℕ → ℕ
 share_at measure curves tick thread = had_at measure tick (stretches_of thread curves.stretches)
 
--- what each thread has had at this tick, by rising number
+-- each thread's ticks or draws up to this tick, by rising number
 abbrev pub row_at : Measure → Curves → ℕ → List ℕ
 row_at measure curves tick = map (share_at measure curves tick) (numbers curves.names)
 

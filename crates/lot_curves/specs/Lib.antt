@@ -1,6 +1,6 @@
 -- Turns, each at its actor's own time.
 pub mod OwnTimes
--- What turns were for threads.
+-- The ticks and draws of turns, for their threads.
 pub mod Stretches
--- What each thread has had at each sample.
+-- Each thread's ticks or draws at each sample.
 pub mod Curves

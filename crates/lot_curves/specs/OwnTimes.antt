@@ -3,7 +3,7 @@ use Rattle.std.specs.Prelude.{ℕ, List, [], ◌∷◌, ◌++◌}
 use Rattle.lot_simulation.specs.World.{Program, Answer}
 use Rattle.lot_simulation.specs.Report.{ActorTurn, turns_made, turns_of, total_of, ticks_in}
 
--- when a turn ended, and what it answered
+-- when a turn ended, and its answer
 pub record EndedTurn : Type 0 where
   pub time : ℕ
   pub answer : Answer

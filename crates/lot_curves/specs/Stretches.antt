@@ -1,4 +1,4 @@
--- What turns were for threads.
+-- The ticks and draws of turns, for their threads.
 use Rattle.std.specs.Prelude.{ℕ, ◌-◌, max, ◌==◌, nat_le, List, filter, fold, sum_by, if◌then◌else◌}
 use Rattle.lot_machine.specs.declared.reply.Reply.{Reply}
 use Rattle.lot_machine.specs.declared.reply.Reply.TheVariants as reply
@@ -15,16 +15,17 @@ charged_thread (reply.Expired thread ticks) = thread
 charged_thread (reply.Trapped thread ticks came ends) = thread
 charged_thread other = 0
 
--- what a turn was for its thread
+-- the stretch of a turn
 abbrev pub stretch_of : EndedTurn → Stretch
 stretch_of turn = record { thread = count_in charged_thread turn.answer; end = turn.time; ticks = count_in ticks_in turn.answer; draws = count_in quanta_in turn.answer }
 
--- what the thread has had of it at this tick: its ticks but for those after this one, or the draw if it was won by then
+-- the ticks or draws of a stretch up to this tick: its ticks except those after this one, or the draw if it was won by
+-- then
 abbrev pub part_at : Measure → ℕ → Stretch → ℕ
 part_at Ticks tick s = s.ticks - (s.end - tick)
 part_at Draws tick s = if nat_le s.end tick then s.draws else 0
 
--- what was had of all of these at this tick
+-- the sum of these stretches' ticks or draws up to this tick
 abbrev pub had_at : Measure → ℕ → List Stretch → ℕ
 had_at measure tick stretches = sum_by (part_at measure tick) stretches
 

@@ -1,4 +1,4 @@
-//! What each thread has had over time.
+//! The ticks and the draws of each thread over time.
 ghost use Rattle.std.specs.Prelude.{◌≡◌, ℕ, ◌+◌, ◌<◌, ◌≤◌, ◌^◌, ◌==◌, All, if◌then◌else◌, length, slice_index, vec_len};
 ghost use Rattle.lot_curves.specs.Curves as curves;
 ghost use Rattle.lot_curves.specs.Curves.{row_at};
@@ -8,10 +8,10 @@ use crate::{Measure, Stretch};
 use lot_machine::Name;
 use std::marker::Model;
 
-/// At how many ticks, besides tick 0, curves are sampled at most.
+/// The maximum number of ticks after tick 0 at which curves are sampled.
 const SAMPLES: u64 = 200;
 
-/// The threads' names, and what turns were for them.
+/// The threads' names, and a stretch for each turn.
 #[derive(Debug, Drop)]
 pub struct Curves {
     names: Vec<Name>,
@@ -38,7 +38,7 @@ impl Model for Curves {
 }
 
 impl Curves {
-    /// The curves of threads with these names, of which these were the turns.
+    /// The curves of threads with these names, from the stretches of their turns.
     pub fn new(names: Vec<Name>, stretches: Vec<Stretch>) -> Curves
         requires threads { vec_len names < 2 ^ 32 }
         requires turns { vec_len stretches < 2 ^ 32 }
@@ -62,7 +62,7 @@ impl Curves {
         self.names.as_slice()
     }
 
-    /// What turns were for the threads.
+    /// The stretches of the turns.
     pub fn stretches(&self) -> &[Stretch]
         ensures stretches { result.now ≡ self.now.stretches }
         ensures few { length self.now.stretches < 2 ^ 32 }
@@ -79,7 +79,7 @@ impl Curves {
         self.last
     }
 
-    /// At how many ticks, besides tick 0, the curves are sampled.
+    /// At how many ticks after tick 0 the curves are sampled.
     pub fn sample_count(&self) -> u64
         ensures count { result ≡ curves.sample_count (last_end self.now.stretches) }
         ensures most { result ≤ 200 }
@@ -96,7 +96,7 @@ impl Curves {
         sample * self.last / self.sample_count().max(1)
     }
 
-    /// Fills the row with what each thread has had at this tick, by rising number.
+    /// Fills the row with each thread's ticks or draws up to this tick, by rising number.
     pub fn fill_row(&self, measure: Measure, tick: u64, row: &mut [u64])
         requires { length row.old ≡ length self.now.names }
         ensures { row.new ≡ row_at measure self.now tick }

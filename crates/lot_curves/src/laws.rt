@@ -1,4 +1,4 @@
-//! What curves come to: laws of the definitions, with nothing to run.
+//! Laws of the definitions of curves, with no code to run.
 ghost use Rattle.std.specs.Prelude.{◌≡◌, ◌≤◌, ℕ, List, length, sum_by};
 ghost use Rattle.lot_curves.specs.declared.stretch.Measure.{Measure as Measured};
 ghost use Rattle.lot_curves.specs.declared.stretch.Measure.TheVariants.{Draws, Ticks};
@@ -13,7 +13,7 @@ pub fn samples_reach_the_last()
     ensures last { (last : ℕ) → sample_tick last (sample_count last) ≡ last }
 {}
 
-/// At the last tick a thread has had all that is its own.
+/// At the last tick a thread's curve is the sum over all of its turns.
 pub fn curves_end_at_all()
     ensures ticks { (curves : curves.Curves) (t : ℕ) → share_at Ticks curves (last_end curves.stretches) t ≡ sum_by (λ s. s.ticks) (stretches_of t curves.stretches) }
     ensures draws { (curves : curves.Curves) (t : ℕ) → share_at Draws curves (last_end curves.stretches) t ≡ sum_by (λ s. s.draws) (stretches_of t curves.stretches) }

@@ -1,4 +1,4 @@
-//! Curves: what each thread has had over time, taken from the turns of a run.
+//! Curves: the ticks and the draws of each thread over time, computed from the turns of a run.
 #![tactic(auto)]
 
 mod curves;

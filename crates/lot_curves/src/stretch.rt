@@ -1,4 +1,4 @@
-//! What a turn was for a thread.
+//! The stretch of a turn: its ticks and draws for a thread.
 ghost use Rattle.std.specs.Prelude.{◌≡◌, ◌<◌, ◌≤◌, ◌^◌, length};
 ghost use Rattle.lot_machine.specs.declared.event.Event.{Event};
 ghost use Rattle.lot_simulation.specs.World.Answer.{Answered};
@@ -7,7 +7,7 @@ ghost use Rattle.lot_curves.specs.Stretches.{stretch_of};
 
 use lot_machine::Reply;
 
-/// What is measured of a thread.
+/// The measure of a curve.
 #[derive(Clone, Copy, Debug, PartialEq, Eq)]
 pub enum Measure {
     /// The ticks that it has run.
@@ -16,7 +16,7 @@ pub enum Measure {
     Draws,
 }
 
-/// What a turn was for the thread that ran in it, or that won its draw.
+/// The ticks and draws of a turn for the thread that ran in it, or that won its draw.
 #[derive(Clone, Copy, Debug, PartialEq, Eq)]
 pub struct Stretch {
     /// The number of the thread, or 0 if the turn was no thread's.
@@ -30,7 +30,7 @@ pub struct Stretch {
 }
 
 impl Stretch {
-    /// What a turn was that ended at this time and got this reply.
+    /// The stretch of a turn that ended at this time and got this reply.
     pub fn new(end: u64, reply: Reply) -> Stretch
         ensures { (e : Event) → result ≡ stretch_of (record { time = end; answer = Answered e reply }) }
     {
@@ -49,7 +49,7 @@ impl Stretch {
         }
     }
 
-    /// What the thread has had of it at this tick.
+    /// The stretch's ticks or draws up to this tick.
     pub fn part_at(self, measure: Measure, tick: u64) -> u64
         ensures part { result ≡ definitions.part_at measure tick self }
         ensures small { result < 2 ^ 32 }
@@ -67,7 +67,7 @@ impl Stretch {
     }
 }
 
-/// What was had of all of these at this tick.
+/// The sum of these stretches' ticks or draws up to this tick.
 pub fn had_at(measure: Measure, tick: u64, stretches: &[Stretch]) -> u64
     requires { length stretches.now < 2 ^ 32 }
     ensures { result ≡ definitions.had_at measure tick stretches.now }

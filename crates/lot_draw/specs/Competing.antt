@@ -22,12 +22,12 @@ abbrev pub HasTicks : Option Competitor → Type 0
 HasTicks None = Unit {0}
 HasTicks (Some c) = IfSome c.compensation (λ used. 0 < used)
 
--- what this value weighs with what a thread competes with: nothing if it doesn't compete
+-- the weight of a thread with this value, given what it competes with: 0 if it doesn't compete
 abbrev pub weight_with : ℕ → ℕ → Option Competitor → ℕ
 weight_with value quantum None = 0
 weight_with value quantum (Some c) = weight value c.compensation quantum
 
--- what the thread with this number weighs, given what threads are worth
+-- the weight of the thread with this number, given the threads' values
 abbrev pub weight_among : ℕ → List (Option Competitor) → (ℕ → ℕ) → ℕ → ℕ
 weight_among quantum competitors worth t = weight_with (worth t) quantum (competitor_at competitors t)
 
@@ -36,7 +36,7 @@ abbrev pub winner_among : List ℕ → Option Drawn → Option Winner
 winner_among threads None = None
 winner_among threads (Some w) = Some (record { thread = slice_index threads w.place; number = w.number; total = w.total })
 
--- A draw: the lottery over the weights of the competing threads, by rising number, given what threads are worth (4.2).
+-- A draw: the lottery over the weights of the competing threads, by rising number, given the threads' values (4.2).
 abbrev pub drawn_among : ℕ → List (Option Competitor) → (ℕ → ℕ) → ℕ → Option Winner
 drawn_among quantum competitors worth d =
     winner_among (competing_threads competitors) (winner (map (weight_among quantum competitors worth) (competing_threads competitors)) d)

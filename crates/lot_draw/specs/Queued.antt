@@ -10,8 +10,9 @@ use Rattle.lot_value.specs.Marking.{IsStaleList as IsOneList}
 use Rattle.lot_draw.specs.declared.competing.Competitor.{Competitor}
 use Rattle.lot_draw.specs.Competing.{HasTicks, weight_among, competitor_at}
 
--- How many ticks a quantum has; for each thread that there may be, what it competes with, if it does, and its weight in the
--- tree; the places of the threads whose weight may have to change, thread 1 at place 0; and how many places of the tree were visited.
+-- How many ticks a quantum has; for each thread that there may be, what it competes with, if it does, and its weight in
+-- the tree; the places of the threads whose weight may have to change, thread 1 at place 0; and how many places of the
+-- tree were visited.
 pub record Queued : Type 0 where
   pub quantum : ℕ
   pub competitors : List (Option Competitor)
@@ -27,27 +28,27 @@ IsChanged q t = Contains q.changed (t - 1)
 abbrev pub IsPlaced : Queued → ℕ → Type 0
 IsPlaced q t = (0 < t) × (t ≤ length q.competitors)
 
--- what the thread weighs, given what threads are worth: nothing if it doesn't compete
+-- the thread's weight, given the threads' values: 0 if it doesn't compete
 abbrev pub weight_of : Queued → (ℕ → ℕ) → ℕ → ℕ
 weight_of q worth t = weight_among q.quantum q.competitors worth t
 
--- Each thread that is neither stale nor changed has its weight in the tree: by the value that is kept of it if it competes,
--- and else 0.
+-- Each thread that is neither stale nor changed has its weight in the tree: by the value that is kept of it if it
+-- competes, otherwise 0.
 abbrev pub AreWeights : Queued → Known → Type 0
 AreWeights q c =
     (t : ℕ) → IsPlaced q t → ¬ IsStale c (Thread t) → ¬ IsChanged q t → slice_index q.weights (t - 1) ≡ weight_of q (λ u. value_in c (Thread u)) t
 
--- only threads that are there compete, and there is a place for each that there may be
+-- only existing threads compete, and there is a place for each thread that there may be
 pub record CompetesIn (competitors : List (Option Competitor)) (v : Valued) : Type 0 where
   pub places : length competitors ≡ v.now.thread_limit
   pub there : (t : ℕ) (c : Competitor) → competitor_at competitors t ≡ Some c → IsThread v.now.funding t
 
--- what is kept of each thread that is there and isn't stale is what it is worth
+-- the kept value of each existing thread that isn't stale is the thread's value
 abbrev pub HasWorths : Valued → Type 0
 HasWorths v =
     (t : ℕ) → IsThread v.now.funding t → t ≤ v.now.thread_limit → ¬ IsStale v.known (Thread t) → value_in v.known (Thread t) ≡ thread_value v.known.unit v.now.funding v.live t
 
--- weights can be set from what is kept: all of it is right
+-- weights can be set from the kept values, since all of them are right
 pub record IsSettled (v : Valued) : Type 0 where
   pub stale : v.known.stale ≡ []
   pub worths : HasWorths v

@@ -1,7 +1,7 @@
 //! Who competes in draws, and who wins one.
 ghost use Rattle.lot_draw.specs.Competing.{HasTicks};
 
-/// What a thread that competes brings to a draw.
+/// A competing thread's part in a draw.
 #[derive(Clone, Copy, Debug, PartialEq, Eq)]
 pub struct Competitor {
     /// How many ticks of its quantum the thread had used when it yielded or blocked, if it left some of it (3.4, 4.5).

@@ -42,7 +42,7 @@ impl ParkMiller {
         Some(ParkMiller { value: seed })
     }
 
-    /// Goes on to the next value, and answers it: 1 to 2147483646.
+    /// Goes on to the next value, and returns it: 1 to 2147483646.
     #[inline(always)]
     pub fn next(&mut self) -> u32
         ensures value { result ≡ next_seed self.old }
@@ -78,8 +78,8 @@ impl ParkMiller {
     }
 }
 
-/// The seed of a processor, so that processors don't draw in lock step: as many steps of a generator after 1, whose multiplier is
-/// 48271, as the processor's number says.
+/// The seed of a processor, so that processors don't draw in lock step: as many steps of a generator after 1, whose
+/// multiplier is 48271, as the processor's number says.
 pub fn mixed_seed(processor: u32) -> u32
     ensures seed { result ≡ lottery.mixed_seed processor }
     ensures range { IsBetween 1 2147483646 result }

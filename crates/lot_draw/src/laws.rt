@@ -1,4 +1,4 @@
-//! What draws among those that compete come to. Laws of the definitions, with nothing to run.
+//! Laws of draws among the threads that compete, with no code to run.
 ghost use Rattle.std.specs.Prelude.{◌≡◌, ℕ, Bool, false, Option, List, map, filter};
 ghost use Rattle.lot_machine.specs.declared.funding.Node.{Node};
 ghost use Rattle.lot_machine.specs.Lottery as lottery;

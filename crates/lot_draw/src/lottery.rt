@@ -5,8 +5,8 @@ ghost use Rattle.lot_machine.specs.Lottery.{running_sums};
 
 use lot_machine::Drawn;
 
-/// What a value weighs in a processor's draw: with a compensation, which is how many ticks of its quantum a thread had
-/// used when it yielded or blocked, it is inflated as if the whole quantum were used (3.4, 4.5).
+/// The weight of a value in a processor's draw: with a compensation, which is how many ticks of its quantum a thread
+/// had used when it yielded or blocked, it is inflated as if the whole quantum were used (3.4, 4.5).
 ///
 /// `value` is in base units, `compensation` and `quantum` are in ticks.
 pub fn weight(value: u64, compensation: Option<u32>, quantum: u32) -> u128
@@ -32,8 +32,8 @@ fn inflated(value: u64, quantum: u32, used: u32) -> u128
     }
 }
 
-/// Holds a lottery with the number `d` (2, 4.2): `None` if the weights sum to 0, else the first place whose running sum
-/// is strictly greater than `d` modulo the sum.
+/// Holds a lottery with the number `d` (2, 4.2): `None` if the weights sum to 0, otherwise the first place whose
+/// running sum is strictly greater than `d` modulo the sum.
 pub fn winner(weights: &[u128], d: u128) -> Option<Drawn>
     requires { sum weights.now < 2 ^ 128 }
     ensures drawn { result ≡ lottery.winner weights.now d }
@@ -51,7 +51,8 @@ pub fn winner(weights: &[u128], d: u128) -> Option<Drawn>
     })
 }
 
-/// The number modulo the total. Most numbers and totals fit 64 bits, which divide faster, and a number below the total stays.
+/// The number modulo the total. Most numbers and totals fit 64 bits, which divide faster, and a number below the total
+/// stays.
 pub(crate) fn reduced(d: u128, total: u128) -> u128
     requires { 0 < total }
     ensures { result ≡ d % total }

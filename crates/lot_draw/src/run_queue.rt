@@ -24,8 +24,8 @@ use std::marker::Model;
 // The only list of the changed threads.
 const CHANGED: usize = 0;
 
-/// What each thread competes with, if it does, and the weights of those that compete; and how many places of the tree of weights were
-/// visited.
+/// What each thread competes with, if it does, and the weights of those that compete; and how many places of the tree
+/// of weights were visited.
 ///
 /// Only a draw writes to the tree of weights. A thread whose weight may have to change before the next draw is listed.
 #[derive(Drop)]
@@ -91,8 +91,8 @@ impl RunQueue {
         self.list(place);
     }
 
-    /// Computes the values of all stale nodes again, as `ValuedGraph::settle` does. The weights of the threads among them are set
-    /// at the next draw.
+    /// Computes the values of all stale nodes again, as `ValuedGraph::settle` does. The weights of the threads among
+    /// them are set at the next draw.
     pub fn settle(&mut self, graph: &mut ValuedGraph)
         requires places { length self.old.competitors ≡ graph.old.now.thread_limit }
         requires weights { AreWeights self.old graph.old.known }
@@ -216,7 +216,7 @@ impl RunQueue {
     }
 }
 
-/// What the thread at a place weighs, by the value that is kept of it and what it competes with, if it does.
+/// The weight of the thread at a place, from its kept value and its compensation: 0 if it doesn't compete.
 fn weight_at(
     graph: &ValuedGraph,
     place: usize,

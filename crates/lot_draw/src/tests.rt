@@ -265,7 +265,8 @@ const FUNDED_BETWEEN: [Step; 3] = [
     Step::Reads(149, (3, 149, 150), 5, 4),
 ];
 
-// A ticket that is made and funds the currency reads nothing by itself; the next draw reads the edges into what got stale.
+// A ticket that is made and funds the currency reads nothing by itself; the next draw reads the edges into what got
+// stale.
 #[test]
 fn funded_between_draws(rt: HostRuntime) -> Result<(), Fail> {
     play_thirds(&rt, rt.alloc(), &FUNDED_BETWEEN)
@@ -284,7 +285,7 @@ const UPSTREAM: [Step; 10] = [
     Step::Wins(59, (1, 59, 60)),
 ];
 
-// A ticket two currencies upstream of the thread goes: the thread is worth what funds it besides.
+// A ticket two currencies upstream of the thread goes: only the thread's other funding still counts.
 #[test]
 fn unfunded_upstream(rt: HostRuntime) -> Result<(), Fail> {
     play(&rt, rt.alloc(), small_limits(), &UPSTREAM)

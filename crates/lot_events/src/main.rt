@@ -1,5 +1,5 @@
-//! A million events of a kernel, as a caller in Rattle makes them. `bindings/check` compares what it prints, and the time that it
-//! takes, with callers in C and Rust that make the same events.
+//! A million events of a kernel, as a caller in Rattle makes them. `bindings/check` compares what it prints, and the
+//! time that it takes, with callers in C and Rust that make the same events.
 #![tactic(auto)]
 
 use lot_draw::ParkMiller;
@@ -32,7 +32,8 @@ fn play(alloc: Global) -> Option<u64> {
     Some(sum)
 }
 
-/// A draw with this number, and then the winner's expiry, or its yield if its number is even. The winner, 0 if there is none.
+/// A draw with this number, and then the winner's expiry, or its yield if its number is even. The winner, 0 if there
+/// is none.
 fn play_round(kernel: &mut Kernel, number: u64) -> u32 {
     let Reply::Winner { thread, .. } = kernel.event(&Event::Draw(1, u128::from(number))) else {
         return 0;

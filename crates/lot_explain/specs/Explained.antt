@@ -1,4 +1,4 @@
--- The whole of what `explain` writes: what `play` writes, and before the line of each lottery that was won who took part in it.
+-- The output of `explain`: the output of `play`, with the lots of each lottery that was won before its line.
 use Rattle.std.specs.Prelude.{ℕ, Option, Some, None, Result, Ok, Err, List, [], ◌∷◌, ◌++◌}
 use Rattle.lot_machine.specs.State.{State}
 use Rattle.lot_simulation.specs.declared.input.InputFault.{InputFault}
@@ -14,7 +14,8 @@ use Rattle.lot_simulation.specs.World.{Program, World, Answer, Turn, opening_wor
 use Rattle.lot_simulation.specs.World.Answer.{Answered, Ended}
 use Rattle.lot_explain.specs.Lots.{lots_of, won_in, won_lines}
 
--- the lines of the lots of a turn's lottery, given the state before the turn and what it answers; none if no lottery was won
+-- the lines of the lots of a turn's lottery, given the state before the turn and its result; none if no lottery was
+-- won
 abbrev pub lots_text : Manner → ℕ → State → Answer → List ℕ
 lots_text manner actor s (Answered e r) = won_lines manner s.limits.unit actor (lots_of s e) (won_in e r)
 lots_text manner actor s Ended = []
@@ -37,7 +38,8 @@ explained_schedule program = explained_texts program (opening_world program) pro
 
 -- ---- turns in the order of time
 
--- the same of turns that were made in the order of time, the first of them in this world, and each other in the world after the one before
+-- the same of turns that were made in the order of time, the first of them in this world, and each other in the world
+-- after the one before
 abbrev pub explained_times : World → List TimedTurn → List ℕ
 explained_times w [] = []
 explained_times w (done ∷ others) = explained_text (Timed done.time) done.actor w done.turn ++ explained_times done.turn.world others
@@ -48,7 +50,8 @@ explained_in_time program = explained_times (opening_world program) (timed_turns
 
 -- ---- the whole
 
--- what `explain` writes of a program: its schedule is played, or its turns in the order of time if the input says how long it runs
+-- what `explain` writes of a program: its schedule is played, or its turns in the order of time if the input says how
+-- long it runs
 abbrev pub explained_program : Program → Option ℕ → List ℕ
 explained_program program None = explained_schedule program
 explained_program program (Some duration) = explained_in_time program

@@ -1,4 +1,4 @@
--- Who takes part in a lottery, with what, and which numbers are each one's own.
+-- The threads that take part in a lottery, with their weights and their numbers.
 use Rattle.std.specs.Prelude.{ℕ, ◌+◌, Option, Some, None, List, [], ◌∷◌, ◌++◌, map, sum_by, unwrap_or}
 use Rattle.lot_machine.specs.declared.action.Action.TheVariants as action
 use Rattle.lot_machine.specs.declared.event.Event.{Event}
@@ -39,8 +39,8 @@ waiter_lot s t = lot_of s t (value_of s t)
 abbrev pub mutex_lots : State → ℕ → List Lot
 mutex_lots s m = map (waiter_lot s) (mutex_at s.mutexes m).waiters
 
--- Who takes part in the lottery that an event may hold: the Ready threads in that of a draw, and those who wait for its mutex in that of
--- an unlock. No other event holds one.
+-- Who takes part in the lottery that an event may hold: the Ready threads in that of a draw, and those who wait for
+-- its mutex in that of an unlock. No other event holds one.
 abbrev pub entrants_in : Event → Entrants
 entrants_in (event.Draw p d) = Ready
 entrants_in (event.Trap p ran (action.Unlock m d)) = Waiters m
@@ -56,14 +56,14 @@ lots_among s (Waiters m) = mutex_lots s m
 abbrev pub lots_of : State → Event → List Lot
 lots_of s e = lots_among s (entrants_in e)
 
--- what all of them weigh together
+-- the total weight of all of them
 abbrev pub total_of : List Lot → ℕ
 total_of lots = sum_by (λ lot. lot.weight) lots
 
 -- ---- who has won
 
--- The lottery that an event has held, by the reply to it: whose it was, who has won it, and what all lots weigh together. There is none
--- if nobody won: a draw was idle, a mutex is free, or it went to the one that had waited longest.
+-- The lottery that an event has held, by the reply to it: its kind, its winner, and the total weight of all lots.
+-- There is none without a winner: a draw was idle, a mutex is free, or it went to the thread that had waited longest.
 abbrev pub won_in : Event → Reply → Option Won
 won_in (event.Draw p d) (reply.Winner t number total delivered) = Some (record { lottery = OfProcessor; winner = t; total = total })
 won_in (event.Trap p ran (action.Unlock m d)) (reply.Trapped t ticks (Passed to (Some drawn)) ends) = Some (record { lottery = OfMutex; winner = to; total = drawn.1 })

@@ -1,4 +1,5 @@
--- What a proof unfolds to compute a text on literals: what a number is printed as, and how many turns an input may make.
+-- What a proof unfolds to compute a text on literals: what a number is printed as, and how many turns an input may
+-- make.
 use Rattle.std.specs.Prelude.{⊤}
 use Rattle.std.specs.Fmt.{digits}
 

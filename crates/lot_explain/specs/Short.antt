@@ -1,4 +1,4 @@
--- What the law of short explanations speaks of.
+-- Terms of the law of short explanations.
 use Rattle.std.specs.Prelude.{ℕ, ◌≤◌, Option, Some, None, length, ⊤}
 use Rattle.lot_machine.specs.declared.command.Command.{Command}
 use Rattle.lot_machine.specs.declared.command.Command.TheVariants.{MakeThread, MakeFunded}

@@ -36,7 +36,7 @@ pub(crate) fn next_entrants(program: &Program, system: &System, actor: u32) -> E
     entrants_of_slice(&slice_in(system, program, actor))
 }
 
-/// The same of a processor's turn with this slice, or of a draw without one.
+/// Who takes part in the lottery of a processor's turn with this slice, or of a draw without one.
 fn entrants_of_slice(slice: &Option<Slice<'_>>) -> Entrants
     ensures entrants { (processor drawn : ℕ) → result ≡ entrants_in (event_given processor drawn slice.now) }
     ensures exact { IfSome slice.now IsSlice }
@@ -47,7 +47,7 @@ fn entrants_of_slice(slice: &Option<Slice<'_>>) -> Entrants
     }
 }
 
-/// The same of a slice that ends with this trap, or with its budget.
+/// Who takes part in the lottery of a slice that ends with this trap, or with its budget.
 fn entrants_of_trap(trap: Option<ScriptTrap>) -> Entrants
     ensures { (processor drawn : ℕ) (done : ASlice) → done.trap ≡ trap → result ≡ entrants_in (event_of_slice processor drawn done) }
 {

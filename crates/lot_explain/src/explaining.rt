@@ -15,8 +15,8 @@ use lot_text::{ParseFault, Program, Watched};
 use std::alloc::Global;
 use std::io::{Read, Write};
 
-/// Reads an input, makes its turns, and writes what `play` writes, with the lines of those who took part before the line of each lottery
-/// that was won; or one line, if the input is refused.
+/// Reads an input, makes its turns, and writes the output of `play`, with the lots of each lottery that was won
+/// before its line; or one line, if the input is refused.
 pub fn explain<R: Read, W: Write>(
     alloc: Global,
     reader: &mut Watched<R>,
@@ -36,9 +36,9 @@ pub fn explain<R: Read, W: Write>(
     explain_bytes(alloc, &mut bytes, &mut leftovers, writer)
 }
 
-/// Explains what these bytes say, or writes why they are refused, as `explain` does, for callers who want to say more of it. The bytes
-/// stay if they are refused, and else go before the first turn; then what the run leaves to tell is put in `leftovers`. It takes all its
-/// memory before the first turn.
+/// Explains the input in `bytes`, or writes why it is refused, as `explain` does, for callers that report more. If it
+/// is refused, `bytes` keeps it; otherwise its memory is freed before the first turn, and the run's warnings are
+/// stored in `leftovers`. It allocates all its memory before the first turn.
 pub fn explain_bytes<W: Write>(
     alloc: Global,
     bytes: &mut Vec<u8>,

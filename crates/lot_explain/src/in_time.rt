@@ -21,8 +21,8 @@ use lot_text::{Program, Watched};
 use std::alloc::Global;
 use std::io::Write;
 
-/// Makes the program's turns in the order of time, and writes what `play` writes of them, and before the line of each lottery that was
-/// won who took part in it. It takes all its memory before the first turn.
+/// Makes the program's turns in the order of time, and writes the output of `play`, with the lots of each lottery
+/// that was won before its line. It allocates all its memory before the first turn.
 pub(crate) fn explain_timed<W: Write>(
     alloc: Global,
     program: &Program,
@@ -101,7 +101,7 @@ fn explain_turns<W: Write>(
     Ok(page.write_out(writer)?)
 }
 
-/// Makes the next turn, if there is one, puts on the page what explains it, and answers whether there was one.
+/// Makes the next turn, if there is one, puts its explanation on the page, and returns whether there was one.
 fn explain_next<W: Write>(
     program: &Program,
     system: &mut System,

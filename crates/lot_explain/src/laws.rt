@@ -1,4 +1,4 @@
-//! What explanations come to: laws of the definitions, with nothing to run.
+//! The lengths and the numbers of explanations: laws of the definitions, with nothing to run.
 ghost use Rattle.std.specs.Prelude.{◌≡◌, ◌≤◌, ◌<◌, ◌+◌, ◌*◌, ◌^◌, ℕ, All, List, ◌∷◌, ◌++◌, Ok, Some, length};
 ghost use Rattle.lot_machine.specs.Bounds.{IsWithinBounds};
 ghost use Rattle.lot_machine.specs.declared.event.Event.{Event};
@@ -17,9 +17,9 @@ ghost use Rattle.lot_explain.specs.Numbers.{HasNumber, number_in};
 ghost use Rattle.lot_explain.specs.Short.{HasShortName, turn_count};
 ghost use Rattle.lot_explain.specs.declared.won.Won.{Won};
 
-/// What explains a program's turns is longer than what `play` writes of them by at most 139 bytes for each turn and each thread that there
-/// may be, if sizes are within their bounds, names of threads have at most 16 bytes, and times have 32 bits. So it is for every input that
-/// is read.
+/// An explanation of a program's turns is longer than the output of `play` by at most 139 bytes for each turn and
+/// each thread that there may be, if sizes are within their bounds, names of threads have at most 16 bytes, and times
+/// have 32 bits. Every input that is read meets these.
 pub fn explanations_are_short()
     ensures scheduled { (program : Program) → IsWithinBounds program.limits → All HasShortName program.commands
         → length (explained_schedule program) ≤ length (scheduled_output program) + length program.schedule * (program.limits.threads * 139) }

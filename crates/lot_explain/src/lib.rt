@@ -1,5 +1,5 @@
-//! What explains a play: what `play` writes, and before the line of each lottery that was won who took part in it, with what each weighs
-//! and which numbers are its own. So each draw can be checked by hand.
+//! Explains a play: the output of `play` with the lots of each lottery that was won before its line: the threads that
+//! took part, with their weights and their ranges of numbers. So each draw can be checked by hand.
 #![tactic(auto)]
 
 mod entrants;

@@ -10,7 +10,8 @@ use lot_system::PlayFault;
 use lot_text::Watched;
 use std::io::Write;
 
-/// If the event has held a lottery that was won, by the reply to it, writes the lines of its lots. What is on the page is written first.
+/// If the event has held a lottery that was won, by the reply to it, writes the lines of its lots. What is on the
+/// page is written first.
 pub(crate) fn put_lots<W: Write>(
     heading: Heading,
     event: &Event,

@@ -13,8 +13,8 @@ use lot_text::{Program, Watched};
 use std::alloc::Global;
 use std::io::Write;
 
-/// Makes the turns of the program's schedule, and writes what `play` writes of them, and before the line of each lottery that was won who
-/// took part in it. It takes all its memory before the first turn.
+/// Makes the turns of the program's schedule, and writes the output of `play`, with the lots of each lottery that was
+/// won before its line. It allocates all its memory before the first turn.
 pub(crate) fn explain_scheduled<W: Write>(
     alloc: Global,
     program: &Program,

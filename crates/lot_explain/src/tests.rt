@@ -1,4 +1,4 @@
-//! Inputs that are explained, and what is written of them.
+//! Inputs that are explained, and their explanations.
 use crate::explain;
 use lot_system::Played;
 use lot_text::Watched;
@@ -22,7 +22,7 @@ fundx 1 base c one
 schedule 0 0 0 1 1 1 1 1 1 1 1 1
 ";
 
-/// What is written of it, worked out by hand.
+/// Its explanation, worked out by hand.
 const EXPLAINED: &str = "0 funded 1 1
 0 funded 2 2
 0 funded 3 3
@@ -69,7 +69,7 @@ fundx 1 base a short
 fundx 1 base b long
 ";
 
-/// What is written of it, worked out by hand.
+/// Its explanation, worked out by hand.
 const EXPLAINED_IN_TIME: &str = "0 0 funded 1 1
 0 0 funded 2 2
 0 1 lot thread 1 a weight 1 from 0 below 1
@@ -90,7 +90,7 @@ processor 1 quanta 3 idle 0 ticks 12 unused 0
 total turns 7 quanta 3 ticks 12 refused 0 left 0
 ";
 
-/// Explains the input, and compares what came of it and what was written.
+/// Explains the input, and compares the outcome and the output.
 fn check(rt: &impl Abort, alloc: Global, input: &str, came: Played, expected: &str) {
     let mut reader = Watched::new(input.as_bytes());
     let mut writer = Watched::new(Vec::new(alloc));

@@ -19,7 +19,7 @@ use lot_system::{Leftovers, PlayFault, System, next_turn, put_answer};
 use lot_text::{Program, Watched};
 use std::io::Write;
 
-/// Makes the turns of the program's schedule, and writes what they answer, each with what explains it.
+/// Makes the turns of the program's schedule, and writes their lines with their explanations.
 pub(crate) fn explain_turns<W: Write>(
     program: &Program,
     system: &mut System,
@@ -48,7 +48,7 @@ pub(crate) fn explain_turns<W: Write>(
     Ok(page.write_out(writer)?)
 }
 
-/// Makes one turn, and puts on the page what it answers, with what explains it.
+/// Makes one turn, and puts its lines on the page with their explanation.
 fn explain_turn<W: Write>(
     program: &Program,
     system: &mut System,
@@ -87,7 +87,7 @@ fn explain_turn<W: Write>(
     }
 }
 
-/// Puts on the page what a turn answered, after the lots of its lottery, if it was won.
+/// Puts the lines of a turn on the page, after the lots of its lottery, if it was won.
 pub(crate) fn put_turn<W: Write>(
     system: &mut System,
     heading: Heading,
@@ -116,7 +116,7 @@ pub(crate) fn put_turn<W: Write>(
     )
 }
 
-/// What the lines of the actor's turn need besides what the turn was answered.
+/// What the lines of the actor's turn need in addition to its event and reply.
 pub(crate) fn heading(system: &System, manner: Manner, actor: u32) -> Heading
     ensures manner { result.manner ≡ manner }
     ensures actor { result.actor ≡ actor }

@@ -13,11 +13,11 @@ pub(crate) struct Won {
     pub(crate) lottery: Lottery,
     /// The thread that has won it.
     pub(crate) winner: u32,
-    /// What all lots weigh together.
+    /// The total weight of all lots.
     pub(crate) total: u128,
 }
 
-/// The lottery that an event has held, by the reply to it; none if nobody won.
+/// The lottery that an event has held, by the reply to it; none if no thread won.
 pub(crate) fn won_in(event: &Event, reply: Reply) -> Option<Won>
     ensures { result ≡ lots.won_in event.now reply }
 {
@@ -28,7 +28,7 @@ pub(crate) fn won_in(event: &Event, reply: Reply) -> Option<Won>
     }
 }
 
-/// The same of a draw.
+/// The lottery that a draw has held, by the reply to it; none if no thread won.
 fn won_in_draw(reply: Reply) -> Option<Won>
     ensures { (processor number : ℕ) → result ≡ lots.won_in (event.Draw processor number) reply }
 {
@@ -42,7 +42,7 @@ fn won_in_draw(reply: Reply) -> Option<Won>
     }
 }
 
-/// The same of an unlock.
+/// The lottery that an unlock has held, by the reply to it; none if no thread won.
 fn won_in_unlock(reply: Reply) -> Option<Won>
     ensures { (processor ran mutex number : ℕ) → result ≡ lots.won_in (event.Trap processor ran (action.Unlock mutex number)) reply }
 {

@@ -49,22 +49,22 @@ pub record Settles (old new : Snapshot) : Type 0 where
   pub once : HasNoneTwice old.stale
   pub reads : new.meter.ticket_reads ≡ (settled_meter old).ticket_reads
 
--- For its lottery an unlock that passes its mutex on has read each edge into what was stale once, and visited nothing; then both
--- the owner that was and the next one are stale.
+-- For its lottery an unlock that passes its mutex on has read each edge into what was stale once, and visited nothing;
+-- then both the old owner and the next one are stale.
 pub record PassesOn (mutex to : ℕ) (old new : Snapshot) : Type 0 where
   pub once : HasNoneTwice old.stale
   pub meter : new.meter ≡ settled_meter old
   pub owner : (owner : ℕ) → (mutex_at old.state.mutexes mutex).owner ≡ Some owner → Contains new.stale (Thread owner)
   pub next : Contains new.stale (Thread to)
 
--- What a trap counts: nothing, but for an unlock that passes its mutex on.
+-- What a trap counts: nothing, except for an unlock that passes its mutex on.
 abbrev pub CountsTrap : Action → Outcome → Snapshot → Snapshot → Type 0
 CountsTrap (Unlock mutex d) (Passed to draw) old new = PassesOn mutex to old new
 CountsTrap action outcome old new = CountsNothing old new
 
--- What an event counts, given its reply. A draw that isn't refused settles. If it has a winner, it visits places of the tree of
--- weights, one or more, and no more than there are digits in any way to write the limit on threads in binary; else it visits none.
--- A trap counts as above, and any other event counts nothing, a refused draw too.
+-- What an event counts, given its reply. A draw that isn't refused settles. If it has a winner, it visits places of
+-- the tree of weights, one or more, and no more than there are digits in any way to write the limit on threads in
+-- binary; otherwise it visits none. A trap counts as above, and any other event counts nothing, a refused draw too.
 abbrev pub Counts : Event → Reply → Snapshot → Snapshot → Type 0
 Counts (Draw processor d) (Winner thread number total delivered) old new =
     Settles old new × CountsReads old.state.limits.threads old.meter.tree_visits new.meter.tree_visits

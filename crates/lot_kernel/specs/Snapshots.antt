@@ -20,8 +20,8 @@ pub record Snapshot : Type 0 where
 abbrev pub starting : Sizes → Snapshot
 starting sizes = record { state = opening sizes; stale = []; meter = record { ticket_reads = 0; tree_visits = 0 } }
 
--- A node that is stale after it was stale before it, or a path of edges that are there before or after it leads to the node from
--- one that it touched (4.4).
+-- A node that is stale after it was stale before it, or a path of edges that are there before or after it leads to the
+-- node from one that it touched (4.4).
 abbrev pub MakesStale : Snapshot → Snapshot → Type 0
 MakesStale old new =
     (x : Node) → Contains new.stale x → Contains old.stale x ⊎ ((node : Node) × Touches old.state new.state node × PathLeads (funding_of old.state) (funding_of new.state) node x)
@@ -57,7 +57,7 @@ held sizes currencies threads queues = record {
   limits = sizes;
 }
 
--- the target may be funded, but for base: it is a currency or a thread that is there
+-- the target may be funded, except for base: it is a currency or a thread that is there
 abbrev pub IsTargetThere : State → Target → Type 0
 IsTargetThere s Unfunded = ⊥
 IsTargetThere s (Currency c) = slice_get (map is_some s.currencies) c ≡ Some true

@@ -6,8 +6,8 @@ ghost use Rattle.lot_machine.specs.Traps.{after_trap, with_ticks};
 
 use lot_machine::{After, Record, Status};
 
-/// A trap that is made: by whom and where, the ticks that it and the work before it cost, and how much of the quantum is used
-/// then.
+/// A trap that is made: by whom and where, the ticks that it and the work before it cost, and how much of the quantum
+/// is used then.
 #[derive(Clone, Copy, Debug)]
 pub(crate) struct Trap {
     pub(crate) processor: u32,
@@ -27,7 +27,7 @@ pub(crate) fn record_after(before: Record, trap: Trap, after: After, quantum: u3
     }
 }
 
-/// The record of a thread after its trap, but for its ticks.
+/// The record of a thread after its trap, except for its ticks.
 fn leaving(before: Record, trap: Trap, after: After, quantum: u32) -> Record
     ensures { result ≡ after_trap after trap.processor trap.used quantum before }
 {

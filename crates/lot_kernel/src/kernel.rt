@@ -1,11 +1,11 @@
 //! The kernel and its events.
-ghost use Rattle.std.specs.Prelude.{◌≡◌, ◌<◌, ◌≤◌, ◌^◌, [], All, None, Some, IfNone, IfOk, IfSome, MatchOption, length, option_map, vec_len, vec_capacity};
+ghost use Rattle.std.specs.Prelude.{◌≡◌, ◌<◌, ◌≤◌, All, None, Some, IfNone, IfOk, IfSome, MatchOption, length, option_map, vec_len, vec_capacity};
 ghost use Rattle.lot_machine.specs.Bounds.{IsBetween};
 ghost use Rattle.lot_machine.specs.Mutexes.{mutex_at};
 ghost use Rattle.lot_machine.specs.Numbered as numbered;
-ghost use Rattle.lot_machine.specs.State.{funding_of, opening, sizes_of, thread_on, used_by};
+ghost use Rattle.lot_machine.specs.State.{sizes_of, thread_on, used_by};
 ghost use Rattle.lot_machine.specs.Step.{replies, state_after, step};
-ghost use Rattle.lot_machine.specs.Facts.{HasNoCycle, IsSound, base_value, live_value};
+ghost use Rattle.lot_machine.specs.Facts.{IsSound};
 ghost use Rattle.lot_machine.specs.Rows as rows;
 ghost use Rattle.lot_machine.specs.declared.ticket.Ticket.{Ticket as ATicket};
 ghost use Rattle.lot_machine.specs.Funding.{ticket_in};
@@ -20,8 +20,8 @@ use lot_value::Meter;
 use std::alloc::{AllocError, Global};
 use std::marker::Model;
 
-/// A lottery-scheduled kernel. Contracts see it as the `State` of the machine's definitions, with the nodes that are stale, whose
-/// values are computed again before they are used, and with what was counted.
+/// A lottery-scheduled kernel. Contracts see it as the `State` of the machine's definitions, with the nodes that are
+/// stale, whose values are computed again before they are used, and with what was counted.
 ///
 /// All its room is made by `new`, and no event takes memory.
 pub struct Kernel {
@@ -47,8 +47,8 @@ impl Model for Kernel {
 }
 
 impl Kernel {
-    /// A kernel with base alone, empty ports and free mutexes. It takes all the memory that the kernel will ever use, and
-    /// fails only for want of it.
+    /// A kernel with base alone, empty ports and free mutexes. It takes all the memory that the kernel will ever use,
+    /// and fails only if out of memory.
     pub fn new(alloc: Global, limits: Limits) -> Result<Kernel, AllocError>
         ensures opening { IfOk result (λ k. k ≡ starting (sizes_of limits)) }
         ensures sound { IfOk result (λ k. IsSound k.state) }
@@ -72,7 +72,7 @@ impl Kernel {
         self.tables.limits().unit
     }
 
-    /// How many tickets, lends and owners were read for values, and how many places of the tree of weights were visited.
+    /// The counts: the tickets, lends and owners read for values, and the places of the tree of weights visited.
     pub fn meter(&self) -> Meter
         ensures { result ≡ self.now.meter }
     {
@@ -93,8 +93,8 @@ impl Kernel {
         self.tables.currency_count()
     }
 
-    /// One event. It takes no memory. A refused event changes nothing; a trap that is answered as refused costs its ticks. Only
-    /// a draw that isn't refused, and an unlock that passes its mutex on, compute values.
+    /// One event. It takes no memory. A refused event changes nothing; a trap whose outcome is a refusal costs its
+    /// ticks. Only a draw that isn't refused, and an unlock that passes its mutex on, compute values.
     #[inline(always)]
     pub fn event(&mut self, event: &Event) -> Reply
         ensures reply { result ≡ (step self.old.state event.now).reply }
@@ -121,8 +121,8 @@ impl Kernel {
         }
     }
 
-    /// The row of the ticket with this number, `None` if and only if it isn't there. Computes what is stale, and counts that, and
-    /// one reading of the ticket if it funds something. Changes nothing else, and takes no memory.
+    /// The row of the ticket with this number, `None` if and only if it isn't there. Computes what is stale, and
+    /// counts that, and one reading of the ticket if it funds something. Changes nothing else, and takes no memory.
     pub fn ticket_row(&mut self, ticket: u32) -> Option<TicketRow>
         ensures row { result ≡ rows.ticket_row self.old.state ticket }
         ensures state { self.new.state ≡ self.old.state }
@@ -145,8 +145,8 @@ impl Kernel {
         self.tables.currency_row(currency)
     }
 
-    /// The row of the thread with this number, `None` if and only if there is none. Computes what is stale, and counts that.
-    /// Changes nothing else, and takes no memory.
+    /// The row of the thread with this number, `None` if and only if there is none. Computes what is stale, and counts
+    /// that. Changes nothing else, and takes no memory.
     pub fn thread_row(&mut self, thread: u32) -> Option<ThreadRow>
         ensures row { result ≡ rows.thread_row self.old.state thread }
         ensures state { self.new.state ≡ self.old.state }
@@ -174,8 +174,8 @@ impl Kernel {
         self.tables.script_of(thread)
     }
 
-    /// Lists in `out` the threads that wait for the mutex, the one that has waited longest first; none if there is no such mutex. It
-    /// takes no memory, since `out` has room for all threads.
+    /// Lists in `out` the threads that wait for the mutex, the one that has waited longest first; none if there is no
+    /// such mutex. It takes no memory, since `out` has room for all threads.
     pub fn list_waiters(&self, mutex: u32, out: &mut Vec<u32>)
         requires { self.now.state.limits.threads ≤ vec_capacity out.old }
         ensures waiters { out.new.items ≡ (mutex_at self.now.state.mutexes mutex).waiters }

@@ -1,4 +1,5 @@
-//! The kernel: a library that is given events, commands, draws and traps, and answers each as the paper's machine does.
+//! The kernel: a library that takes events, such as commands, draws and traps, and replies to each as the paper's
+//! machine does.
 #![tactic(auto)]
 
 mod counts;

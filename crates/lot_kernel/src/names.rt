@@ -24,8 +24,8 @@ pub(crate) fn thread_place(threads: &[Thread], name: &Name) -> Option<usize>
         .position(|thread| is_same(name, &thread.name))
 }
 
-/// Whether it is the same name. Names that are made one after the other differ most often in their last byte, so that is looked at
-/// first.
+/// Whether it is the same name. Names that are made one after the other differ most often in their last byte, so that
+/// is looked at first.
 #[inline(always)]
 fn is_same(name: &Name, other: &Name) -> bool
     ensures { result ≡ bytes_eq name.now other.now }

@@ -1,4 +1,4 @@
-//! The kernel's tables: what the machine's state is kept in.
+//! The kernel's tables, which hold the machine's state.
 ghost use Rattle.std.specs.Prelude.{◌≡◌, ◌≤◌, IfOk, length, vec_len, vec_capacity};
 ghost use Rattle.lot_machine.specs.Mutexes.{mutex_at};
 ghost use Rattle.lot_machine.specs.Order.{IsInOrder};
@@ -20,8 +20,8 @@ use lot_value::Meter;
 use std::alloc::{AllocError, Global};
 use std::marker::Model;
 
-/// The names of currencies, the threads with what is worth what and what was counted, and who waits where. Contracts see the state
-/// that they hold.
+/// The names of currencies, the threads with their values and the counts, and the queues. Contracts see the state that
+/// they hold.
 ///
 /// Each event also needs the state to be in order, and the kernel keeps it so.
 #[derive(Drop)]
@@ -96,8 +96,8 @@ impl Tables {
         self.currencies.len() as u32
     }
 
-    /// Lists in `out` the threads that wait for the mutex, the one that has waited longest first; none if there is no such mutex. It
-    /// takes no memory.
+    /// Lists in `out` the threads that wait for the mutex, the one that has waited longest first; none if there is no
+    /// such mutex. It takes no memory.
     pub(crate) fn list_waiters(&self, mutex: u32, out: &mut Vec<u32>)
         requires { self.now.state.limits.threads ≤ vec_capacity out.old }
         ensures waiters { out.new.items ≡ (mutex_at self.now.state.mutexes mutex).waiters }

@@ -25,7 +25,7 @@ enum Line<'a> {
     List(Kind),
 }
 
-/// A step of a row: what the kernel is given and has to answer, or what a table has to show of a number.
+/// A step of a row: an event and the expected reply, or a number and the row or value that the kernel has to show.
 #[derive(Clone, Copy)]
 enum Step<'a> {
     Gives(Line<'a>, Reply),
@@ -33,7 +33,7 @@ enum Step<'a> {
     Wins(u32, u128, Winner, Option<u32>),
     /// A draw on the processor with this number that nobody wins.
     Idles(u32, u128),
-    /// A trap on the processor with this number, without work before it: its thread, and what comes of it. It costs its one
+    /// A trap on the processor with this number, without work before it: its thread, and its outcome. It costs its one
     /// tick, and doesn't end the quantum.
     Traps(u32, Action, u32, Outcome),
     Ticket(TicketShown<'a>),
@@ -809,7 +809,7 @@ fn link(kernel: &mut Kernel, alloc: Global, number: u32, tickets: u32) -> Result
     Ok(())
 }
 
-/// This many tickets of each of these currencies but the last fund the next.
+/// This many tickets of each of these currencies except the last fund the next.
 fn link_all(kernel: &mut Kernel, alloc: Global, count: u32, tickets: u32) -> Result<(), Fail> {
     for number in (1..count).rev() {
         link(kernel, alloc, number, tickets)?;
@@ -994,7 +994,7 @@ const REFUSED: [Step<'_>; 41] = [
     Step::Gives(Line::Rmcur("g"), Reply::Refused(Refusal::InUse)),
 ];
 
-/// In each line the least check that fails is answered, though later ones would fail too.
+/// In each line the reply names the least check that fails, though later ones would fail too.
 #[test]
 fn refused_commands(rt: HostRuntime) -> Result<(), Fail> {
     play_small(&rt, rt.alloc(), (2, 1, 1), &REFUSED)

@@ -26,7 +26,7 @@ use Rattle.lot_machine.proofs.CommandsKept.{unrefused}
 -- ---- what traps do besides
 
 -- a change of a thread's record
-change-length : (change : Record → Record) (records : List Record) (t : ℕ) → length (change_record change records t) ≡ length records
+pub change-length : (change : Record → Record) (records : List Record) (t : ℕ) → length (change_record change records t) ≡ length records
 change-length change records t = at (at_number records t) refl
   where
     at : (o : Option Record) → at_number records t ≡ o → length (change_record change records t) ≡ length records

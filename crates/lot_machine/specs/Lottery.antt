@@ -2,7 +2,7 @@
 use Rattle.std.specs.Prelude.{ℕ, zero, suc, ◌+◌, ◌-◌, ◌*◌, ◌/◌, ◌%◌, ◌<◌, ◌≤◌, ◌==◌, nat_lt, Option, Some, None, List, [], ◌∷◌, take, sum, if◌then◌else◌}
 use Rattle.lot_machine.specs.declared.drawn.Drawn.{Drawn}
 
--- What a value weighs in a processor's draw: with a compensation, which is the ticks used, it is inflated as if the
+-- The weight of a value in a processor's draw: with a compensation, which is the ticks used, it is inflated as if the
 -- whole quantum were used (3.4, 4.5).
 abbrev pub weight : ℕ → Option ℕ → ℕ → ℕ
 weight value None quantum = value
@@ -18,8 +18,8 @@ abbrev pub first_above : ℕ → List ℕ → ℕ
 first_above n [] = 0
 first_above n (x ∷ xs) = if nat_lt n x then 0 else suc (first_above n xs)
 
--- The lottery: nobody wins if the weights sum to 0. Else the winner is at the first place whose running sum is strictly
--- greater than the number drawn, taken modulo the sum (2, 4.2).
+-- The lottery: nobody wins if the weights sum to 0. Otherwise the winner is at the first place whose running sum is
+-- strictly greater than the number drawn, taken modulo the sum (2, 4.2).
 abbrev pub winner : List ℕ → ℕ → Option Drawn
 winner ws d =
     if sum ws == 0 then None
@@ -42,8 +42,8 @@ drawn_number s = (next_seed s - 1) * 2147483646 + (next_seed (next_seed s) - 1)
 abbrev pub seed_after_number : ℕ → ℕ
 seed_after_number s = next_seed (next_seed s)
 
--- A wide number is drawn from the generator's next four values: the first two and the last two each make a drawn number, and the
--- first of these counts for the more (4.1).
+-- A wide number is drawn from the generator's next four values: the first two and the last two each make a drawn
+-- number, and the first of these counts for the more (4.1).
 abbrev pub wide_number : ℕ → ℕ
 wide_number s = drawn_number s * (2147483646 * 2147483646) + drawn_number (seed_after_number s)
 
@@ -51,8 +51,8 @@ wide_number s = drawn_number s * (2147483646 * 2147483646) + drawn_number (seed_
 abbrev pub seed_after_wide_number : ℕ → ℕ
 seed_after_wide_number s = seed_after_number (seed_after_number s)
 
--- A seed for each processor, so that processors don't draw in lock step: the pth value after 1 of the generator whose multiplier
--- is 48271 (4.1).
+-- A seed for each processor, so that processors don't draw in lock step: the pth value after 1 of the generator whose
+-- multiplier is 48271 (4.1).
 abbrev pub mixed_seed : ℕ → ℕ
 mixed_seed zero = 1
 mixed_seed (suc p) = 48271 * mixed_seed p % 2147483647

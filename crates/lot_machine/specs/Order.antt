@@ -1,4 +1,4 @@
--- What is true at the start, and what each event keeps. That each state that is reached is sound follows from it.
+-- An invariant: true at the start, and kept by each event. So each reached state is sound.
 use Rattle.std.specs.Prelude.{◌≡◌, ℕ, ◌^◌, ◌<◌, ◌≤◌, Some, List, All, IfSome, length, map, slice_get}
 use Rattle.lot_machine.specs.declared.record.Record.{Record}
 use Rattle.lot_machine.specs.declared.record.Status.{Status}
@@ -21,7 +21,7 @@ pub record HasQueues (records : List Record) (clients : List (List ℕ)) (ports 
   pub waiters : (m : ℕ) (mutex : Mutex) → at_number mutexes m ≡ Some mutex → IsQueue records (Waiting m) mutex.waiters
   pub served : (server : ℕ) (threads : List ℕ) → at_number clients server ≡ Some threads → IsQueue records (Served server) threads
 
--- Nothing makes a cycle, tickets fund only currencies that are there, each processor has its own thread, those who wait
+-- Nothing makes a cycle, tickets fund only existing currencies, each processor has its own thread, those who wait
 -- stand where their statuses say, and tickets and sizes are within their bounds.
 pub record IsInOrder (s : State) : Type 0 where
   pub no_cycle : HasNoCycle (funding_of s)

@@ -69,7 +69,7 @@ opening limits = record {
   limits = limits;
 }
 
--- ---- what the funding graph sees
+-- ---- the funding graph of a state
 
 -- what a thread lends to: a served one to its server, a waiting one to its mutex, any other to nobody (4.6, 6.1)
 abbrev pub lend_of : Status → Lend
@@ -91,7 +91,7 @@ live_in records = map (λ r. is_live_status r.status) records
 abbrev pub live_of : State → List Bool
 live_of s = live_in s.records
 
--- the tickets and what is lent
+-- the currencies, the tickets, the lends of threads and the owners of mutexes
 abbrev pub funding_of : State → Funding
 funding_of s = record { currencies = map is_some s.currencies; tickets = s.tickets; lends = map (λ r. lend_of r.status) s.records; owners = map (λ m. m.owner) s.mutexes }
 
@@ -112,7 +112,7 @@ abbrev pub used_on : ℕ → Status → Option ℕ
 used_on p (Running processor used) = then_some (processor == p) used
 used_on p other = None
 
--- what the thread is doing
+-- the thread's status
 abbrev pub status_of : List Record → ℕ → Option Status
 status_of records t = option_map (λ r. r.status) (at_number records t)
 
@@ -136,11 +136,11 @@ change_record change records t = changed (at_number records t)
     changed None = records
     changed (Some r) = set_number records t (change r)
 
--- what a thread is worth, in base units (4.4)
+-- a thread's value, in base units (4.4)
 abbrev pub value_of : State → ℕ → ℕ
 value_of s t = thread_value s.limits.unit (funding_of s) (live_of s) t
 
--- what a thread weighs in a draw (3.4, 4.5)
+-- a thread's weight in a draw (3.4, 4.5)
 abbrev pub weight_of : State → ℕ → ℕ
 weight_of s t = weight (value_of s t) (option_and_then (λ r. r.compensation) (at_number s.records t)) s.limits.quantum
 

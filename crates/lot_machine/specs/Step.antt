@@ -64,7 +64,7 @@ expire s t used = record {
 abbrev pub owns : State → ℕ → ℕ → Bool
 owns s t m = option_any (λ owner. owner == t) (mutex_at s.mutexes m).owner
 
--- Each trap's checks, in order: the first that fails is answered.
+-- Each trap's checks, in order: the outcome names the first that fails.
 abbrev pub trap_refusal : State → ℕ → Action → Option TrapRefusal
 trap_refusal s t Yield = None
 trap_refusal s t (Call p number) = first_failing ((is_none (at_number s.ports p), NoPort) ∷ [])
@@ -77,7 +77,7 @@ trap_refusal s t (Lock m) =
 trap_refusal s t (Unlock m d) = first_failing ((is_none (at_number s.mutexes m), NoMutex) ∷ (not (owns s t m), NotOwner) ∷ [])
 trap_refusal s t Exit = None
 
--- the state after a trap's work, what came of it, and how the thread that made it leaves its processor
+-- the state after a trap's work, its outcome, and how the thread that made it leaves its processor
 pub record Effect : Type 0 where
   pub state : State
   pub outcome : Outcome
@@ -91,7 +91,7 @@ of_ports s e = record { state = record s { records = e.records; clients = e.clie
 abbrev pub of_mutexes : State → MutexTrap → Effect
 of_mutexes s e = record { state = record s { records = e.records; mutexes = e.mutexes }; outcome = e.outcome; after = e.after }
 
--- what a trap does that isn't refused (4.6, 6.1)
+-- the effect of a trap that isn't refused (4.6, 6.1)
 abbrev pub trap_effect : State → ℕ → Action → Effect
 trap_effect s t Yield = record { state = s; outcome = outcome.Yielded; after = Leaves status.Ready }
 trap_effect s t (Call p number) = of_ports s (call s.records s.clients s.ports t p number)
@@ -102,7 +102,7 @@ trap_effect s t (Lock m) = of_mutexes s (lock s.records s.mutexes t m)
 trap_effect s t (Unlock m d) = of_mutexes s (unlock s.records s.mutexes (value_of s) m d)
 trap_effect s t Exit = record { state = s; outcome = outcome.Exited; after = Ends }
 
--- a refused trap does nothing else, and the thread goes on
+-- a refused trap has no other effect, and the thread goes on
 abbrev pub checked_effect : State → Option TrapRefusal → Effect → Effect
 checked_effect s None effect = effect
 checked_effect s (Some refusal) effect = record { state = s; outcome = outcome.Refused refusal; after = GoesOn }
@@ -119,7 +119,7 @@ finish_trap s p t ticks used effect = record {
   reply = answer.Trapped t ticks effect.outcome (ends_quantum effect.after used s.limits.quantum);
 }
 
--- a trap costs one tick besides the ticks of work before it (4.5)
+-- a trap costs one tick in addition to the ticks of work before it (4.5)
 abbrev pub trap : State → ℕ → ℕ → ℕ → ℕ → Action → Step
 trap s p t used ran action = finish_trap s p t (ran + 1) (used + ran + 1) (checked_effect s (trap_refusal s t action) (trap_effect s t action))
 
@@ -133,7 +133,7 @@ thread_there s p = unwrap_or (thread_on s.records p) 0
 abbrev pub used_there : State → ℕ → ℕ
 used_there s p = unwrap_or (option_and_then (used_by s.records p) (thread_on s.records p)) 0
 
--- Each event's checks, in order: the first that fails is answered.
+-- Each event's checks, in order: the reply names the first that fails.
 abbrev pub event_refusal : State → Event → Option Refusal
 event_refusal s (event.Command command) = None
 event_refusal s (event.Draw p d) = first_failing ((is_bad_processor s p, BadProcessor) ∷ (is_some (thread_on s.records p), Busy) ∷ [])
@@ -142,7 +142,7 @@ event_refusal s (event.Trap p ran action) =
     first_failing ((is_bad_processor s p, BadProcessor) ∷ (is_none (thread_on s.records p), NotRunning)
     ∷ (nat_lt s.limits.quantum (used_there s p + ran + 1), BadTicks) ∷ [])
 
--- What an event does that isn't refused. If it needs a thread on the processor, one runs there then.
+-- The effect of an event that isn't refused. If it needs a thread on the processor, one runs there then.
 abbrev pub event_effect : State → Event → Step
 event_effect s (event.Command command) = command_step s command
 event_effect s (event.Draw p d) = draw s p d

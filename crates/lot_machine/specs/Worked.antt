@@ -1,4 +1,4 @@
--- Words for small runs: commands as the console writes them, and what is looked at after them.
+-- Notation for small runs: the commands of the console, and the values and listings after them.
 use Rattle.std.specs.Prelude.{ℕ, Bool, List, [], ◌∷◌, map, codes, Option, Some}
 use Rattle.lot_machine.specs.declared.command.Command.TheVariants.{MakeTicket, RemoveTicket, MakeCurrency, RemoveCurrency, Fund, Unfund, MakeThread, MakeFunded}
 use Rattle.lot_machine.specs.declared.event.Event.{Event}
@@ -18,7 +18,7 @@ use Rattle.lot_machine.specs.Rows.{currency_row}
 abbrev pub largest : Sizes
 largest = record { tickets = 65535; currencies = 4096; threads = 4096; ports = 2; mutexes = 2; processors = 2; scripts = 1; quantum = 100; unit = 1 }
 
--- the same, but one of base is worth 256
+-- the same, except that one of base is worth 256
 abbrev pub finer : Sizes
 finer = record largest { unit = 256 }
 
@@ -51,7 +51,7 @@ mkthr name = Command (MakeThread name 1)
 abbrev pub fundx : ℕ → List ℕ → List ℕ → Event
 fundx amount currency name = Command (MakeFunded amount currency name 1)
 
--- ---- what they come to
+-- ---- results
 
 -- the state after these events, from the start with these limits
 abbrev pub after_in : Sizes → List Event → State
@@ -68,7 +68,7 @@ after events = after_in largest events
 abbrev pub answers : List Event → List Event → List Reply
 answers earlier events = answers_in largest earlier events
 
--- what the threads are worth and weigh, and what they are doing
+-- the values, the weights and the statuses of the threads
 abbrev pub values : State → List ℕ
 values s = map (value_of s) (numbers s.records)
 

@@ -1,4 +1,4 @@
-//! What a trap leaves a thread to do.
+//! How a thread goes on after its trap.
 
 use crate::Status;
 

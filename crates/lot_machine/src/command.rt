@@ -1,10 +1,10 @@
-//! What the console asks of the kernel.
+//! The commands of the console to the kernel.
 
 ghost use Rattle.std.specs.Prelude.{◌≡◌};
 
 use crate::Name;
 
-/// What a listing is of.
+/// The kind of rows in a listing.
 #[derive(Clone, Copy, Debug, PartialEq, Eq)]
 pub enum Kind {
     Tickets,

@@ -1,4 +1,4 @@
-//! What a lottery came to.
+//! The result of a lottery.
 
 /// Who won a lottery (2, 4.2).
 #[derive(Clone, Copy, Debug, PartialEq, Eq)]

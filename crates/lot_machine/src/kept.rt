@@ -1,4 +1,4 @@
-//! Changes of the state keep what is true of each state that is reached: laws of the machine, with nothing to run.
+//! Changes of the state keep what is true of each state that is reached: laws of the machine, with no code to run.
 ghost use Rattle.std.specs.Prelude.{◌≡◌, ◌<◌, ◌≤◌, ◌^◌, All, IfSome, ◌++◌, ◌∷◌, [], Some, None, true, false, Bool, Option, List, ℕ, length, slice_get, slice_set};
 ghost use Rattle.lot_machine.specs.declared.command.Command.{Command as Asked};
 ghost use Rattle.lot_machine.specs.declared.ticket.Target.{Target};
@@ -20,26 +20,26 @@ ghost use Rattle.lot_machine.specs.declared.event.Event.{Event};
 ghost use Rattle.lot_machine.specs.declared.record.Record.{Record};
 ghost use Rattle.lot_machine.specs.declared.record.Status.TheVariants.{Running};
 
-/// A new ticket that funds no currency makes no cycle, and tickets still fund only currencies that are there.
+/// A new ticket that funds no currency makes no cycle, and tickets still fund only existing currencies.
 pub fn new_ticket_keeps()
     ensures no_cycle { (f : Funding) (amount issuer : ℕ) (to : Target) → currency_funded to ≡ None → HasNoCycle f → HasNoCycle (record f { tickets = with_new_ticket f.tickets amount issuer to }) }
     ensures there { (f : Funding) (amount issuer : ℕ) (to : Target) → currency_funded to ≡ None → FundsThere f → FundsThere (record f { tickets = with_new_ticket f.tickets amount issuer to }) }
 {}
 
-/// A ticket that is removed makes no cycle, and tickets still fund only currencies that are there.
+/// A ticket that is removed makes no cycle, and tickets still fund only existing currencies.
 pub fn removed_ticket_keeps()
     ensures no_cycle { (f : Funding) (n : ℕ) → HasNoCycle f → HasNoCycle (record f { tickets = without_ticket f.tickets n }) }
     ensures there { (f : Funding) (n : ℕ) → FundsThere f → FundsThere (record f { tickets = without_ticket f.tickets n }) }
 {}
 
-/// A ticket that now funds a thread, or nothing, makes no cycle, and tickets still fund only currencies that are there.
+/// A ticket that now funds a thread, or nothing, makes no cycle, and tickets still fund only existing currencies.
 pub fn unfunding_keeps()
     ensures no_cycle { (f : Funding) (n : ℕ) (to : Target) → currency_funded to ≡ None → HasNoCycle f → HasNoCycle (record f { tickets = with_target f.tickets n to }) }
     ensures there { (f : Funding) (n : ℕ) (to : Target) → currency_funded to ≡ None → FundsThere f → FundsThere (record f { tickets = with_target f.tickets n to }) }
 {}
 
 /// A ticket that now funds a currency makes no cycle if `WouldCycle` says none, or if its test says so and the currency
-/// is there. Tickets still fund only currencies that are there if this one is.
+/// is there. Tickets still fund only existing currencies if this one exists.
 pub fn funding_keeps()
     ensures no_cycle { (f : Funding) (n issuer c : ℕ) → issuer_of f n ≡ Some issuer → ¬ WouldCycle f issuer c → HasNoCycle f
         → HasNoCycle (record f { tickets = with_target f.tickets n (Currency c) }) }
@@ -57,13 +57,13 @@ pub fn currencies_keep()
     ensures removed { (f : Funding) (c : ℕ) → length (backing_currency f c) ≡ 0 → FundsThere f → FundsThere (record f { currencies = slice_set f.currencies c false }) }
 {}
 
-/// No command makes a cycle, or leaves a ticket that funds a currency which isn't there.
+/// No command makes a cycle, or leaves a ticket that funds a missing currency.
 pub fn commands_keep()
     ensures no_cycle { (s : State) (c : Asked) → HasNoCycle (funding_of s) → FundsThere (funding_of s) → HasNoCycle (funding_of (command_step s c).state) }
     ensures there { (s : State) (c : Asked) → HasNoCycle (funding_of s) → FundsThere (funding_of s) → FundsThere (funding_of (command_step s c).state) }
 {}
 
-/// A thread that now lends to another, or to nobody, makes no cycle if no lends lead from whom it lends to back to it.
+/// A thread that now lends to another, or to nobody, makes no cycle if no lends lead from the receiver back to it.
 pub fn lends_keep()
     ensures nobody { (f : Funding) (t : ℕ) → HasNoCycle f → HasNoCycle (record f { lends = set_number f.lends t Nobody }) }
     ensures no_cycle { (f : Funding) (t : ℕ) (lend before : Lend) → at_number f.lends t ≡ Some before → ((b : ℕ) → borrower f lend ≡ Some b → ¬ LendsLead f b t) → HasNoCycle f
@@ -79,7 +79,7 @@ pub fn owners_keep()
     ensures owned { (f : Funding) (m w : ℕ) → at_number f.lends w ≡ Some Nobody → HasNoCycle f → HasNoCycle (record f { owners = set_number f.owners m (Some w) }) }
 {}
 
-/// Tickets still fund only currencies that are there, whatever threads lend and whoever owns mutexes.
+/// Tickets still fund only existing currencies, whatever threads lend and whoever owns mutexes.
 pub fn lends_fund_nothing()
     ensures { (f : Funding) (lends : List Lend) (owners : List (Option ℕ)) → FundsThere f → FundsThere (record f { lends = lends; owners = owners }) }
 {}

@@ -1,5 +1,5 @@
-//! What the definitions come to: laws of the machine, with nothing to run.
-ghost use Rattle.std.specs.Prelude.{◌≡◌, ◌+◌, ◌==◌, ◌*◌, ◌/◌, if◌then◌else◌, sum_by, count_by, slice_get, ◌≤◌, ◌↔◌, ◌⊎◌, ◌<◌, ◌^◌, Some, ◌%◌, ◌≢◌, Contains, IsTrue, MatchOption, sum, List, Bool, ℕ, length};
+//! Consequences of the definitions: laws of the machine, with no code to run.
+ghost use Rattle.std.specs.Prelude.{◌≡◌, ◌+◌, ◌==◌, ◌*◌, ◌/◌, sum_by, count_by, slice_get, ◌≤◌, ◌↔◌, ◌⊎◌, ◌<◌, ◌^◌, Some, ◌%◌, ◌≢◌, Contains, IsTrue, MatchOption, sum, List, Bool, ℕ, length};
 ghost use Rattle.lot_machine.specs.Bounds.{IsWithinBounds};
 ghost use Rattle.lot_machine.specs.Funding.{Funding, IsEdge, edge_count_into, backing_thread, WouldCycle, would_cycle, ticket_at, target_of, issuer_of, IsChain, reaches_within, backing_currency, user_currency_count};
 ghost use Rattle.lot_machine.specs.Activity.{IsActive, is_active, activates_within, active_amount};
@@ -18,7 +18,6 @@ ghost use Rattle.lot_machine.specs.declared.record.Status.TheVariants.{Ready};
 ghost use Rattle.lot_machine.specs.Numbered.{option_any};
 ghost use Rattle.lot_machine.specs.State.{State, funding_of, status_of, weight_of};
 ghost use Rattle.lot_machine.specs.Step.{draw};
-ghost use Rattle.lot_machine.specs.declared.reply.Reply.{Reply};
 ghost use Rattle.lot_machine.specs.Lends.{LendsLead, LendsOnTo, IsBacked, lends_lead, lends_on_to, IsLendChain, IsLive, lends_lead_within, is_backed_within, is_backed};
 
 /// The test that follows lends is true if and only if a chain of lends, no longer than it may follow, leads there.
@@ -62,7 +61,7 @@ pub fn shares_are_exact()
         → count_by (λ d. is_won_by t (draw s p d).reply) (range_with_len 0 (total_weight s)) ≡ weight_of s t }
 {}
 
-/// If nothing makes a cycle, and tickets fund only currencies that are there, an active base ticket is worth its amount
+/// If nothing makes a cycle, and tickets fund only existing currencies, an active base ticket is worth its amount
 /// times the unit, another active ticket its share of its currency's value, and any other ticket nothing (4.4). More
 /// depth than there are user currencies changes no value.
 pub fn values_unfold()
@@ -75,13 +74,13 @@ pub fn values_unfold()
         → ticket_value_within k unit f live t ≡ ticket_value unit f live t }
 {}
 
-/// If lends make no cycle, what is lent counts once: the live threads are worth together what the backed threads' own
-/// tickets are worth together.
+/// If lends make no cycle, lent funding counts once: the live threads together are worth as much as the backed threads'
+/// own tickets together.
 pub fn lent_counts_once()
     ensures { (s : State) → HasNoCycle (funding_of s) → CountsOnce s }
 {}
 
-/// If nothing makes a cycle, and tickets fund only currencies that are there, the live threads together are worth at
+/// If nothing makes a cycle, and tickets fund only existing currencies, the live threads together are worth at
 /// most what base's active tickets are, and so is each currency. A draw's total is at most that times the quantum, if
 /// sizes are within their bounds.
 pub fn values_are_bounded()
@@ -90,21 +89,21 @@ pub fn values_are_bounded()
     ensures weights { (s : State) → HasNoCycle (funding_of s) → FundsThere (funding_of s) → IsWithinBounds s.limits → total_weight s ≤ base_value s * s.limits.quantum }
 {}
 
-/// A state is sound if nothing makes a cycle, tickets fund only currencies that are there, sizes are within their
+/// A state is sound if nothing makes a cycle, tickets fund only existing currencies, sizes are within their
 /// bounds, each processor has its own thread, and base's active tickets are worth less than 2 ^ 56.
 pub fn soundness_follows()
     ensures { (s : State) → HasNoCycle (funding_of s) → FundsThere (funding_of s) → IsWithinBounds s.limits → RunsApart s.records → base_value s < 2 ^ 56 → IsSound s }
 {}
 
-/// If lends make no cycle, the tests for chains of lends and for backed threads agree with their relations. The test for
-/// a chain of one lend or more is the one that refuses a lock with `LockCycle` (6.1).
+/// If lends make no cycle, the tests for chains of lends and for backed threads agree with their relations. The test
+/// for a chain of one lend or more is the one that refuses a lock with `LockCycle` (6.1).
 pub fn lends_are_exact()
     ensures lead { (f : Funding) → HasNoCycle f → (t u : ℕ) → IsTrue (lends_lead f t u) ↔ LendsLead f t u }
     ensures lead_on { (f : Funding) → HasNoCycle f → (t u : ℕ) → IsTrue (lends_on_to f t u) ↔ LendsOnTo f t u }
     ensures backed { (f : Funding) → HasNoCycle f → (live : List Bool) (t : ℕ) → IsTrue (is_backed f live t) ↔ IsBacked f live t }
 {}
 
-/// If tickets and lends make no cycle, and tickets fund only currencies that are there, the tests for active tickets
+/// If tickets and lends make no cycle, and tickets fund only existing currencies, the tests for active tickets
 /// and for cycles agree with their relations.
 pub fn tickets_are_exact()
     ensures active { (f : Funding) → HasNoCycle f → FundsThere f → (live : List Bool) (n : ℕ) (t : Ticket) → ticket_at f n ≡ Some t
@@ -125,7 +124,7 @@ pub fn issuers_are_active()
     ensures some { (f : Funding) (live : List Bool) (n : ℕ) (t : Ticket) → ticket_at f n ≡ Some t → IsTrue (is_active f live t) → 0 < t.amount → 0 < active_amount f live t.issuer }
 {}
 
-/// If nothing makes a cycle, and tickets fund only currencies that are there, no thread, no mutex and no user currency
+/// If nothing makes a cycle, and tickets fund only existing currencies, no thread, no mutex and no user currency
 /// is worth more than base's active tickets.
 pub fn node_values_are_bounded()
     ensures thread { (f : Funding) → HasNoCycle f → FundsThere f → (unit : ℕ) (live : List Bool) (t : ℕ) → thread_value unit f live t ≤ active_amount f live 0 * unit }
@@ -141,7 +140,7 @@ pub fn edges_into_are_exact()
     ensures sums { (f : Funding) (node : Node) (counted : Edge → ℕ) (edges : List Edge) → HasEachOnce edges (LeadsInto f node) → sum_by counted edges ≡ sum_by counted (edges_into f node) }
 {}
 
-/// What the edges into a node pass on together is a sum over the tickets that fund it, over the threads that lend to
+/// The edges into a node together pass on a sum over the tickets that fund it, over the threads that lend to
 /// it, and over the mutexes that it owns.
 pub fn shares_are_sums()
     ensures currency { (f : Funding) (unit : ℕ) (live : List Bool) (worth : Node → ℕ) (c : ℕ)
@@ -152,14 +151,14 @@ pub fn shares_are_sums()
         → shares_into unit f live worth (nodes.Mutex m) ≡ sum_by (λ s. worth (nodes.Thread s)) (waiters_for f m) }
 {}
 
-/// If nothing makes a cycle, and tickets fund only currencies that are there, what nodes are worth solves the equation
-/// of each node: it is what the edges into it pass on.
+/// If nothing makes a cycle, and tickets fund only existing currencies, the nodes' values solve the equation of
+/// each node: its value is the sum that the edges into it pass on.
 pub fn node_values_solve()
     ensures { (f : Funding) → HasNoCycle f → FundsThere f → (unit : ℕ) (live : List Bool) (node : Node) → HasEquation f node → Solves unit f live (node_value unit f live) node }
 {}
 
-/// Nothing else solves the equations then: what solves each is what nodes are worth, whatever base is given. The same
-/// holds of some of the nodes, if only these and base lead to them.
+/// The solution is unique then: values that solve each equation are the nodes' values, whatever base is given. The same
+/// holds for a set of nodes, if the edges into them come only from these nodes and base.
 pub fn solutions_are_node_values()
     ensures all { (f : Funding) → HasNoCycle f → FundsThere f → (unit : ℕ) (live : List Bool) (worth : Node → ℕ)
         → ((node : Node) → HasEquation f node → Solves unit f live worth node)
@@ -170,7 +169,7 @@ pub fn solutions_are_node_values()
         → (node : Node) → ¬ Contains unknown node → HasEquation f node → worth node ≡ node_value unit f live node }
 {}
 
-/// The equation of a node reads what those nodes are worth from which an edge leads to it, and never base. It is the
+/// The equation of a node reads the values of the nodes from which an edge leads to it, and never base's. It is the
 /// same if the same edges lead into the node and pass on as much.
 pub fn equations_are_local()
     ensures reads { (f : Funding) (unit : ℕ) (live : List Bool) (worth other : Node → ℕ) (node : Node)
@@ -182,13 +181,13 @@ pub fn equations_are_local()
         → shares_into unit f live worth node ≡ shares_into unit g now_live worth node }
 {}
 
-/// If nothing makes a cycle, and tickets fund only currencies that are there, no way over edges of any kind leads back
+/// If nothing makes a cycle, and tickets fund only existing currencies, no way over edges of any kind leads back
 /// to where an edge came from.
 pub fn no_way_leads_back()
     ensures { (f : Funding) → HasNoCycle f → FundsThere f → (from next : Node) → IsEdge f from next → ¬ Reaches f next from }
 {}
 
-/// If nothing makes a cycle, and tickets fund only currencies that are there, nodes have ranks that rise along edges.
+/// If nothing makes a cycle, and tickets fund only existing currencies, nodes have ranks that rise along edges.
 pub fn ranks_rise()
     ensures { (f : Funding) → HasNoCycle f → FundsThere f → (rank : Node → ℕ) × ((from to : Node) → IsEdge f from to → rank from < rank to) }
 {}

@@ -1,4 +1,4 @@
-//! The words of the machine: what a lottery-scheduled kernel is asked, what it answers, and what its state is made of.
+//! The vocabulary of the machine: requests to a lottery-scheduled kernel, its replies, and the parts of its state.
 #![tactic(auto)]
 
 mod action;

@@ -5,8 +5,8 @@ ghost use Rattle.lot_machine.specs.State.{sizes_of};
 
 use crate::Limits;
 
-/// The sizes of a kernel: how many tickets, user currencies and threads may be made, how many ports, mutexes, processors
-/// and scripts there are, how many ticks a quantum has, and how much one of base is worth.
+/// The sizes of a kernel: how many tickets, user currencies and threads may be made, how many ports, mutexes,
+/// processors and scripts there are, how many ticks a quantum has, and how much one of base is worth.
 #[derive(Clone, Copy, Debug, PartialEq, Eq)]
 pub struct Sizes {
     /// 1 to 65535.
@@ -30,7 +30,7 @@ pub struct Sizes {
 }
 
 impl Sizes {
-    /// The smallest sizes that there may be.
+    /// The smallest sizes that are within their bounds.
     pub const SMALLEST: Sizes = Sizes {
         tickets: 1,
         currencies: 1,
@@ -42,7 +42,7 @@ impl Sizes {
         quantum: 1,
         unit: 1,
     };
-    /// The largest sizes that there may be.
+    /// The largest sizes that are within their bounds.
     pub const LARGEST: Sizes = Sizes {
         tickets: 65535,
         currencies: 4096,

@@ -20,7 +20,7 @@ owners_of mutexes = map (λ (m : Mutex). m.owner) mutexes
 abbrev pub with_mutexes : Threaded → MutexTrap → List Node → Threaded
 with_mutexes v e stale = record v { records = e.records; owners = owners_of e.mutexes; stale = stale }
 
--- a trap over mutexes has come to this effect, and has left these threads and queues
+-- a trap over mutexes has had this effect, and has left these threads and queues
 pub record IsMutexTrap (v : Threaded) (q : QueueLists) (trap : MutexTrap) (effect : Effect) (new : Threaded) (left : QueueLists) : Type 0 where
   pub outcome : effect.outcome ≡ trap.outcome
   pub after : effect.after ≡ trap.after

@@ -1,4 +1,4 @@
-//! Whether what `lock` and `unlock` require of threads and queues holds.
+//! Checks of the requirements of `lock` and `unlock` on threads and queues.
 ghost use Rattle.std.specs.Prelude.{◌≡◌, ◌↔◌, ◌<◌, Contains, IsTrue, Some, length, slice_index, take};
 ghost use Rattle.lot_machine.specs.declared.record.Status.TheVariants as status;
 ghost use Rattle.lot_machine.specs.Order.{IsQueue};

@@ -1,8 +1,8 @@
 //! Lottery mutexes, with all that the waiters for a mutex lend to its owner (6.1).
 //!
-//! `lock` and `unlock` take the threads and the queues by reference, and change both as the machine's definitions say. The thread
-//! that makes the trap stays Running: what becomes of it is answered as an `After`. A lottery over the waiters' values is held in a
-//! `Lottery`, which has room for it; only `Lottery::new` takes memory.
+//! `lock` and `unlock` take the threads and the queues by reference, and change both as the machine's definitions say.
+//! The thread that makes the trap stays Running: the function returns how it goes on or leaves as an `After`. A
+//! `Lottery` holds a lottery over the waiters' values, and has room for it; only `Lottery::new` takes memory.
 #![tactic(auto)]
 
 mod checks;

@@ -1,4 +1,4 @@
-//! The lottery over what the waiters for a mutex are worth (6.1).
+//! The lottery over the values of the waiters for a mutex (6.1).
 ghost use Rattle.std.specs.Prelude.{◌≡◌, ◌≢◌, ◌<◌, ◌≤◌, ◌^◌, ◌↔◌, [], All, IfOk, IfSome, IsTrue, length, map, option_map, slice_index, unwrap_or, vec_capacity};
 ghost use Rattle.lot_machine.specs.declared.record.Status.TheVariants as status;
 ghost use Rattle.lot_machine.specs.Lottery as lottery;
@@ -73,7 +73,7 @@ impl Lottery {
         self.waiters.is_empty()
     }
 
-    /// Who of those listed is picked by a lottery: the winner, or the one that has waited longest if nobody wins.
+    /// The waiter that the lottery picks: the winner, or the one that has waited longest if nobody wins.
     pub(crate) fn picked(&self, drawn: Option<Drawn>) -> u32
         requires some { self.now.waiters ≢ [] }
         requires within { IfSome drawn (λ w. w.place < length self.now.waiters) }
@@ -85,8 +85,8 @@ impl Lottery {
         }
     }
 
-    /// Holds a lottery with the number `d` over what those are worth who are listed and wait for the mutex: `None` if that is
-    /// nothing. No value is stale then.
+    /// Holds a lottery with the number `d` over the values of the listed waiters for the mutex: `None` if they sum to
+    /// 0. No value is stale then.
     pub(crate) fn hold(&mut self, threads: &Threads, mutex: u32, d: u128) -> Option<Drawn>
         requires settled { threads.now.stale ≡ [] }
         requires mutex { IsMutex (funding_in threads.now) mutex }

@@ -19,7 +19,7 @@ use lot_machine::{After, Drawn, Outcome, Status};
 use lot_queues::Queues;
 use lot_threads::{Effect, Threads};
 
-/// A lock by a thread that runs: a free mutex is taken; else the thread waits, after earlier ones.
+/// A lock by a thread that runs: it takes a free mutex; otherwise it waits, after earlier threads.
 pub fn lock(threads: &mut Threads, queues: &mut Queues, thread: u32, mutex: u32) -> Effect
     requires mutex { IsThere queues.old.mutexes mutex }
     requires thread { IsLiveIn threads.old thread }
@@ -48,8 +48,9 @@ pub fn lock(threads: &mut Threads, queues: &mut Queues, thread: u32, mutex: u32)
     }
 }
 
-/// An unlock by the owner, which runs: without waiters the mutex is free. Else what is stale is settled, and the lottery with the
-/// number `d` over what the waiters are worth picks the next owner; the first is picked if that is nothing.
+/// An unlock by the owner, which runs: without waiters the mutex becomes free. Otherwise the unlock settles what is
+/// stale, and a lottery with the number `d` over the waiters' values picks the next owner; if the values sum to 0, the
+/// first waiter is the next owner.
 pub fn unlock(
     threads: &mut Threads,
     queues: &mut Queues,

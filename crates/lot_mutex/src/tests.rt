@@ -11,7 +11,7 @@ use std::test::Fail;
 /// A thread that wins a draw, its number, and the total.
 type Won = (u32, u128, u128);
 
-/// A step of a row: a trap and what comes of it, or a question and what must come of it.
+/// A step of a row: a trap and its outcome, or a question and its expected answer.
 #[derive(Clone, Copy)]
 enum Step {
     /// A new thread, which this much base funds.
@@ -19,7 +19,7 @@ enum Step {
     Lock(u32, u32, Outcome),
     /// An unlock by a thread of a mutex, with the number of its lottery, and how many edges it reads.
     Unlock(u32, u32, u128, Outcome, u64),
-    /// What a draw comes to.
+    /// The result of a draw.
     Wins(u128, Won),
     Stands(u32, Status),
     Owner(u32, Option<u32>),
@@ -109,7 +109,7 @@ fn is_won(winner: Option<Winner>, (thread, number, total): Won) -> bool {
     }
 }
 
-/// Makes a trap, and compares what comes of it.
+/// Makes a trap, and compares its outcome.
 fn make_trap(rt: &impl Abort, scene: &mut Scene, step: Step) {
     match step {
         Step::AddThread(amount) => {
@@ -220,8 +220,8 @@ const PASSED: [Step; 19] = [
     Step::Owner(1, None),
 ];
 
-// The lottery is among the waiters in the order of waiting, by what each is worth; the next owner is worth what those are that go on
-// waiting, and the last one frees the mutex.
+// The lottery is among the waiters in the order of waiting, by their values. The others go on waiting and lend to the
+// next owner, and the last owner frees the mutex.
 #[test]
 fn a_mutex_is_passed(rt: HostRuntime) -> Result<(), Fail> {
     play(&rt, rt.alloc(), small_limits(), &PASSED)

@@ -1,2 +1,2 @@
--- What `shares` and `chart` come to.
+-- The output of `shares` and `chart`.
 pub mod Shown

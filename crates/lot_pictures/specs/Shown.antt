@@ -1,4 +1,4 @@
--- What `shares` and `chart` come to.
+-- The output of `shares` and `chart`.
 use Rattle.std.specs.Prelude.{◌≡◌, ℕ, Option, Ok, Err, Result, List}
 use Rattle.std.specs.declared.alloc.AllocError.{AllocError}
 use Rattle.lot_simulation.specs.declared.input.InputFault.{InputFault}

@@ -13,8 +13,8 @@ use lot_system::{System, TimedRun, next_turn};
 use lot_text::Program;
 use std::alloc::{AllocError, Global};
 
-/// Makes the turns of the program in a system of its own, in the order of time if it has a duration and else those of its schedule,
-/// and gathers what they were for each thread.
+/// Makes the turns of the program in a system of its own, in the order of time if it has a duration, otherwise those
+/// of its schedule, and gathers what they were for each thread.
 pub fn gather(alloc: Global, program: &Program) -> Result<Curves, AllocError>
     ensures { IfOk result (λ curves. curves ≡ curves_of program.now) }
 {

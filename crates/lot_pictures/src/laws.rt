@@ -1,4 +1,4 @@
-//! What curves come to: laws of the definitions, with nothing to run.
+//! The ends of curves: laws of the definitions, with nothing to run.
 ghost use Rattle.std.specs.Prelude.{◌≡◌, ◌<◌, ◌^◌, ℕ, List, Some};
 ghost use Rattle.lot_machine.specs.declared.row.ThreadRow.{ThreadRow};
 ghost use Rattle.lot_machine.specs.Bounds.{IsWithinBounds};

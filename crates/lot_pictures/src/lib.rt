@@ -1,4 +1,4 @@
-//! What an input comes to, shown: `shares` writes a table of what each thread has had over time, and `chart` a picture of it.
+//! Shows an input: `shares` writes a table of what each thread has had over time, and `chart` a picture of it.
 #![tactic(auto)]
 
 mod gathering;

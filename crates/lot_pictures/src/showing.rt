@@ -1,4 +1,4 @@
-//! What is written of curves.
+//! Writing curves.
 ghost use Rattle.std.specs.Prelude.{◌≡◌, ℕ, List, false, true, IfErr, IfOk, OnOk};
 ghost use Rattle.std.specs.Io.KnownBytes.{Appends};
 ghost use Rattle.lot_simulation.specs.Grammar.{program_in};
@@ -17,7 +17,7 @@ use std::alloc::{AllocError, Global};
 use std::io::{Read, Write};
 
 /// Reads an input, makes its turns, and writes a table of what each thread has had over time; or one line, if the
-/// input is refused: then `refused` has its bytes, and else none. For want of memory nothing is written.
+/// input is refused: then `refused` has its bytes, otherwise none. Out of memory, it writes nothing.
 pub fn shares<R: Read, W: Write>(
     alloc: Global,
     measure: Measure,
@@ -54,7 +54,7 @@ fn write_shares<W: Write>(
 }
 
 /// Reads an input, makes its turns, and writes a picture with this title of what each thread has had over time; or
-/// one line, if the input is refused: then `refused` has its bytes, and else none. For want of memory nothing is written.
+/// one line, if the input is refused: then `refused` has its bytes, otherwise none. Out of memory, it writes nothing.
 pub fn chart<R: Read, W: Write>(
     alloc: Global,
     title: &str,
@@ -90,7 +90,8 @@ fn write_chart<W: Write>(
     }
 }
 
-/// The curves of what the bytes say. They stay if they are refused, and else go before the first turn.
+/// The curves of the input in `bytes`. If it is refused, `bytes` keeps it; otherwise its memory is freed before the
+/// first turn.
 fn curves_in(alloc: Global, bytes: &mut Vec<u8>) -> Result<Curves, ParseFault>
     ensures curves { IfOk result (HasCurves (program_in bytes.old.items)) }
     ensures fault { IfErr result (IsParseFaultOf (program_in bytes.old.items)) }

@@ -33,7 +33,7 @@ at 2
 fundx 1 base a s
 ";
 
-/// Shows the input, and compares what came of it and what was written.
+/// Shows the input, and compares the outcome and the output.
 fn check_shares(
     rt: &impl Abort,
     alloc: Global,

@@ -1,4 +1,4 @@
--- What a trap over ports leaves of the queues.
+-- The queues after a trap over ports.
 use Rattle.lot_machine.specs.Ports.{PortTrap}
 use Rattle.lot_queues.specs.QueueLists.{QueueLists}
 

@@ -77,7 +77,7 @@ pub fn receive(threads: &mut Threads, queues: &mut Queues, server: u32, port: u3
     }
 }
 
-/// A reply of a thread to the client that it answers next: the client is Ready, and the number is delivered to it.
+/// A reply of a thread to its next client: the client becomes Ready, and the number is delivered to it.
 pub fn reply(
     threads: &mut Threads,
     queues: &mut Queues,
@@ -104,7 +104,7 @@ pub fn reply(
     }
 }
 
-/// A reply of a thread that runs to the client that it answers next, and then its receipt at a port.
+/// A reply of a thread that runs to its next client, and then its receipt at a port.
 pub fn serve(
     threads: &mut Threads,
     queues: &mut Queues,
@@ -133,7 +133,7 @@ pub fn serve(
     }
 }
 
-/// What came of a reply to a client, and then of a receipt.
+/// The outcome of a reply to a client and of the receipt after it.
 fn replied_then(to: u32, receipt: Outcome) -> Outcome
     ensures { result ≡ machine.replied_then (Replied to) receipt }
 {

@@ -11,7 +11,7 @@ use std::test::Fail;
 /// A thread that wins a draw, its number, and the total.
 type Won = (u32, u128, u128);
 
-/// A step of a row: a trap and what comes of it, or a question and what must come of it.
+/// A step of a row: a trap and its outcome, or a question and its expected answer.
 #[derive(Clone, Copy)]
 enum Step {
     /// A new thread, which this much base funds.
@@ -23,7 +23,7 @@ enum Step {
     Reply(u32, u32, Option<Outcome>),
     /// A reply by a thread with a number, and a receipt at a port; `None` if it has no client.
     Serve(u32, u32, u32, Option<Outcome>),
-    /// What a draw comes to.
+    /// The result of a draw.
     Wins(u128, Won),
     Stands(u32, Status),
     /// What is delivered to a thread when it next runs.
@@ -120,7 +120,7 @@ fn is_won(winner: Option<Winner>, (thread, number, total): Won) -> bool {
     }
 }
 
-/// Makes a trap, and compares what comes of it.
+/// Makes a trap, and compares its outcome.
 fn make_trap(rt: &impl Abort, threads: &mut Threads, queues: &mut Queues, step: Step) {
     match step {
         Step::AddThread(amount) => add_thread(rt, threads, queues, amount),
@@ -283,7 +283,7 @@ fn a_server_serves(rt: HostRuntime) -> Result<(), Fail> {
     play(&rt, rt.alloc(), small_limits(), &SERVED)
 }
 
-// Calls are taken in the order in which they were made, and answered in the order in which they were taken.
+// A server takes calls in the order in which clients made them, and replies in the order in which it took them.
 #[test]
 fn calls_wait(rt: HostRuntime) -> Result<(), Fail> {
     play(&rt, rt.alloc(), small_limits(), &QUEUED_FIRST)

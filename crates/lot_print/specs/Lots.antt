@@ -1,4 +1,4 @@
--- What is printed of who takes part in a lottery.
+-- The text of lots: of those that take part in a lottery.
 use Rattle.std.specs.Prelude.{ℕ, ◌+◌, ◌==◌, Bool, true, false, List, [], ◌++◌, codes}
 use Rattle.std.specs.Fmt.{decimal}
 use Rattle.lot_simulation.specs.declared.manner.Manner.{Manner}
@@ -22,8 +22,8 @@ abbrev pub mark : Bool → List ℕ
 mark true = codes " wins"
 mark false = []
 
--- The line of a lot, if this thread has won: what it weighs, and that the numbers are its own from `first` on, as many as it weighs. What
--- it weighs is printed as in listings, and the numbers are as those of draws.
+-- The line of a lot, if this thread has won: what it weighs, and that the numbers are its own from `first` on, as many
+-- as it weighs. What it weighs is printed as in listings, and the numbers are as those of draws.
 abbrev pub lot_line : Manner → ℕ → ℕ → Lottery → ℕ → ℕ → Lot → List ℕ
 lot_line manner unit actor lottery winner first lot =
     front manner ++ (decimal actor ++ (part_word lottery ++ (decimal lot.thread ++ (codes " " ++ (lot.name ++ (weight_word lottery ++ (value_text manner unit lot.weight

@@ -26,7 +26,8 @@ timed_thread_line n row all live values mutexes replies =
     ++ (codes " value " ++ (percent_text live values
     ++ (waits_text (codes " mutex") mutexes ++ (waits_text (codes " reply") replies ++ newline)))))))))))))
 
--- a processor's line: the draws that somebody won there, the others, the ticks used there, and those in which it was idle
+-- a processor's line: the draws that somebody won there, the others, the ticks used there, and those in which it was
+-- idle
 abbrev pub timed_processor_line : ℕ → ℕ → ℕ → ℕ → ℕ → List ℕ
 timed_processor_line p quanta idles ticks unused =
     codes "processor " ++ (decimal p ++ (codes " quanta " ++ (decimal quanta ++ (codes " idle " ++ (decimal idles ++ (codes " ticks " ++ (decimal ticks

@@ -1,4 +1,4 @@
--- What is written.
+-- Text written to a writer, or put on a page.
 use Rattle.std.specs.Prelude.{◌≡◌, ℕ, Bool, true, false, Option, Result, Ok, Err, List, ◌++◌}
 use Rattle.std.specs.Io.KnownBytes.{Appends}
 use Rattle.lot_text.specs.Watching.{Watch}
@@ -8,7 +8,8 @@ use Rattle.lot_print.specs.declared.fault.WriteFault.{WriteFault}
 abbrev pub Begins : Option (List ℕ) → Option (List ℕ) → List ℕ → Type 0
 Begins old new text = (written left : List ℕ) × (text ≡ written ++ left) × Appends old new written
 
--- On Ok the text was written, and the writer hasn't failed. Else it has failed, and a beginning of the text was written.
+-- On Ok the text was written, and the writer hasn't failed. Otherwise it has failed, and a beginning of the text was
+-- written.
 abbrev pub Written : {U : Type 0} → Option (List ℕ) → Option (List ℕ) → Bool → Result U WriteFault → List ℕ → Type 0
 Written old new failed (Ok done) text = (failed ≡ false) × Appends old new text
 Written old new failed (Err fault) text = (failed ≡ true) × Begins old new text
@@ -22,8 +23,8 @@ Writes contents old new result text = Written (contents old.inner) (contents new
 abbrev pub IsPut : Option (List ℕ) → Option (List ℕ) → List ℕ → List ℕ → List ℕ → Type 0
 IsPut old new before after text = (written : List ℕ) × (before ++ text ≡ written ++ after) × Appends old new written
 
--- On Ok the text was put, and the writer hasn't failed. Else it has failed, and a beginning of what waited before and then
--- the text was written.
+-- On Ok the text was put, and the writer hasn't failed. Otherwise it has failed, and a beginning of what waited before
+-- and then the text was written.
 abbrev pub Put : {U : Type 0} → Option (List ℕ) → Option (List ℕ) → List ℕ → List ℕ → Bool → Result U WriteFault → List ℕ → Type 0
 Put old new before after failed (Ok done) text = (failed ≡ false) × IsPut old new before after text
 Put old new before after failed (Err fault) text = (failed ≡ true) × Begins old new (before ++ text)

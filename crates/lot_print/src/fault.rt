@@ -1,4 +1,4 @@
-//! What stops a text that is being written.
+//! The fault of a write.
 use thiserror::Error;
 
 /// The writer has failed, and what was written is a beginning of the text.

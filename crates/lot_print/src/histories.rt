@@ -9,8 +9,8 @@ use crate::runs::write_runs;
 use lot_text::Watched;
 use std::io::Write;
 
-/// Writes the history of a run as lines that an input of this unit may have, which give it back: `schedule` lines if the
-/// unit is 1, and else `runs` lines.
+/// Writes the history of a run as lines that an input of this unit may have, which give it back: `schedule` lines if
+/// the unit is 1, and otherwise `runs` lines.
 pub fn write_history<W: Write>(
     writer: &mut Watched<W>,
     unit: u32,

@@ -1,4 +1,4 @@
-//! What is printed and read again.
+//! Printed histories are read back.
 ghost use Rattle.std.specs.Prelude.{ℕ, List};
 ghost use Rattle.lot_simulation.specs.Reading.{Reading};
 ghost use Rattle.lot_simulation.specs.Report.{history_lines};

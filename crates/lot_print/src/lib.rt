@@ -1,6 +1,6 @@
 //! Outputs: what is printed for replies, listings, totals, histories and refused inputs. Each function writes one text
-//! to a writer that is watched, or a beginning of it if the writer fails, and takes no memory. The lines of turns wait on a
-//! page, and are written together.
+//! to a writer that is watched, or a beginning of it if the writer fails, and takes no memory. The lines of turns wait
+//! on a page, and are written together.
 #![tactic(auto)]
 
 mod fault;

@@ -98,8 +98,8 @@ impl<const N: usize> Line<N> {
         self.push_number(number);
     }
 
-    /// Puts the text and then the number at the end. A number below 1000000, as most are, is put digit by digit, since a buffer of
-    /// its own costs more.
+    /// Puts the text and then the number at the end. A number below 1000000, as most are, is put digit by digit, since
+    /// a buffer of its own costs more.
     #[inline(always)]
     pub(crate) fn push_count(&mut self, text: &str, number: u32)
         requires { length self.old + length text.now + 10 ≤ N }

@@ -29,8 +29,8 @@ pub struct Lot {
     pub weight: u128,
 }
 
-/// Writes the line of a lot in a lottery that this thread has won: what it weighs, and which numbers are its own, of which this is the
-/// first. It stands before the line of the actor's turn.
+/// Writes the line of a lot in a lottery that this thread has won: what it weighs, and which numbers are its own, of
+/// which this is the first. It stands before the line of the actor's turn.
 pub fn write_lot<W: Write>(
     writer: &mut Watched<W>,
     heading: Heading,

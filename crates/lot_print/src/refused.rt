@@ -1,4 +1,4 @@
-//! What is printed for refusals.
+//! The text of refusals.
 ghost use Rattle.std.specs.Prelude.{◌≡◌, ◌≤◌, ◌+◌, ◌++◌, codes, false, length};
 ghost use Rattle.std.specs.Fmt.{decimal};
 ghost use Rattle.lot_simulation.specs.Texts.{newline, refused, refusal_code as code_of, refusal_name as name_of, trap_refusal_code as trap_code_of, trap_refusal_name as trap_name_of, input_refusal_code as input_code_of, input_refusal_name as input_name_of, fault_line};

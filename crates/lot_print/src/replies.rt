@@ -16,7 +16,7 @@ use lot_simulation::Manner;
 use lot_text::Watched;
 use std::io::Write;
 
-/// What the line of a turn needs besides what the turn was answered.
+/// What the line of a turn needs in addition to the reply.
 #[derive(Clone, Copy, Debug)]
 pub struct Heading {
     /// How it's printed.
@@ -27,8 +27,8 @@ pub struct Heading {
     pub actor: u32,
 }
 
-/// Puts the line of an actor's turn on the page: the reply to this event, which asks for no listing. If the page has no room for
-/// it, what is there is written first.
+/// Puts the line of an actor's turn on the page: the reply to this event, which asks for no listing. If the page has
+/// no room for it, the lines there are written first.
 #[inline(always)]
 pub fn write_reply<W: Write>(
     writer: &mut Watched<W>,
@@ -185,7 +185,7 @@ fn push_ran<const N: usize>(line: &mut Line<N>, thread: u32, ticks: u32)
     line.push_count(" ticks ", ticks);
 }
 
-/// Puts what the event, a trap, came to, whether the quantum was used up, and the line's end.
+/// Puts the outcome of the event, a trap, whether the quantum was used up, and the line's end.
 fn push_trap_of<const N: usize>(
     line: &mut Line<N>,
     heading: Heading,
@@ -208,7 +208,7 @@ fn push_trap_of<const N: usize>(
     }
 }
 
-/// Puts what a trap came to. An outcome that the action never has is no text.
+/// Puts the outcome of a trap. An outcome that the action never has is no text.
 fn push_trap<const N: usize>(line: &mut Line<N>, heading: Heading, action: Action, outcome: Outcome)
     requires room { length line.old + 128 ≤ N }
     requires unit { 0 < heading.unit }
@@ -262,7 +262,7 @@ fn push_received<const N: usize>(line: &mut Line<N>, port: u32, client: u32, num
     line.push_count(" got ", number);
 }
 
-/// Puts whom a reply went to, before what came of the receipt after it.
+/// Puts whom a reply went to, before the outcome of the receipt after it.
 fn push_replied_then<const N: usize>(line: &mut Line<N>, client: u32)
     requires { length line.old + 24 ≤ N }
     ensures text { line.new ≡ line.old ++ (replied_text client ++ codes " ") }
@@ -272,7 +272,7 @@ fn push_replied_then<const N: usize>(line: &mut Line<N>, client: u32)
     line.push_text(" ");
 }
 
-/// Puts the port or mutex of a trap, and what the trap came to there.
+/// Puts the port or mutex of a trap, and the trap's outcome there.
 #[inline(always)]
 fn push_state<const N: usize>(line: &mut Line<N>, word: &str, number: u32, state: &str)
     requires { (length line.old + 25 ≤ N) × (length word.now ≤ 8) × (length state.now ≤ 7) }

@@ -1,4 +1,4 @@
-//! What is printed for listings.
+//! The text of listings.
 ghost use Rattle.std.specs.Prelude.{◌≡◌, ◌≤◌, ◌+◌, ◌++◌, codes, false, length};
 ghost use Rattle.std.specs.Fmt.{decimal};
 ghost use Rattle.lot_simulation.specs.Texts.{activity_text, currency_line, currency_value, front, status_text, thread_line, ticket_line};

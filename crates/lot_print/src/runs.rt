@@ -9,8 +9,8 @@ use crate::line::{RowLine, write_bytes};
 use lot_text::Watched;
 use std::io::Write;
 
-/// Writes the history in lines `runs A1 K1 A2 K2 ..` of 32 pairs each, the last with the 1 to 32 that remain: K1 turns of A1,
-/// then K2 of A2, and so on. Neighbouring pairs have different actors, across lines too.
+/// Writes the history in lines `runs A1 K1 A2 K2 ..` of 32 pairs each, the last with the 1 to 32 that remain: K1 turns
+/// of A1, then K2 of A2, and so on. Neighbouring pairs have different actors, across lines too.
 pub(crate) fn write_runs<W: Write>(
     writer: &mut Watched<W>,
     history: &[u8],

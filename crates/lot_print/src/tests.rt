@@ -12,7 +12,7 @@ use std::alloc::Global;
 use std::process::Abort;
 use std::test::Fail;
 
-/// Checks what was written, by a call that answered this.
+/// Checks the text written by a call that returned this.
 fn check(rt: &impl Abort, writer: Watched<Vec<u8>>, ended: Result<(), WriteFault>, wanted: &str) {
     assert!(rt; ended.is_ok(), "{wanted}");
     let written = writer.into_inner();
@@ -135,7 +135,7 @@ fn prints_replies(rt: HostRuntime) {
     }
 }
 
-/// What a trap comes to, whether it ends the quantum, and its line.
+/// A trap's outcome, whether it ends the quantum, and its line.
 #[derive(Drop)]
 struct PrintedTrap<'a> {
     action: Action,
@@ -829,7 +829,8 @@ const NO_WAITS: Waits = Waits {
     since: None,
 };
 
-// 2 of 3 ticks are 66.666%; 5 waits of 12 ticks in all are 2.4 on average. 18446744073709551615 / 4294967295 is 4294967297.
+// 2 of 3 ticks are 66.666%; 5 waits of 12 ticks in all are 2.4 on average. 18446744073709551615 / 4294967295 is
+// 4294967297.
 #[test]
 fn prints_timed_totals(rt: HostRuntime) -> Result<(), Fail> {
     let mut row = thread_row(Status::Ready)?;

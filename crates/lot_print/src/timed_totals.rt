@@ -1,4 +1,4 @@
-//! What is printed for totals of turns in the order of time.
+//! The text of totals of turns in the order of time.
 ghost use Rattle.std.specs.Prelude.{◌≡◌, ◌<◌, ◌≤◌, ◌+◌, ◌^◌, ◌++◌, false, length};
 ghost use Rattle.lot_simulation.specs.TimedReport.{percent_text, waits_text};
 ghost use Rattle.lot_print.specs.Totals.{timed_processor_line, timed_thread_line, timed_total_line};
@@ -15,12 +15,12 @@ use std::io::Write;
 /// The line of a report of turns in the order of time.
 type TimedLine = Line<512>;
 
-/// What the report of turns in the order of time says of a thread, besides its row.
+/// What the report of turns in the order of time says of a thread, in addition to its row.
 #[derive(Clone, Copy, Debug)]
 pub struct ThreadShares {
     /// The ticks that all threads have used.
     pub all_ticks: u64,
-    /// The thread's value, if it is live, and else 0.
+    /// The thread's value, if it is live, and otherwise 0.
     pub live_value: u64,
     /// The value of all live threads, below 2^96.
     pub all_values: u128,
@@ -29,7 +29,8 @@ pub struct ThreadShares {
     pub replies: Waits,
 }
 
-/// What it says of a processor: the draws that somebody won there, the others, the ticks used there, and those in which it was idle.
+/// What it says of a processor: the draws that somebody won there, the others, the ticks used there, and those in
+/// which it was idle.
 #[derive(Clone, Copy, Debug)]
 pub struct TimedProcessorTotal {
     pub processor: u32,
@@ -39,7 +40,8 @@ pub struct TimedProcessorTotal {
     pub unused: u64,
 }
 
-/// What it says at its end: how many turns were made, what was counted in all of them, and how many commands were refused or never made.
+/// What it says at its end: how many turns were made, what was counted in all of them, and how many commands were
+/// refused or never made.
 #[derive(Clone, Copy, Debug)]
 pub struct TimedWholeTotal {
     pub turns: u64,

@@ -1,4 +1,4 @@
-//! What is printed for totals.
+//! The text of totals.
 ghost use Rattle.std.specs.Prelude.{◌≡◌, codes, false};
 ghost use Rattle.lot_simulation.specs.Report.{thread_total};
 ghost use Rattle.lot_print.specs.Totals.{processor_line, total_line};

@@ -1,4 +1,4 @@
--- What workers do by the seats of a system that goes round as a baton.
+-- Workers at the seats of a system that is passed around as a baton.
 use Rattle.std.specs.Prelude.{◌≡◌, ◌⊎◌, ℕ, ◌+◌, ◌<◌, List, Option, Some, None, length}
 use Rattle.lot_simulation.specs.World.{Program}
 use Rattle.lot_system.specs.declared.fault.TurnFault.{TurnFault}
@@ -29,8 +29,8 @@ pub record HasMade (n : ℕ) (before after : Seat) : Type 0 where
 
 -- ---- faults
 
--- The fault stops a turn of the seat's actor at the end of what the seat has seen, which is a legal history. The work in hand
--- was the actor's at the end of a beginning of it, and the actor has had no turn since then.
+-- The fault stops a turn of the seat's actor at the end of what the seat has seen, which is a legal history. The work
+-- in hand was the actor's at the end of a beginning of it, and the actor has had no turn since then.
 pub record StopsTurn (program : Program) (s : Seat) (fault : TurnFault) : Type 0 where
   pub work : Option Work
   pub earlier : Seen
@@ -64,8 +64,8 @@ HasWorked program before after =
 abbrev pub AllMade : Program → List Seat → List Seat → Type 0
 AllMade program before after = EachSeat before after (λ k s t. HasMadeAll program s t)
 
--- The fault is the one that stopped the seat at some place, which keeps none. Each seat before it has made all its turns, and
--- each one after it has worked.
+-- The fault is the one that stopped the seat at some place, which keeps none. Each seat before it has made all its
+-- turns, and each one after it has worked.
 pub record FirstStops (program : Program) (fault : TurnFault) (before after : List Seat) : Type 0 where
   pub place : ℕ
   pub there : place < length before

@@ -1,4 +1,4 @@
--- What workers do.
+-- Workers at the seats of a station.
 use Rattle.std.specs.Prelude.{◌≡◌, ◌⊎◌, ℕ, ◌+◌, ◌*◌, ◌<◌, ◌≤◌, ◌==◌, All, List, [], Option, Some, None, length, count_by, sum_by, slice_index_or, if◌then◌else◌}
 use Rattle.lot_machine.specs.declared.reply.Reply.{Reply}
 use Rattle.lot_simulation.specs.Report.{quanta_in, ticks_in}
@@ -44,14 +44,14 @@ pub record HasMade (setting : Setting) (n : ℕ) (before after : Holder) : Type 
 
 -- ---- faults
 
--- An actor that has this work in hand and makes its turn in this system is stopped by the fault: the work doesn't fit the
--- program at hand, or the turn with the slice of the work has the fault.
+-- An actor that has this work in hand and makes its turn in this system is stopped by the fault: the work doesn't fit
+-- the program at hand, or the turn with the slice of the work has the fault.
 abbrev pub Stops : Program → ℕ → Option Work → Seen → TurnFault → Type 0
 Stops program actor work now fault =
     IsStale program work fault ⊎ ((given : Option Parts) × Matches program work given × Faults now actor given fault)
 
--- The fault stops a turn of the actor in a station of this program and room: after some legal history the work in hand is the
--- actor's, and after some legal history the turn is stopped.
+-- The fault stops a turn of the actor in a station of this program and room: after some legal history the work in
+-- hand is the actor's, and after some legal history the turn is stopped.
 pub record StopsTurn (setting : Setting) (program : Program) (actor : ℕ) (fault : TurnFault) : Type 0 where
   pub work : Option Work
   pub had : AtSome setting (λ x. IsWorkOf x actor work)
@@ -85,8 +85,8 @@ HasWorked setting program before after =
 abbrev pub AllMade : Setting → Program → List Holder → List Holder → Type 0
 AllMade setting program before after = EachSeat before after (λ k s t. HasMadeAll setting program s t)
 
--- The fault is the one that stopped the seat at some place, which keeps none. Each seat before it has made all its turns, and
--- each one after it has worked.
+-- The fault is the one that stopped the seat at some place, which keeps none. Each seat before it has made all its
+-- turns, and each one after it has worked.
 pub record FirstStops (setting : Setting) (program : Program) (fault : TurnFault) (before after : List Holder) : Type 0 where
   pub place : ℕ
   pub there : place < length before
@@ -139,7 +139,7 @@ pub record HasOthers (program : Program) : Type 0 where
   pub legal : IsLegalIn closed
   pub differ : ¬ CountsAgree closed after
 
--- Why a free run has no system to give back: memory was refused, a worker was stopped, or the system's history doesn't
+-- Why a free run has no system to give back: out of memory, a worker was stopped, or the system's history doesn't
 -- have the turns that the seats have made.
 abbrev pub IsFaultOf : Program → FreeRunFault → Type 0
 IsFaultOf program Memory = Unit {0}

@@ -1,4 +1,4 @@
-//! One worker for each seat of a system that goes round as a baton.
+//! One worker for each seat of a system that its seats pass around as a baton.
 ghost use Rattle.std.specs.Prelude.{◌≡◌, All, IfErr, IfSome, OnOk, None, length};
 ghost use Rattle.lot_station.specs.BatonSeats.{IsSeatOf};
 ghost use Rattle.lot_processors.specs.BatonWorkers.{AllMade, FirstStops, HasMade, HasStopped, HasWorked, IsFirstFault};
@@ -15,10 +15,10 @@ use std::thread::Threads;
 /// Makes the program's turns by the seats, which are all of the station's, in order, as `run_all` does: the console's
 /// makes one for each command, and each processor's as many as the program has turns. Each seat has a worker, on a
 /// thread of its own if one can be started; it stops at its first fault. All have stopped when this returns. It may
-/// wait.
+/// block.
 ///
-/// Answers the fault that stopped the first of the seats that were stopped, and takes it out of that seat. A later seat that
-/// was stopped keeps its own fault, until `BatonSeat::take_fault` takes it out or the next run begins.
+/// Returns the fault of the first seat that a fault stopped, and takes it out of that seat. A later seat that was
+/// stopped keeps its own fault, until `BatonSeat::take_fault` takes it out or the next run begins.
 pub fn run_all_baton<G: Gate + Sync, R: Threads + Wait + Sync>(
     rt: &R,
     station: &BatonStation,

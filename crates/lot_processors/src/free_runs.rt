@@ -17,7 +17,7 @@ use thiserror::Error;
 /// Why a free run has no system to give back.
 #[derive(Debug, Drop, Error)]
 pub enum FreeRunFault {
-    /// Memory was refused, before any turn.
+    /// Out of memory, before any turn.
     #[error("out of memory")]
     Memory,
     /// A worker has stopped early: the fault that stopped the first seat that was stopped.
@@ -28,8 +28,8 @@ pub enum FreeRunFault {
     CountsDiffer,
 }
 
-/// Opens a system of the program, has all its commands run and all its processors' turns made by workers, and gives the
-/// system back. It may wait.
+/// Opens a system of the program, lets workers run all its commands and make all its processors' turns, and gives the
+/// system back. It may block.
 pub fn free_run<G: Gate + Sync, R: Threads + Wait + Sync>(
     rt: &R,
     alloc: Global,
@@ -56,7 +56,8 @@ pub fn free_run<G: Gate + Sync, R: Threads + Wait + Sync>(
     )
 }
 
-/// How many turns a free run of the program has: one for each command, and as many for each processor as the program says.
+/// How many turns a free run of the program has: one for each command, and as many for each processor as the program
+/// says.
 fn turns_in_all(program: &Program) -> u32
     ensures { result ≡ workers.turns_in_all program.now }
 {

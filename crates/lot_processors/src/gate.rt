@@ -1,10 +1,10 @@
-//! What a processor's worker passes before its turns.
+//! Gates that processors' workers pass before their turns.
 
-/// Something that the worker of each processor passes before each of its turns, while it holds nothing that the others
+/// A gate: the worker of each processor passes it before each of its turns, while it holds nothing that the others
 /// need. The console's worker passes none.
 pub trait Gate {
-    /// Called by the worker of the processor `processor` with its slice at hand, before it makes its turn number `turn`,
-    /// which counts from 1.
+    /// The worker of the processor `processor` calls this with its slice ready, before it makes its turn number
+    /// `turn`, which counts from 1.
     fn pass(&self, processor: u32, turn: u32);
 }
 

@@ -31,8 +31,8 @@ fundx 10 base a spin
 /// How often a worker that is held back looks whether it may go on.
 const TRIES: u32 = 10_000_000;
 
-/// Holds a processor's worker back until the other processors' have come by as often as is wanted, or it has looked often
-/// enough. With no processor of this number it holds none.
+/// Holds a processor's worker back until the other processors' have come by as often as is wanted, or it has looked
+/// often enough. With no processor of this number it holds none.
 #[derive(Drop)]
 struct Turnstile {
     held: u32,

@@ -13,10 +13,10 @@ use std::thread::Threads;
 
 /// Makes the program's turns by the seats, which are all of the station's, in order: the console's makes one for each
 /// command, and each processor's as many as the program has turns. Each seat has a worker, on a thread of its own if
-/// one can be started; it stops at its first fault. All have stopped when this returns. It may wait.
+/// one can be started; it stops at its first fault. All have stopped when this returns. It may block.
 ///
-/// Answers the fault that stopped the first of the seats that were stopped, and takes it out of that seat. A later seat that
-/// was stopped keeps its own fault, until `Seat::take_fault` takes it out or the next run begins.
+/// Returns the fault of the first seat that a fault stopped, and takes it out of that seat. A later seat that was
+/// stopped keeps its own fault, until `Seat::take_fault` takes it out or the next run begins.
 pub fn run_all<
     T: TurnLedger + Send + Sync,
     Q: Ledger + Send + Sync,

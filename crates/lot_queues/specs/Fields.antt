@@ -79,7 +79,7 @@ pub record IsLaidOut (f : Fields) : Type 0 where
   pub sent : length f.sent ≡ f.layout.room
   pub owners : length f.owners ≡ f.layout.mutexes
   pub threads : f.threads ≤ f.layout.room
-  -- those in a list are threads that there are
+  -- the nodes in a list are those of existing threads
   pub made : (list node : ℕ) → Contains (nodes_of f.lists list) node → node < f.threads
-  -- a thread that isn't there serves nobody
+  -- a missing thread serves nobody
   pub unused : (list node : ℕ) → list < f.layout.room → Contains (nodes_of f.lists list) node → list < f.threads

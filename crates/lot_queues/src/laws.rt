@@ -1,4 +1,4 @@
-//! What the machine's definitions say of who waits where: a law, with nothing to run.
+//! A law of the machine's definitions about who waits where, with no code to run.
 ghost use Rattle.std.specs.Prelude.{◌≡◌, ◌||◌, IsTrue, Some, List, ℕ};
 ghost use Rattle.lot_machine.specs.declared.record.Record.{Record};
 ghost use Rattle.lot_machine.specs.declared.record.Status.{Status};

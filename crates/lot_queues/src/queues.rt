@@ -160,7 +160,7 @@ impl Queues {
         thread_of(node)
     }
 
-    /// The client that a thread answers next, which was taken first, or `None` if it serves nobody.
+    /// The client that gets a thread's next reply, which is the one taken first, or `None` if the thread serves nobody.
     pub fn first_client(&self, server: u32) -> Option<u32>
         requires { IsThere self.now.clients server }
         ensures { result ≡ machine.first_client self.now.clients server }

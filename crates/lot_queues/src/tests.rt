@@ -1,4 +1,4 @@
-//! Queues by hand, with what they answer, and a long run against plain vectors.
+//! Queues by hand, with the results of their calls, and a long run against plain vectors.
 ghost use Rattle.std.specs.Prelude.{◌≡◌, ◌↔◌, IsTrue, ◌≤◌, vec_capacity};
 ghost use Rattle.lot_queues.specs.QueueLists.{IsThere};
 

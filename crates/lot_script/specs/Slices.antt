@@ -6,8 +6,8 @@ use Rattle.lot_machine.specs.Bounds.{IsBetween}
 use Rattle.lot_simulation.specs.Script.{slice}
 use Rattle.lot_script.specs.Places.{Place, Fits, context_at}
 
--- a script's lines, where a thread began and with which budget, the ticks of work that it did and the trap that followed,
--- if one did, and where it is then
+-- a script's lines, where a thread began and with which budget, the ticks of work that it did and the trap that
+-- followed, if one did, and where it is then
 pub record Parts : Type 0 where
   pub lines : List Line
   pub start : Place

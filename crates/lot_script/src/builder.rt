@@ -55,9 +55,9 @@ impl ScriptBuilder {
         self.open_loops
     }
 
-    /// Whether the line can come next; else the refusal that an input with it gets: `BadNumber` for a `compute` of 0 and a
-    /// `loop` of 0 or over 65535, `TooDeep` for a ninth open loop, `BadLine` for an `end` without a loop, and `TooLong` for
-    /// line 1025, checked in this order.
+    /// Whether the line can come next; otherwise the refusal that an input with it gets: `BadNumber` for a `compute`
+    /// of 0 and a `loop` of 0 or over 65535, `TooDeep` for a ninth open loop, `BadLine` for an `end` without a loop,
+    /// and `TooLong` for line 1025, checked in this order.
     pub fn check(&self, line: Line) -> Result<(), InputRefusal>
         ensures checks { result ≡ checked (line_checks self.now line) tt }
         ensures number { OnOk result (IsLine line) }
@@ -79,7 +79,7 @@ impl ScriptBuilder {
         Ok(())
     }
 
-    /// One more line. Want of memory changes nothing.
+    /// One more line. If out of memory, it changes nothing.
     pub fn push(&mut self, line: Line) -> Result<(), AllocError>
         requires number { IsLine line }
         requires nesting { CanNest self.old.loops line }

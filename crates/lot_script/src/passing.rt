@@ -52,7 +52,7 @@ impl Script {
         Advance::Marks(self.pass(place, line, most))
     }
 
-    /// Passes marks of the line at the place, at least one and at most `most`. Answers how many.
+    /// Passes marks of the line at the place, at least one and at most `most`. Returns how many.
     #[inline(always)]
     fn pass(&self, place: &mut Place, line: Line, most: u32) -> u32
         requires stands { Stands self.now place.old line }

@@ -79,7 +79,7 @@ impl Place {
         self.done = 0;
     }
 
-    /// Does work of a `compute` of this many ticks, as much as is left of it and at most `most`. Answers how much.
+    /// Does work of a `compute` of this many ticks, as much as is left of it and at most `most`. Returns how much.
     #[inline(always)]
     pub(crate) fn work(&mut self, ticks: u32, most: u32) -> u32
         requires line { self.old.line < 1024 }

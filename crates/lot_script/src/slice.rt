@@ -1,5 +1,5 @@
-//! What a processor does of a script at a time.
-ghost use Rattle.std.specs.Prelude.{◌≡◌, ◌↔◌, ◌<◌, ◌≤◌, IsTrue};
+//! Slices of scripts, each with a budget of ticks.
+ghost use Rattle.std.specs.Prelude.{◌≡◌, ◌↔◌, IsTrue};
 ghost use Rattle.lot_machine.specs.Bounds.{IsBetween};
 ghost use Rattle.lot_script.specs.Places.{Fits};
 ghost use Rattle.lot_script.specs.Slices.{IsSlice, IsSameSlice};
@@ -52,7 +52,8 @@ impl<'a> Slice<'a> {
         self.budget
     }
 
-    /// Whether the other is the same slice: one of a script with the same lines, from the same place, with the same budget.
+    /// Whether the other is the same slice: one of a script with the same lines, from the same place, with the same
+    /// budget.
     pub fn is_same(&self, other: &Slice<'_>) -> bool
         ensures same { IsTrue result ↔ IsSameSlice self.now other.now }
         ensures does { IsTrue result → (self.now.ticks ≡ other.now.ticks) × (self.now.trap ≡ other.now.trap) }
@@ -78,7 +79,7 @@ impl<'a> Slice<'a> {
         self.trap
     }
 
-    /// Where it is then: after the trap, but an exit is never passed.
+    /// Its place then: after the trap, except that it never passes an exit.
     pub fn end(&self) -> &Place
         ensures end { result.now ≡ self.now.end }
         ensures exact { IsSlice self.now }
@@ -97,8 +98,8 @@ pub struct SliceDone {
 }
 
 impl Script {
-    /// Moves a place of this script on, as a slice with a budget of 1 to 1000 ticks does: after the trap, but an exit is
-    /// never passed. It takes no memory, and as many steps as lines are passed.
+    /// Moves a place of this script on, as a slice with a budget of 1 to 1000 ticks does: after the trap, except that
+    /// it never passes an exit. It takes no memory, and as many steps as it passes lines.
     #[inline(always)]
     pub fn pass_slice(&self, place: &mut Place, budget: u32) -> SliceDone
         requires fits { Fits self.now place.old }
@@ -120,8 +121,8 @@ impl Script {
         SliceDone { ticks, trap: None }
     }
 
-    /// What a thread of this script does from `start` with a budget of 1 to 1000 ticks. It takes no memory, and as many
-    /// steps as lines are passed.
+    /// What a thread of this script does from `start` with a budget of 1 to 1000 ticks. It takes no memory, and as
+    /// many steps as it passes lines.
     #[inline(always)]
     pub fn slice(&self, start: Place, budget: u32) -> Slice<'_>
         requires fits { Fits self.now start }

@@ -17,7 +17,8 @@ fn script_of(rt: &impl Abort, alloc: Global, lines: &[Line]) -> Result<Script, A
     Ok(builder.finish())
 }
 
-/// Slices of the script in turn, from its beginning: of each the budget, the ticks, the trap and the accumulator at its end.
+/// Slices of the script in turn, from its beginning: of each the budget, the ticks, the trap and the accumulator at
+/// its end.
 fn slices_in_turn(
     rt: &impl Abort,
     script: &Script,

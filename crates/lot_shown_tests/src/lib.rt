@@ -1,5 +1,5 @@
-//! Tests of `lot_explain` and `lot_pictures` in runs in which memory is refused. They stand in a crate of their own, so that those two
-//! aren't proved a second time for them.
+//! Tests of `lot_explain` and `lot_pictures` in runs in which an allocation fails. They are in a crate of their own,
+//! so that those two aren't proved a second time for them.
 #![tactic(auto)]
 
 mod endings;

@@ -1,4 +1,5 @@
-//! Inputs that are explained, and shown as tables and pictures: for runs in which one allocation is refused, each in turn.
+//! Inputs that are explained, and shown as tables and pictures: for runs in which one allocation is refused, each in
+//! turn.
 
 use crate::has_written_or_lacked_memory;
 use lot_curves::Measure;
@@ -33,7 +34,7 @@ fundx 1 base a spin
 mkthr b spin
 ";
 
-/// A writer that counts what it takes, and takes no memory.
+/// A writer that counts what it takes, and allocates no memory.
 #[derive(Drop)]
 struct Counting {
     taken: usize,
@@ -50,7 +51,7 @@ impl Write for Counting {
     }
 }
 
-/// What an input is shown as.
+/// The form in which an input is shown.
 #[derive(Clone, Copy, Debug)]
 enum Shown {
     Explained,
@@ -58,7 +59,7 @@ enum Shown {
     Picture,
 }
 
-/// Shows the input, and answers what came of it and how many bytes were written.
+/// Shows the input, and returns the outcome and how many bytes were written.
 fn show(alloc: Global, shown: Shown, input: &str) -> (Result<Played, PlayFault>, usize) {
     let mut reader = Watched::new(input.as_bytes());
     let mut writer = Watched::new(Counting { taken: 0 });
@@ -78,7 +79,7 @@ fn show(alloc: Global, shown: Shown, input: &str) -> (Result<Played, PlayFault>,
     (ended, taken)
 }
 
-/// If memory is refused, nothing was written.
+/// If an allocation fails, nothing was written.
 fn check(rt: &impl Abort, alloc: Global, shown: Shown) {
     for input in [SCHEDULED, TIMED] {
         let (ended, written) = show(alloc, shown, input);

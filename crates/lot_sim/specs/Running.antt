@@ -1,4 +1,4 @@
--- What a free run comes to.
+-- The output of a free run.
 use Rattle.std.specs.Prelude.{◌≡◌, ℕ, Bool, true, false, Option, Result, Ok, Err, List}
 use Rattle.std.specs.Io.KnownBytes.{Appends, Keeps}
 use Rattle.lot_simulation.specs.declared.input.InputFault.{InputFault}
@@ -16,7 +16,8 @@ use Rattle.lot_print.specs.Writing.{Begins}
 use Rattle.lot_sim.specs.declared.run.RunStop.{RunStop}
 use Rattle.lot_sim.specs.declared.run.RunStop.TheVariants.{Play}
 
--- The report of a free run of the program was written, and lines that give its history back; or why there is no program.
+-- The report of a free run of the program was written, and lines that give its history back; or why there is no
+-- program.
 abbrev pub HasRun : Result Program InputFault → Option (List ℕ) → Option (List ℕ) → Played → Type 0
 HasRun (Ok program) old new played = (played ≡ Done) × ((history : List ℕ) × IsFreeRun program history × Appends old new (end_text program history))
 HasRun (Err fault) old new played = (played ≡ Refused) × Appends old new (fault_line fault)
@@ -36,7 +37,7 @@ EndsRun input old new failed (Err other) = (failed ≡ false) × Keeps old new
 abbrev pub Runs : {T : Type 0} → Result Program InputFault → (T → Option (List ℕ)) → Watch T → Watch T → Result Played RunStop → Type 0
 Runs input contents old new result = EndsRun input (contents old.inner) (contents new.inner) new.failed result
 
--- What a fault leaves: with Write a beginning of a free run of what was read was written, and else nothing was.
+-- What a fault leaves: with Write a beginning of a free run of what was read was written, otherwise nothing was.
 abbrev pub HasLeft : Option (List ℕ) → Option (List ℕ) → Option (List ℕ) → Option (List ℕ) → RunStop → Type 0
 HasLeft left rest old new (Play Write) = (bytes : List ℕ) × HasRead left rest bytes × HasBegun (program_in bytes) old new
 HasLeft left rest old new other = Keeps old new

@@ -5,16 +5,16 @@ use lot_curves::Measure;
 use std::alloc::{AllocError, Global};
 use std::convert::AsStr;
 
-/// What a picture is called if no title is given.
+/// The title of a picture if none is given.
 const TITLE: &str = "What each thread has run";
 
-/// What the program is asked for: exactly one subcommand.
+/// The request of a command line: exactly one subcommand.
 #[derive(Clone, Copy, Debug)]
 pub(crate) enum Request<'a> {
     Play,
     Explain,
     Run,
-    /// What is measured of each thread.
+    /// The measure of each thread.
     Shares(Measure),
     /// The title of the picture.
     Chart(&'a str),

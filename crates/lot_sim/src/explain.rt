@@ -13,9 +13,9 @@ use lot_text::Watched;
 use std::alloc::Global;
 use std::io::{Read, Write};
 
-/// Reads an input, makes its turns, and writes what `play` writes, with the lines of those who took part before the line of each lottery
-/// that was won; or one line, if the input is refused: what `explain` of `lot_explain` does. What is to be said of it in words is put in
-/// `told`.
+/// Reads an input, makes its turns, and writes the output of `play`, with the lots of each lottery that was won
+/// before its line; or one line, if the input is refused, as `explain` of `lot_explain` does. Diagnostics are stored
+/// in `told`.
 pub(crate) fn explain<R: Read, W: Write>(
     alloc: Global,
     told: &mut Told,

@@ -1,6 +1,7 @@
-//! `lot_sim play` reads an input from standard input and writes what playing its schedule gives; `lot_sim run` has workers
-//! make its turns, and writes the report and a schedule that gives it back; `lot_sim explain` writes besides who took part in each
-//! lottery that was won; `lot_sim shares` and `lot_sim chart` write what each thread has had over time, as a table and as a picture.
+//! `lot_sim play` reads an input from standard input and writes the lines and the report of its turns; `lot_sim run`
+//! has workers make its turns, and writes the report and a schedule that gives it back; `lot_sim explain` also writes
+//! who took part in each lottery that was won; `lot_sim shares` and `lot_sim chart` write what each thread has had
+//! over time, as a table and as a picture.
 #![tactic(auto)]
 
 mod command_line;

@@ -13,7 +13,7 @@ use std::alloc::Global;
 use std::io::{Read, Write};
 
 /// Reads an input, makes the turns of its schedule, and writes a line for each turn and then the report; or one line,
-/// if the input is refused: what `play` of `lot_system` does. What is to be said of it in words is put in `told`.
+/// if the input is refused, as `play` of `lot_system` does. Diagnostics are stored in `told`.
 pub(crate) fn play<R: Read, W: Write>(
     alloc: Global,
     told: &mut Told,

@@ -18,7 +18,7 @@ use thiserror::Error;
 /// Why a free run of an input stops early. Nothing was written unless the writer has failed.
 #[derive(Debug, Drop, Error)]
 pub(crate) enum RunStop {
-    /// Memory was refused, or the reader or the writer has failed.
+    /// Out of memory, or the reader or the writer has failed.
     #[error("{0}")]
     Play(PlayFault),
     /// The workers stopped early, or there was no memory for them.
@@ -26,9 +26,9 @@ pub(crate) enum RunStop {
     Workers(FreeRunFault),
 }
 
-/// Reads an input, has its commands run and its processors' turns made by workers, and writes the report and the
-/// history; or one line, if the input is refused. Its schedule is ignored. What is to be said of it in words is put in `told`. It may
-/// wait.
+/// Reads an input, lets workers run its commands and make its processors' turns, and writes the report and the
+/// history; or one line, if the input is refused. Its schedule is ignored. Diagnostics are stored in `told`. It may
+/// block.
 pub(crate) fn run<R: Read, W: Write, H: Threads + Wait + Sync>(
     rt: &H,
     alloc: Global,
@@ -100,7 +100,7 @@ fn run_program<W: Write, H: Threads + Wait + Sync>(
     }
 }
 
-/// The run is done, and what it leaves to tell is noted.
+/// Notes the warnings of the run, which is done.
 fn noted(system: &mut System, leftovers: &mut Leftovers) -> Played
     ensures { result ≡ Done }
 {

@@ -1,4 +1,4 @@
-//! What the program does, as a function of its words, its input and its outputs.
+//! The program as a function of its words, its input and its outputs.
 
 use crate::command_line::{Request, request_of};
 use crate::explain::explain;
@@ -23,7 +23,7 @@ const DONE: u8 = 0;
 const REFUSED: u8 = 1;
 /// The command line was refused.
 const COMMAND_LINE: u8 = 2;
-/// Memory was refused, a read or a write failed, or workers stopped early.
+/// Out of memory, a read or a write failed, or workers stopped early.
 const FAILED: u8 = 3;
 
 /// The text for a command line that isn't UTF-8.
@@ -32,8 +32,8 @@ const NOT_UTF8: &str = "error: invalid UTF-8 was detected in one or more argumen
 /// How many bytes of output are written at a time.
 const BUFFER: usize = 65536;
 
-/// Runs the program with these words, of which the first is its own name, and answers its exit status. Nothing more is
-/// written to an output after its first error.
+/// Runs the program with these words, of which the first is its own name, and returns its exit status. Nothing more
+/// is written to an output after its first error.
 pub(crate) fn status<
     H: Threads + Wait + Sync,
     S: AsStr,

@@ -27,7 +27,7 @@ mkthr b spin
 fund 2 b
 ";
 
-/// What is written of their commands.
+/// The lines of their commands.
 const SPINNERS_MADE: &str = "0 ticket 1
 0 thread 1
 0 done
@@ -120,7 +120,7 @@ processor 1 quanta 0 idle 0 ticks 0
 total turns 0 quanta 0 ticks 0
 ";
 
-/// A script that ends within its quantum, and then nobody to draw.
+/// A script that ends within its quantum, and then a draw without threads.
 const ENDING: &str = "lottery 1
 quantum 10
 script s
@@ -263,7 +263,7 @@ processor 1 quanta 0 idle 0 ticks 0
 total turns 21 quanta 0 ticks 0
 ";
 
-/// A client calls a server with 41, and is answered 42.
+/// A client calls a server with 41, and the reply is 42.
 const CALL_AND_REPLY: &str = "lottery 1
 quantum 10
 port p
@@ -647,8 +647,8 @@ fn failures(rt: HostRuntime) {
     assert!(rt; errors.is_empty());
 }
 
-/// A writer that keeps what it takes and whether all of that was flushed, and whose call of this number fails: with an error
-/// of this kind, or by taking nothing.
+/// A writer that keeps what it takes and whether all of that was flushed, and whose call of this number fails: with
+/// an error of this kind, or by taking nothing.
 #[derive(Drop)]
 struct FailingCall {
     written: Vec<u8>,
@@ -686,8 +686,8 @@ impl Write for FailingCall {
     }
 }
 
-/// Plays the input to a writer whose call of this number fails, and answers whether it has failed: then what it took is a
-/// beginning of the whole output.
+/// Plays the input to a writer whose call of this number fails, and returns whether it has failed: then what it took
+/// is a beginning of the whole output.
 fn writing_fails(
     rt: &impl Abort,
     alloc: Global,
@@ -754,7 +754,8 @@ fn failing_writers(rt: HostRuntime) -> Result<(), Fail> {
             (call.as_str(), CALL_AND_REPLY_PLAYED),
         ] {
             let unmade = first_unmade_write(&rt, alloc, row, kind);
-            // The page of turns, five lines of the report and, if it can fail, the flush: at least that many calls fail.
+            // The page of turns, five lines of the report and, if it can fail, the flush: at least that many calls
+            // fail.
             assert!(rt; 6 < unmade, "{unmade}");
         }
     }
@@ -781,7 +782,7 @@ impl Read for FailingRead<'_> {
     }
 }
 
-/// Plays the input from a reader whose call of this number fails, and answers whether it has failed: then nothing was
+/// Plays the input from a reader whose call of this number fails, and returns whether it has failed: then nothing was
 /// written.
 fn reading_fails(
     rt: &impl Abort,

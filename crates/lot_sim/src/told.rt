@@ -1,4 +1,4 @@
-//! What is told in words, beside the output.
+//! Diagnostics in words on standard error.
 ghost use Rattle.std.specs.Prelude.{◌≡◌};
 
 use lot_simulation::InputFault;
@@ -9,19 +9,19 @@ use std::alloc::{AllocError, Global};
 use std::io;
 use std::io::Write;
 
-/// What is known for words on standard error. The output and the status don't depend on it.
+/// The diagnostics for standard error. The output and the status don't depend on them.
 #[derive(Drop)]
 pub(crate) struct Told {
     /// The input, if it was refused.
     pub(crate) input: Vec<u8>,
     /// The lines of its commands, if there was memory for them.
     lines: CommandLines,
-    /// What a run of it leaves to tell.
+    /// The warnings of its run.
     pub(crate) leftovers: Leftovers,
 }
 
 impl Told {
-    /// Nothing is known. It takes the memory for what a run leaves to tell.
+    /// No diagnostics. It allocates the memory for the warnings of a run.
     pub(crate) fn nothing(alloc: Global) -> Result<Self, AllocError> {
         Ok(Told {
             input: Vec::new(alloc),
@@ -30,7 +30,7 @@ impl Told {
         })
     }
 
-    /// Takes up what was read: its bytes, and on which lines its commands stand.
+    /// Stores the input, and on which lines its commands stand.
     pub(crate) fn take_up(&mut self, alloc: Global, input: Vec<u8>)
         ensures { self.new.input ≡ input }
     {
@@ -41,7 +41,7 @@ impl Told {
         self.input = input;
     }
 
-    /// Writes why the input is refused. Without memory, or if the errors fail, nothing comes of it.
+    /// Writes why the input is refused. Out of memory, or if the errors fail, nothing is reported.
     pub(crate) fn say_why<E: Write>(&self, alloc: Global, errors: &mut Watched<E>) {
         if let Err(ParseFault::Input(fault)) = parse(alloc, self.input.as_slice()) {
             let mut words = Vec::new(alloc);
@@ -50,7 +50,7 @@ impl Told {
         }
     }
 
-    /// Writes what the run leaves to tell. Without memory, or if the errors fail, nothing comes of it.
+    /// Writes the warnings of the run. Out of memory, or if the errors fail, nothing is reported.
     pub(crate) fn say_leftovers<E: Write>(&self, alloc: Global, errors: &mut Watched<E>) {
         let mut words = Vec::new(alloc);
         let made = write_leftovers(&mut words, &self.leftovers, &self.lines);
@@ -58,7 +58,7 @@ impl Told {
     }
 }
 
-/// Writes these words to the errors at once, if they were put together.
+/// Writes these words to the errors at once, if there was memory for them.
 fn say<E: Write>(errors: &mut Watched<E>, made: io::Result<()>, words: &Vec<u8>) {
     if made.is_ok() && !words.is_empty() {
         let _ = errors.write_all(words.as_slice());

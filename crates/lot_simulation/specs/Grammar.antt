@@ -29,8 +29,8 @@ lacks_duration r = r.is_timed && is_none r.duration
 
 -- ---- lines of the header
 
--- The first line that isn't ignored: `lottery 1` means unit 1, and `lottery 2` unit 256. In `lottery 3` turns come in the order of
--- time, with unit 256.
+-- The first line that isn't ignored: `lottery 1` means unit 1, and `lottery 2` unit 256. In `lottery 3` turns come in
+-- the order of time, with unit 256.
 abbrev pub first_line : List (List ℕ) → Result Reading InputRefusal
 first_line (word ∷ version ∷ []) =
     if bytes_eq word (codes "lottery") && bytes_eq version (codes "1") then Ok (opening_reading false 1)
@@ -185,8 +185,8 @@ add_runs r runs = do
   fitting ← checked ((nat_lt 1000000 (length r.schedule + sum_by (λ run. run.count) runs), TooLong) ∷ []) runs
   Ok (record r { schedule = r.schedule ++ actors_of fitting })
 
--- What a line of the body says. There are no runs if the unit is 1, and neither runs nor a schedule if turns come in the order of
--- time. Times don't fall.
+-- What a line of the body says. There are no runs if the unit is 1, and neither runs nor a schedule if turns come in
+-- the order of time. Times don't fall.
 abbrev pub body_line : ℕ → Reading → BodyWord → List (List ℕ) → Result Reading InputRefusal
 body_line n r body.Port (token ∷ []) = do
   name ← new_name r.ports token
@@ -283,7 +283,8 @@ header_words_of r = if r.is_timed then timed_header_words else header_words
 abbrev pub body_words_of : Reading → List (List ℕ × BodyWord)
 body_words_of r = if r.is_timed then timed_body_words else body_words
 
--- A line after the first, by its first token. A line within a script has one word, and several if turns come in the order of time.
+-- A line after the first, by its first token. A line within a script has one word, and several if turns come in the
+-- order of time.
 abbrev pub later_line : ℕ → Reading → Option OpenScript → List ℕ → List (List ℕ) → Result Reading InputRefusal
 later_line n r (Some s) word tokens = if r.is_timed then phrases_inside r (phrases_of (word ∷ tokens)) else line_inside r s (word_in script_words word) tokens
 later_line n r None word tokens = line_outside n r (word_in (header_words_of r) word) (word_in (body_words_of r) word) tokens
@@ -359,8 +360,8 @@ abbrev pub closed_program : Reading → Option OpenScript → Result Program Inp
 closed_program r None = Ok (program_of r)
 closed_program r (Some s) = Err (record { line = s.begins; refusal = ScriptIsOpen })
 
--- An input of this many lines, all ignored, is refused on the last, or on line 1 if it has none; and so is one that has a header alone,
--- which lacks how long it runs.
+-- An input of this many lines, all ignored, is refused on the last, or on line 1 if it has none; and so is one that has
+-- a header alone, which lacks how long it runs.
 abbrev pub whole_program : ℕ → Option Reading → Result Program InputFault
 whole_program count None = Err (record { line = max 1 count; refusal = BadHeader })
 whole_program count (Some r) = if lacks_duration r then Err (record { line = max 1 count; refusal = BadHeader }) else closed_program r r.unclosed

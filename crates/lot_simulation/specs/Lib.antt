@@ -1,6 +1,6 @@
 -- What a simulated system is, in the order to read.
 
--- What a script means, and what a processor does of it at a time.
+-- The meaning of a script, and the slices of it that a processor runs.
 pub mod Script
 -- The simulated system: a console, processors with their generators, and threads with their scripts.
 pub mod World
@@ -14,7 +14,7 @@ pub mod Words
 pub mod Reading
 -- What an input says, or on which line it is refused.
 pub mod Grammar
--- What is printed of replies, refusals and listings.
+-- The text of replies, refusals and listings.
 pub mod Texts
 -- The report, and the lines that give a history back.
 pub mod Report
@@ -22,9 +22,9 @@ pub mod Report
 pub mod Timed
 -- Their report.
 pub mod TimedReport
--- The whole of what the program writes.
+-- The whole output of the program.
 pub mod Output
--- Small inputs, and what is printed of them.
+-- Small inputs, and the output for them.
 pub mod Samples
--- What a proof unfolds to compute a text on literals: what a number is printed as is closed elsewhere.
+-- The definitions that a proof unfolds to compute a text on literals. The text of a number is closed elsewhere.
 pub mod OnLiterals

@@ -1,4 +1,4 @@
--- The whole of what the program writes.
+-- The whole output of the program.
 use Rattle.std.specs.Prelude.{ℕ, Option, Some, None, Result, Ok, Err, List, [], ◌∷◌, ◌++◌, codes}
 use Rattle.std.specs.Fmt.{decimal}
 use Rattle.lot_simulation.specs.declared.input.InputFault.{InputFault}
@@ -14,7 +14,7 @@ use Rattle.lot_simulation.specs.TimedReport.{timed_report}
 use Rattle.lot_simulation.specs.World.{Program, World, Answer, Turn, opening_world, system_turn, system_run}
 use Rattle.lot_simulation.specs.World.Answer.{Answered, Ended}
 
--- what is printed of an answer, given the state after the turn
+-- the output for an answer, given the state after the turn
 abbrev pub answer_text : Manner → State → Answer → List ℕ
 answer_text manner s (Answered e r) = reply_text manner s e r
 answer_text manner s Ended = refused 41 (codes "Ended") ++ newline
@@ -40,7 +40,8 @@ timed_text done = turn_text (Timed done.time) done.actor done.turn
 abbrev pub timed_output : Program → List ℕ
 timed_output program = flat_map timed_text (timed_turns program) ++ timed_report program
 
--- what `play` writes of a program: a schedule is played, or turns in the order of time if the input says how long it runs
+-- what `play` writes of a program: a schedule is played, or turns in the order of time if the input says how long it
+-- runs
 abbrev pub played_output : Program → Option ℕ → List ℕ
 played_output program None = scheduled_output program
 played_output program (Some duration) = timed_output program

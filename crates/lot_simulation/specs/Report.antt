@@ -12,14 +12,14 @@ use Rattle.lot_simulation.specs.Texts.{newline, lines_for}
 use Rattle.lot_simulation.specs.World.{Program, World, Answer, opening_world, system_answers, system_run}
 use Rattle.lot_simulation.specs.World.Answer.{Answered, Ended}
 
--- ---- what was counted
+-- ---- counts
 
--- an actor, and what its turn answered
+-- an actor, and the answer of its turn
 pub record ActorTurn : Type 0 where
   pub actor : ℕ
   pub answer : Answer
 
--- each actor beside its answer
+-- each actor with its answer
 abbrev pub beside : List ℕ → List Answer → List ActorTurn
 beside [] answers = []
 beside (actor ∷ actors) [] = []
@@ -45,12 +45,12 @@ ticks_in (reply.Expired thread ticks) = ticks
 ticks_in (reply.Trapped thread ticks came ends) = ticks
 ticks_in other = 0
 
--- what is counted in an answer
+-- the count of an answer: its reply's, or 0 without one
 abbrev pub count_in : (Reply → ℕ) → Answer → ℕ
 count_in count (Answered e r) = count r
 count_in count Ended = 0
 
--- what is counted in all turns, and in those of one actor
+-- the count over all turns, and over the turns of one actor
 abbrev pub total_of : (Reply → ℕ) → List ActorTurn → ℕ
 total_of count turns = sum_by (λ turn. count_in count turn.answer) turns
 
@@ -72,7 +72,7 @@ processor_total turns p =
     ++ (codes " idle " ++ (decimal (total_of idles_in (turns_of p turns))
     ++ (codes " ticks " ++ (decimal (total_of ticks_in (turns_of p turns)) ++ newline)))))))
 
--- the last line: how many turns were made, and what was counted in all of them
+-- the last line: the number of turns, and the counts of all of them
 abbrev pub whole_total : ℕ → List ActorTurn → List ℕ
 whole_total made turns =
     codes "total turns " ++ (decimal made ++ (codes " quanta " ++ (decimal (total_of quanta_in turns)

@@ -1,4 +1,4 @@
--- Small inputs, and what is printed of them.
+-- Small inputs, and the output for them.
 use Rattle.std.specs.Prelude.{ℕ, Bool, List, [], ◌∷◌, ◌++◌, codes, replicate}
 use Rattle.std.specs.List.{flat_map}
 use Rattle.lot_machine.specs.declared.action.Action.{Action}
@@ -19,7 +19,7 @@ abbrev pub two_spinners : List (List ℕ)
 two_spinners = codes "script spin" ∷ codes "compute 1000" ∷ codes "endscript" ∷ codes "mktkt 10 base" ∷ codes "mkthr a spin"
     ∷ codes "fund 1 a" ∷ codes "mktkt 5 base" ∷ codes "mkthr b spin" ∷ codes "fund 2 b" ∷ []
 
--- what is printed of its commands
+-- the output for its commands
 abbrev pub spinners_made : List (List ℕ)
 spinners_made = codes "0 ticket 1" ∷ codes "0 thread 1" ∷ codes "0 done" ∷ codes "0 ticket 2" ∷ codes "0 thread 2" ∷ codes "0 done" ∷ []
 
@@ -27,7 +27,7 @@ spinners_made = codes "0 ticket 1" ∷ codes "0 thread 1" ∷ codes "0 done" ∷
 abbrev pub first_run_input : List ℕ
 first_run_input = text (codes "lottery 1" ∷ two_spinners ++ codes "schedule 0 0 0 0 0 0 1 1 1 1 1 1" ∷ [])
 
--- what is printed of it
+-- the output for it
 abbrev pub first_run_output : List ℕ
 first_run_output = text (spinners_made
     ++ codes "1 draw 9 of 15 thread 1" ∷ codes "1 thread 1 ticks 100 expire" ∷ codes "1 draw 4 of 15 thread 1" ∷ codes "1 thread 1 ticks 100 expire"
@@ -44,7 +44,7 @@ abbrev pub call_input : List ℕ
 call_input = text (server_opened ++ codes "receive p" ∷ codes "add 1" ∷ codes "reply" ∷ codes "endscript" ∷ codes "script cli" ∷ codes "set 41" ∷ codes "call p"
     ∷ codes "compute 2" ∷ codes "endscript" ∷ codes "fundx 5 base s srv" ∷ codes "fundx 5 base c cli" ∷ codes "schedule 0 0 1 1 1 1 1 1 1 1 1 1" ∷ [])
 
--- what is printed of it
+-- the output for it
 abbrev pub call_output : List ℕ
 call_output = text (codes "0 funded 1 1" ∷ codes "0 funded 2 2" ∷ codes "1 draw 4 of 10 thread 1" ∷ codes "1 thread 1 ticks 1 receive 1 waits" ∷ codes "1 draw 4 of 5 thread 2"
     ∷ codes "1 thread 2 ticks 2 call 1 served by 1" ∷ codes "1 draw 5 of 100 thread 1 got 41" ∷ codes "1 thread 1 ticks 2 reply client 2" ∷ codes "1 thread 1 ticks 1 exit"
@@ -55,7 +55,7 @@ call_output = text (codes "0 funded 1 1" ∷ codes "0 funded 2 2" ∷ codes "1 d
 abbrev pub two_processors_input : List ℕ
 two_processors_input = text (codes "lottery 1" ∷ codes "processors 2" ∷ codes "script spin" ∷ codes "compute 150" ∷ codes "endscript" ∷ codes "fundx 10 base a spin" ∷ codes "schedule 0 1 2 1 2 0" ∷ [])
 
--- what is printed of it
+-- the output for it
 abbrev pub two_processors_output : List ℕ
 two_processors_output = text (codes "0 funded 1 1" ∷ codes "1 draw 4 of 10 thread 1" ∷ codes "2 idle" ∷ codes "1 thread 1 ticks 100 expire" ∷ codes "2 draw 3 of 10 thread 1" ∷ codes "0 refused 41 Ended"
     ∷ codes "report" ∷ codes "thread 1 a quanta 2 ticks 100" ∷ codes "processor 1 quanta 1 idle 0 ticks 100" ∷ codes "processor 2 quanta 1 idle 1 ticks 0" ∷ codes "total turns 5 quanta 2 ticks 100" ∷ [])
@@ -74,7 +74,7 @@ graph_commands = codes "lottery 1" ∷ codes "script spin" ∷ codes "compute 10
 abbrev pub graph_input : List ℕ
 graph_input = text (graph_commands ++ codes "lscur" ∷ codes "lstkt" ∷ codes "lsthr" ∷ codes "schedule 0 0 0 0 0 0 0 0 0 0 0 0 0 0 0 0 0 0 0 0 0" ∷ [])
 
--- what is printed of it
+-- the output for it
 abbrev pub graph_output : List ℕ
 graph_output = text (codes "0 currency 1" ∷ codes "0 currency 2" ∷ codes "0 currency 3" ∷ codes "0 currency 4" ∷ codes "0 currency 5" ∷ codes "0 ticket 1" ∷ codes "0 done" ∷ codes "0 ticket 2" ∷ codes "0 done"
     ∷ codes "0 ticket 3" ∷ codes "0 done" ∷ codes "0 ticket 4" ∷ codes "0 done" ∷ codes "0 ticket 5" ∷ codes "0 done" ∷ codes "0 funded 6 1" ∷ codes "0 funded 7 2" ∷ codes "0 funded 8 3"
@@ -109,7 +109,7 @@ graph_output = text (codes "0 currency 1" ∷ codes "0 currency 2" ∷ codes "0 
 abbrev pub refused_commands_input : List ℕ
 refused_commands_input = text (codes "lottery 1" ∷ codes "limits 1 1 1" ∷ codes "mktkt 1 base" ∷ codes "mktkt 1 base" ∷ codes "mkcur Bad" ∷ codes "mkthr a none" ∷ codes "fund 9 a" ∷ codes "schedule 0 0 0 0 0" ∷ [])
 
--- what is printed of it
+-- the output for it
 abbrev pub refused_commands_output : List ℕ
 refused_commands_output = text (codes "0 ticket 1" ∷ codes "0 refused 13 Full" ∷ codes "0 refused 1 BadName" ∷ codes "0 refused 14 NoScript" ∷ codes "0 refused 4 NoTicket"
     ∷ codes "report" ∷ codes "processor 1 quanta 0 idle 0 ticks 0" ∷ codes "total turns 5 quanta 0 ticks 0" ∷ [])
@@ -118,12 +118,12 @@ refused_commands_output = text (codes "0 ticket 1" ∷ codes "0 refused 13 Full"
 abbrev pub loop_input : List ℕ → List ℕ
 loop_input quantum = text (codes "lottery 1" ∷ quantum ∷ codes "script s" ∷ codes "loop 2" ∷ codes "compute 3" ∷ codes "end" ∷ codes "endscript" ∷ codes "fundx 1 base a s" ∷ codes "schedule 0 1 1 1 1" ∷ [])
 
--- what is printed of it with quantum 9
+-- the output for it with quantum 9
 abbrev pub short_loop_output : List ℕ
 short_loop_output = text (codes "0 funded 1 1" ∷ codes "1 draw 0 of 1 thread 1" ∷ codes "1 thread 1 ticks 9 expire" ∷ codes "1 draw 0 of 1 thread 1" ∷ codes "1 thread 1 ticks 1 exit"
     ∷ codes "report" ∷ codes "thread 1 a quanta 2 ticks 10" ∷ codes "processor 1 quanta 2 idle 0 ticks 10" ∷ codes "total turns 5 quanta 2 ticks 10" ∷ [])
 
--- what is printed of it with quantum 10
+-- the output for it with quantum 10
 abbrev pub long_loop_output : List ℕ
 long_loop_output = text (codes "0 funded 1 1" ∷ codes "1 draw 0 of 1 thread 1" ∷ codes "1 thread 1 ticks 10 exit" ∷ codes "1 idle" ∷ codes "1 idle"
     ∷ codes "report" ∷ codes "thread 1 a quanta 1 ticks 10" ∷ codes "processor 1 quanta 1 idle 2 ticks 10" ∷ codes "total turns 5 quanta 1 ticks 10" ∷ [])
@@ -132,7 +132,7 @@ long_loop_output = text (codes "0 funded 1 1" ∷ codes "1 draw 0 of 1 thread 1"
 abbrev pub idle_run_output : List ℕ
 idle_run_output = text (codes "report" ∷ codes "processor 1 quanta 0 idle 3 ticks 0" ∷ codes "total turns 3 quanta 0 ticks 0" ∷ codes "schedule 1 1 1" ∷ [])
 
--- what is refused on a line, with this code and name
+-- a refusal on a line, with this code and name
 abbrev pub refused_on_line : List ℕ → List ℕ
 refused_on_line what = codes "refused line " ++ (what ++ newline)
 
@@ -152,7 +152,7 @@ script_of lines = codes "lottery 1" ∷ codes "script s" ∷ lines ++ codes "end
 abbrev pub fine_input : List ℕ → List ℕ
 fine_input schedule = text (codes "lottery 2" ∷ two_spinners ++ schedule ∷ [])
 
--- what is printed of it
+-- the output for it
 abbrev pub fine_output : List ℕ
 fine_output = text (spinners_made ++ codes "1 draw 2724 of 3840 thread 2" ∷ codes "1 thread 2 ticks 100 expire"
     ∷ codes "report" ∷ codes "thread 1 a quanta 0 ticks 0" ∷ codes "thread 2 b quanta 1 ticks 100" ∷ codes "processor 1 quanta 1 idle 0 ticks 100"
@@ -163,7 +163,7 @@ abbrev pub fine_thirds_input : List ℕ
 fine_thirds_input = text (codes "lottery 2" ∷ codes "script s" ∷ codes "endscript" ∷ codes "mkcur g" ∷ codes "mktkt 100 base" ∷ codes "fund 1 g" ∷ codes "fundx 1 g a s" ∷ codes "fundx 1 g b s" ∷ codes "fundx 1 g c s"
     ∷ codes "lscur" ∷ codes "lsthr" ∷ codes "runs 0 8" ∷ [])
 
--- what is printed of it
+-- the output for it
 abbrev pub fine_thirds_output : List ℕ
 fine_thirds_output = text (codes "0 currency 1" ∷ codes "0 ticket 1" ∷ codes "0 done" ∷ codes "0 funded 2 1" ∷ codes "0 funded 3 2" ∷ codes "0 funded 4 3"
     ∷ codes "0 lscur 2" ∷ codes "currency 0 base backing 0 issued 1 active 100 value 100" ∷ codes "currency 1 g backing 1 issued 3 active 3 value 100"
@@ -172,11 +172,11 @@ fine_thirds_output = text (codes "0 currency 1" ∷ codes "0 ticket 1" ∷ codes
 
 -- ---- single lines
 
--- what is printed of a command or an event that is refused, whichever it was
+-- the output for any refused command or event
 abbrev pub refusal_line : Refusal → List ℕ
 refusal_line why = plain_text Whole 1 (Expire 1) (Refused why)
 
--- what is printed of a trap of thread 1 after 4 ticks of work
+-- the output for a trap of thread 1 after 4 ticks of work
 abbrev pub trap_line : Action → Outcome → Bool → List ℕ
 trap_line made came ends = plain_text Whole 1 (Trap 1 4 made) (Trapped 1 5 came ends)
 

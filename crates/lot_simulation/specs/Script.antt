@@ -1,4 +1,4 @@
--- What a script means, and what a processor does of it at a time.
+-- The meaning of a script, and the slices of it that a processor runs.
 use Rattle.std.specs.Prelude.{ℕ, ◌+◌, ◌%◌, min, nat_lt, Bool, Option, Some, None, is_none, List, [], ◌∷◌, ◌++◌, take, drop, replicate, fold, slice_get, option_and_then, if◌then◌else◌}
 use Rattle.std.specs.List.{repeat, prefix_len}
 use Rattle.lot_simulation.specs.declared.script.Line.{Line}
@@ -54,7 +54,7 @@ pieces (l ∷ lines) = record { first = items_of l ++ (pieces lines).first; othe
 abbrev pub unrolled : List Line → List Item
 unrolled lines = (pieces lines).first
 
--- what is left of a thread's script, and its accumulator
+-- the rest of a thread's script, and its accumulator
 pub record Context : Type 0 where
   pub rest : List Item
   pub accumulator : ℕ
@@ -84,13 +84,13 @@ pub record Slice : Type 0 where
   pub trap : Option ScriptTrap
   pub end : Context
 
--- the rest from a trap on: what comes after it, but an exit is never passed
+-- the rest after a trap, except that a script never passes its exit
 abbrev pub rest_after : List Item → Option ScriptTrap → List Item
 rest_after rest (Some Exit) = rest
 rest_after rest trap = drop 1 rest
 
 -- The slice passes the marks before the first trap, at most as many as the budget. If that is the whole budget, it is
--- an expiry; else the trap follows.
+-- an expiry; otherwise the trap follows.
 abbrev pub slice : Context → ℕ → Slice
 slice context budget = cut (min budget (prefix_len is_mark context.rest))
   where

@@ -1,4 +1,4 @@
--- What is printed of replies, refusals and listings.
+-- The text of replies, refusals and listings.
 use Rattle.std.specs.Prelude.{ℕ, ◌*◌, ◌/◌, ◌%◌, ◌==◌, Bool, true, false, Option, Some, None, List, [], ◌∷◌, ◌++◌, length, filter, is_some, codes, unwrap_or, if◌then◌else◌}
 use Rattle.std.specs.List.{flat_map, range_with_len}
 use Rattle.std.specs.Option.{option_map_or}
@@ -176,7 +176,7 @@ receiving_text port = codes "receive " ++ (decimal port ++ codes " waits")
 abbrev pub replied_text : ℕ → List ℕ
 replied_text client = codes "reply client " ++ decimal client
 
--- What a trap came to. An outcome that an action never has gives no text.
+-- The text of a trap's outcome. An outcome that an action never has gives no text.
 abbrev pub trap_text : Manner → ℕ → Action → Outcome → List ℕ
 trap_text manner unit made (outcome.Refused why) = refused (trap_refusal_code why) (trap_refusal_name why)
 trap_text manner unit action.Yield outcome.Yielded = codes "yield"
@@ -206,7 +206,7 @@ ends_text false = []
 
 -- ---- listings
 
--- what a thread is doing
+-- a thread's status
 abbrev pub status_text : Status → List ℕ
 status_text status.Ready = codes "ready"
 status_text (status.Running processor used) = codes "running " ++ (decimal processor ++ (codes " used " ++ decimal used))
@@ -246,7 +246,7 @@ thread_line manner unit n row =
     ++ (codes " value " ++ (value_text manner unit row.value ++ (codes " weight " ++ (value_text manner unit row.weight
     ++ (codes " quanta " ++ (decimal row.quanta ++ (codes " ticks " ++ (decimal row.ticks ++ newline))))))))))))))
 
--- the lines of the rows that there are
+-- the lines of the existing rows
 abbrev pub lines_for : {R : Type 0} → (ℕ → R → List ℕ) → (ℕ → Option R) → List ℕ → List ℕ
 lines_for text row ns = flat_map (λ n. option_map_or (text n) (row n) []) ns
 

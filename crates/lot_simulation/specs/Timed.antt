@@ -33,7 +33,8 @@ opening_moment program = record {
 abbrev pub clock_of : List Clock → ℕ → Clock
 clock_of clocks p = unwrap_or (at_number clocks p) (record { time = 0; waits = true; idle = 0 })
 
--- what a turn costs its processor: a draw nothing, an expiry the rest of the quantum, a trap its work and one tick besides (4.5)
+-- what a turn costs its processor: a draw nothing, an expiry the rest of the quantum, a trap its work and one more tick
+-- (4.5)
 abbrev pub cost_of : World → Event → ℕ
 cost_of w (event.Expire p) = w.state.limits.quantum - used_there w.state p
 cost_of w (event.Trap p ran action) = ran + 1
@@ -87,8 +88,8 @@ is_idle_draw other = false
 abbrev pub woken : ℕ → Clock → Clock
 woken time clock = if clock.waits then record { time = time; waits = false; idle = clock.idle + (time - clock.time) } else clock
 
--- The clocks after a turn of a processor, whose own is set to the turn's time. After an idle draw it waits; after any other turn no
--- processor waits any more.
+-- The clocks after a turn of a processor, whose own is set to the turn's time. After an idle draw it waits; after any
+-- other turn no processor waits any more.
 abbrev pub clocks_after_processor : List Clock → Due → Bool → List Clock
 clocks_after_processor clocks due true = set_number clocks due.actor (record { time = due.time; waits = true; idle = (clock_of clocks due.actor).idle })
 clocks_after_processor clocks due false =
@@ -134,8 +135,8 @@ abbrev pub moment_after_all : Moment → List TimedTurn → Moment
 moment_after_all m [] = m
 moment_after_all m (done ∷ others) = moment_after_all (moment_after m done) others
 
--- How many turns an input may make whose turns come in the order of time. A proof doesn't see this number unless it asks for it: what
--- follows goes by recursion on it.
+-- How many turns an input may make whose turns come in the order of time. A proof sees this number only if it asks for
+-- it, since the turns are defined by recursion on it.
 unfoldable pub timed_room : ℕ
 timed_room = 1000000
 

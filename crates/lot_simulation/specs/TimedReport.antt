@@ -1,4 +1,4 @@
--- What is printed of turns in the order of time.
+-- The output for turns in the order of time.
 use Rattle.std.specs.Prelude.{ℕ, ◌+◌, ◌-◌, ◌*◌, max, ◌==◌, Option, Some, None, List, [], ◌++◌, length, map, fold, codes, if◌then◌else◌}
 use Rattle.std.specs.List.{flat_map, range_with_len}
 use Rattle.std.specs.Option.{option_map_or}
@@ -83,8 +83,8 @@ waits_text what waits =
 abbrev pub live_part : State → ℕ → ℕ → ℕ
 live_part s t value = if is_live (live_of s) t then value else 0
 
--- A thread's line: its name, the draws it has won, the ticks it has used and their share of all ticks, its share of the live values, and
--- how it has waited for mutexes and for replies.
+-- A thread's line: its name, the draws it has won, the ticks it has used and their share of all ticks, its share of the
+-- live values, and how it has waited for mutexes and for replies.
 abbrev pub timed_thread_total : State → List TimedTurn → ℕ → ℕ → ThreadRow → List ℕ
 timed_thread_total s turns all t row =
     codes "thread " ++ (decimal t ++ (codes " " ++ (row.name ++ (codes " quanta " ++ (decimal row.quanta
@@ -93,7 +93,7 @@ timed_thread_total s turns all t row =
     ++ (waits_text (codes " mutex") (waits_in mutex_change turns t)
     ++ (waits_text (codes " reply") (waits_in reply_change turns t) ++ newline)))))))))))))
 
--- each actor beside its answer
+-- each actor with its answer
 abbrev pub actor_turns : List TimedTurn → List ActorTurn
 actor_turns turns = map (λ done. record { actor = done.actor; answer = done.turn.answer }) turns
 
@@ -118,7 +118,7 @@ abbrev pub refusals_in : Reply → ℕ
 refusals_in (reply.Refused why) = 1
 refusals_in other = 0
 
--- what was counted in all turns, and how many commands were refused or never made
+-- the counts of all turns, and the numbers of commands that were refused or never made
 abbrev pub timed_whole_total : Moment → List ActorTurn → List ℕ
 timed_whole_total m turns =
     codes "total turns " ++ (decimal (length turns) ++ (codes " quanta " ++ (decimal (total_of quanta_in turns)

@@ -18,7 +18,7 @@ header_words =
     (codes "lottery", header.Lottery) ∷ (codes "processors", header.Processors) ∷ (codes "quantum", header.Quantum)
     ∷ (codes "turns", header.Turns) ∷ (codes "seed", header.Seed) ∷ (codes "limits", header.Limits) ∷ []
 
--- the same of an input whose turns come in the order of time, which says besides how long it runs
+-- the same of an input whose turns come in the order of time, which also says how long it runs
 abbrev pub timed_header_words : List (List ℕ × HeaderWord)
 timed_header_words = (codes "for", header.For) ∷ header_words
 
@@ -42,7 +42,7 @@ body_words =
     ∷ (codes "lscur", body.ListCurrencies) ∷ (codes "lsthr", body.ListThreads) ∷ (codes "schedule", body.Schedule)
     ∷ (codes "runs", body.Runs) ∷ []
 
--- the same of an input whose turns come in the order of time, which says besides when its commands are made
+-- the same of an input whose turns come in the order of time, which also says when its commands are made
 abbrev pub timed_body_words : List (List ℕ × BodyWord)
 timed_body_words = (codes "at", body.At) ∷ body_words
 

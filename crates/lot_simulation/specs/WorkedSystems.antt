@@ -7,7 +7,7 @@ use Rattle.lot_simulation.specs.World.{Program, Answer, opening_world, system_an
 use Rattle.lot_simulation.specs.World.Answer.{Answered, Ended}
 use Rattle.lot_machine.specs.Worked.{base, largest, finer}
 
--- what a turn answers, without the event
+-- the reply of each turn, without the event
 abbrev pub replies_of : List Answer → List (Option Reply)
 replies_of [] = []
 replies_of (Answered event reply ∷ rest) = Some reply ∷ replies_of rest

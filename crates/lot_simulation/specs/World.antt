@@ -21,8 +21,8 @@ use Rattle.lot_machine.specs.Commands.{Step}
 use Rattle.lot_machine.specs.Step.{step, used_there}
 use Rattle.lot_simulation.specs.Script.{Context, Slice, slice, start}
 
--- What an input says: a system, how many turns each processor has in a free run, and whose turns a scheduled one has; or how many
--- ticks it runs for, if its turns come in the order of time.
+-- What an input says: a system, how many turns each processor has in a free run, and whose turns a scheduled one has;
+-- or how many ticks it runs for, if its turns come in the order of time.
 pub record Program : Type 0 where
   pub limits : Sizes
   pub seeds : List ℕ  -- one for each processor
@@ -46,7 +46,7 @@ pub record World : Type 0 where
 abbrev pub opening_world : Program → World
 opening_world program = record { state = opening program.limits; contexts = []; generators = program.seeds; is_wide = is_some program.duration; commands = program.commands; history = [] }
 
--- ---- what an actor's next turn is
+-- ---- an actor's next turn
 
 -- the value of the processor's generator
 abbrev pub generator_of : World → ℕ → ℕ
@@ -99,7 +99,7 @@ processor_event w p = made (thread_on w.state.records p)
     made None = event.Draw p (number_of w p)
     made (Some t) = event_of_slice p (number_of w p) (slice_on w p t)
 
--- ---- what it leaves
+-- ---- the world after it
 
 -- whether the event takes a drawn number: a draw and an unlock do
 abbrev pub takes_number : Event → Bool
@@ -136,12 +136,12 @@ new_contexts program old new = map (λ t. start (unwrap_or (at_number program.sc
 
 -- ---- turns
 
--- what a turn answers: the event and its reply, or that no command is left
+-- the answer of a turn: the event and its reply, or that no command is left
 pub data Answer : Type 0 where
   Answered : Event → Reply → Answer
   Ended : Answer
 
--- a world, and what was answered
+-- a world and an answer
 pub record Turn : Type 0 where
   pub world : World
   pub answer : Answer
@@ -171,7 +171,7 @@ processor_turn w p e = made (step w.state e)
 abbrev pub system_turn : Program → World → ℕ → Turn
 system_turn program w actor = if actor == 0 then console_turn program w w.commands else processor_turn w actor (processor_event w actor)
 
--- what turns answer, in order
+-- the answers of turns, in order
 abbrev pub system_answers : Program → World → List ℕ → List Answer
 system_answers program w [] = []
 system_answers program w (actor ∷ actors) = (system_turn program w actor).answer ∷ system_answers program (system_turn program w actor).world actors
@@ -185,7 +185,7 @@ system_after program w (actor ∷ actors) = system_after program (system_turn pr
 abbrev pub system_run : Program → List ℕ → World
 system_run program actors = system_after program (opening_world program) actors
 
--- what the last turn of a run from the program's opening world answers
+-- the answer of the last turn of a run from the program's opening world
 abbrev pub last_answer : Program → List ℕ → Option Answer
 last_answer program actors = last_or None (system_answers program (opening_world program) actors)
 

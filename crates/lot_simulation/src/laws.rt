@@ -9,8 +9,8 @@ ghost use Rattle.lot_simulation.specs.Report.{idles_in, quanta_in, ticks_in, tot
 ghost use Rattle.lot_simulation.specs.Timed.{clock_of, ended_at, last_moment, timed_room, timed_schedule, timed_turns};
 ghost use Rattle.lot_simulation.specs.TimedReport.{actor_turns, clock_at, idle_until};
 
-/// What is counted in each actor's turns adds up to what is counted in all turns of a legal history, and so do the
-/// numbers of turns.
+/// The counts of each actor's turns add up to the counts of all turns of a legal history, and so do the numbers of
+/// turns.
 pub fn actors_add_up()
     ensures turns { (program : Program) (room : ℕ) (history : List ℕ) → IsLegal program room history
         → sum_by (λ actor. length (turns_of actor (turns_made program history))) (range_with_len 0 (program.limits.processors + 1)) ≡ length history }
@@ -33,8 +33,8 @@ pub fn timed_turns_are_a_run()
     ensures world { (program : Program) → (last_moment program).world ≡ system_run program (timed_schedule program) }
 {}
 
-/// In the report of turns in the order of time a processor's ticks and its unused ticks add up to its clock, and no clock
-/// stands after the end, if sizes are within their bounds and no command is made before the one before it.
+/// In the report of turns in the order of time a processor's ticks and its unused ticks add up to its clock, and no
+/// clock stands after the end, if sizes are within their bounds and no command is made before the one before it.
 pub fn clocks_add_up()
     ensures sum { (program : Program) (p : ℕ) → IsWithinBounds program.limits → IsNonDecreasing program.times
         → IsBetween 1 program.limits.processors p

@@ -5,6 +5,7 @@
 pub enum Manner {
     /// Values are whole numbers, as inputs of `lottery 1` and `lottery 2` have them.
     Whole,
-    /// The line begins with this time, in ticks, and values have what is behind the point, as inputs of `lottery 3` have them.
+    /// The line begins with this time, in ticks, and values have digits after the point, as inputs of `lottery 3` have
+    /// them.
     Timed(u32),
 }

@@ -1,4 +1,4 @@
-//! Small inputs, and what is printed of them.
+//! Small inputs, and the output for them.
 ghost use Rattle.std.specs.Prelude.{◌≡◌, [], ◌∷◌, ◌++◌, codes, replicate};
 ghost use Rattle.lot_simulation.specs.Output.{output, run_output};
 ghost use Rattle.lot_simulation.specs.Report.{schedule_lines, runs_lines};
@@ -48,7 +48,7 @@ pub fn loops()
     ensures long { output (loop_input (codes "quantum 10")) ≡ long_loop_output }
 {}
 
-/// What a free run writes.
+/// The output of a free run.
 #[tactic(auto, unfolding(crate::specs::OnLiterals::texts_on_literals))]
 pub fn free_runs()
     ensures idle { run_output (text (codes "lottery 1" ∷ codes "turns 3" ∷ [])) (1 ∷ 1 ∷ 1 ∷ []) ≡ idle_run_output }

@@ -1,4 +1,4 @@
-//! Small scripts, and what a processor does of them at a time.
+//! Small scripts, and the slices of them that a processor runs.
 ghost use Rattle.std.specs.Prelude.{◌≡◌, ◌++◌, [], ◌∷◌, replicate};
 ghost use Rattle.lot_simulation.specs.declared.script.Line.TheVariants as line;
 ghost use Rattle.lot_simulation.specs.declared.script.ScriptTrap.TheVariants as trap;

@@ -32,7 +32,7 @@ pub struct Waits {
     pub since: Option<u32>,
 }
 
-/// What a turn changes of who waits.
+/// A turn's change of the waiting threads.
 #[derive(Clone, Copy, Debug, PartialEq, Eq)]
 pub enum WaitChange {
     Nobody,

@@ -1,4 +1,4 @@
-//! Small inputs whose turns come in the order of time, and what is printed of them.
+//! Small inputs whose turns come in the order of time, and the output for them.
 ghost use Rattle.std.specs.Prelude.{◌≡◌, [], ◌∷◌, ◌++◌, codes};
 ghost use Rattle.lot_simulation.specs.Grammar.{program_in};
 ghost use Rattle.lot_simulation.specs.Output.{output};
@@ -60,7 +60,7 @@ pub fn waits_for_mutexes()
         ≡ text (codes "0 0 funded 1 1" ∷ codes "0 0 funded 2 2" ∷ codes "0 0 funded 3 3" ∷ codes "0 1 draw 3.992 of 6 thread 2" ∷ codes "1 1 thread 2 ticks 1 lock 1 taken" ∷ codes "4 1 thread 2 ticks 3 yield" ∷ codes "4 1 draw 1.281 of 9 thread 1" ∷ codes "5 1 thread 1 ticks 1 lock 1 waits" ∷ codes "5 1 draw 6.421 of 13.5 thread 2" ∷ codes "6 1 thread 2 ticks 1 unlock 1 to 1 draw 1.363 of 3" ∷ codes "6 1 draw 32.738 of 51 thread 2" ∷ codes "7 1 thread 2 ticks 1 exit" ∷ codes "7 1 draw 22.058 of 31 thread 1" ∷ codes "10 1 thread 1 ticks 3 yield" ∷ codes "10 1 draw 9.828 of 11 thread 1" ∷ codes "11 1 thread 1 ticks 1 unlock 1 free" ∷ codes "12 1 thread 1 ticks 1 exit" ∷ codes "12 1 draw 0.273 of 1 thread 3" ∷ codes "13 1 thread 3 ticks 1 lock 1 taken" ∷ codes "16 1 thread 3 ticks 3 yield" ∷ codes "16 1 draw 2.316 of 2.5 thread 3" ∷ codes "17 1 thread 3 ticks 1 unlock 1 free" ∷ codes "18 1 thread 3 ticks 1 exit" ∷ codes "18 1 idle" ∷ codes "report" ∷ codes "thread 1 a quanta 3 ticks 6 share 33.333% value 0% mutex waits 1 mean 1 longest 1" ∷ codes "thread 2 b quanta 3 ticks 6 share 33.333% value 0%" ∷ codes "thread 3 c quanta 2 ticks 6 share 33.333% value 0%" ∷ codes "processor 1 quanta 8 idle 1 ticks 18 unused 42" ∷ codes "total turns 24 quanta 8 ticks 18 refused 0 left 0" ∷ []) }
 {}
 
-/// Three threads that share 100 of base: values have what is behind the point, at most three digits (4.4).
+/// Three threads that share 100 of base: values have at most three digits after the point (4.4).
 #[tactic(auto, unfolding(crate::specs::OnLiterals::texts_on_literals, crate::specs::Timed::timed_room))]
 pub fn behind_the_point()
     ensures { output (text (codes "lottery 3" ∷ codes "for 1" ∷ codes "script s" ∷ codes "compute 5" ∷ codes "endscript" ∷ codes "mkcur g" ∷ codes "mktkt 100 base" ∷ codes "fund 1 g" ∷ codes "fundx 1 g a s" ∷ codes "fundx 1 g b s" ∷ codes "fundx 1 g c s" ∷ codes "lscur" ∷ codes "lsthr" ∷ []))
@@ -88,7 +88,7 @@ pub fn compensation()
         ≡ text (codes "0 0 funded 1 1" ∷ codes "0 0 funded 2 2" ∷ codes "0 1 draw 1.082 of 2 thread 2" ∷ codes "9 1 thread 2 ticks 9 expire" ∷ codes "9 1 draw 0.82 of 2 thread 1" ∷ codes "12 0 lsthr 2" ∷ codes "12 thread 1 a running 1 used 0 value 1 weight 1 quanta 1 ticks 0" ∷ codes "12 thread 2 b ready value 1 weight 1 quanta 1 ticks 9" ∷ codes "12 1 thread 1 ticks 3 yield" ∷ codes "12 1 draw 3.257 of 4 thread 2" ∷ codes "report" ∷ codes "thread 1 a quanta 1 ticks 3 share 25% value 50%" ∷ codes "thread 2 b quanta 2 ticks 9 share 75% value 50%" ∷ codes "processor 1 quanta 3 idle 0 ticks 12 unused 0" ∷ codes "total turns 8 quanta 3 ticks 12 refused 0 left 0" ∷ []) }
 {}
 
-/// What is refused of such inputs, and that their words are none in others.
+/// Refusals of such inputs; other inputs refuse their words.
 #[tactic(auto, unfolding(crate::specs::OnLiterals::texts_on_literals, crate::specs::Timed::timed_room))]
 pub fn refused_inputs()
     ensures lacks_body { output (text (codes "lottery 3" ∷ codes "mkcur a" ∷ [])) ≡ refused_on_line (codes "2 50 BadHeader") }
@@ -106,8 +106,8 @@ pub fn refused_inputs()
     ensures other { output (text (codes "lottery 4" ∷ [])) ≡ refused_on_line (codes "1 50 BadHeader") }
 {}
 
-/// A line of a script may have several words, each with what belongs to it; in other inputs it has one. A port may have the name of a
-/// word, and nothing stands behind `endscript`.
+/// A line of a script may have several words, each with its tokens; in other inputs it has one. A port may have the
+/// name of a word, and nothing stands behind `endscript`.
 #[tactic(auto, unfolding(crate::specs::OnLiterals::texts_on_literals, crate::specs::Timed::timed_room))]
 pub fn several_words()
     ensures same { program_in (text (codes "lottery 3" ∷ codes "for 9" ∷ codes "port end" ∷ codes "script s" ∷ codes "receive end loop 2 compute 5 serve end end yield" ∷ codes "set 7 endscript" ∷ []))

@@ -34,7 +34,7 @@ pub fn systems()
         ≡ Work ∷ Set 7 ∷ Work ∷ Traps script_trap.Yield ∷ Work ∷ Work ∷ Set 7 ∷ Work ∷ Traps script_trap.Yield ∷ Work ∷ Work ∷ Traps script_trap.Reply ∷ Traps script_trap.Exit ∷ [] }
 {}
 
-/// What the last turn of a legal history answers, with its event; nothing if there was no turn.
+/// The answer of the last turn of a legal history, with its event, or nothing if there was no turn.
 pub fn last_answers()
     ensures draw { last_answer two_processors (0 ∷ 1 ∷ []) ≡ Some (Answered (event.Draw 1 36090892629924) (reply.Winner 1 4 10 None)) }
     ensures expiry { last_answer two_processors (0 ∷ 1 ∷ 2 ∷ 1 ∷ []) ≡ Some (Answered (event.Expire 1) (reply.Expired 1 100)) }

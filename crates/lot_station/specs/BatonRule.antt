@@ -1,4 +1,4 @@
--- The rule of the queue that holds the system, or nothing while someone has it in hand.
+-- The rule of the queue that holds the system, or nothing while a pass has it in hand.
 use Rattle.std.specs.Prelude.{◌≡◌, ◌⊎◌, ℕ, ◌<◌, ◌≤◌, ⊤, List, [], ◌∷◌, Some, Bool, true, false}
 use mathlib.Core.Option.{some}
 use lib.ListN.{get_elem?}
@@ -17,13 +17,13 @@ abbrev pub AllFit : (ℕ → ℕ) → Seen → ℕ → List Claim → Type 0
 AllFit owner now port [] = ⊤
 AllFit owner now port (c ∷ cs) = IsClaimOf owner now port c × AllFit owner now port cs
 
--- what the rule says of one view
+-- the rule for one view
 abbrev pub ViewFits : (ℕ → ℕ) → Seen → Bool → ℕ → ℕ → View → Type 0
 ViewFits owner now out holder port v =
     (v.fresh ≡ false) × AllFit owner now port v.claims
     × ((x : Seen) → v.held ≡ Some x → (out ≡ true) × (port ≡ holder) × (x ≡ now))
 
--- what the queue has: nothing if the system is out, and else the system
+-- what the queue has: nothing if the system is out, otherwise the system
 abbrev pub content : Bool → Seen → List Seen
 content true now = []
 content false now = now ∷ []

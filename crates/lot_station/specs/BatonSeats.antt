@@ -1,4 +1,4 @@
--- What contracts say of seats.
+-- Seats in contracts.
 use Rattle.std.specs.Prelude.{◌≡◌, ℕ, ◌+◌, Option, Some, None, List, [], ◌∷◌, length, slice_get}
 use Rattle.atomic_table.specs.Seated.{TableId}
 use Rattle.lot_script.specs.Slices.{Parts}
@@ -47,22 +47,22 @@ claim_of s = claim s.actor (s.actor + 1) s.seen
 abbrev pub IsSeatOf : Baton → Seat → Type 0
 IsSeatOf station s = (s.station ≡ station.id) × (s.seen.setting.program.limits.processors ≡ station.processors)
 
--- what is counted of the turns of the seat's actor in the history that it has seen
+-- the counters of the turns of the seat's actor in the history that it has seen
 abbrev pub seat_counts : Seat → Counts
 seat_counts s = counts_in s.seen s.actor
 
 -- ---- calls
 
--- It is a seat of the same station, for the same actor, over the same program and room, and the fault that it keeps is the
--- same.
+-- It is a seat of the same station, for the same actor, over the same program and room, and the fault that it keeps
+-- is the same.
 pub record IsSameSeat (old new : Seat) : Type 0 where
   pub station : new.station ≡ old.station
   pub actor : new.actor ≡ old.actor
   pub setting : new.seen.setting ≡ old.seen.setting
   pub stopped : new.stopped ≡ old.stopped
 
--- It has seen a legal history of the same program and room that begins with what it had seen, and has no further turn of
--- its own, so what is counted of its turns stays.
+-- It has seen a legal history of the same program and room that begins with what it had seen, and has no further turn
+-- of its own, so the counters of its turns stay.
 pub record Looks (old new : Seat) : Type 0 where
   pub legal : IsLegalIn new.seen
   pub begins : Extends new.seen old.seen
@@ -70,7 +70,7 @@ pub record Looks (old new : Seat) : Type 0 where
   pub counts : counts_in new.seen old.actor ≡ seat_counts old
 
 -- It has seen a legal history of the same program and room that begins with what it had seen and ends with this turn,
--- the only further one of its own. The answer is the one there, and what is counted of its turns grows by it.
+-- the only further one of its own. The result is the one there, and the counts of its turns grow by it.
 pub record Turns (old : Seat) (given : Option Parts) (answer : Answer) (new : Seat) : Type 0 where
   pub legal : IsLegalIn new.seen
   pub before : Seen

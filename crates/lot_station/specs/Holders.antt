@@ -1,4 +1,4 @@
--- What seats have of a system's turns.
+-- The seats' shares of a system's turns.
 use Rattle.std.specs.Prelude.{◌≡◌, ℕ, ◌+◌, Option, Some, None, List, length, sum_by, slice_get}
 use Rattle.lot_machine.specs.declared.reply.Reply.{Reply}
 use Rattle.lot_simulation.specs.Report.{quanta_in, ticks_in, total_of, turns_of}

@@ -18,11 +18,11 @@ turns_by actor history = count_by (λ a. a == actor) history
 abbrev pub times_in : Seen → ℕ → ℕ
 times_in x actor = turns_by actor x.history
 
--- what is counted of all turns of the system's history
+-- the counters of all turns of the system's history
 abbrev pub counts_of : Seen → Counts
 counts_of x = counted (turns_in x)
 
--- what is counted of the actor's turns there
+-- the counters of the actor's turns there
 abbrev pub counts_in : Seen → ℕ → Counts
 counts_in x actor = counted (turns_of actor (turns_in x))
 
@@ -36,7 +36,7 @@ pub record AtSome (setting : Setting) (IsSo : Seen → Type 0) : Type 0 where
   pub legal : IsLegal setting.program setting.room history
   pub is_so : IsSo (record { setting = setting; history = history })
 
--- a program and a room, of which nothing is asked
+-- a program and a room, without any condition
 abbrev pub no_setting : Setting
 no_setting = record {
   program = record {

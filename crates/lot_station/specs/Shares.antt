@@ -1,4 +1,4 @@
--- What may be taken of a share.
+-- Splitting a share.
 use Rattle.std.specs.Prelude.{◌≡◌, ℕ, ◌<◌, ◌≤◌}
 
 -- One part with `taken` can be taken from this many parts with this amount: all of it, if the part is the last.

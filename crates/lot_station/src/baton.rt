@@ -1,4 +1,5 @@
-//! A system that goes round as a baton: it lies in a queue of one place, or in the hands of one seat. No lock is taken.
+//! A system that its seats pass around as a baton: it is in a queue of one place, or in the hands of one seat. It
+//! takes no lock.
 mod rule;
 mod seat;
 mod station;

@@ -1,4 +1,4 @@
-//! What a seat may ask of the system.
+//! The calls of a seat.
 ghost use Rattle.std.specs.Prelude.{◌≡◌, IfOk, IfErr, OnErr};
 ghost use Rattle.lot_system.specs.Turns.{Answers, Faults, Goes, IsWorkOf};
 ghost use Rattle.lot_station.specs.Holders.{with_turn};
@@ -12,9 +12,9 @@ use std::sync::ledger::Ledger;
 
 impl<T: TurnLedger, Q: Ledger, K: Ledger> Station<T, Q, K> {
     /// Makes the turn of the seat's actor, as `System::turn` does. The seat's shares grow by one turn, by one quantum
-    /// if somebody won a draw, and by the turn's ticks; a fault leaves the seat as it was. It may wait.
+    /// if a thread won a draw, and by the turn's ticks; a fault leaves the seat unchanged. It may block.
     ///
-    /// The answer, the work that it hands on and the fault are such as the system's program has after some legal history.
+    /// The result, the next work in it and the fault are those of the system's program after some legal history.
     pub fn turn(
         &self,
         rt: &impl Wait,
@@ -30,7 +30,7 @@ impl<T: TurnLedger, Q: Ledger, K: Ledger> Station<T, Q, K> {
         self.desk.lock(rt).turn(seat, slice)
     }
 
-    /// What the seat's actor has to do next, as `System::work` says. It may wait.
+    /// The next work of the seat's actor, as `System::work` returns it. It may block.
     ///
     /// It is such as the system's program has after some legal history.
     pub fn work(&self, rt: &impl Wait, seat: &Seat<T, Q, K>) -> Option<Work>

@@ -11,8 +11,8 @@ use lot_system::System;
 use std::sync::ledger::{Ledger, Share};
 
 impl<T: TurnLedger, Q: Ledger, K: Ledger> Station<T, Q, K> {
-    /// Takes the seats in, and gives the system back. Its history has each actor as often as its seat made turns, and as many
-    /// turns, quanta and ticks as all seats' shares together.
+    /// Takes the seats in, and gives the system back. Its history has each actor as often as its seat made turns, and
+    /// as many turns, quanta and ticks as all seats' shares together.
     ///
     /// It fails if and only if one of these is so: the seats aren't one for each actor, in order (`SeatMissing`); or
     /// they are, but a share of turns isn't its actor's count in the history (`CountsDiffer`).

@@ -1,4 +1,4 @@
-//! What lies under the lock.
+//! The system and the books under the lock.
 ghost use Rattle.std.specs.Prelude.{◌≡◌, length, IfOk, IfErr, OnErr};
 ghost use Rattle.lot_simulation.specs.Report as report;
 ghost use Rattle.lot_simulation.specs.Report.{total_of};

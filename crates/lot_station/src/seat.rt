@@ -30,7 +30,7 @@ impl<T: TurnLedger, Q: Ledger, K: Ledger> Model for Seat<T, Q, K> {
 }
 
 impl<T: TurnLedger, Q: Ledger, K: Ledger> Seat<T, Q, K> {
-    /// Its actor: 0 for the console, and else the processor.
+    /// Its actor: 0 for the console, otherwise the processor.
     pub fn actor(&self) -> u32
         ensures { result ≡ self.now.actor }
     {
@@ -44,7 +44,7 @@ impl<T: TurnLedger, Q: Ledger, K: Ledger> Seat<T, Q, K> {
         self.turns.amount()
     }
 
-    /// Its share of the quanta: the draws among its turns that somebody won.
+    /// Its share of the quanta: the draws among its turns that a thread won.
     pub fn quanta(&self) -> u64
         ensures { result ≡ self.now.quanta }
     {

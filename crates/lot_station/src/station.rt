@@ -7,8 +7,8 @@ use std::marker::Model;
 use std::sync::Mutex;
 use std::sync::ledger::Ledger;
 
-/// A system under one lock, whose turns are made by seats. The turns, the quanta and the ticks of its history are totals of
-/// three ledgers, of which each seat has a share.
+/// A system under one lock, whose turns are made by seats. The turns, the quanta and the ticks of its history are
+/// totals of three ledgers, of which each seat has a share.
 ///
 /// Contracts see it as the program and the room of its system.
 #[derive(Drop)]
@@ -28,7 +28,7 @@ impl<T: TurnLedger, Q: Ledger, K: Ledger> Model for Station<T, Q, K> {
     ghost invariant = { λ s. s.processors ≡ T.setting.program.limits.processors };
 }
 
-/// Why a station was not closed, with what is left of what was handed in.
+/// Why `close` failed, with the parts of its arguments that are left.
 #[derive(Drop)]
 pub enum CloseFault<T: TurnLedger, Q: Ledger, K: Ledger> {
     /// The seats aren't one for each actor, in order. Station and seats are as they were.

@@ -31,8 +31,8 @@ pub record IsKept (program : Program) (s : State) : Type 0 where
   pub records : length s.records ≡ length s.threads
   pub count : length s.threads ≤ s.limits.threads
 
--- The kernel's state, the threads' places, the values of the generators and the count of commands run are those of the world, which draws
--- wide numbers if the program says how long it runs.
+-- The kernel's state, the threads' places, the values of the generators and the count of commands run are those of
+-- the world, which draws wide numbers if the program says how long it runs.
 pub record IsHeld (program : Program) (w : World) (s : State) (places : List Place) (generators : List ℕ) (spent : ℕ) : Type 0 where
   pub state : s ≡ w.state
   pub kept : IsKept program s

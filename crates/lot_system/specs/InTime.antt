@@ -30,7 +30,7 @@ commands_made seen = count_by (λ actor. actor == 0) seen.history
 abbrev pub moment_of : Seen → ℕ → List Clock → Moment
 moment_of seen time clocks = record { world = world_of seen; time = time; clocks = clocks; times = drop (commands_made seen) seen.setting.program.times }
 
--- of two turns that may come next, if they do, the one that is done first; of two at one time the first
+-- of two turns that may come next, if there are any, the one that is done first; of two at the same time the first
 abbrev pub sooner_of : Option Due → Option Due → Option Due
 sooner_of None other = other
 sooner_of (Some due) None = Some due
@@ -40,7 +40,7 @@ sooner_of (Some due) (Some other) = if nat_le due.time other.time then Some due 
 abbrev pub HaveIdled : ℕ → List Clock → Type 0
 HaveIdled turns clocks = All (λ clock. clock.idle ≤ turns * 2 ^ 32) clocks
 
--- what a slice costs its processor: its work and one tick for its trap, or all of its budget if the quantum ends with it (4.5)
+-- the cost of a slice: its work and one tick for its trap, or all of its budget if the quantum ends with it (4.5)
 abbrev pub cost_of_slice : Parts → ℕ
 cost_of_slice given = made given.trap
   where
@@ -48,14 +48,14 @@ cost_of_slice given = made given.trap
     made None = given.budget
     made (Some trap) = given.ticks + 1
 
--- ---- what is followed from turn to turn
+-- ---- what is tracked from turn to turn
 
 -- whether the event is a lock
 abbrev pub is_locking : Event → Bool
 is_locking (event.Trap p ran (action.Lock mutex)) = true
 is_locking other = false
 
--- what a reply changes of who waits for a mutex, if it is one to a lock, and if not
+-- how a reply changes who waits for a mutex, if it is one to a lock, and if not
 abbrev pub change_by : Bool → Reply → WaitChange
 change_by true (reply.Trapped thread ticks outcome.Waits ends) = Begins thread
 change_by locks (reply.Trapped thread ticks (outcome.Passed to drawn) ends) = Ends to
@@ -71,7 +71,7 @@ pub record IsWaits (change : Answer → WaitChange) (done : List TimedTurn) (n t
 abbrev pub AreWaits : (Answer → WaitChange) → List TimedTurn → ℕ → List Waits → Type 0
 AreWaits change done n waits = (place : ℕ) (d : Waits) → place < length waits → IsWaits change done n (place + 1) (slice_index_or waits place d)
 
--- each thread's waits are what they were, but for this change at this time
+-- each thread's waits are unchanged, except for this change at this time
 pub record HaveFollowed (time : ℕ) (change : WaitChange) (old new : List Waits) : Type 0 where
   pub count : length new ≡ length old
   pub each : (place : ℕ) (d : Waits) → place < length old → slice_index_or new place d ≡ waits_after (place + 1) time (slice_index_or old place d) change
@@ -80,7 +80,7 @@ pub record HaveFollowed (time : ℕ) (change : WaitChange) (old new : List Waits
 abbrev pub AreFew : List Waits → Type 0
 AreFew waits = (place : ℕ) (d : Waits) → place < length waits → ((slice_index_or waits place d).count < 2 ^ 31) × ((slice_index_or waits place d).total < 2 ^ 63)
 
--- what is followed beside a system is what these turns have come to, and no more than n turns can come to
+-- the waits and refusals are those of these turns; they and the idle times are within the range of n turns
 pub record HasFollowed (done : List TimedTurn) (n : ℕ) (following : Following) : Type 0 where
   pub idled : HaveIdled n following.timeline.clocks.items
   pub mutexes : AreWaits mutex_change done n following.mutexes.threads.items
@@ -108,11 +108,11 @@ turns_done program seen = take (length seen.history) (timed_turns program)
 abbrev pub next_turns : Program → Seen → List TimedTurn
 next_turns program seen = take 1 (drop (length seen.history) (timed_turns program))
 
--- a turn of a system by what was told of it
+-- the turn of a system that this reply reports
 abbrev pub turn_told : Seen → TimedReply → TimedTurn
 turn_told seen told = record { time = told.time; actor = told.actor; turn = turn_in seen told.actor }
 
--- The system has made turns of the program in time and no others, and what is followed beside it is what they have come to.
+-- The system has made turns of the program in time and no others, and `following` is the record of these turns.
 pub record IsFollowed (program : Program) (seen : Seen) (following : Following) : Type 0 where
   pub program_is : seen.setting.program ≡ program
   pub room_is : seen.setting.room ≡ timed_room
@@ -129,7 +129,7 @@ pub record IsDue (program : Program) (seen : Seen) (following : Following) (due 
   pub first : next_due program (moment_in seen following) ≡ Some due
   pub within : due.time < 2 ^ 32
 
--- the next turn was made, if there is one, and the answer says whether
+-- the next turn was made, if there is one, and `more` says whether
 pub record MadeNext (program : Program) (old new : Seen) (following : Following) (more : Bool) : Type 0 where
   pub followed : IsFollowed program new following
   pub length_is : length new.history ≡ length old.history + (if more then 1 else 0)

@@ -1,4 +1,4 @@
--- What a run leaves to tell.
+-- The warnings of a run.
 use Rattle.std.specs.Prelude.{ℕ, ◌==◌, if◌then◌else◌}
 use Rattle.lot_machine.specs.declared.reply.Reply.{Reply}
 use Rattle.lot_machine.specs.declared.reply.Reply.TheVariants as replies
@@ -10,6 +10,6 @@ abbrev pub command_noted : Leftovers → Reply → Leftovers
 command_noted leftovers (replies.Refused refusal) = record leftovers { made = one_more leftovers.made; refused = kept_with leftovers.refused (record { place = leftovers.made; refusal = refusal }) }
 command_noted leftovers other = record leftovers { made = one_more leftovers.made }
 
--- after the actor's turn, which got this reply: a turn of a processor leaves nothing
+-- after the actor's turn, which got this reply: a turn of a processor adds no warning
 abbrev pub noted : Leftovers → ℕ → Reply → Leftovers
 noted leftovers actor reply = if actor == 0 then command_noted leftovers reply else leftovers

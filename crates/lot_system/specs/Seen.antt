@@ -1,4 +1,4 @@
--- What is seen of a system.
+-- A system as contracts see it.
 use Rattle.std.specs.Prelude.{ℕ, List, [], ◌∷◌, ◌++◌}
 use Rattle.lot_simulation.specs.World.{Program, World, system_run}
 

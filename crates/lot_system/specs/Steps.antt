@@ -1,4 +1,4 @@
--- What an event leaves of the threads, and whom its reply names.
+-- The threads after an event, and the thread that its reply names.
 use Rattle.std.specs.Prelude.{◌≡◌, ℕ, ◌+◌, ◌≤◌, ⊤, Bool, true, false, Option, Some, None, List, [], ◌∷◌, ◌++◌, length, unwrap_or}
 use Rattle.lot_machine.specs.declared.event.Event.{Event}
 use Rattle.lot_machine.specs.declared.event.Event.TheVariants as event
@@ -101,7 +101,7 @@ OfGiven count t (Some given) r = IsBetween 1 count t × OfRun t r
 
 -- ---- places
 
--- the place, with the number that was handed over as its accumulator
+-- the place, with the number that was delivered as its accumulator
 abbrev pub delivered_to_place : Option ℕ → Place → Place
 delivered_to_place None place = place
 delivered_to_place (Some number) place = record place { accumulator = number }
@@ -110,8 +110,8 @@ delivered_to_place (Some number) place = record place { accumulator = number }
 abbrev pub place_of : List Place → ℕ → Place
 place_of places t = unwrap_or (at_number places t) first_place
 
--- The places after a turn: a winner has what was delivered to it, and the thread that ran is at its slice's end, and has
--- what it received.
+-- The places after a turn: a winner has what was delivered to it, and the thread that ran is at its slice's end, and
+-- has what it received.
 abbrev pub places_after : List Place → Option Parts → Reply → List Place
 places_after places None (reply.Winner t number total delivered) = set_number places t (delivered_to_place delivered (place_of places t))
 places_after places (Some given) (reply.Trapped t ticks outcome ends) = set_number places t (delivered_to_place (number_delivered outcome) given.end)

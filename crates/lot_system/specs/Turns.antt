@@ -1,4 +1,4 @@
--- What an actor has to do, and what its turn answers.
+-- An actor's work, and the result of its turn.
 use Rattle.std.specs.Prelude.{◌≡◌, ℕ, ◌-◌, ◌<◌, ◌≤◌, ⊤, Option, Some, None, [], length, option_map}
 use Rattle.lot_machine.specs.Bounds.{IsBetween}
 use Rattle.lot_machine.specs.Numbered.{at_number}
@@ -19,7 +19,7 @@ use Rattle.lot_system.specs.declared.turn.Unmade.TheVariants as unmade
 use Rattle.lot_system.specs.Seen.{Seen, world_of, after_turn}
 use Rattle.lot_system.specs.Held.{script_lines}
 
--- ---- what an actor has to do
+-- ---- an actor's work
 
 -- The thread that runs on the processor in this world, its script's number, its place in the script, and what is left
 -- of its quantum. Its script is one that was built.
@@ -54,7 +54,7 @@ pub record IsSliceOf (program : Program) (work : Work) (given : Parts) : Type 0 
   pub start : given.start ≡ work.place
   pub budget : given.budget ≡ work.budget
 
--- there is no slice if there is no work, and else the slice is that of the work
+-- there is no slice if there is no work, otherwise the slice is that of the work
 abbrev pub Matches : Program → Option Work → Option Parts → Type 0
 Matches program None None = ⊤
 Matches program (Some work) (Some given) = IsSliceOf program work given
@@ -76,8 +76,8 @@ pub record Goes (seen : Seen) (actor : ℕ) (given : Option Parts) : Type 0 wher
   pub not_ended : ¬ IsEnded seen actor
   pub room : length seen.history < seen.setting.room
 
--- Why a turn isn't made, in this order: the slice isn't that of the work, which is this; no command is left; or there is
--- no room.
+-- Why a turn isn't made, in this order: the slice isn't that of the work, which is this; no command is left; or there
+-- is no room.
 abbrev pub Faults : Seen → ℕ → Option Parts → TurnFault → Type 0
 Faults seen actor given (Stale work) = IsWorkOf seen actor work × ¬ Matches seen.setting.program work given
 Faults seen actor given Ended = IsFresh seen actor given × IsEnded seen actor
@@ -95,7 +95,7 @@ IfStale (Stale work) fact = fact
 IfStale Ended fact = ⊤
 IfStale HistoryFull fact = ⊤
 
--- the event and the reply are those of the actor's next turn, and what it has to do next is its work after it
+-- the event and the reply are those of the actor's next turn, and its next work is its work after it
 pub record Answers (seen : Seen) (actor : ℕ) (answer : Answer) : Type 0 where
   pub turn : (system_turn seen.setting.program (world_of seen) actor).answer ≡ Answered answer.event answer.reply
   pub next : IsWorkOf (after_turn seen actor) actor answer.next

@@ -6,32 +6,33 @@ use Rattle.lot_print.specs.Writing.{Begins, IsPut}
 use Rattle.lot_system.specs.declared.fault.PlayFault.{PlayFault}
 use Rattle.lot_system.specs.declared.fault.PlayFault.TheVariants.{Memory, Read, Write}
 
--- On Ok the text was written, and the writer hasn't failed. Else it has failed, and a beginning of the text was written.
+-- On Ok the text was written, and the writer hasn't failed. Otherwise it has failed, and a beginning of the text was
+-- written.
 abbrev pub Written : {U : Type 0} → Option (List ℕ) → Option (List ℕ) → Bool → Result U PlayFault → List ℕ → Type 0
 Written old new failed (Ok done) text = (failed ≡ false) × Appends old new text
 Written old new failed (Err fault) text = (fault ≡ Write) × (failed ≡ true) × Begins old new text
 
--- the same of a watched writer, of which `contents` says what it holds
+-- `Written` for a watched writer, whose contents `contents` gives
 abbrev pub Writes : {T : Type 0} {U : Type 0} → (T → Option (List ℕ)) → Watch T → Watch T → Result U PlayFault → List ℕ → Type 0
 Writes contents old new result text = Written (contents old.inner) (contents new.inner) new.failed result text
 
--- On Ok the text was put after what waits to be written, and the writer hasn't failed. Else it has failed, and a beginning
--- of what waited before and then the text was written.
+-- On Ok the text follows what waits to be written, and the writer hasn't failed. Otherwise it has failed, and a
+-- beginning of what waited before and then the text was written.
 abbrev pub Put : {U : Type 0} → Option (List ℕ) → Option (List ℕ) → List ℕ → List ℕ → Bool → Result U PlayFault → List ℕ → Type 0
 Put old new before after failed (Ok done) text = (failed ≡ false) × IsPut old new before after text
 Put old new before after failed (Err fault) text = (fault ≡ Write) × (failed ≡ true) × Begins old new (before ++ text)
 
--- the same of a watched writer, of which `contents` says what it holds
+-- `Put` for a watched writer, whose contents `contents` gives
 abbrev pub Puts : {T : Type 0} {U : Type 0} → (T → Option (List ℕ)) → Watch T → Watch T → List ℕ → List ℕ → Result U PlayFault → List ℕ → Type 0
 Puts contents old new before after result text = Put (contents old.inner) (contents new.inner) before after new.failed result text
 
--- a fault of reading: Read if the reader has failed, and want of memory if it hasn't
+-- a fault of reading: Read if the reader has failed, and out of memory if it hasn't
 abbrev pub IsReadFault : PlayFault → Bool → Type 0
 IsReadFault Memory failed = failed ≡ false
 IsReadFault Read failed = failed ≡ true
 IsReadFault Write failed = ⊥
 
--- Read if the reader has failed, Write if the writer has, and want of memory if neither has
+-- Read if the reader has failed, Write if the writer has, and out of memory if neither has
 abbrev pub IsFaultOf : PlayFault → Bool → Bool → Type 0
 IsFaultOf Memory reader writer = (reader ≡ false) × (writer ≡ false)
 IsFaultOf Read reader writer = (reader ≡ true) × (writer ≡ false)

@@ -1,4 +1,4 @@
-//! What is counted of turns.
+//! Counters of turns.
 ghost use Rattle.std.specs.Prelude.{◌≡◌, ◌+◌, ◌<◌, ◌++◌, [], ◌∷◌, ℕ, List, IfOk, vec_len};
 ghost use Rattle.lot_machine.specs.declared.event.Event.{Event as EventRecord};
 ghost use Rattle.lot_simulation.specs.Report.{ActorTurn};
@@ -8,14 +8,14 @@ ghost use Rattle.lot_system.specs.Counted.{AreCounts, IsCount, IsSmall, counted_
 use lot_machine::Reply;
 use std::alloc::{AllocError, Global};
 
-/// What is counted of some turns.
+/// The counters of some turns.
 #[derive(Clone, Copy, Debug, PartialEq, Eq)]
 pub struct Counts {
-    /// How many there are, refused commands and traps included.
+    /// The number of turns, refused commands and traps included.
     pub turns: u64,
-    /// The draws among them that somebody won.
+    /// The draws that a thread won.
     pub quanta: u64,
-    /// The draws among them that nobody won.
+    /// The draws that no thread won.
     pub idles: u64,
     /// The ticks of their expiries and traps.
     pub ticks: u64,

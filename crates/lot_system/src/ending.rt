@@ -1,4 +1,4 @@
-//! What is written at the end of a run: the report, and the history as lines that give it back.
+//! The end of a run's output: the report, and the history as lines that give it back.
 ghost use Rattle.std.specs.Prelude.{◌≡◌, false, true, OnOk};
 ghost use Rattle.lot_simulation.specs.Output.{end_text};
 ghost use Rattle.lot_system.specs.Writing.{Writes};
@@ -10,7 +10,7 @@ use lot_print::write_history;
 use lot_text::Watched;
 use std::io::Write;
 
-/// Writes the report, and after it the history as lines that an input of this unit may have, which give it back; and
+/// Writes the report, and after it the history as lines that an input of this unit may have, which give it back; then
 /// flushes.
 pub fn write_end<W: Write>(system: &mut System, writer: &mut Watched<W>) -> Result<(), PlayFault>
     requires { writer.old.failed ≡ false }

@@ -23,7 +23,7 @@ pub enum TurnFault {
 /// Why `play` stops.
 #[derive(Clone, Copy, Debug, PartialEq, Eq, Error)]
 pub enum PlayFault {
-    /// Memory was refused, and nothing was written.
+    /// Out of memory, and nothing was written.
     #[error("out of memory")]
     Memory,
     /// The reader has failed, and nothing was written.

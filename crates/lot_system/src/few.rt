@@ -5,7 +5,7 @@ ghost use Rattle.lot_system.specs.Kept.{kept_with, none_kept};
 use std::alloc::{AllocError, Global};
 use std::marker::Model;
 
-/// How many of a kind are told one by one.
+/// How many of a kind are listed one by one.
 const TOLD: usize = 8;
 
 /// The first few of a kind, and how many there are in all.
@@ -30,7 +30,7 @@ impl<T: Drop> Model for Few<T> {
 }
 
 impl<T: Drop> Few<T> {
-    /// None yet, and room for those that are told. It takes all the memory that will ever be used.
+    /// None yet, with room for those that are listed. It allocates all the memory that will ever be used.
     pub(crate) fn none(alloc: Global) -> Result<Self, AllocError>
         ensures { IfOk result (λ few. few ≡ none_kept) }
     {
@@ -58,7 +58,7 @@ impl<T: Drop> Few<T> {
         self.first.as_slice()
     }
 
-    /// How many there are besides.
+    /// How many there are in addition to the first.
     pub fn others(&self) -> usize
         ensures { result ≡ self.now.count - length self.now.first }
     {

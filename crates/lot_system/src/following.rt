@@ -1,4 +1,4 @@
-//! Making a program's turns in the order of time, and following what their report needs beside the system.
+//! Making a program's turns in the order of time, and tracking what the report needs in addition to the system.
 ghost use Rattle.std.specs.Prelude.{◌≡◌, ℕ, ◌<◌, ◌≤◌, ◌+◌, ◌^◌, ◌++◌, List, [], ◌∷◌, Some, false, replicate, vec_len, IfNone, IfOk, IfSome};
 ghost use Rattle.lot_simulation.specs.TimedReport as reports;
 ghost use Rattle.lot_simulation.specs.Timed.{TimedTurn, clocks_after, is_idle_draw};
@@ -20,7 +20,7 @@ use std::alloc::{AllocError, Global};
 /// The most turns that are made.
 pub(crate) const MOST_TURNS: u32 = 1000000;
 
-/// What is followed beside a system whose turns are made in the order of time, from turn to turn.
+/// What is tracked from turn to turn, in addition to the system, when turns are made in the order of time.
 #[derive(Debug, Drop)]
 pub struct Following {
     /// The processors' clocks.
@@ -63,7 +63,7 @@ impl Following {
         self.timeline.next_due(program, system)
     }
 
-    /// Takes up a turn of this actor that was made at this time, with what it was answered.
+    /// Records a turn that this actor made at this time, with its event and reply.
     fn follow(&mut self, time: u32, actor: u32, event: &Event, reply: Reply)
         requires there { actor ≤ vec_len self.old.timeline.clocks }
         requires followed { (done : List TimedTurn) × (n : ℕ) × (n < 2 ^ 31) × HasFollowed done n self.old }
@@ -79,7 +79,7 @@ impl Following {
     }
 }
 
-/// 1 if a command was refused, and else 0.
+/// 1 if the kernel refused a command, otherwise 0.
 fn refusals_in(reply: Reply) -> u64
     ensures refusals { result ≡ reports.refusals_in reply }
     ensures few { result ≤ 1 }
@@ -99,7 +99,7 @@ pub struct TimedReply {
     pub reply: Reply,
 }
 
-/// Makes the next turn, if there is one, and puts the event that it was where it is asked for. Without one nothing changes. It takes
+/// Makes the next turn, if there is one, and stores its event in `event`. Without one nothing changes. It allocates
 /// no memory.
 pub(crate) fn make_next(
     program: &Program,
@@ -118,7 +118,7 @@ pub(crate) fn make_next(
     Some(make_due(program, system, following, due, event))
 }
 
-/// Makes the turn that comes next, and puts the event that it was where it is asked for. It takes no memory.
+/// Makes the turn that is due, and stores its event in `event`. It allocates no memory.
 pub fn make_due(
     program: &Program,
     system: &mut System,

@@ -47,8 +47,8 @@ fn next_number(generators: &[ParkMiller], processor: u32, is_wide: bool) -> Next
     NextNumber { number, after }
 }
 
-/// Puts the event of a processor's turn whose slice did this, or of its draw without one, where it is kept. Only a turn that takes a
-/// number moves the processor's generator on.
+/// Stores the event of a processor's turn whose slice did this, or of its draw without one, in `event`. Only a turn
+/// that takes a number advances the processor's generator.
 #[inline(always)]
 pub(crate) fn next_event(
     generators: &mut Vec<ParkMiller>,

@@ -17,7 +17,7 @@ use lot_simulation::Manner;
 use lot_text::{Program, Watched};
 use std::io::Write;
 
-/// Makes the program's turns in the order of time, and writes what they answer and their report.
+/// Makes the program's turns in the order of time, and writes their lines and their report.
 pub(crate) fn play_in_time<W: Write>(
     program: &Program,
     system: &mut System,
@@ -36,7 +36,7 @@ pub(crate) fn play_in_time<W: Write>(
     flush(writer)
 }
 
-/// Makes the turns, and writes what they answer, a page of lines at a time.
+/// Makes the turns, and writes their lines, a page of them at a time.
 fn play_turns<W: Write>(
     program: &Program,
     system: &mut System,
@@ -57,7 +57,7 @@ fn play_turns<W: Write>(
     Ok(page.write_out(writer)?)
 }
 
-/// Makes the next turn, if there is one, puts on the page what it answers, and answers whether there was one.
+/// Makes the next turn, if there is one, puts its lines on the page, and returns whether there was one.
 fn play_next<W: Write>(
     program: &Program,
     system: &mut System,

@@ -37,7 +37,7 @@ pub fn read_input<R: Read>(alloc: Global, reader: &mut Watched<R>) -> Result<Vec
     Ok(bytes)
 }
 
-/// Reads once, puts what it read after the bytes, and answers how much that was: nothing only at the end.
+/// Reads once, appends what it read to the bytes, and returns how much that was: nothing only at the end.
 fn read_piece<R: Read>(
     reader: &mut Watched<R>,
     room: &mut [u8],

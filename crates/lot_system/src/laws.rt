@@ -1,4 +1,4 @@
-//! What the reports come to, and what an actor's work is: laws of the definitions, with nothing to run.
+//! The sums in the reports, and an actor's work: laws of the definitions, with nothing to run.
 ghost use Rattle.std.specs.Prelude.{◌≡◌, ◌<◌, ◌^◌, ℕ, List, Option, sum_by};
 ghost use Rattle.std.specs.List.{range_with_len};
 ghost use Rattle.lot_machine.specs.Bounds.{IsWithinBounds};
@@ -20,7 +20,7 @@ pub fn threads_add_up()
         → sum_by (λ r. r.ticks) (system_run program history).state.records ≡ total_of ticks_in (turns_made program history) }
 {}
 
-/// What the report has of the processors adds up to what is counted in all turns of a legal history: the console wins no
+/// The report's numbers of the processors add up to the counters of all turns of a legal history: the console wins no
 /// draws and uses no ticks.
 pub fn processors_add_up()
     ensures quanta { (program : Program) (room : ℕ) (history : List ℕ) → IsLegal program room history
@@ -31,8 +31,8 @@ pub fn processors_add_up()
         → sum_by (λ p. total_of ticks_in (turns_of p (turns_made program history))) (range_with_len 1 program.limits.processors) ≡ total_of ticks_in (turns_made program history) }
 {}
 
-/// An actor has one work in a system. So whoever gives the slice of the actor's work is never answered Stale, and
-/// whoever gives anything else is: what is given is fresh if and only if it is the slice of this work.
+/// An actor has exactly one work in a system. So a caller that gives the slice of the actor's work never gets Stale,
+/// and one that gives anything else does: the slice is fresh if and only if it is that of this work.
 pub fn works_are_one()
     ensures one { (seen : Seen) (actor : ℕ) (work other : Option Work) → IsWorkOf seen actor work → IsWorkOf seen actor other → work ≡ other }
     ensures fresh { (seen : Seen) (actor : ℕ) (work : Option Work) (given : Option Parts) → IsWorkOf seen actor work → IsFresh seen actor given → Matches seen.setting.program work given }

@@ -1,4 +1,4 @@
-//! What a run leaves to tell, beside what is written of it.
+//! The warnings of a run, in addition to its output.
 
 ghost use Rattle.std.specs.Prelude.{◌≡◌, IfOk, length};
 ghost use Rattle.lot_system.specs.Kept.{none_kept};
@@ -17,7 +17,7 @@ pub struct RefusedCommand {
     pub refusal: Refusal,
 }
 
-/// A thread that no turn to come can move on.
+/// A thread that no later turn can move on.
 #[derive(Debug, Drop)]
 pub struct StuckThread {
     pub name: Name,
@@ -25,7 +25,7 @@ pub struct StuckThread {
     pub status: Status,
 }
 
-/// What a run leaves to tell, for words that stand beside its output.
+/// The warnings of a run, which aren't part of its output.
 #[derive(Debug, Drop)]
 pub struct Leftovers {
     /// How many commands were made.
@@ -41,7 +41,7 @@ pub struct Leftovers {
 }
 
 impl Leftovers {
-    /// Nothing to tell. It takes all the memory that noting will ever use.
+    /// No warnings. It allocates all the memory that noting will ever use.
     pub fn none(alloc: Global) -> Result<Self, AllocError>
         ensures { IfOk result (λ leftovers. leftovers ≡ record { made = 0; refused = none_kept; unmade = 0; weightless = none_kept; waiting = none_kept }) }
     {
@@ -54,7 +54,7 @@ impl Leftovers {
         })
     }
 
-    /// Takes up what the actor's turn answered.
+    /// Records the reply to the actor's turn.
     #[inline(always)]
     pub fn note(&mut self, actor: u32, reply: &Reply)
         ensures { self.new ≡ noted self.old actor reply.now }
@@ -64,7 +64,7 @@ impl Leftovers {
         }
     }
 
-    /// Takes up what the next command came to.
+    /// Records the reply to the next command.
     fn note_command(&mut self, reply: &Reply)
         ensures { self.new ≡ command_noted self.old reply.now }
     {
@@ -75,7 +75,7 @@ impl Leftovers {
         self.made = self.made.saturating_add(1);
     }
 
-    /// Takes up what stands at the end of a run.
+    /// Records the state at the end of a run.
     pub fn note_end(&mut self, system: &mut System)
         ensures kept { (self.new.made ≡ self.old.made) × (self.new.refused ≡ self.old.refused) }
         ensures unmade { self.new.unmade ≡ length (world_of system.old).commands }
@@ -90,7 +90,7 @@ impl Leftovers {
         }
     }
 
-    /// Takes up a thread as it is at the end, when perhaps no thread can run any more.
+    /// Records a thread as it is at the end; `is_over` says whether no thread can run any more.
     fn note_thread(&mut self, system: &mut System, row: ThreadRow, is_over: bool)
         ensures kept { (self.new.made ≡ self.old.made) × (self.new.refused ≡ self.old.refused) × (self.new.unmade ≡ self.old.unmade) }
         ensures same { system.new ≡ system.old }
@@ -132,8 +132,8 @@ fn can_run(row: &ThreadRow) -> bool {
     }
 }
 
-/// Whether a thread with this status waits for good: for the reply of a server that has ended, or for whatever it may be
-/// if no thread can run. A server that waits for calls is none.
+/// Whether a thread with this status waits for good: for the reply of a server that has ended, or, if no thread can
+/// run, for a mutex or a reply. A server that waits for calls doesn't count.
 fn is_stuck(system: &mut System, status: Status, is_over: bool) -> bool
     ensures { system.new ≡ system.old }
 {

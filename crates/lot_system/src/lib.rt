@@ -1,5 +1,5 @@
-//! The simulated system: a console with commands, processors with generators, and threads with scripts; and `play`, which
-//! makes the turns of a schedule.
+//! The simulated system: a console with commands, processors with generators, and threads with scripts; and `play`,
+//! which makes the turns of a schedule.
 #![tactic(auto)]
 
 mod counts;

@@ -17,8 +17,8 @@ use lot_simulation::Manner;
 use lot_text::Watched;
 use std::io::Write;
 
-/// Writes an actor's turn that asked for a listing of the kernel as it is: how many rows there are, and a line for each, by
-/// rising number.
+/// Writes an actor's turn that asked for a listing of the kernel as it is: how many rows there are, and a line for
+/// each, by rising number.
 pub(crate) fn write_listing<W: Write>(
     system: &mut System,
     manner: Manner,
@@ -72,7 +72,7 @@ fn has_row(system: &mut System, kind: Kind, number: u32) -> bool
     }
 }
 
-/// Writes the lines of the rows that there are.
+/// Writes the lines of the existing rows.
 fn write_rows<W: Write>(
     system: &mut System,
     manner: Manner,

@@ -63,8 +63,8 @@ fn begin(program: &Program, script: u32) -> Place
     program.scripts()[script as usize - 1].start()
 }
 
-/// After a processor's turn: a winner has what was delivered to it, and the thread that ran is at its slice's end, and has
-/// what it received.
+/// After a processor's turn: a winner has what was delivered to it, and the thread that ran is at its slice's end,
+/// and has what it received.
 #[inline(always)]
 pub(crate) fn follow_turn(places: &mut Vec<Place>, slice: &Option<Slice>, reply: Reply)
     requires { (t : ℕ) × OfGiven (length places.old.items) t slice.now reply }
@@ -115,7 +115,8 @@ fn follow_slice(places: &mut Vec<Place>, slice: &Slice, reply: Reply)
     }
 }
 
-/// Moves the thread's place on where it stands, as a slice of its script with this budget does. Answers what the slice did.
+/// Advances the thread's place where the system keeps it, as a slice of its script with this budget does. Returns
+/// what the slice did.
 #[inline(always)]
 pub(crate) fn pass_slice(places: &mut Vec<Place>, script: &Script, thread: u32, budget: u32) -> Done
     requires there { IsBetween 1 (length places.old.items) thread }
@@ -164,7 +165,7 @@ fn number_delivered(outcome: Outcome) -> Option<u32>
     }
 }
 
-/// The thread has the number that was handed over, if one was, as its accumulator.
+/// Sets the thread's accumulator to the number that was delivered, if one was.
 #[inline(always)]
 fn deliver(places: &mut Vec<Place>, thread: u32, number: Option<u32>)
     requires { IsBetween 1 (length places.old.items) thread }

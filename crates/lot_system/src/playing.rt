@@ -30,12 +30,12 @@ use lot_text::{ParseFault, Program, Watched, parse};
 use std::alloc::Global;
 use std::io::{Read, Write};
 
-/// What came of an input that was read.
+/// The outcome of an input that was read.
 #[derive(Clone, Copy, Debug, PartialEq, Eq)]
 pub enum Played {
     /// Its schedule was played to the end.
     Done,
-    /// It was refused, and that was written.
+    /// The input was refused, and the refusal was written.
     Refused,
 }
 
@@ -60,9 +60,9 @@ pub fn play<R: Read, W: Write>(
     play_bytes(alloc, &mut bytes, &mut leftovers, writer)
 }
 
-/// Plays what these bytes say, or writes why they are refused, as `play` does, for callers who want to say more of it. The bytes stay if
-/// they are refused, and else go before the first turn; then what the run leaves to tell is put in `leftovers`. It takes all its memory
-/// before the first turn.
+/// Plays the input in `bytes`, or writes why it is refused, as `play` does, for callers that report more. If it is
+/// refused, `bytes` keeps it; otherwise its memory is freed before the first turn, and the run's warnings are stored
+/// in `leftovers`. It allocates all its memory before the first turn.
 pub fn play_bytes<W: Write>(
     alloc: Global,
     bytes: &mut Vec<u8>,
@@ -80,7 +80,7 @@ pub fn play_bytes<W: Write>(
     }
 }
 
-/// What the bytes say. If they aren't refused, their memory is free again.
+/// The program in `bytes`. Unless the input is refused, its memory is freed.
 pub fn program_of(alloc: Global, bytes: &mut Vec<u8>) -> Result<Program, ParseFault>
     ensures program { IfOk result (λ program. program_in bytes.old.items ≡ Ok program) }
     ensures fault { IfErr result (IsParseFaultOf (program_in bytes.old.items)) }
@@ -162,7 +162,7 @@ fn play_timed<W: Write>(
     Ok(Played::Done)
 }
 
-/// Makes the turns of the program's schedule, and writes what they answer and the report.
+/// Makes the turns of the program's schedule, and writes their lines and the report.
 fn play_schedule<W: Write>(
     program: &Program,
     system: &mut System,
@@ -179,7 +179,7 @@ fn play_schedule<W: Write>(
     flush(writer)
 }
 
-/// Makes the turns of the program's schedule, and writes what they answer, a page of lines at a time.
+/// Makes the turns of the program's schedule, and writes their lines, a page of them at a time.
 fn play_turns<W: Write>(
     program: &Program,
     system: &mut System,
@@ -198,7 +198,7 @@ fn play_turns<W: Write>(
     Ok(page.write_out(writer)?)
 }
 
-/// Makes one turn, with the slice of the actor's work, and puts on the page what it answers.
+/// Makes one turn, with the slice of the actor's work, and puts its lines on the page.
 #[inline(always)]
 fn play_turn<W: Write>(
     system: &mut System,
@@ -235,7 +235,7 @@ pub fn slice_in<'a>(system: &System, program: &'a Program, actor: u32) -> Option
     }
 }
 
-/// Puts on the page what a turn answered. A listing that was asked for is written at once.
+/// Puts the lines of a turn on the page. A listing is written at once.
 #[inline(always)]
 pub fn put_answer<W: Write>(
     system: &mut System,
@@ -259,7 +259,7 @@ pub fn put_answer<W: Write>(
     }
 }
 
-/// What the line of the actor's turn needs besides what the turn was answered.
+/// What the line of the actor's turn needs in addition to its event and reply.
 #[inline(always)]
 fn heading(system: &System, manner: Manner, actor: u32) -> Heading
     ensures manner { result.manner ≡ manner }

@@ -13,7 +13,7 @@ use lot_machine::Sizes;
 use lot_script::{Script, Slice};
 use lot_text::Program;
 
-/// The slice of the work, as `System::turn` asks for it, in a program at hand; none if there is no work. Answers Stale
+/// The slice of the work, as `System::turn` needs it, in the given program; none if there is no work. Returns Stale
 /// with the work if that doesn't fit the program.
 pub fn slice_for(program: &Program, work: Option<Work>) -> Result<Option<Slice<'_>>, TurnFault>
     ensures ok { IfOk result (λ slice. Matches program.now work slice) }
@@ -37,7 +37,7 @@ pub(crate) fn slice_of(program: &Program, work: Work) -> Slice<'_>
     script_numbered(program, work.script).slice(work.place, work.budget)
 }
 
-/// The slice of a work that fits the program, from where its place is kept. It takes no memory.
+/// The slice of a work that fits the program, from where the system keeps its place. It allocates no memory.
 #[inline(always)]
 pub(crate) fn slice_of_kept<'a>(program: &'a Program, work: &KeptWork<'_>) -> Slice<'a>
     requires { FitsIn program.now work.now }

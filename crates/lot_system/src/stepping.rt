@@ -1,4 +1,4 @@
-//! A turn at a time, for callers who say other things of turns than `play` does.
+//! A turn at a time, for callers that report turns differently from `play`.
 ghost use Rattle.std.specs.Prelude.{◌≡◌, ◌<◌, ◌≤◌, IfNone, IfSome, length};
 ghost use Rattle.lot_simulation.specs.World.Answer.{Answered, Ended};
 ghost use Rattle.lot_system.specs.Playing.{IsPlayed, turn_in};
@@ -8,8 +8,8 @@ use crate::System;
 use lot_machine::{Event, Reply};
 use lot_text::Program;
 
-/// Makes an actor's next turn, with the slice of its work, and puts the event that it was where it is asked for. Answers the
-/// kernel's reply, or `None` if the actor is the console and no command is left: then nothing changes. It takes no memory.
+/// Makes an actor's next turn, with the slice of its work, and stores its event in `event`. Returns the kernel's
+/// reply, or `None` if the actor is the console and no command is left: then nothing changes. It allocates no memory.
 pub fn next_turn(
     program: &Program,
     system: &mut System,

@@ -31,8 +31,8 @@ use std::marker::Model;
 
 /// A kernel with a console and processors that have turns. Actor 0 is the console, and the others are the processors.
 ///
-/// Contracts see it as its program, its room and its history: all else is what the program's run over the history comes
-/// to. All its room is made by `open`, and no turn takes memory.
+/// Contracts see it as its program, its room and its history: everything else follows from the program's run over the
+/// history. `open` makes all its room, and no turn allocates memory.
 pub struct System {
     kernel: Kernel,
     program: Program,
@@ -53,7 +53,7 @@ pub struct System {
 }
 
 impl Drop for System {
-    // A call: what lets go of a `System` is proved without a look at all of its parts.
+    // An explicit drop is a call: a proof about code that drops a `System` needn't look at its fields.
     fn drop(self) {
         let Self {
             kernel: _,
@@ -100,8 +100,8 @@ impl Model for System {
 }
 
 impl System {
-    /// A system of this program with room for this many turns. It takes all the memory that the system will ever use,
-    /// and fails only for want of it.
+    /// A system of this program with room for this many turns. It allocates all the memory that the system will ever
+    /// use, and fails only if out of memory.
     pub fn open(alloc: Global, program: &Program, room: u32) -> Result<System, AllocError>
         ensures { IfOk result (λ s. s ≡ record { setting = record { program = program.now; room = room }; history = [] }) }
     {
@@ -138,7 +138,7 @@ impl System {
         &self.history
     }
 
-    /// What the thread on the processor is to do next, if one runs there. The console has none.
+    /// The next work of the thread on the processor, if one runs there. The console has none.
     #[inline(always)]
     pub fn work(&self, actor: u32) -> Option<Work>
         ensures work { IsWorkOf self.now actor result }
@@ -148,7 +148,7 @@ impl System {
         Some(self.kept_work(actor)?.copied())
     }
 
-    /// The same, with its place where it is kept.
+    /// The next work of the thread on the processor, if one runs there, with its place where the system keeps it.
     #[inline(always)]
     pub(crate) fn kept_work(&self, actor: u32) -> Option<KeptWork<'_>>
         ensures { IsWorkOf self.now actor result }
@@ -168,7 +168,7 @@ impl System {
     }
 
     /// One turn of an actor: the console's next command, a draw of a processor without a thread, or the slice of the
-    /// thread on a processor. A fault changes nothing. It takes no memory.
+    /// thread on a processor. A fault changes nothing. It allocates no memory.
     #[inline(always)]
     pub fn turn(&mut self, actor: u32, slice: Option<Slice>) -> Result<Answer, TurnFault>
         requires { actor ≤ self.old.setting.program.limits.processors }
@@ -190,8 +190,8 @@ impl System {
         }
     }
 
-    /// The same for callers who ask neither for the actor's next work nor for the one that a stale slice isn't of. The event is put
-    /// where it is kept: as a part of the result it would be copied at each step out.
+    /// `turn` for callers that need neither the actor's next work nor the work in a Stale fault. It stores the event
+    /// in `event`: as a part of the result it would be copied at each return.
     #[inline(always)]
     pub(crate) fn try_turn(
         &mut self,
@@ -219,8 +219,8 @@ impl System {
         Ok(reply)
     }
 
-    /// The same with the slice of the actor's own work, while the history has room: `None` if the actor is the console and no
-    /// command is left. Then nothing changes.
+    /// The turn with the slice of the actor's own work, while the history has room: `None` if the actor is the
+    /// console and no command is left. Then nothing changes.
     #[inline(always)]
     pub(crate) fn fresh_turn(&mut self, actor: u32, event: &mut Event) -> Option<Reply>
         requires there { actor ≤ self.old.setting.program.limits.processors }
@@ -253,8 +253,8 @@ impl System {
         self.history.len() >= self.room as usize
     }
 
-    /// The actor's turn with the slice of its own work, whose thread's place moves on where it stands: what it was, and what the
-    /// kernel replied, each put where it is kept.
+    /// The actor's turn with the slice of its own work. It advances the thread's place where the system keeps it, and
+    /// stores the event and the kernel's reply where the caller keeps them.
     #[inline(always)]
     pub(crate) fn own_turn(&mut self, actor: u32, event: &mut Event, reply: &mut Reply)
         requires there { actor ≤ self.old.setting.program.limits.processors }
@@ -272,7 +272,7 @@ impl System {
         }
     }
 
-    /// A turn that is made: what it was, and what the kernel replied, each put where it is kept.
+    /// Makes a turn, and stores its event and the kernel's reply where the caller keeps them.
     #[inline(always)]
     pub(crate) fn make_turn(
         &mut self,
@@ -334,7 +334,7 @@ impl System {
         remember(&mut self.history, actor);
     }
 
-    /// The slice of the thread that runs on the processor. Its place moves on where it stands.
+    /// The slice of the thread that runs on the processor. It advances the thread's place where the system keeps it.
     #[inline(always)]
     fn run_turn(&mut self, actor: u32, running: Running, event: &mut Event, reply: &mut Reply)
         requires actor { IsBetween 1 self.old.setting.program.limits.processors actor }
@@ -360,7 +360,7 @@ impl System {
         self.kernel.limits()
     }
 
-    /// What the kernel shows of the ticket with this number, if it is there.
+    /// What the kernel shows of the ticket with this number, if it exists.
     pub(crate) fn ticket_row(&mut self, ticket: u32) -> Option<TicketRow>
         ensures row { result ≡ rows.ticket_row (world_of self.old).state ticket }
         ensures state { self.new ≡ self.old }
@@ -368,7 +368,7 @@ impl System {
         self.kernel.ticket_row(ticket)
     }
 
-    /// What the kernel shows of the currency with this number, if it is there.
+    /// What the kernel shows of the currency with this number, if it exists.
     pub(crate) fn currency_row(&mut self, currency: u32) -> Option<CurrencyRow>
         ensures row { result ≡ rows.currency_row (world_of self.old).state currency }
         ensures state { self.new ≡ self.old }
@@ -384,8 +384,8 @@ impl System {
         self.kernel.thread_row(thread)
     }
 
-    /// Lists in `out` the threads that wait for the mutex, the one that has waited longest first; none if there is no such mutex. It
-    /// takes no memory, since `out` has room for all threads.
+    /// Lists in `out` the threads that wait for the mutex, the one that has waited longest first; none if there is no
+    /// such mutex. It allocates no memory, since `out` has room for all threads.
     pub fn list_waiters(&self, mutex: u32, out: &mut Vec<u32>)
         requires { self.now.setting.program.limits.threads ≤ vec_capacity out.old }
         ensures waiters { out.new.items ≡ (mutex_at (world_of self.now).state.mutexes mutex).waiters }
@@ -446,7 +446,7 @@ impl System {
         self.history.len() as u64
     }
 
-    /// What is counted of the actor's turns so far.
+    /// The counters of the actor's turns so far.
     pub fn counts(&self, actor: u32) -> Counts
         requires { actor ≤ self.now.setting.program.limits.processors }
         ensures { result ≡ counted (turns_of actor (turns_made self.now.setting.program self.now.history)) }
@@ -463,7 +463,7 @@ impl System {
         self.counts[actor as usize].ticks
     }
 
-    /// What is counted of all turns so far.
+    /// The counters of all turns so far.
     pub fn total(&self) -> Counts
         ensures { result ≡ counted (turns_made self.now.setting.program self.now.history) }
     {

@@ -25,8 +25,8 @@ use lot_print::{
 use lot_text::{Program, Watched};
 use std::io::Write;
 
-/// Writes the report of a system that has made all of its program's turns in the order of time: a line for each thread, a line for
-/// each processor, and the totals.
+/// Writes the report of a system that has made all of its program's turns in the order of time: a line for each
+/// thread, a line for each processor, and the totals.
 pub fn write_timed_report<W: Write>(
     program: &Program,
     system: &mut System,
@@ -89,7 +89,7 @@ fn live_value(system: &mut System) -> u128
     sum
 }
 
-/// The thread's value, if it is live, and else 0.
+/// The thread's value if it is live, otherwise 0.
 fn live_value_of(system: &mut System, thread: u32) -> u64
     ensures value { result ≡ live_part (world_of system.old).state thread (value_of (world_of system.old).state thread) }
     ensures same { system.new ≡ system.old }

@@ -1,4 +1,4 @@
-//! A turn in the order of time at a time, for callers who say other things of turns than `play` does.
+//! A turn in the order of time at a time, for callers that report turns differently from `play`.
 ghost use Rattle.std.specs.Prelude.{◌≡◌, [], ◌∷◌, IfNone, IfOk, IfSome, IsSome};
 ghost use Rattle.lot_simulation.specs.World.Answer.{Answered};
 ghost use Rattle.lot_system.specs.InTime.{next_turns, turn_told};
@@ -19,7 +19,7 @@ use std::marker::Model;
 pub struct TimedRun {
     /// The system, with the turns that were made.
     pub system: System,
-    /// What is followed beside it.
+    /// What is tracked in addition to it.
     pub following: Following,
 }
 
@@ -35,8 +35,8 @@ impl Model for TimedRun {
 }
 
 impl TimedRun {
-    /// A run of this program, which has a duration, before its first turn. It takes all the memory that the run will ever use, and
-    /// fails only for want of it.
+    /// A run of this program, which has a duration, before its first turn. It allocates all the memory that the run
+    /// will ever use, and fails only if out of memory.
     pub fn open(alloc: Global, program: &Program) -> Result<TimedRun, AllocError>
         requires { IsSome program.now.duration }
         ensures program { IfOk result (λ run. run.setting.program ≡ program.now) }
@@ -47,8 +47,8 @@ impl TimedRun {
         Ok(TimedRun { system, following })
     }
 
-    /// Makes the next of the program's turns in the order of time, puts the event that it was where it is asked for, and answers when
-    /// it was made, by which actor and with what reply; or `None` if there is no further turn: then nothing changes. It takes no memory.
+    /// Makes the next of the program's turns in the order of time, and stores its event in `event`. Returns its time,
+    /// its actor and the reply, or `None` if there is no further turn: then nothing changes. It allocates no memory.
     pub fn next_turn(&mut self, program: &Program, event: &mut Event) -> Option<TimedReply>
         requires { self.old.setting.program ≡ program.now }
         ensures none { IfNone result ((next_turns program.now self.old ≡ []) × (self.new ≡ self.old)) }

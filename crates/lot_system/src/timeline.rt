@@ -60,7 +60,7 @@ impl Timeline {
         Some(due)
     }
 
-    /// The turn that would be made first; of those at one time that of the lowest actor.
+    /// The turn that would be made first; of turns at the same time, that of the lowest actor.
     fn earliest(&self, program: &Program, system: &System) -> Option<Due>
         requires program { system.now.setting.program ≡ program.now }
         requires clocks { vec_len self.now.clocks ≡ program.now.limits.processors }
@@ -95,7 +95,7 @@ impl Timeline {
         self.clocks[processor as usize - 1]
     }
 
-    /// Takes up a turn of this actor that was made at this time, with this reply: what its clock is then, and who waits.
+    /// Records a turn that this actor made at this time, with this reply: its clock afterwards, and who waits.
     pub(crate) fn follow(&mut self, time: u32, actor: u32, reply: Reply)
         requires there { actor ≤ vec_len self.old.clocks }
         requires idled { (turns : ℕ) × (turns < 2 ^ 31) × HaveIdled turns self.old.clocks.items }
@@ -117,7 +117,7 @@ impl Timeline {
         self.clocks[actor as usize - 1] = Clock { time, waits, idle };
     }
 
-    /// Nobody waits any more, since a turn was made at this time.
+    /// No processor waits any more, since a turn was made at this time.
     fn wake(&mut self, time: u32)
         requires idled { (turns : ℕ) × (turns < 2 ^ 31) × HaveIdled turns self.old.clocks.items }
         ensures time { self.new.time ≡ self.old.time }
@@ -162,7 +162,8 @@ fn due_after(time: u32, cost: u32, actor: u32) -> Due
     }
 }
 
-/// What the processor's next turn costs it: a draw nothing, an expiry the rest of the quantum, a trap its work and one tick besides.
+/// The cost of the processor's next turn: nothing for a draw, the rest of the quantum for an expiry, the work and one
+/// tick more for a trap.
 fn cost(program: &Program, system: &System, processor: u32) -> u32
     requires program { system.now.setting.program ≡ program.now }
     requires there { 0 < processor }
@@ -174,7 +175,7 @@ fn cost(program: &Program, system: &System, processor: u32) -> u32
     }
 }
 
-/// What the slice costs: its work and one tick for its trap, or all of its budget if the quantum ends with it.
+/// The cost of the slice: its work and one tick for its trap, or all of its budget if the quantum ends with it.
 fn cost_of_slice(slice: &Slice) -> u32
     ensures { result ≡ in_time.cost_of_slice slice.now }
 {
@@ -199,7 +200,7 @@ fn woken(clock: Clock, time: u32) -> Clock
     }
 }
 
-/// Of two turns that may come next, if they do, the one that is made first; of two at one time the first.
+/// Of two turns that may come next, if there are any, the one that is made first; of two at the same time the first.
 fn sooner_of(first: Option<Due>, second: Option<Due>) -> Option<Due>
     ensures { result ≡ in_time.sooner_of first second }
 {

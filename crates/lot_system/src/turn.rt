@@ -1,4 +1,4 @@
-//! What an actor has to do, and what its turn answers.
+//! An actor's work, and the result of its turn.
 ghost use Rattle.std.specs.Prelude.{◌≡◌, ◌↔◌, IfSome, IsTrue, Some, length, option_map};
 ghost use Rattle.lot_machine.specs.Bounds.{IsBetween};
 ghost use Rattle.lot_simulation.specs.World as world;
@@ -13,7 +13,7 @@ use lot_simulation::ScriptTrap;
 use lot_text::Program;
 use std::marker::Model;
 
-/// What the thread on a processor is to do next.
+/// The next work of the thread on a processor.
 #[derive(Debug, PartialEq, Eq, Drop)]
 pub struct Work {
     pub thread: u32,
@@ -25,7 +25,7 @@ pub struct Work {
     pub budget: u32,
 }
 
-/// The same, with its place where the system keeps it.
+/// The next work of the thread on a processor, with its place where the system keeps it.
 #[derive(Drop)]
 pub(crate) struct KeptWork<'a> {
     pub(crate) thread: u32,
@@ -34,7 +34,7 @@ pub(crate) struct KeptWork<'a> {
     pub(crate) budget: u32,
 }
 
-/// What the thread on a processor is to do next, but for its place.
+/// The next work of the thread on a processor, except its place.
 #[derive(Clone, Copy, Debug)]
 pub(crate) struct Running {
     pub(crate) thread: u32,
@@ -51,7 +51,7 @@ impl<'a> Model for KeptWork<'a> {
 }
 
 impl KeptWork<'_> {
-    /// The work but for its place.
+    /// The work except its place.
     #[inline(always)]
     pub(crate) fn running(&self) -> Running
         ensures { work_at result self.now.place ≡ self.now }
@@ -63,7 +63,7 @@ impl KeptWork<'_> {
         }
     }
 
-    /// The work itself. It takes no memory.
+    /// The work itself. It allocates no memory.
     #[inline(always)]
     pub(crate) fn copied(&self) -> Work
         ensures { result ≡ self.now }
@@ -77,7 +77,7 @@ impl KeptWork<'_> {
     }
 }
 
-/// What a turn answers: the event that it was, the kernel's reply, and what the actor has to do next.
+/// The result of a turn: its event, the kernel's reply, and the actor's next work.
 #[derive(Debug, PartialEq, Eq, Drop)]
 pub struct Answer {
     pub event: Event,
@@ -169,8 +169,8 @@ fn slice_event(actor: u32, done: Done, drawn: u128) -> Event
     }
 }
 
-/// A trap of a script as the kernel is asked for it. Calls, replies and servings carry the accumulator, and an
-/// unlock the drawn number.
+/// A trap of a script as the kernel takes it. Calls, replies and servings carry the accumulator, and an unlock the
+/// drawn number.
 #[inline(always)]
 fn action_of(trap: ScriptTrap, accumulator: u32, drawn: u128) -> Action
     ensures { result ≡ world.action_of trap accumulator drawn }

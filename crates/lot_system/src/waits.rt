@@ -27,7 +27,7 @@ const NO_WAITS: Waits = Waits {
 /// How each thread has waited, the first with number 1.
 #[derive(Debug, Drop)]
 pub struct WaitTable {
-    /// What the waits of each thread come to.
+    /// The waits of each thread.
     pub threads: Vec<Waits>,
 }
 
@@ -50,7 +50,7 @@ impl WaitTable {
         self.threads[thread as usize - 1]
     }
 
-    /// Takes up what a turn at this time changes. A thread that there isn't is passed over.
+    /// Records the change that a turn made at this time. It ignores a thread that doesn't exist.
     pub(crate) fn follow(&mut self, time: u32, change: WaitChange)
         requires bounded { (kind : WorldAnswer → WaitChangeRecord) × (done : List TimedTurn) × (n : ℕ) × (n < 2 ^ 31) × AreWaits kind done n self.old.threads.items }
         ensures exact { (kind : WorldAnswer → WaitChangeRecord) (done : List TimedTurn) (n : ℕ) (turn : TimedTurn) → turn.time ≡ time → kind turn.turn.answer ≡ change → AreWaits kind done n self.old.threads.items → AreWaits kind (done ++ turn ∷ []) (n + 1) self.new.threads.items }
@@ -107,7 +107,7 @@ fn wait_ended(waits: Waits, time: u32) -> Waits
     }
 }
 
-/// What a turn with this event and reply changes of who waits for a mutex.
+/// How a turn with this event and reply changes who waits for a mutex.
 #[tactic(auto, using(crate::proofs::WaitFacts::change_by_locking))]
 pub(crate) fn mutex_change(event: &Event, reply: Reply) -> WaitChange
     ensures { result ≡ timed.mutex_change (Answered event.now reply) }
@@ -115,7 +115,7 @@ pub(crate) fn mutex_change(event: &Event, reply: Reply) -> WaitChange
     change_by(is_locking(event), reply)
 }
 
-/// The same by whether the event is a lock.
+/// How a turn with this reply changes who waits for a mutex, given whether its event is a lock.
 fn change_by(locks: bool, reply: Reply) -> WaitChange
     ensures { result ≡ in_time.change_by locks reply }
 {
@@ -157,7 +157,7 @@ fn is_lock(action: Action) -> bool
     matches!(action, Action::Lock(_))
 }
 
-/// What a turn with this reply changes of who waits for a reply.
+/// How a turn with this reply changes who waits for a reply.
 pub(crate) fn reply_change(reply: Reply) -> WaitChange
     ensures { (e : EventRecord) → result ≡ timed.reply_change (Answered e reply) }
 {

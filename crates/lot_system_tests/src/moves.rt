@@ -9,8 +9,8 @@ ghost use Rattle.lot_system.specs.declared.turn.Work.{Work as WorkRecord};
 use lot_system::{System, TurnFault, slice_for};
 use lot_text::Program;
 
-/// Makes the actor's turn, with the slice of its work in this program if it has any. A fault changes nothing: Stale if the work doesn't
-/// fit the program, and else what `System::turn` says of that slice.
+/// Makes the actor's turn, with the slice of its work in this program if it has any. A fault changes nothing: Stale
+/// if the work doesn't fit the program, otherwise the fault of `System::turn` with that slice.
 pub fn make_turn(system: &mut System, program: &Program, actor: u32) -> Result<(), TurnFault>
     requires { actor ≤ system.old.setting.program.limits.processors }
     ensures made { IfOk result (λ _. system.new ≡ after_turn system.old actor) }

@@ -1,4 +1,4 @@
-//! Systems: turns and what each answers, reports, histories, the texts of faults, and runs in which memory is refused.
+//! Systems: turns and their results, reports, histories, the texts of faults, and runs in which an allocation fails.
 
 ghost use Rattle.std.specs.Prelude.{◌≡◌};
 
@@ -22,7 +22,7 @@ endscript
 fundx 1 base a s
 ";
 
-/// A client calls a server with 41, and is answered 42.
+/// A client calls a server with 41, and the reply is 42.
 const CALL_AND_REPLY: &str = "lottery 1
 quantum 10
 port p

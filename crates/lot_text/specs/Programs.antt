@@ -8,9 +8,9 @@ use Rattle.lot_simulation.specs.World.{Program}
 abbrev pub IsSeed : ℕ → Type 0
 IsSeed seed = IsBetween 1 2147483646 seed
 
--- Its sizes are within their bounds. There is a seed for each processor, and a size says how many scripts there are. The
--- schedule's actors are the console and the processors. Turns, commands and schedule are no more than an input may have. If its turns
--- come in the order of time, each command has a time. Times don't fall.
+-- Its sizes are within their bounds. There is a seed for each processor, and a size says how many scripts there are.
+-- The schedule's actors are the console and the processors. Turns, commands and schedule are no more than an input may
+-- have. If its turns come in the order of time, each command has a time. Times don't fall.
 pub record IsProgram (program : Program) : Type 0 where
   pub limits : IsWithinBounds program.limits
   pub seed_count : length program.seeds ≡ program.limits.processors

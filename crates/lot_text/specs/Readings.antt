@@ -1,4 +1,4 @@
--- What is true of everything that is read of an input.
+-- What is true of every state of reading an input.
 use Rattle.std.specs.Prelude.{◌≡◌, ℕ, ◌<◌, ◌≤◌, Result, Ok, List, [], ◌∷◌, length, take, All, IsSome, IsTrue, Some, None, if◌then◌else◌}
 use Rattle.std.specs.List.Sorted.{IsNonDecreasing}
 use Rattle.std.specs.Option.{ForSome}
@@ -16,8 +16,8 @@ pub record AreSeeds (processors : ℕ) (seeds : List ℕ) : Type 0 where
   pub count : length seeds ≡ processors
   pub each : All IsSeed seeds
 
--- What was read is within the bounds of the input. Right after the first line nothing is known that depends on the
--- number of processors.
+-- All values read so far are within the bounds of an input. Right after the first line nothing is known that depends
+-- on the number of processors.
 pub record IsReading (r : Reading) : Type 0 where
   pub unit : IsUnit r.unit
   pub processors : IsBetween 1 64 r.processors

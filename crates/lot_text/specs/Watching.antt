@@ -1,4 +1,4 @@
--- What is seen of a reader or a writer that is watched, when a write has failed, and what it has written then.
+-- A watched reader or writer in contracts, when a write has failed, and the text written then.
 use Rattle.std.specs.Prelude.{ℕ, ◌==◌, nat_lt, Bool, true, ◌&&◌, Result, Ok, Err, Option, List, length, take}
 use Rattle.std.specs.Io.KnownBytes.{Appends}
 
@@ -8,7 +8,7 @@ pub record Watch (T : Type 0) : Type 0 where
   pub failed : Bool
   pub flushed : Bool
 
--- it answered an error, or it took no byte though there were some
+-- it returned an error, or it took no byte though there were some
 abbrev pub is_failed_write : {E : Type 0} → Result ℕ E → List ℕ → Bool
 is_failed_write (Ok taken) bytes = (taken == 0) && nat_lt 0 (length bytes)
 is_failed_write (Err e) bytes = true

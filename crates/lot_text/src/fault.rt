@@ -11,7 +11,7 @@ use thiserror::Error;
 /// Why an input isn't read to its end.
 #[derive(Debug, PartialEq, Eq, Drop, Error)]
 pub enum ParseFault {
-    /// The memory for what it says was refused.
+    /// Out of memory.
     #[error("out of memory")]
     Memory,
     /// A line is refused.

@@ -14,8 +14,8 @@ use lot_machine::Sizes;
 use lot_simulation::{HeaderWord, InputRefusal};
 use std::alloc::Global;
 
-/// What the first line says that isn't ignored: `lottery 1` means unit 1, and `lottery 2` unit 256; in `lottery 3` turns come in the
-/// order of time, with unit 256.
+/// The first line that isn't ignored: `lottery 1` means unit 1, and `lottery 2` unit 256; in `lottery 3` turns come in
+/// the order of time, with unit 256.
 pub(crate) fn first_line(
     alloc: Global,
     word: &[u8],

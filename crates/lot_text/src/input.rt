@@ -1,4 +1,4 @@
-//! What the bytes of an input say.
+//! Reading an input from its bytes.
 ghost use Rattle.std.specs.Prelude.{◌≡◌, ◌<◌, ◌≤◌, ◌∷◌, drop, length, OnOk, IfErr, IfOk, Ok};
 ghost use Rattle.lot_simulation.specs.Grammar.{program_in, header_words_of, body_words_of, phrases_of, later_line as later_line_read, line_inside as line_inside_read, line_outside as line_outside_read, phrase_inside as phrase_inside_read, phrases_inside as phrases_inside_read, read_line as read_line_read};
 ghost use Rattle.lot_simulation.specs.Words.{word_in, script_words};
@@ -19,8 +19,8 @@ use crate::{ParseFault, Program};
 use lot_simulation::{BodyWord, HeaderWord, InputFault, InputRefusal};
 use std::alloc::Global;
 
-/// What the bytes of an input say, exactly. Else the first line that has a fault, and the first of its faults; or
-/// `Memory`, if memory was refused.
+/// The program that the bytes of an input say, exactly. Otherwise the first line that has a fault, and the first of
+/// its faults; or `Memory`, if out of memory.
 pub fn parse(alloc: Global, bytes: &[u8]) -> Result<Program, ParseFault>
     ensures program { IfOk result (λ program. program_in bytes.now ≡ Ok program) }
     ensures fault { IfErr result (IsFaultOf (program_in bytes.now)) }

@@ -1,4 +1,4 @@
-//! What an input says.
+//! The program that an input says.
 ghost use Rattle.std.specs.Prelude.{◌≡◌, IfOk};
 ghost use Rattle.lot_machine.specs.State.{sizes_of};
 ghost use Rattle.lot_text.specs.Programs.{IsProgram};
@@ -8,8 +8,8 @@ use lot_script::Script;
 use std::alloc::{AllocError, Global};
 use std::marker::Model;
 
-/// A system, its commands, how many turns each processor has in a free run, and whose turns come in a scheduled one; or how long it runs,
-/// if its turns come in the order of time.
+/// A system, its commands, how many turns each processor has in a free run, and whose turns come in a scheduled one;
+/// or how long it runs, if its turns come in the order of time.
 #[derive(Debug, Drop)]
 pub struct Program {
     pub(crate) limits: Limits,
@@ -75,7 +75,7 @@ impl Program {
         self.commands.as_slice()
     }
 
-    /// Whose turns come in a scheduled run, 0 for the console and else a processor's number, at most 1000000.
+    /// Whose turns come in a scheduled run, 0 for the console and otherwise a processor's number, at most 1000000.
     pub fn schedule(&self) -> &[u8]
         ensures schedule { result.now ≡ self.now.schedule }
         ensures legal { IsProgram self.now }
@@ -91,7 +91,7 @@ impl Program {
         self.duration
     }
 
-    /// The tick at which each command is made, if turns come in the order of time; else none. They don't fall.
+    /// The tick at which each command is made, if turns come in the order of time; otherwise none. They don't fall.
     pub fn times(&self) -> &[u32]
         ensures times { result.now ≡ self.now.times }
         ensures legal { IsProgram self.now }
@@ -99,7 +99,7 @@ impl Program {
         self.times.as_slice()
     }
 
-    /// The same program again, in memory of its own. It fails only for want of memory.
+    /// The same program again, in memory of its own. It fails only if out of memory.
     pub fn copied(&self, alloc: Global) -> Result<Program, AllocError>
         ensures { IfOk result (λ program. program ≡ self.now) }
     {

@@ -1,4 +1,4 @@
-//! What has been read of an input so far.
+//! The state of reading an input.
 ghost use Rattle.std.specs.Prelude.{◌≡◌, ℕ, ◌<◌, ◌≤◌, max, All, length, map, option_map, position, unwrap_or, IfErr, IfOk, IfSome, IsTrue, Ok, Some, if◌then◌else◌};
 ghost use Rattle.std.specs.List.{range_with_len};
 ghost use Rattle.std.specs.Option.{ForSome};
@@ -57,7 +57,7 @@ pub(crate) const BODY: u32 = 7;
 /// How many entries a schedule may have.
 pub(crate) const MOST_ENTRIES: usize = 1000000;
 
-/// What the lines since the first have said. The place is that of the header's last line, or the body's.
+/// The state after some lines of an input. The place is that of the header's last line, or the body's.
 #[derive(Debug, Drop)]
 pub(crate) struct Reading {
     pub(crate) place: u32,
@@ -97,7 +97,7 @@ impl Model for Reading {
 }
 
 impl Reading {
-    /// What is known after the first line, which says whether turns come in the order of time, and the unit.
+    /// The state after the first line, which says whether turns come in the order of time, and the unit.
     pub(crate) fn new(alloc: Global, is_timed: bool, unit: u32) -> Self
         requires { IsUnit unit }
         ensures { result ≡ opening_reading is_timed unit }
@@ -202,7 +202,8 @@ impl Reading {
         Limits::new(sizes).unwrap()
     }
 
-    /// What was read, if no script is open, and the header says how long the input runs if it must. The last line has this number.
+    /// The program, if no script is open, and the header says how long the input runs if it must. The last line has
+    /// this number.
     pub(crate) fn into_program(self, alloc: Global, last: u32) -> Result<Program, ParseFault>
         ensures program { (count : ℕ) → last ≡ max 1 count → IfOk result (λ program. whole_program count (Some self) ≡ Ok program) }
         ensures fault { (count : ℕ) → last ≡ max 1 count → IfErr result (IsFaultOf (whole_program count (Some self))) }
@@ -216,7 +217,7 @@ impl Reading {
         self.into_closed(alloc)
     }
 
-    /// What was read, if no script is open.
+    /// The program, if no script is open.
     fn into_closed(self, alloc: Global) -> Result<Program, ParseFault>
         ensures program { IfOk result (λ program. closed_program self self.unclosed ≡ Ok program) }
         ensures fault { IfErr result (IsFaultOf (closed_program self self.unclosed)) }
@@ -272,7 +273,8 @@ fn place_named(scripts: &[NamedScript], name: &[u8]) -> Option<usize>
     scripts.iter().position(|s| name == s.name.as_bytes())
 }
 
-/// The seeds that were given; if they are left out, processor p has seed p, or a mixed one if turns come in the order of time.
+/// The seeds that were given; if they are left out, processor p has seed p, or a mixed one if turns come in the order
+/// of time.
 fn seeds_or_own(
     alloc: Global,
     given: Option<Vec<u32>>,

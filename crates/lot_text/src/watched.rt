@@ -37,7 +37,7 @@ impl<T> Watched<T> {
         }
     }
 
-    /// Whether a call of the reader or writer has answered an error, or a write of some bytes has taken none.
+    /// Whether a call of the reader or writer has returned an error, or a write of some bytes has taken none.
     pub fn failed(&self) -> bool
         ensures { result ≡ self.now.failed }
     {
@@ -60,7 +60,7 @@ impl<T> Watched<T> {
     }
 }
 
-/// The answer to each call after a failure.
+/// The error of each call after a failure.
 fn has_failed() -> Error {
     Error::new(ErrorKind::Other, "it has failed before")
 }

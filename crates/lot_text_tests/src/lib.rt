@@ -1,5 +1,5 @@
-//! Tests of `lot_text`: inputs that are read or refused, and readers and writers that fail. They stand in a crate of their own, so that
-//! `lot_text` is not proved a second time for them.
+//! Tests of `lot_text`: inputs that are read or refused, and readers and writers that fail. They stand in a crate of
+//! their own, so that `lot_text` is not proved a second time for them.
 #![tactic(auto)]
 
 mod faults;

@@ -27,9 +27,9 @@ use Rattle.lot_draw.specs.Queued.{Queued, AreWeights, CompetesIn}
 use Rattle.lot_threads.specs.Timely.{IsTimely}
 use Rattle.lot_threads.specs.Runners.{AreRunners}
 
--- The currencies that are there, tickets, and who owns each mutex; how many tickets, user currencies and threads there may be; how
--- much one of base is worth, how many ticks a quantum has, and how many processors there are; each thread's name and script, and
--- its record; the stale nodes; and what was counted.
+-- The currencies that are there, tickets, and who owns each mutex; how many tickets, user currencies and threads there
+-- may be; how much one of base is worth, how many ticks a quantum has, and how many processors there are; each
+-- thread's name and script, and its record; the stale nodes; and what was counted.
 pub record Threaded : Type 0 where
   pub currencies : List Bool
   pub tickets : List (Option Ticket)
@@ -49,11 +49,11 @@ pub record Threaded : Type 0 where
 abbrev pub lends_in : List Record → List Lend
 lends_in records = map (λ r. lend_of r.status) records
 
--- tickets, lends and owners: what is lent follows from the records
+-- tickets, lends and owners: the lends follow from the records
 abbrev pub funding_in : Threaded → Funding
 funding_in v = record { currencies = v.currencies; tickets = v.tickets; lends = lends_in v.records; owners = v.owners }
 
--- the same, with how much of it there may be
+-- the same, with the limits
 abbrev pub limited_in : Threaded → LimitedFunding
 limited_in v = record { funding = funding_in v; ticket_limit = v.ticket_limit; currency_limit = v.currency_limit; thread_limit = v.thread_limit }
 
@@ -81,7 +81,7 @@ newborn = record { status = Ready; compensation = None; delivered = None; quanta
 abbrev pub IsStaleIn : Threaded → Node → Type 0
 IsStaleIn v node = Contains v.stale node
 
--- the thread may lend this: whom it lends to is there, and doesn't reach the thread
+-- the thread may lend this: the borrower is there, and doesn't reach the thread
 abbrev pub CanLend : Funding → ℕ → Lend → Type 0
 CanLend f t Nobody = ⊤
 CanLend f t (ToThread s) = IsBorrower f (ToThread s) × (¬ LendReaches f (ToThread s) t)
@@ -92,8 +92,8 @@ abbrev pub CanRun : Threaded → ℕ → Status → Type 0
 CanRun v t (Running p used) = IsBetween 1 v.processors p × ((u more : ℕ) → status_of v.records u ≡ Some (Running p more) → u ≡ t)
 CanRun v t other = ⊤
 
--- The thread may have this record: it is there, the record's ticks are within the quantum, and the thread may lend and run as
--- the record says.
+-- The thread may have this record: it is there, the record's ticks are within the quantum, and the thread may lend and
+-- run as the record says.
 pub record CanChange (v : Threaded) (t : ℕ) (next : Record) : Type 0 where
   pub there : IsThreadOf v t
   pub timely : IsTimely v.quantum next

@@ -1,4 +1,4 @@
--- What holds of each thread's record: ticks of a quantum that were used are within it.
+-- What holds of each thread's record: the used ticks of a quantum are within it.
 use Rattle.std.specs.Prelude.{ℕ, ◌<◌, ⊤, IfSome}
 use Rattle.lot_machine.specs.declared.record.Record.{Record}
 use Rattle.lot_machine.specs.declared.record.Status.{Status}

@@ -1,4 +1,4 @@
-//! What the funding graph sees of a thread: whether it is live, and what it lends.
+//! The funding graph's view of a thread: whether it is live, and what it lends.
 ghost use Rattle.std.specs.Prelude.{◌≡◌, ◌↔◌, ◌≤◌, Some, IsTrue};
 ghost use Rattle.lot_machine.specs.declared.funding.Node.{Node as ANode};
 ghost use Rattle.lot_machine.specs.declared.funding.Node.TheVariants.{Thread as ThreadNode};
@@ -35,8 +35,8 @@ pub(crate) fn is_live(status: Status) -> bool
     matches!(status, Status::Ready | Status::Running { .. })
 }
 
-/// Takes up in the graph what another status of a thread means: whether the thread is live, and what it lends. If both stay, it does
-/// nothing.
+/// Updates the graph to another status of a thread: whether the thread is live, and what it lends. If both stay, it
+/// does nothing.
 #[inline(always)]
 pub(crate) fn follow_status(graph: &mut ValuedGraph, thread: u32, before: Status, now: Status)
     requires thread { IsThread graph.old.now.funding thread }
@@ -56,8 +56,8 @@ pub(crate) fn follow_status(graph: &mut ValuedGraph, thread: u32, before: Status
     }
 }
 
-/// Makes a thread live or not, and makes it lend this. A thread that is live before or after is so all the time, so that a server
-/// doesn't sleep while a client's funding moves to it.
+/// Makes a thread live or not, and makes it lend this. A thread that is live before or after is so all the time, so
+/// that a server doesn't sleep while a client's funding moves to it.
 #[inline(always)]
 fn follow(graph: &mut ValuedGraph, thread: u32, live: bool, lend: Lend)
     requires thread { IsThread graph.old.now.funding thread }
@@ -112,14 +112,14 @@ fn unlend(graph: &mut ValuedGraph, thread: u32)
     }
 }
 
-/// Whether it is what the thread lends.
+/// Whether the thread lends this.
 fn lends(graph: &ValuedGraph, thread: u32, lend: Lend) -> bool
     ensures { IsTrue result ↔ (at_number graph.now.now.funding.lends thread ≡ Some lend) }
 {
     graph.graph().lend_of(thread) == Some(lend)
 }
 
-/// What a thread with this record competes with, if it does: its compensation, if it is Ready (4.2, 4.5).
+/// How a thread with this record competes: with its compensation if it is Ready, otherwise not at all (4.2, 4.5).
 pub(crate) fn competitor_of(of: Record) -> Option<Competitor>
     ensures { result ≡ competing.competitor_of of }
 {
@@ -161,7 +161,7 @@ fn is_mutex(graph: &ValuedGraph, mutex: u32) -> bool
     mutex > 0 && mutex <= graph.graph().mutexes()
 }
 
-/// Whether what is lent to is there, and doesn't reach the thread. It changes nothing.
+/// Whether the borrower, if any, is there and doesn't reach the thread. It changes nothing.
 pub(crate) fn can_lend(graph: &mut ValuedGraph, thread: u32, lend: Lend) -> bool
     requires { IsNodeOf graph.old.now (ThreadNode thread) }
     ensures can { IsTrue result ↔ CanLend graph.old.now.funding thread lend }

@@ -1,11 +1,11 @@
-//! How a thread begins to run and stops, and what is delivered to it.
+//! How a thread begins to run and stops, and how it gets a number.
 ghost use Rattle.std.specs.Prelude.{◌≡◌, ◌<◌, None, Some, option_and_then};
 ghost use Rattle.lot_machine.specs.declared.funding.Node.{Node as ANode};
 ghost use Rattle.lot_machine.specs.declared.record.Status.TheVariants as status;
 ghost use Rattle.lot_machine.specs.Bounds.{IsBetween};
 ghost use Rattle.lot_machine.specs.Numbered.{at_number};
 ghost use Rattle.lot_machine.specs.State as states;
-ghost use Rattle.lot_machine.specs.State.{change_record, status_of, thread_on};
+ghost use Rattle.lot_machine.specs.State.{change_record, thread_on};
 ghost use Rattle.lot_machine.specs.Step.{started};
 ghost use Rattle.lot_machine.specs.Traps.{with_ticks};
 ghost use Rattle.lot_threads.specs.Threaded.{IsThreadOf, IsStaleIn, CanLend, CanRun, MakesStaleIn, funding_in, with_records};
@@ -15,7 +15,8 @@ use crate::Threads;
 use lot_machine::{Record, Status};
 
 impl Threads {
-    /// A draw's winner begins to run on a processor on which nobody runs, and is handed what was delivered to it (3.4, 4.2).
+    /// A draw's winner begins to run on a processor on which nobody runs, and gets the number delivered to it, if any
+    /// (3.4, 4.2).
     pub fn start(&mut self, thread: u32, processor: u32) -> Option<u32>
         requires thread { IsThreadOf self.old thread }
         requires processor { IsBetween 1 self.old.processors processor }
@@ -59,7 +60,7 @@ impl Threads {
         self.change(thread, next);
     }
 
-    /// A thread has another status, and is else as it was.
+    /// Gives a thread another status, and leaves the rest of its record as it was.
     pub fn set_status(&mut self, thread: u32, status: Status)
         requires thread { IsThreadOf self.old thread }
         requires below { IsBelowQuantum self.old.quantum status }
@@ -75,7 +76,7 @@ impl Threads {
         self.change(thread, Record { status, ..before });
     }
 
-    /// A thread is Ready again, and a number is delivered to it: it is handed it when it next runs (4.6).
+    /// Makes a thread Ready again, and delivers a number to it: the thread gets the number when it next runs (4.6).
     pub fn deliver(&mut self, thread: u32, number: u32)
         requires thread { IsThreadOf self.old thread }
         ensures delivered { self.new ≡ with_records self.old (change_record (λ r. record r { status = status.Ready; delivered = Some number }) self.old.records thread) self.new.stale }

@@ -6,14 +6,14 @@ use super::*;
 use lot_draw::Winner;
 use lot_graph::Graph;
 use lot_machine::{Limits, Name, Node, Record, Sizes, Status, Target, Thread};
-use std::alloc::{AllocError, Global};
+use std::alloc::Global;
 use std::process::Abort;
 use std::test::Fail;
 
 /// A thread that wins a draw, its number, and the total.
 type Won = (u32, u128, u128);
 
-/// A step of a row: a change, or a question and what must come of it.
+/// A step of a row: a change, or a question and its expected answer.
 #[derive(Clone, Copy)]
 enum Step {
     AddThread,
@@ -184,7 +184,7 @@ fn make_change(rt: &impl Abort, threads: &mut Threads, step: Step) {
     }
 }
 
-/// Asks, and checks what comes of it.
+/// Asks, and checks the answer.
 fn check(rt: &impl Abort, threads: &mut Threads, step: Step) {
     match step {
         Step::Refuses(thread, status) => {
@@ -274,7 +274,8 @@ const RUNNING: [Step; 17] = [
     Step::Wins(49, (1, 49, 50)),
 ];
 
-// A thread that runs is left out of draws, and another can't run there; after 20 ticks of 100 it weighs five times as much.
+// A thread that runs is left out of draws, and another can't run there; after 20 ticks of 100 it weighs five times as
+// much.
 #[test]
 fn threads_run(rt: HostRuntime) -> Result<(), Fail> {
     play(&rt, rt.alloc(), small_limits(), &RUNNING)

@@ -1,5 +1,5 @@
 //! The threads, and all that follows from what each is doing.
-ghost use Rattle.std.specs.Prelude.{◌≡◌, ◌+◌, ◌<◌, ◌≤◌, ◌↔◌, ◌++◌, ◌∷◌, ◌≢◌, ℕ, true, false, [], Some, None, IfOk, IfSome, IfNone, IsErr, IsTrue, OnOk, OnErr, OnSome, MatchOption, length, replicate, slice_get, slice_set};
+ghost use Rattle.std.specs.Prelude.{◌≡◌, ◌+◌, ◌<◌, ◌≤◌, ◌↔◌, ◌++◌, ◌∷◌, ◌≢◌, true, false, [], Some, None, IfOk, IfSome, IfNone, IsErr, IsTrue, OnOk, OnErr, OnSome, MatchOption, length, replicate, slice_set};
 ghost use Rattle.std.specs.Option.{SomeIff};
 ghost use Rattle.lot_machine.specs.declared.funding.Node.{Node as ANode};
 ghost use Rattle.lot_machine.specs.declared.funding.Node.TheVariants.{Currency as CurrencyNode, Thread as ThreadNode, Mutex as MutexNode};
@@ -10,14 +10,13 @@ ghost use Rattle.lot_machine.specs.Numbered.{at_number, set_number};
 ghost use Rattle.lot_machine.specs.Funding.{ticket_at, target_of, owner_of, issued_in, backing_currency, with_target, with_new_ticket, without_ticket};
 ghost use Rattle.lot_machine.specs.Activity.{IsActive, active_amount};
 ghost use Rattle.lot_machine.specs.Equations.{HasEquation, Reaches};
-ghost use Rattle.lot_machine.specs.State as states;
 ghost use Rattle.lot_machine.specs.State.{live_in, status_of, thread_on, used_by};
 ghost use Rattle.lot_machine.specs.Value.{node_value, ticket_value};
 ghost use Rattle.lot_graph.specs.Graphs.{IsNodeOf, IsThread, IsMutex, IsCurrency, IsUserCurrency, IsTarget, IsCycle, IsFunding};
 ghost use Rattle.lot_tree.specs.Visits.{CountsReads};
 ghost use Rattle.lot_value.specs.Counts.{counted_up};
 ghost use Rattle.lot_value.specs.Caches.{HasNoneTwice, edges_into_all};
-ghost use Rattle.lot_threads.specs.Threaded.{IsLiveIn, IsThreadOf, IsStaleIn, CanLend, CanRun, CanChange, MakesStaleIn, drawn_in, funding_in, limited_in, newborn, settled_in, with_records, worth_in};
+ghost use Rattle.lot_threads.specs.Threaded.{IsLiveIn, IsThreadOf, IsStaleIn, CanRun, CanChange, MakesStaleIn, drawn_in, funding_in, limited_in, newborn, settled_in, with_records, worth_in};
 ghost use Rattle.lot_threads.specs.Timely.{IsTimely};
 
 use crate::following::{
@@ -40,8 +39,8 @@ const NEWBORN: Record = Record {
     ticks: 0,
 };
 
-/// The threads by number, with the funding graph in which they are, the queue in which they compete, and who runs on each
-/// processor.
+/// The threads by number, with the funding graph in which they are, the queue in which they compete, and who runs on
+/// each processor.
 pub struct Threads {
     graph: ValuedGraph,
     queue: RunQueue,
@@ -65,7 +64,7 @@ impl Drop for Threads {
 }
 
 impl Model for Threads {
-    ghost use Rattle.std.specs.Prelude.{◌≡◌, ◌≤◌, length, vec_capacity};
+    ghost use Rattle.std.specs.Prelude.{◌≤◌, length, vec_capacity};
     ghost use Rattle.lot_threads.specs.Threaded.{Threaded, AreOf};
 
     ghost Value = { Threaded };
@@ -122,7 +121,8 @@ impl Threads {
         })
     }
 
-    /// Makes a thread, which is Ready and has no compensation, and answers its number, one more than the last. Computes no value.
+    /// Makes a thread, which is Ready and has no compensation, and returns its number, one more than the last.
+    /// Computes no value.
     pub fn add_thread(&mut self, thread: Thread) -> u32
         requires room { length self.old.records < self.old.thread_limit }
         ensures number { result ≡ length self.old.records + 1 }
@@ -139,8 +139,8 @@ impl Threads {
         number
     }
 
-    /// Gives a thread another record, and all that follows from it: whether the thread is live and what it lends, whether it
-    /// competes and with what, and where it runs. Computes no value.
+    /// Gives a thread another record, and updates all that follows from it: whether the thread is live and what it
+    /// lends, whether it competes and with what, and where it runs. Computes no value.
     #[inline(always)]
     pub fn change(&mut self, thread: u32, next: Record)
         requires { CanChange self.old thread next }
@@ -168,7 +168,7 @@ impl Threads {
         can_lend(&mut self.graph, thread, lend_of(next.status))
     }
 
-    /// Whether a thread may have this record, but for what it lends.
+    /// Whether a thread may have this record, except for what it lends.
     fn can_stand(&self, thread: u32, next: Record) -> bool
         ensures can { IsTrue result ↔ (IsThreadOf self.now thread × IsTimely self.now.quantum next × CanRun self.now thread next.status) }
         ensures within { IsTrue result → thread ≤ self.now.thread_limit }
@@ -178,7 +178,7 @@ impl Threads {
             && self.can_run(thread, next.status)
     }
 
-    /// Whether nothing else runs where a thread with this status does.
+    /// Whether the thread may have this status: if it runs, the processor exists and no other thread runs there.
     fn can_run(&self, thread: u32, status: Status) -> bool
         ensures { IsTrue result ↔ CanRun self.now thread status }
     {
@@ -194,7 +194,8 @@ impl Threads {
         }
     }
 
-    /// Makes a currency and answers its number, one more than the last, or `None` if as many were made as there may be.
+    /// Makes a currency and returns its number, one more than the last, or `None` if the currencies made have reached
+    /// the limit.
     pub fn make_currency(&mut self) -> Option<u32>
         ensures number { SomeIff result (length self.old.currencies ≤ self.old.currency_limit) (length self.old.currencies) }
         ensures made { OnSome result (self.new ≡ record self.old { currencies = self.old.currencies ++ true ∷ [] }) }
@@ -203,7 +204,7 @@ impl Threads {
         self.graph.make_currency()
     }
 
-    /// Removes a user currency that has neither issued nor backing tickets. Its number is never given again.
+    /// Removes a user currency that has neither issued nor backing tickets. No later currency gets its number.
     pub fn remove_currency(&mut self, currency: u32)
         requires currency { IsUserCurrency (funding_in self.old) currency }
         requires none_issued { issued_in (funding_in self.old) currency ≡ [] }
@@ -213,8 +214,8 @@ impl Threads {
         self.graph.remove_currency(currency);
     }
 
-    /// Issues a ticket in a currency and answers its number, one more than the last, or `None` if as many were made as there may
-    /// be. The amount is at least 1.
+    /// Issues a ticket in a currency and returns its number, one more than the last, or `None` if the tickets made
+    /// have reached the limit. The amount is at least 1.
     pub fn issue(&mut self, currency: u32, amount: u32) -> Option<u32>
         requires currency { IsCurrency (funding_in self.old) currency }
         requires amount { 0 < amount }
@@ -225,7 +226,7 @@ impl Threads {
         self.graph.issue(currency, amount)
     }
 
-    /// Removes a ticket that funds nothing. Its number is never given again.
+    /// Removes a ticket that funds nothing. No later ticket gets its number.
     pub fn destroy(&mut self, ticket: u32)
         requires unfunded { target_of (funding_in self.old) ticket ≡ Some Unfunded }
         ensures destroyed { self.new ≡ record self.old { tickets = without_ticket self.old.tickets ticket } }
@@ -233,8 +234,8 @@ impl Threads {
         self.graph.destroy(ticket);
     }
 
-    /// Makes a ticket that funds nothing fund a user currency or a thread. `Cycle` if and only if it would make one (4.4).
-    /// Computes no value.
+    /// Makes a ticket that funds nothing fund a user currency or a thread. `Cycle` if and only if it would make one
+    /// (4.4). Computes no value.
     pub fn fund(&mut self, ticket: u32, target: Target) -> Result<(), Cycle>
         requires unfunded { target_of (funding_in self.old) ticket ≡ Some Unfunded }
         requires target { IsTarget (funding_in self.old) target }
@@ -257,7 +258,8 @@ impl Threads {
         self.graph.unfund(ticket);
     }
 
-    /// Makes a mutex free, if it isn't. What waiting threads lend to it goes no further then (6.1). Computes no value.
+    /// Makes a mutex free, if it isn't. The lends of waiting threads then go no further than the mutex (6.1). Computes
+    /// no value.
     pub fn give_up_mutex(&mut self, mutex: u32)
         requires mutex { IsMutex (funding_in self.old) mutex }
         ensures freed { self.new ≡ record self.old { owners = set_number self.old.owners mutex None; stale = self.new.stale } }
@@ -267,8 +269,8 @@ impl Threads {
         self.graph.give_up_mutex(mutex);
     }
 
-    /// Makes a thread the owner of a free mutex that it doesn't reach. What waiting threads lend to the mutex goes on to it (6.1).
-    /// Computes no value.
+    /// Makes a thread the owner of a free mutex that it doesn't reach. The lends of waiting threads to the mutex go on
+    /// to the owner (6.1). Computes no value.
     pub fn take_mutex(&mut self, mutex: u32, owner: u32)
         requires mutex { IsMutex (funding_in self.old) mutex }
         requires free { owner_of (funding_in self.old) mutex ≡ None }
@@ -281,8 +283,8 @@ impl Threads {
         self.graph.take_mutex(mutex, owner);
     }
 
-    /// Makes another live thread the owner of a mutex that a live thread owns. What waiting threads lend to the mutex goes on to the
-    /// new owner (6.1). Computes no value, and puts nothing to sleep.
+    /// Makes another live thread the owner of a mutex that a live thread owns. The lends of waiting threads to the
+    /// mutex go on to the new owner (6.1). Computes no value, and puts nothing to sleep.
     pub fn move_mutex(&mut self, mutex: u32, owner: u32, next: u32)
         requires mutex { IsMutex (funding_in self.old) mutex }
         requires owner { owner_of (funding_in self.old) mutex ≡ Some owner }
@@ -297,8 +299,8 @@ impl Threads {
         self.graph.move_mutex(mutex, owner, next);
     }
 
-    /// Holds a draw with the number `d` among the Ready threads (2, 4.2): `None` if their weights sum to 0. Settles what is stale,
-    /// and visits the tree of weights once.
+    /// Holds a draw with the number `d` among the Ready threads (2, 4.2): `None` if their weights sum to 0. Settles
+    /// what is stale, and visits the tree of weights once.
     pub fn draw(&mut self, d: u128) -> Option<Winner>
         ensures winner { result ≡ drawn_in self.old d }
         ensures settled { self.new ≡ record self.old { stale = []; meter = self.new.meter } }
@@ -318,7 +320,7 @@ impl Threads {
         self.queue.settle(&mut self.graph);
     }
 
-    /// How many tickets, lends and owners were read for values, and how many places of the tree of weights were visited.
+    /// The counts: the tickets, lends and owners read for values, and the places of the tree of weights visited.
     pub fn meter(&self) -> Meter
         ensures { result ≡ self.now.meter }
     {
@@ -367,8 +369,8 @@ impl Threads {
         self.graph.value_of(Node::Thread(thread))
     }
 
-    /// What a ticket is worth (4.4), in units of base, if the currency that issued it isn't stale. If the ticket funds something,
-    /// that is one reading, which is counted; else it is worth nothing.
+    /// What a ticket is worth (4.4), in units of base, if the currency that issued it isn't stale. If the ticket funds
+    /// something, that is one reading, which is counted; otherwise it is worth nothing.
     pub fn ticket_value(&mut self, ticket: u32) -> u64
         requires fresh { (t : ATicket) → ticket_at (funding_in self.old) ticket ≡ Some t → ¬ IsStaleIn self.old (CurrencyNode t.issuer) }
         ensures worth { (t : ATicket) → ticket_at (funding_in self.old) ticket ≡ Some t → result ≡ ticket_value self.old.unit (funding_in self.old) (live_in self.old.records) t }
@@ -403,14 +405,14 @@ impl Threads {
         &self.threads
     }
 
-    /// What each thread is doing, thread 1 first.
+    /// Each thread's record, thread 1 first.
     pub fn records(&self) -> &[Record]
         ensures { result.now ≡ self.now.records }
     {
         &self.records
     }
 
-    /// What a thread is doing, `None` if and only if there is no such thread.
+    /// A thread's record, `None` if and only if there is no such thread.
     pub fn record(&self, thread: u32) -> Option<Record>
         ensures record { result ≡ at_number self.now.records thread }
         ensures timely { IfSome result (IsTimely self.now.quantum) }

@@ -15,8 +15,9 @@ pub record Kept : Type 0 where
   pub sums : List ℕ
   pub height : ℕ
 
--- The blocks of each level below the height have their partial sums, and past 2 ^ height places none is kept; the first 2 ^ height
--- places have all the weight that there is. There is a level if there is a place, and no more than there are whole blocks for.
+-- The blocks of each level below the height have their partial sums, and past 2 ^ height places none is kept; the first
+-- 2 ^ height places have all the weight. There is a level if there is a place, and no more than there are whole blocks
+-- for.
 pub record AreKept (ws : List ℕ) (kept : Kept) : Type 0 where
   pub same_length : length kept.sums ≡ length ws
   pub partial : (level : ℕ) → level < kept.height → ArePartialSumsAt ws kept.sums level

@@ -6,9 +6,9 @@ ghost use Rattle.lot_tree.specs.Visits.{counted_up};
 use std::alloc::{AllocError, Global};
 use std::marker::Model;
 
-/// The partial sums of weights. Only blocks of fewer than 2^height places keep theirs, and the first 2^height places have all the
-/// weight that there is: so a tree with room for many places is as low as those in use allow. `read` is the one way to a partial sum
-/// from outside of this module.
+/// The partial sums of weights. Only blocks of fewer than 2^height places keep theirs, and the first 2^height places
+/// have all the weight. So a tree with room for many places is as low as the places in use allow. `read` is the only
+/// way to a partial sum from outside this module.
 #[derive(Debug, Drop)]
 pub(crate) struct PartialSums {
     sums: Vec<u128>,
@@ -100,7 +100,8 @@ fn set_partial_sums(sums: &mut [u128], weights: &[u128], i: usize, w: u128, heig
     let old = weights[i];
     let mut last = i;
     while last < n {
-        // The levels below the lowest binary digit 0 of `last` are done, or have `i` in an odd block, which keeps no partial sum.
+        // The levels below the lowest binary digit 0 of `last` are done, or have `i` in an odd block, which keeps no
+        // partial sum.
         let level = last.trailing_ones();
         // The blocks of the levels from the height on keep no partial sum.
         if height <= level {

@@ -15,9 +15,6 @@ module _ (f : Funding) (edge : Edge) (from to : Node) (at : ends_of f edge ≡ S
     same-ends : edge_between (counted_amount f edge) from to ≡ ends
     same-ends = some-injective (edge_between (counted_amount f edge) from to) ends (sym edge-there ∙ is)
 
-    pub from-is : ends.from ≡ from
-    from-is = ap (λ (e : EdgeEnds). e.from) (sym same-ends)
-
     pub to-is : ends.to ≡ to
     to-is = ap (λ (e : EdgeEnds). e.to) (sym same-ends)
 

@@ -1,22 +1,26 @@
 -- How marks spread from a node that is touched.
-use Rattle.std.proofs.Common.{◌≡◌, ℕ, zero, suc, ◌+◌, ◌-◌, ◌<◌, ◌≤◌, ◌⊎◌, inl, inr, Bool, true, false, not, Option, Some, None, List, [], ◌∷◌, ◌++◌, Contains, length, slice_get, get_or, ap, sym, ◌∙◌, refl, subst, arith}
+use Rattle.std.proofs.Common.{◌≡◌, ℕ, zero, suc, ◌+◌, ◌-◌, ◌<◌, ◌≤◌, ◌⊎◌, inl, inr, Bool, true, false, not, Option, Some, None, List, [], ◌∷◌, ◌++◌, Contains, length, map, option_and_then, option_map, slice_get, get_or, ap, sym, ◌∙◌, refl, subst, arith}
 use Rattle.std.specs.Option.{IfSome, IfNone, IsSome, is_some}
 use Rattle.std.proofs.lemmas.Bool.{cases_lt, cases_eq}
+use Rattle.std.proofs.lemmas.List.{map-append}
 use Rattle.std.proofs.lemmas.List.Elements.{Contains-append_left, Contains-append_right, Contains-push_cases}
 use Rattle.std.proofs.lemmas.Option.{slice_get_within, slice_get-get_or}
 use Rattle.lot_lists.specs.NodeLists.{NodeLists, nodes_of, node_at, IsFree, IsConsistent, with_pushed}
+use Rattle.lot_machine.specs.declared.ticket.Ticket.{Ticket}
 use Rattle.lot_machine.specs.declared.funding.Node.{Node}
-use Rattle.lot_machine.specs.Funding.{Funding, ends_of}
+use Rattle.lot_machine.specs.declared.funding.Node.TheVariants.{Currency, Thread, Mutex}
+use Rattle.lot_machine.specs.Funding.{Funding, ends_of, ticket_at, target_node}
 use Rattle.lot_machine.specs.declared.funding.Edge.{Edge}
+use Rattle.lot_machine.specs.declared.funding.Edge.TheVariants.{OfTicket, OfLender, OfMutex}
 use Rattle.lot_machine.specs.Equations.{Reaches, HasEachOnce}
-use Rattle.lot_machine.proofs.Tickets.{some-injective}
+use Rattle.lot_machine.proofs.Tickets.{some-injective, issuer-of}
 use Rattle.lot_machine.proofs.Changes.{place-after}
-use Rattle.lot_machine.proofs.EachOnce.{place-in, contains-at, contains-nothing}
+use Rattle.lot_machine.proofs.EachOnce.{place-in, contains-at, contains-nothing, mapped-contains}
 use Rattle.lot_graph.specs.declared.layout.Layout.{Layout}
 use Rattle.lot_graph.specs.Places.{node_place, node_of, IsNodeWithin, FitsIn}
 use Rattle.lot_graph.proofs.SpreadLemmas.{only-list, node-back}
-use Rattle.lot_graph.specs.Graphs.{LeadsOutOf}
-use Rattle.lot_graph.proofs.EndLemmas.{pair}
+use Rattle.lot_graph.specs.Graphs.{LeadsOutOf, IsIssuedIn}
+use Rattle.lot_graph.proofs.EndLemmas.{pair, ticket-ends, lender-ends, mutex-ends, ends-ticket}
 use Rattle.lot_graph.proofs.WayLemmas.{reaches-then, edge-reaches}
 use Rattle.lot_value.specs.Marking.{LeadsToPlace, Spreads, Marks}
 use Rattle.lot_value.proofs.Listed.{contains-first, last-pushed, pushed-is}
@@ -215,3 +219,46 @@ module _ (l : Layout) (f : Funding) (from : Node) where
   pub targets-all : (done : List Edge) (v w : NodeLists) → HasEachOnce done (LeadsOutOf f from) → Spreads v w (IsTargetOf l f done from) → Spreads v w (LeadsToPlace l f from)
   targets-all done v w each spreads =
       spread-by v w (IsTargetOf l f done from) (LeadsToPlace l f from) spreads (λ x so. (so.1, (so.0, so.3), so.4)) (λ x so. (so.1.0, so.0, each.all so.1.0 (so.0, so.1.1), so.1.1, so.2))
+
+-- ---- what the tickets of a currency fund
+
+module _ (f : Funding) (currency : ℕ) where
+  pub funded-ends : (n : ℕ) (t : Ticket) (to : Node) → IsIssuedIn f currency n → ticket_at f n ≡ Some t → target_node t.target ≡ Some to → ends_of f (OfTicket n) ≡ Some (Currency currency, to)
+  funded-ends n t to issued at funds = ends-ticket f n t to at funds ∙ ap (λ (c : ℕ). Some (pair (Currency c) to)) (some-injective t.issuer currency (sym (issuer-of f n t at) ∙ issued))
+
+  pub funded-none : (n : ℕ) (t : Ticket) → ticket_at f n ≡ Some t → target_node t.target ≡ None → ends_of f (OfTicket n) ≡ None
+  funded-none n t at funds = ap (option_and_then (λ (u : Ticket). option_map (pair (Currency u.issuer)) (target_node u.target))) at ∙ ap (option_map (pair (Currency t.issuer))) funds
+
+module _ (l : Layout) (f : Funding) (currency : ℕ) where
+  pub funded-more : (done : List ℕ) (n : ℕ) (to : Node) (place : ℕ) (v w u : NodeLists) → ends_of f (OfTicket n) ≡ Some (Currency currency, to) → place ≡ node_place l to
+      → Spreads v w (IsTargetOf l f (map OfTicket done) (Currency currency)) → Spreads w u (λ x. x ≡ place) → Spreads v u (IsTargetOf l f (map OfTicket (done ++ n ∷ [])) (Currency currency))
+  funded-more done n to place v w u ends at first second =
+      subst (λ (edges : List Edge). Spreads v u (IsTargetOf l f edges (Currency currency))) (sym (map-append OfTicket done (n ∷ [])))
+      (targets-more l f (Currency currency) (map OfTicket done) (OfTicket n) to place v w u ends at first second)
+
+  -- a ticket that funds nothing
+  pub funded-skip : (done : List ℕ) (n : ℕ) (v w : NodeLists) → ends_of f (OfTicket n) ≡ None
+      → Spreads v w (IsTargetOf l f (map OfTicket done) (Currency currency)) → Spreads v w (IsTargetOf l f (map OfTicket (done ++ n ∷ [])) (Currency currency))
+  funded-skip done n v w none spreads =
+      subst (λ (edges : List Edge). Spreads v w (IsTargetOf l f edges (Currency currency))) (sym (map-append OfTicket done (n ∷ [])))
+      (spread-by v w (IsTargetOf l f (map OfTicket done) (Currency currency)) (IsTargetOf l f (map OfTicket done ++ OfTicket n ∷ []) (Currency currency)) spreads
+      (λ x so. (so.0, so.1, Contains-append_left (map OfTicket done) (OfTicket n ∷ []) so.0 so.2, so.3, so.4)) (λ x so. back x so (Contains-push_cases (map OfTicket done) (OfTicket n) so.0 so.2)))
+    where
+      back : (x : ℕ) (so : IsTargetOf l f (map OfTicket done ++ OfTicket n ∷ []) (Currency currency) x) → Contains (map OfTicket done) so.0 ⊎ (OfTicket n ≡ so.0) → IsTargetOf l f (map OfTicket done) (Currency currency) x
+      back x so (inl c) = (so.0, so.1, c, so.3, so.4)
+      back x so (inr same) = let wrong : None ≡ Some (pair (Currency currency) so.1) = sym none ∙ ap (ends_of f) same ∙ so.3 in cc
+
+  pub funded-all : (done : List ℕ) (v w : NodeLists) → HasEachOnce done (IsIssuedIn f currency) → Spreads v w (IsTargetOf l f (map OfTicket done) (Currency currency)) → Spreads v w (LeadsToPlace l f (Currency currency))
+  funded-all done v w each spreads =
+      spread-by v w (IsTargetOf l f (map OfTicket done) (Currency currency)) (LeadsToPlace l f (Currency currency)) spreads
+      (λ x so. (so.1, (so.0, so.3), so.4)) (λ x so. (so.1.0, so.0, there so.1.0 so.0 so.1.1, so.1.1, so.2))
+    where
+      number : {a b : ℕ} → Currency a ≡ Currency b → b ≡ a
+      number e = cc
+
+      there : (edge : Edge) (to : Node) → ends_of f edge ≡ Some (Currency currency, to) → Contains (map OfTicket done) edge
+      there (OfTicket n) to ends =
+          let (t, at, from, funds) = ticket-ends f n (Currency currency) to ends in
+          mapped-contains OfTicket done n (each.all n (issuer-of f n t at ∙ ap Some (number from)))
+      there (OfLender t) to ends = let r = lender-ends f t (Currency currency) to ends in let wrong : Currency currency ≡ Thread t = r.2 in cc
+      there (OfMutex m) to ends = let r = mutex-ends f m (Currency currency) to ends in let wrong : Currency currency ≡ Mutex m = r.2 in cc

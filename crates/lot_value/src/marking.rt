@@ -1,12 +1,13 @@
 //! How a node gets stale, with all that lies downstream of it.
 ghost use Rattle.std.specs.Prelude.{◌≡◌, ◌<◌, Contains};
 ghost use Rattle.lot_lists.specs.NodeLists.{nodes_of};
+ghost use Rattle.lot_machine.specs.declared.funding.Node.TheVariants.{Currency as CurrencyNode};
 ghost use Rattle.lot_graph.specs.Graphs.{IsNodeOf};
 ghost use Rattle.lot_graph.specs.Places as places;
 ghost use Rattle.lot_graph.specs.Places.{FitsLimits, layout_of};
 ghost use Rattle.lot_value.specs.Marking.{IsStaleList, LeadsToPlace, Spreads, Marks};
 
-use lot_active::ends_of_edge;
+use lot_active::{ends_of_edge, funded_node};
 use lot_graph::Graph;
 use lot_lists::Lists;
 use lot_machine::Node;
@@ -41,6 +42,37 @@ pub(crate) fn mark(graph: &Graph, stale: &mut Lists, node: Node)
 
 /// Lists the nodes that edges lead to from a node, if they aren't listed.
 fn add_targets(graph: &Graph, stale: &mut Lists, from: Node)
+    requires list { IsStaleList stale.old (places.node_count (layout_of graph.now)) }
+    requires node { IsNodeOf graph.now from }
+    ensures list { IsStaleList stale.new (places.node_count (layout_of graph.now)) }
+    ensures spreads { Spreads stale.old stale.new (LeadsToPlace (layout_of graph.now) graph.now.funding from) }
+{
+    match from {
+        Node::Currency(currency) => add_funded(graph, stale, currency),
+        _ => add_borrowers(graph, stale, from),
+    }
+}
+
+/// Lists the nodes that a currency's tickets fund, if they aren't listed. Reads each ticket once.
+fn add_funded(graph: &Graph, stale: &mut Lists, currency: u32)
+    requires list { IsStaleList stale.old (places.node_count (layout_of graph.now)) }
+    requires node { IsNodeOf graph.now (CurrencyNode currency) }
+    ensures list { IsStaleList stale.new (places.node_count (layout_of graph.now)) }
+    ensures spreads { Spreads stale.old stale.new (LeadsToPlace (layout_of graph.now) graph.now.funding (CurrencyNode currency)) }
+{
+    let layout = graph.layout();
+    for number in graph.tickets_of(currency) {
+        let Some(ticket) = graph.ticket(number) else {
+            unreachable!()
+        };
+        if let Some(to) = funded_node(ticket.target) {
+            add(stale, layout.list_of(to));
+        }
+    }
+}
+
+/// Lists the nodes that edges lead to from a node, if they aren't listed: of a thread or a mutex one at most.
+fn add_borrowers(graph: &Graph, stale: &mut Lists, from: Node)
     requires list { IsStaleList stale.old (places.node_count (layout_of graph.now)) }
     requires node { IsNodeOf graph.now from }
     ensures list { IsStaleList stale.new (places.node_count (layout_of graph.now)) }

@@ -13,17 +13,16 @@ ghost use Rattle.std.specs.Prelude.{◌≡◌, ℕ, [], Contains, Some, IfSome, 
 ghost use Rattle.std.specs.Bool.{OnTrue, OnFalse};
 ghost use Rattle.lot_lists.specs.NodeLists.{nodes_of};
 ghost use Rattle.lot_machine.specs.declared.funding.Node.{Node as ANode};
-ghost use Rattle.lot_machine.specs.Funding.{IsEdge};
+ghost use Rattle.lot_machine.specs.Funding.{IsEdge, ends_of};
 ghost use Rattle.lot_graph.specs.Graphs.{IsNodeOf};
 ghost use Rattle.lot_graph.specs.Places as places;
 ghost use Rattle.lot_graph.specs.Places.{layout_of, node_place};
 ghost use Rattle.lot_value.specs.Marking.{IsStaleList, IsReordered, IsFreshPlace, LeadsFromPlace, last_of};
 
 use crate::marking::STALE;
-use lot_active::ends_of_edge;
 use lot_graph::Graph;
 use lot_lists::Lists;
-use lot_machine::Node;
+use lot_machine::{Edge, Node};
 
 /// Whether a source of a node is stale. It looks at each edge into the node once, also after it has found one: a node
 /// has few edges most often, and a loop with one way out takes fewer instructions.
@@ -37,15 +36,27 @@ pub(crate) fn has_stale_source(graph: &Graph, stale: &Lists, node: Node) -> bool
     let layout = graph.layout();
     let mut found = false;
     for edge in graph.edges_into(node) {
-        let Some(ends) = ends_of_edge(graph, edge) else {
+        let Some(source) = source_of_edge(graph, edge) else {
             unreachable!()
         };
-        let place = layout.list_of(ends.from);
+        let place = layout.list_of(source);
         if stale.list_of(place).is_some() {
             found = true;
         }
     }
     found
+}
+
+/// Where an edge leads from, if it is there. It doesn't look at where the edge leads to.
+#[inline(always)]
+fn source_of_edge(graph: &Graph, edge: Edge) -> Option<Node>
+    ensures source { (from to : ANode) → ends_of graph.now.funding edge ≡ Some (from, to) → result ≡ Some from }
+{
+    match edge {
+        Edge::OfTicket(number) => Some(Node::Currency(graph.ticket(number)?.issuer)),
+        Edge::OfLender(thread) => Some(Node::Thread(thread)),
+        Edge::OfMutex(mutex) => Some(Node::Mutex(mutex)),
+    }
 }
 
 /// Turns the node at the front over, unless one was turned over before that isn't done yet, and answers the place of
@@ -113,12 +124,12 @@ fn raise_sources(graph: &Graph, stale: &mut Lists, node: Node) -> bool
     let layout = graph.layout();
     let mut raised = false;
     for edge in graph.edges_into(node) {
-        let Some(ends) = ends_of_edge(graph, edge) else {
+        let Some(source) = source_of_edge(graph, edge) else {
             unreachable!()
         };
-        let source = layout.list_of(ends.from);
-        if stale.list_of(source).is_some() {
-            stale.move_to(source, STALE);
+        let place = layout.list_of(source);
+        if stale.list_of(place).is_some() {
+            stale.move_to(place, STALE);
             raised = true;
         }
     }

@@ -1,5 +1,5 @@
-//! What is wrong with the refused line, as the reader finds it: first its bytes, then its first word, then how many words
-//! it has, then each of them, and then what there is too much of.
+//! What is wrong with the refused line, as the reader finds it: first its bytes, then its first word, then how many
+//! words it has, then each of them, and then the limit that it exceeds.
 
 use crate::forms::{BODY_WORDS, Form, SCRIPT_WORDS, form_inside, form_outside, header_place};
 use crate::input::{OpenScript, Refused, Version, words_of};
@@ -27,7 +27,8 @@ pub(crate) fn problem_of<'a>(
     }
 }
 
-/// Whether the line is the first of an input whose turns come in the order of time. If that line is refused, it is the last one too.
+/// Whether the line is the first of an input whose turns come in the order of time. If that line is refused, it is the
+/// last one too.
 fn is_timed_start(line: &[u8]) -> bool {
     let mut words = words_of(line);
     words.next() == Some("lottery") && words.next() == Some("3") && words.next().is_none()
@@ -76,7 +77,8 @@ fn line_problem<'a>(alloc: Global, refused: &Refused<'a>, word: &'a str) -> Opti
     }
 }
 
-/// The same of a line inside a script, which has one word, or several in an input whose turns come in the order of time.
+/// The same of a line inside a script, which has one word, or several in an input whose turns come in the order of
+/// time.
 fn script_problem<'a>(
     alloc: Global,
     refused: &Refused<'a>,
@@ -188,7 +190,7 @@ fn count_problem<'a>(refused: &Refused<'a>, form: Form, count: usize) -> Problem
     }
 }
 
-/// What there is too much of, if nothing else is wrong with a line that begins with this word.
+/// The limit that a line exceeds, if it begins with this word and nothing else is wrong with it.
 fn too_many<'a>(refused: &Refused<'a>, word: &str, refusal: InputRefusal) -> Problem<'a> {
     if refusal != InputRefusal::TooLong {
         return Problem::Other(refusal);

@@ -6,8 +6,8 @@ use lot_system::{Few, Leftovers, RefusedCommand, StuckThread};
 use std::io::Write;
 use std::{fmt, io, str};
 
-/// Writes what a run leaves to tell, a line for each: commands that were refused or never made, and threads that no turn to come can
-/// move on. The commands stand on these lines of the input. It fails if the writer does.
+/// Writes what a run leaves to tell, a line for each: commands that were refused or never made, and threads that no
+/// turn to come can move on. The commands stand on these lines of the input. It fails if the writer does.
 pub fn write_leftovers<W: Write>(
     writer: &mut W,
     leftovers: &Leftovers,
@@ -63,7 +63,7 @@ fn write_unmade<W: Write>(
     }
 }
 
-/// Writes how many there are besides those that were told, if any.
+/// Writes how many more there are than were told, if any.
 fn write_others<W: Write, T: Drop>(writer: &mut W, few: &Few<T>, what: &str) -> io::Result<()> {
     match few.others() {
         0 => Ok(()),

@@ -1,8 +1,8 @@
-//! What went wrong, in words for whoever wrote the input: why it was refused, with the line, the word in question and what was
-//! expected there; or what a run of it leaves to tell.
+//! What went wrong, in words for whoever wrote the input: why it was refused, with the line, the word in question and
+//! what was expected there; or what a run of it leaves to tell.
 //!
-//! An input is refused by one line for programs, which has the line's number and a refusal. These words stand beside it,
-//! on standard error. Nothing is proved of them but that they are safe and end; they are tested.
+//! An input is refused by one line for programs, which has the line's number and a refusal. These words stand beside
+//! it, on standard error. The proofs show only that they are safe and end; tests check the text.
 #![tactic(auto)]
 
 mod commands;
@@ -27,8 +27,8 @@ use std::alloc::Global;
 use std::io;
 use std::io::Write;
 
-/// Writes why this input is refused with this fault, as one line. It fails if the writer does. If there is no memory, it
-/// leaves out what may have been meant.
+/// Writes why this input is refused with this fault, as one line. It fails if the writer does. If there is no memory,
+/// it leaves out what may have been meant.
 pub fn write_words<W: Write>(
     alloc: Global,
     writer: &mut W,

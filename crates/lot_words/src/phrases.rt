@@ -64,7 +64,7 @@ pub(crate) fn phrases_problem<'a>(
 }
 
 impl Before {
-    /// Takes up the next word, and answers what is wrong with it, if anything is.
+    /// Takes up the next word, and returns what is wrong with it, if anything is.
     fn pass<'a>(
         &mut self,
         alloc: Global,

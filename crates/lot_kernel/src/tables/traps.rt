@@ -16,7 +16,7 @@ use lot_machine::{Action, After, Node, Outcome, Status, TrapRefusal};
 use lot_threads::Effect;
 
 impl Tables {
-    /// What a trap of a thread that runs does, and what came of it. A refused one does nothing.
+    /// What a trap of a thread that runs does, and its effect. A refused trap does nothing.
     pub(super) fn act(&mut self, thread: u32, action: &Action) -> Effect
         requires order { IsInOrder self.old.state }
         requires runs { IsRunning self.old.state.records thread }
@@ -153,7 +153,7 @@ impl Tables {
         None
     }
 
-    /// Whether what a thread lends leads on to another. It changes nothing.
+    /// Whether the lends of a thread lead on to another. It changes nothing.
     fn lends_on_to(&mut self, lender: u32, thread: u32) -> bool
         requires order { IsInOrder self.old.state }
         requires runs { IsRunning self.old.state.records thread }

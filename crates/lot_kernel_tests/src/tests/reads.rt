@@ -11,11 +11,11 @@ enum Count<'a> {
     Draws(u128, Winner, u64),
     /// The end of the quantum on processor 1, which reads nothing.
     Expires,
-    /// A trap on processor 1, what comes of it, and how many edges it reads.
+    /// A trap on processor 1, its outcome, and how many edges it reads.
     Traps(Action, Outcome, u64),
-    /// The row of a thread is asked for, and so many edges are read.
+    /// The row of a thread, and how many edges it reads.
     ThreadRow(u32, u64),
-    /// The row of a ticket is asked for, and so many edges are read.
+    /// The row of a ticket, and how many edges it reads.
     TicketRow(u32, u64),
 }
 
@@ -27,7 +27,7 @@ fn read_since(kernel: &Kernel, before: Meter) -> u64 {
         .saturating_sub(before.ticket_reads)
 }
 
-/// Takes a step, and answers how many edges it is to read.
+/// Takes a step, and returns how many edges it is to read.
 fn take_step(rt: &impl Abort, kernel: &mut Kernel, step: Count<'_>) -> Result<u64, Fail> {
     match step {
         Count::Does(line) => {
@@ -59,7 +59,7 @@ fn take_step(rt: &impl Abort, kernel: &mut Kernel, step: Count<'_>) -> Result<u6
     }
 }
 
-/// Makes a trap on processor 1 without work before it, and compares what comes of it.
+/// Makes a trap on processor 1 without work before it, and compares its outcome.
 fn take_trap(rt: &impl Abort, kernel: &mut Kernel, action: Action, wanted: Outcome) {
     match kernel.event(&Event::Trap(1, 0, action)) {
         Reply::Trapped { outcome, .. } => assert_eq!(rt; outcome, wanted),
@@ -114,7 +114,7 @@ const UPSTREAM: &[Count<'static>] = &[
     Count::Draws(59, (1, 59, 60), 3),
 ];
 
-// A listing settles what is stale once; a draw after it reads nothing. A ticket's row reads the ticket besides.
+// A listing settles what is stale once; a draw after it reads nothing. A ticket's row also reads the ticket.
 const LISTED: &[Count<'static>] = &[
     Count::Does(Line::Fundx(10, "base", "a", 1)),
     Count::Does(Line::Fundx(5, "base", "b", 1)),

@@ -13,7 +13,7 @@ use std::sync::ledger::{Blank, Ledger};
 use std::test::*;
 use std::thread::Threads;
 
-/// What came of a run: whether it was stopped by a full history, the turns of all seats, and the system that `close` gave.
+/// The outcome of a run: whether a full history stopped it, the turns of all seats, and the system that `close` gave.
 #[derive(Drop)]
 struct Outcome {
     is_full: bool,
@@ -103,8 +103,8 @@ fn stops_where_the_history_is_full(rt: HostRuntime) {
     assert_eq!(rt; stopped(&rt, rt.alloc()), Some((true, 3, 3)));
 }
 
-/// Whether this processor's worker, held until the others have come by twice, gave up in a history with room for two turns;
-/// whether the run was stopped, and the turns of its seats.
+/// Whether this processor's worker, held until the others have come by twice, gave up in a history with room for two
+/// turns; whether the run was stopped, and the turns of its seats.
 fn stopped_after<R: Threads + Wait + Sync>(
     rt: &R,
     alloc: Global,

@@ -20,8 +20,8 @@ fn first_processor(history: &[u8]) -> Option<u8> {
     history.iter().copied().find(|actor| *actor != 0)
 }
 
-/// What was seen of a run: whether a held worker gave up, whether it was the first processor to have a turn, and how many
-/// turns there were.
+/// What was seen of a run: whether a held worker gave up, whether it was the first processor to have a turn, and how
+/// many turns there were.
 #[derive(Debug, PartialEq, Eq, Drop)]
 struct Seen {
     gave_up: bool,
@@ -29,7 +29,7 @@ struct Seen {
     turns: usize,
 }
 
-/// What was seen of this run with this gate.
+/// The outcome of this run with this gate.
 fn seen_of(gate: &Turnstile, system: &System) -> Seen {
     let history = system.history();
     Seen {
@@ -62,8 +62,8 @@ fn held_in_free_run<R: Threads + Wait + Sync>(
     Some(seen_of(&gate, &system))
 }
 
-// A worker waits at its gate until the other has made its turns, whichever of the two is held: they run at once, nothing is
-// locked meanwhile, and each passes with its own number, since the held one doesn't come first.
+// A worker waits at its gate until the other has made its turns, whichever of the two is held: they run at once,
+// nothing is locked meanwhile, and each passes with its own number, since the held one doesn't come first.
 #[test]
 fn workers_run_at_once(rt: HostRuntime) {
     for held in [1, 2] {

@@ -41,7 +41,7 @@ fn each_actor_has_its_turns(rt: HostRuntime) {
     assert_eq!(rt; have_turns(&rt, rt.alloc(), 50), Some(true));
 }
 
-// For runs in which one allocation is refused: it answers that memory was refused, and nothing else.
+// For runs in which one allocation fails: it returns out of memory, and nothing else.
 #[test]
 fn runs_or_lacks_memory(rt: HostRuntime) {
     let alloc = rt.alloc();

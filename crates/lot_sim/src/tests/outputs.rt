@@ -66,8 +66,8 @@ fn failing(alloc: Global, fails_at: u32, kind: Option<ErrorKind>) -> FailingCall
     }
 }
 
-/// Asks for this with an output whose call of this number fails, and answers whether the program has failed: then it made no
-/// further call, and what was written is a beginning of the text.
+/// Asks for this with an output whose call of this number fails, and returns whether the program has failed: then it
+/// made no further call, and what was written is a beginning of the text.
 fn output_fails<H: Abort + Threads + Wait + Sync>(
     rt: &H,
     alloc: Global,
@@ -106,8 +106,8 @@ fn output_fails<H: Abort + Threads + Wait + Sync>(
     false
 }
 
-/// Asks for this with an output that fails at each of its calls, and at none. A flush takes no bytes, so it fails with an
-/// error alone.
+/// Asks for this with an output that fails at each of its calls, and at none. A flush takes no bytes, so it fails
+/// with an error alone.
 fn check_output<H: Abort + Threads + Wait + Sync>(rt: &H, alloc: Global, asked: Asked) {
     let Asked { input, writes, .. } = asked;
     for kind in WAYS {
@@ -154,8 +154,8 @@ total turns 10000 quanta 0 ticks 0
     Ok(())
 }
 
-/// Calls the program with these words, and answers its exit status and the one output that it wrote to, whose call of this
-/// number fails.
+/// Calls the program with these words, and returns its exit status and the one output that it wrote to, whose call of
+/// this number fails.
 fn ended_with<H: Abort + Threads + Wait + Sync>(
     rt: &H,
     alloc: Global,
@@ -174,7 +174,8 @@ fn ended_with<H: Abort + Threads + Wait + Sync>(
     }
 }
 
-/// Calls the program with these words and an output that fails at each of its calls, and at none. The last is the flush.
+/// Calls the program with these words and an output that fails at each of its calls, and at none. The last is the
+/// flush.
 fn check_told<H: Abort + Threads + Wait + Sync>(
     rt: &H,
     alloc: Global,

@@ -70,7 +70,7 @@ fn runs(rt: HostRuntime) {
     }
 }
 
-/// What playing or running the input writes, if that is text and all is done.
+/// The output of playing or running the input, if it is text and all is done.
 fn written<H: Threads + Wait + Sync>(
     rt: &H,
     alloc: Global,

@@ -85,7 +85,7 @@ fn draws_and_titles(rt: HostRuntime) -> Result<(), Fail> {
     Ok(())
 }
 
-/// What is written to explain the input.
+/// The explanation of the input.
 const EXPLAINED: &str = "0 ticket 1
 0 thread 1
 0 done

@@ -1,4 +1,4 @@
-//! What is told in words on standard error.
+//! Diagnostics in words on standard error.
 
 use super::{EMPTY_REPORT, Failing};
 use crate::status::status;
@@ -8,7 +8,7 @@ use std::process::Abort;
 use std::sync::Wait;
 use std::thread::Threads;
 
-/// Has the input played or run, and compares the exit status and what is told.
+/// Has the input played or run, and compares the exit status and the diagnostics.
 fn check_told<H: Abort + Threads + Wait + Sync>(
     rt: &H,
     alloc: Global,
@@ -145,7 +145,8 @@ and 2 more commands that were refused
     );
 }
 
-// A server without tickets of its own: after its reply nothing funds it, so it never takes the second call, and both clients wait.
+// A server without tickets of its own: after its reply nothing funds it, so it never takes the second call, and both
+// clients wait.
 #[test]
 fn stuck_server(rt: HostRuntime) {
     let input = "lottery 1
@@ -176,7 +177,7 @@ thread 'c' waits for good for a server at port 1
     );
 }
 
-// The owner of the mutex has ended, so nobody will unlock it.
+// The owner of the mutex has ended, so no thread will unlock it.
 #[test]
 fn mutex_kept_by_the_dead(rt: HostRuntime) {
     let input = "lottery 1

@@ -1,4 +1,4 @@
-//! The rule of the queue, and what each step tells.
+//! The rule of the queue, and the outcome of each step.
 
 use crate::baton::view::View;
 use crossbeam_queue::protocol::{Join, Lesson, Outcome, Protocol, Split};

@@ -7,14 +7,14 @@ use crossbeam_queue::Pass;
 use lot_system::{Counts, System, TurnFault};
 use std::marker::Model;
 
-/// What a seat has of the queue.
+/// A seat's pass of the queue.
 pub(super) type Token = Pass<System, View>;
 
 /// The right of one actor to make turns, with the history that it has seen, and a place for the fault that stopped its
 /// worker.
 ///
-/// A station gives one for each actor, and they can't be copied. The history that a seat has seen exists in proofs alone:
-/// contracts speak of it, and each call of the station makes it longer or leaves it as it is.
+/// A station gives one for each actor, and they can't be copied. The history that a seat has seen exists in proofs
+/// alone: contracts refer to it, and each call of the station extends it or leaves it unchanged.
 #[derive(Drop)]
 pub struct BatonSeat {
     pub(super) pass: Token,
@@ -57,7 +57,7 @@ impl BatonSeat {
         self.counts.turns
     }
 
-    /// Its quanta: the draws among its turns that somebody won.
+    /// Its quanta: the draws among its turns that a thread won.
     pub fn quanta(&self) -> u64
         ensures { result ≡ (seat_counts self.now).quanta }
     {

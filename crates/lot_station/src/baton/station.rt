@@ -1,4 +1,4 @@
-//! The station, and what a seat may ask of the system.
+//! The station, and the calls of its seats.
 ghost use Rattle.std.specs.Prelude.{◌≡◌, ℕ, ◌+◌, ◌<◌, ◌↔◌, false, [], ◌∷◌, All, EachIndex, Some, length, map, slice_get, IfOk, IfErr, IsTrue};
 ghost use Rattle.crossbeam_queue.specs.Passes.{view, IsPassOf, ruled_capacity};
 ghost use Rattle.lot_system.specs.Seen.{Seen};
@@ -49,7 +49,7 @@ pub struct SeatMissing {
 }
 
 impl BatonStation {
-    /// Puts the system into a queue, and gives a seat for each actor, in order. Drops the system if memory is refused.
+    /// Puts the system into a queue, and gives a seat for each actor, in order. Drops the system if out of memory.
     pub fn open(alloc: Global, system: System) -> Result<(BatonStation, Vec<BatonSeat>), AllocError>
         ensures processors { IfOk result (λ r. r.0.processors ≡ system.setting.program.limits.processors) }
         ensures seats { IfOk result (λ r. length r.1.items ≡ system.setting.program.limits.processors + 1) }
@@ -79,8 +79,8 @@ impl BatonStation {
 
     /// Makes a turn of the seat's actor, as `System::turn` does. It may wait for other seats.
     ///
-    /// The seat has then seen a legal history that begins with what it had seen. On `Ok` that history ends with this turn;
-    /// on a fault, which is as of `System::turn`, it has no further turn of the actor.
+    /// The seat has then seen a legal history that begins with what it had seen. On `Ok` that history ends with this
+    /// turn; on a fault, which is as of `System::turn`, it has no further turn of the actor.
     pub fn turn<R: Wait>(
         &self,
         rt: &R,
@@ -99,8 +99,8 @@ impl BatonStation {
         answer
     }
 
-    /// What the seat's actor has to do next, as `System::work` says, at the end of what the seat has then seen. It may wait
-    /// for other seats.
+    /// The next work of the seat's actor, as `System::work` returns it, at the end of the history that the seat has
+    /// then seen. It may wait for other seats.
     pub fn work<R: Wait>(&self, rt: &R, seat: &mut BatonSeat) -> Option<Work>
         requires { seat.old.station ≡ self.now.id }
         ensures same { IsSameSeat seat.old seat.new }
@@ -113,8 +113,8 @@ impl BatonStation {
         work
     }
 
-    /// What `a` has seen then begins what `b` has seen, and both begin with all that either had seen before. It may wait for
-    /// other seats.
+    /// What `a` has seen then begins what `b` has seen, and both begin with all that either had seen before. It may
+    /// wait for other seats.
     pub fn meet<R: Wait>(&self, rt: &R, a: &mut BatonSeat, b: &mut BatonSeat)
         requires { (a.old.station ≡ self.now.id) × (b.old.station ≡ self.now.id) }
         ensures same { IsSameSeat a.old a.new × IsSameSeat b.old b.new }
@@ -166,7 +166,7 @@ impl BatonStation {
     }
 }
 
-/// What is counted of each actor's turns in the system's history, the console's first.
+/// The counters of each actor's turns in the system's history, the console's first.
 fn counts_of_actors(alloc: Global, system: &System) -> Result<Vec<Counts>, AllocError>
     ensures count { IfOk result (λ counts. length counts.items ≡ system.now.setting.program.limits.processors + 1) }
     ensures each { IfOk result (λ counts. EachIndex counts.items (λ k. slice_get counts.items k ≡ Some (counts_in system.now k))) }

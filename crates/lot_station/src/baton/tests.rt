@@ -43,7 +43,7 @@ fn turn_of<R: Wait>(
     station.turn(rt, seat, slice_of(program, work))
 }
 
-/// What the turn was answered, if it was made.
+/// The reply to the turn, if it was made.
 fn reply_of<R: Wait>(
     rt: &R,
     station: &BatonStation,
@@ -187,12 +187,12 @@ fn closed<R: Wait>(
     closed_in_order(rt, alloc, again)
 }
 
-/// Whether the replies are of a command, a draw of 5 of 10, and a draw that nobody wins.
+/// Whether the replies are of a command, a draw of 5 of 10, and a draw without a winner.
 fn are_met(replies: &[Option<Reply>; 3]) -> bool {
     *replies == [Some(FUNDED), Some(won(5)), Some(Reply::Idle)]
 }
 
-/// Whether the turns after meetings are answered so, and whether the closed system has them.
+/// Whether the turns after meetings get these replies, and whether the closed system has them.
 fn turns_after<R: Wait>(rt: &R, alloc: Global) -> Option<(bool, bool)> {
     let program = program_of(alloc, TWO_PROCESSORS)?;
     let (station, mut zero, mut one, mut two) = opened(alloc, &program)?;
@@ -227,7 +227,8 @@ fn scheduled<R: Wait>(
     ]
 }
 
-/// Whether the seat's turn is one of the console without a command left, and the seat keeps that fault until it is taken.
+/// Whether the seat's turn is one of the console without a command left, and the seat keeps that fault until it is
+/// taken.
 fn is_ended<R: Wait>(
     rt: &R,
     station: &BatonStation,
@@ -282,7 +283,7 @@ fn are_scheduled(replies: &[Option<Reply>; 5]) -> bool {
         ]
 }
 
-/// Whether the row's turns are answered as they are to be, whether the console's next turn is refused, whether the seats
+/// Whether the row's turns get the expected replies, whether the console's next turn is refused, whether the seats
 /// have the row's numbers, and whether the closed system has its end.
 fn plays_the_row<R: Wait>(rt: &R, alloc: Global) -> Option<[bool; 4]> {
     let program = program_of(alloc, TWO_PROCESSORS)?;

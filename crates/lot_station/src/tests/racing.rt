@@ -16,7 +16,7 @@ use std::thread::Threads;
 /// The turns that each seat makes.
 const TURNS: [u32; 3] = [1, 2, 2];
 
-/// Who makes some turns with a seat, and the answers.
+/// A seat, the number of turns to make with it, and their results.
 #[derive(Drop)]
 struct Player<T: TurnLedger, Q: Ledger, K: Ledger> {
     seat: Seat<T, Q, K>,
@@ -24,7 +24,7 @@ struct Player<T: TurnLedger, Q: Ledger, K: Ledger> {
     answers: Vec<Answer>,
 }
 
-/// The answer to the next turn of the seat, with the slice of its work, if it is made.
+/// The result of the next turn of the seat, with the slice of its work, if it is made.
 fn next_answer<T: TurnLedger, Q: Ledger, K: Ledger>(
     rt: &impl Wait,
     station: &Station<T, Q, K>,
@@ -35,7 +35,7 @@ fn next_answer<T: TurnLedger, Q: Ledger, K: Ledger>(
     station.turn(rt, seat, slice).ok()
 }
 
-/// Makes the player's turns, each with the slice of its work, until one isn't made or memory is refused.
+/// Makes the player's turns, each with the slice of its work, until one isn't made or memory runs out.
 fn play_turns<T: TurnLedger, Q: Ledger, K: Ledger>(
     rt: &impl Wait,
     station: &Station<T, Q, K>,
@@ -52,7 +52,7 @@ fn play_turns<T: TurnLedger, Q: Ledger, K: Ledger>(
     }
 }
 
-/// The closed system, and each actor's answers.
+/// The closed system, and the results of each actor's turns.
 type Raced = (System, Vec<Vec<Answer>>);
 
 /// The turns of all seats of a station of the system, in threads.
@@ -120,7 +120,7 @@ fn raced<R: Threads + Wait + Sync>(
     )
 }
 
-/// No answers yet, of this many actors.
+/// No results yet, of this many actors.
 fn no_answers(alloc: Global, actors: usize) -> Option<Vec<Vec<Answer>>> {
     let mut answers = Vec::new(alloc);
     for _actor in 0..actors {
@@ -129,7 +129,7 @@ fn no_answers(alloc: Global, actors: usize) -> Option<Vec<Vec<Answer>>> {
     Some(answers)
 }
 
-/// The answer to a turn of the actor with this number, with the slice of its work, if it is made.
+/// The result of a turn of the actor with this number, with the slice of its work, if it is made.
 fn answer_again(program: &Program, system: &mut System, number: u32) -> Option<Answer> {
     if number > system.processors() {
         return None;
@@ -138,7 +138,7 @@ fn answer_again(program: &Program, system: &mut System, number: u32) -> Option<A
     system.turn(number, slice).ok()
 }
 
-/// Adds the answer to those of the actor with this number, if there are any; `None` if memory is refused.
+/// Adds the result to those of the actor with this number, if there are any; `None` if out of memory.
 fn keep(answers: &mut [Vec<Answer>], number: usize, answer: Answer) -> Option<()> {
     match answers.get_mut(number) {
         Some(own) => own.push(answer).ok(),
@@ -146,7 +146,7 @@ fn keep(answers: &mut [Vec<Answer>], number: usize, answer: Answer) -> Option<()
     }
 }
 
-/// Makes the turns of a history, and keeps the answers; `None` if one isn't made or memory is refused.
+/// Makes the turns of a history, and keeps the results; `None` if one isn't made or memory runs out.
 fn replay(
     program: &Program,
     system: &mut System,
@@ -160,7 +160,8 @@ fn replay(
     Some(())
 }
 
-/// The answers of each actor in another system of the program that makes the turns of a history, and that system.
+/// The results of each actor's turns in another system of the program that makes the turns of a history, and that
+/// system.
 fn replayed(alloc: Global, program: &Program, history: &[u8]) -> Option<Raced> {
     let mut system = System::open(alloc, program, 5).ok()?;
     let mut answers = no_answers(alloc, system.processors() as usize + 1)?;
@@ -168,7 +169,7 @@ fn replayed(alloc: Global, program: &Program, history: &[u8]) -> Option<Raced> {
     Some((system, answers))
 }
 
-/// Whether each answer of a race is the one of the closed history, and both systems end alike.
+/// Whether each result of a race is the one of the closed history, and both systems end alike.
 fn is_replayed<R: Threads + Wait + Sync>(
     rt: &R,
     alloc: Global,
@@ -180,7 +181,7 @@ fn is_replayed<R: Threads + Wait + Sync>(
     Some((same, end_of(alloc, system)? == end_of(alloc, other)?))
 }
 
-/// Whether it is so of this many races; `None` if one came to no end.
+/// Whether it is so of this many races; `None` if one didn't end.
 fn are_replayed<R: Threads + Wait + Sync>(rt: &R, alloc: Global, rounds: u32) -> Option<bool> {
     let program = parse(alloc, TWO_PROCESSORS.as_bytes()).ok()?;
     for _round in 0..rounds {
@@ -191,7 +192,7 @@ fn are_replayed<R: Threads + Wait + Sync>(rt: &R, alloc: Global, rounds: u32) ->
     Some(true)
 }
 
-// Whatever the order in which three threads got the lock, each answer is the one of the closed history.
+// Whatever the order in which three threads got the lock, each result is the one of the closed history.
 #[test]
 fn answers_replay(rt: HostRuntime) {
     assert_eq!(rt; are_replayed(&rt, rt.alloc(), 100), Some(true));

@@ -72,8 +72,8 @@ fn after_draw<T: TurnLedger, Q: Ledger, K: Ledger>(
     station.close(seats).ok()
 }
 
-/// Closes a station without its last seat, then with its seats the other way round, and then rightly, with a turn of the
-/// console before and a draw after. Answers how many seats were handed back each time, and the system.
+/// Closes a station without its last seat, then with its seats the other way round, and then rightly, with a turn of
+/// the console before and a draw after. Returns how many seats were handed back each time, and the system.
 fn close_often<T: TurnLedger, Q: Ledger, K: Ledger>(
     rt: &impl Wait,
     station: Station<T, Q, K>,

@@ -137,7 +137,7 @@ const SECOND_DRAW: Option<Reply> = Some(Reply::Winner {
 /// The replies to turns of the actors 0, 1, 2, 1, 2 and 0.
 const REPLIES: [Option<Reply>; 6] = [FUNDED, FIRST_DRAW, IDLE, EXPIRED, SECOND_DRAW, None];
 
-/// Whether the seats play the row, and its end; `None` if memory was refused or the station wasn't closed.
+/// Whether the seats play the row, and its end; `None` if out of memory or if the station wasn't closed.
 fn plays_the_row(rt: &impl Wait, alloc: Global) -> Option<(bool, bool)> {
     let (program, system) = opened(alloc, TWO_PROCESSORS, 6)?;
     let (session, closed) = session_of(rt, alloc, &program, system, &[0, 1, 2, 1, 2, 0]).ok()?;

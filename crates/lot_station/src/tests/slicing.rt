@@ -23,8 +23,8 @@ endscript
 fundx 1 base a s
 ";
 
-/// What was seen: what the slice came to, where it ended, the work that its second use was refused with, the seat's shares
-/// before and after that, and whether the right slice then found the history full.
+/// What the test saw: the reply to the slice, where it ended, the work that its second use was refused with, the
+/// seat's shares before and after that, and whether the right slice then found the history full.
 #[derive(Drop)]
 struct Twice {
     locked: Reply,
@@ -50,7 +50,7 @@ fn copied(work: &Work) -> Work {
     }
 }
 
-/// A draw, and then the slice of the thread that won: what it came to, where it ended, and the work that it was of.
+/// A draw, and then the slice of the thread that won: the reply to it, where it ended, and its work.
 fn lock<T: TurnLedger, Q: Ledger, K: Ledger>(
     rt: &impl Wait,
     program: &Program,

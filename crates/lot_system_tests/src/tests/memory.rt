@@ -7,7 +7,7 @@ use std::io;
 use std::io::Write;
 use std::test::Fail;
 
-/// A writer that counts what it takes, and takes no memory.
+/// A writer that counts what it takes, and allocates no memory.
 #[derive(Drop)]
 struct Counting {
     taken: usize,
@@ -24,7 +24,7 @@ impl Write for Counting {
     }
 }
 
-// If memory is refused, nothing was written.
+// If an allocation fails, nothing was written.
 #[test]
 fn plays_or_lacks_memory(rt: HostRuntime) {
     let mut reader = Watched::new(CALL_AND_REPLY.as_bytes());

@@ -11,8 +11,8 @@ use std::io::{ErrorKind, Write};
 use std::process::Abort;
 use std::test::Fail;
 
-/// A writer that keeps what it takes and whether all of that was flushed, and whose call of this number fails: with an error
-/// of this kind, or by taking nothing.
+/// A writer that keeps what it takes and whether all of that was flushed, and whose call of this number fails: with
+/// an error of this kind, or by taking nothing.
 #[derive(Drop)]
 struct Failing {
     written: Vec<u8>,
@@ -50,8 +50,8 @@ impl Write for Failing {
     }
 }
 
-/// Ends a system to a writer whose call of this number fails, and answers whether it has failed: then that was its last call,
-/// and what it took is a beginning of the text.
+/// Ends a system to a writer whose call of this number fails, and returns whether it has failed: then that was its
+/// last call, and what it took is a beginning of the text.
 fn ending_fails(
     rt: &impl Abort,
     alloc: Global,
@@ -105,8 +105,8 @@ fn check_end(
     Ok(())
 }
 
-/// The number of the first call whose failure doesn't come, since there are fewer, or since it is a flush, which can't take
-/// nothing.
+/// The number of the first call whose failure doesn't come, since there are fewer, or since it is a flush, which
+/// can't take nothing.
 fn first_unmade_call(
     rt: &impl Abort,
     alloc: Global,

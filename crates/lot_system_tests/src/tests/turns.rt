@@ -1,4 +1,4 @@
-//! Turns of small systems, in order: what each answers, and the faults.
+//! Turns of small systems, in order: the result of each, and the faults.
 
 use super::{SPINNER, make_turns, program_of};
 use lot_machine::{Outcome, Reply};
@@ -19,7 +19,7 @@ enum Given {
     Beginning(u32),
 }
 
-/// What a turn comes to.
+/// The result of a turn.
 #[derive(Clone, Copy, Debug, PartialEq, Eq)]
 enum Came {
     Made(Reply),
@@ -52,7 +52,7 @@ fn slice_of<'a>(
     Ok(Some(script.slice(start, budget)))
 }
 
-/// What a turn came to. A stale one carries the actor's work.
+/// The result of a turn. A stale one carries the actor's work.
 fn came_of(system: &System, actor: u32, answered: Result<Answer, TurnFault>) -> Option<Came> {
     match answered {
         Ok(answer) => Some(Came::Made(answer.reply)),
@@ -64,8 +64,8 @@ fn came_of(system: &System, actor: u32, answered: Result<Answer, TurnFault>) -> 
     }
 }
 
-/// Makes the turns in a system of the program that the input says, and compares what each comes to. Those that aren't made
-/// aren't in the history, and aren't counted.
+/// Makes the turns in a system of the input's program, and compares their results. Those that aren't made aren't in
+/// the history, and aren't counted.
 fn check_turns(
     rt: &impl Abort,
     alloc: Global,
@@ -162,8 +162,8 @@ fundx 1 base b u
 fundx 1 base c s
 ";
 
-// A slice of another script, of more or of less than is left, or of nothing is stale. One of another thread's that has the
-// same script, start and budget is the same slice.
+// A slice of another script, of more or of less than is left, or of nothing is stale. One of another thread's that
+// has the same script, start and budget is the same slice.
 #[test]
 fn slices_of_others(rt: HostRuntime) -> Result<(), Fail> {
     check_turns(
@@ -264,7 +264,7 @@ fn generator_stays(rt: HostRuntime) -> Result<(), Fail> {
     )
 }
 
-/// Of this many draws by the first processor, how many nobody wins.
+/// Of this many draws by the first processor, how many have no winner.
 fn idle_draws(system: &mut System, draws: u32) -> u32 {
     let mut idle = 0u32;
     for _ in 0..draws {
@@ -290,7 +290,8 @@ fn last_entry(rt: HostRuntime) -> Result<(), Fail> {
     Ok(())
 }
 
-/// One thread locks a mutex and yields, and the next one waits for it. By the seed each draw has the winner that is meant.
+/// One thread locks a mutex and yields, and the next one waits for it. By the seed each draw has the winner that is
+/// meant.
 const WAITING: &str = "lottery 1
 quantum 10
 seed 132

@@ -1,5 +1,5 @@
-//! Events of all kinds from a fixed generator, over the largest tables: a kernel that was asked for its rows again and again shows
-//! what a kernel shows that got the same events at once.
+//! Events of all kinds from a fixed generator, over the largest tables: a kernel that was asked for its rows again
+//! and again shows what a kernel shows that got the same events at once.
 
 use crate::may_read;
 use lot_draw::ParkMiller;
@@ -14,7 +14,7 @@ const PART: u32 = 1000;
 /// How many comparisons there are.
 const PARTS: u32 = 100;
 
-/// What makes the events: it always begins with the same seed.
+/// The generator of the events: it always begins with the same seed.
 fn generator() -> Result<ParkMiller, Fail> {
     Ok(ParkMiller::new(1).ok_or("a seed")?)
 }
@@ -104,7 +104,7 @@ fn next_event(alloc: Global, numbers: &mut ParkMiller) -> Result<Event, Fail> {
     })
 }
 
-/// Gives a kernel so many events, and answers how much draws and unlocks have read. Another event reads nothing.
+/// Gives a kernel so many events, and returns how much draws and unlocks have read. Another event reads nothing.
 fn give(
     rt: &impl Abort,
     alloc: Global,
@@ -140,8 +140,8 @@ fn check_rows(rt: &impl Abort, kernel: &mut Kernel, fresh: &mut Kernel) {
     }
 }
 
-/// Gives a new kernel all events of so many parts at once, and compares its rows. What its draws and unlocks have read is what it
-/// counted.
+/// Gives a new kernel all events of so many parts at once, and compares its rows. What its draws and unlocks have
+/// read is what it counted.
 fn check_part(rt: &impl Abort, alloc: Global, kernel: &mut Kernel, parts: u32) -> Result<(), Fail> {
     let mut fresh = new_kernel(alloc)?;
     let read = give(

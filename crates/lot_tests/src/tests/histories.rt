@@ -6,7 +6,7 @@ use lot_text::parse;
 use std::process::Abort;
 use std::test::Fail;
 
-/// What a draw on processor 1, on which no thread runs, is answered: a reply, or nothing if the history is full.
+/// The result of a draw on processor 1, on which no thread runs: a reply, or none if the history is full.
 fn draw(rt: &impl Abort, system: &mut System) -> Option<Reply> {
     assert!(rt; 1 <= system.processors());
     match system.turn(1, None) {
@@ -18,7 +18,7 @@ fn draw(rt: &impl Abort, system: &mut System) -> Option<Reply> {
     }
 }
 
-// A draw that nobody wins is a turn of the history, as any other.
+// A draw without a winner is a turn of the history, as any other.
 #[test]
 fn idle_draws_fill_a_history(rt: HostRuntime) -> Result<(), Fail> {
     let alloc = rt.alloc();

@@ -33,7 +33,7 @@ fn long_schedule(alloc: Global) -> Result<Vec<u8>, AllocError> {
     Ok(bytes)
 }
 
-/// Fills the input up to this length with lines that are ignored, of 4096 bytes each but the last.
+/// Fills the input up to this length with lines that are ignored, of 4096 bytes each except the last.
 fn fill(bytes: &mut Vec<u8>, alloc: Global, length: usize) -> Result<(), AllocError> {
     let line = vec![in alloc; b'#'; 4096]?;
     let missing = length.saturating_sub(bytes.len());

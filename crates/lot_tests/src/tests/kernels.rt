@@ -57,7 +57,7 @@ fn make_funded(kernel: &mut Kernel, amount: u64, issuer: &str, text: &str) -> Re
     Ok(kernel.event(&Event::Command(command)))
 }
 
-/// Compares a reply with what it is to be.
+/// Compares a reply with the expected one.
 fn check(rt: &impl Abort, reply: Reply, wanted: Reply) {
     assert_eq!(rt; reply, wanted);
 }
@@ -144,8 +144,8 @@ fn join_all(rt: &impl Abort, kernel: &mut Kernel, alloc: Global) -> Result<(), F
     Ok(())
 }
 
-/// Makes a chain of 4096 currencies: base funds the first with 7, each funds the next with 1, and the last a thread. It is
-/// made from its end.
+/// Makes a chain of 4096 currencies: base funds the first with 7, each funds the next with 1, and the last a thread.
+/// It is made from its end.
 fn make_chain(rt: &impl Abort, kernel: &mut Kernel, alloc: Global) -> Result<(), Fail> {
     make_places(rt, kernel, alloc)?;
     check_funded(rt, kernel, (1, "c4096", "a"), (1, 1))?;
@@ -163,7 +163,7 @@ fn check_worth_nothing(rt: &impl Abort, kernel: &mut Kernel) {
     }
 }
 
-/// A draw, the exit of the winner, and a draw that nobody wins.
+/// A draw, the exit of the winner, and a draw without a winner.
 fn check_exit(rt: &impl Abort, kernel: &mut Kernel) {
     check_event(rt, kernel, Event::Draw(1, 6), won(1, 6, 7, None));
     check_event(

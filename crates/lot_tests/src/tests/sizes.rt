@@ -1,4 +1,4 @@
-//! What takes memory, at the least and the largest sizes.
+//! Calls that allocate memory, at the least and the largest sizes.
 ghost use Rattle.std.specs.Prelude.{◌≡◌, ◌+◌};
 
 use lot_graph::Graph;
@@ -187,7 +187,7 @@ fn copies_and_systems(rt: HostRuntime) -> Result<(), Fail> {
     Ok(())
 }
 
-/// Opens a station of the system, and closes it again. Answers how many seats it had.
+/// Opens a station of the system, and closes it again. Returns how many seats it had.
 fn seats_of<T: TurnLedger, Q: Ledger, K: Ledger>(
     alloc: Global,
     system: System,

@@ -39,7 +39,7 @@ const TURNS: usize = 1000;
 /// For the turns of eight processors and the console's six commands.
 const ROOM: u32 = 8006;
 
-/// What an actor's turns were answered, in order.
+/// The results of an actor's turns, in order.
 type Answers = Mutex<Vec<Answer>>;
 
 /// This many turns of the seat, or fewer and then a fault, which the seat keeps.
@@ -98,7 +98,7 @@ fn no_answers(alloc: Global, actors: usize) -> Result<Vec<Answers>, AllocError> 
     Ok(answers)
 }
 
-/// Each actor's answers, the last first.
+/// The results of each actor's turns, the last first.
 fn backwards(alloc: Global, answers: Vec<Answers>) -> Result<Vec<Vec<Answer>>, AllocError> {
     let mut lists = Vec::new(alloc);
     for answers in answers {
@@ -109,7 +109,7 @@ fn backwards(alloc: Global, answers: Vec<Answers>) -> Result<Vec<Vec<Answer>>, A
     Ok(lists)
 }
 
-/// Whether the next turn of the actor is answered as it was in its own thread.
+/// Whether the next turn of the actor has the same result as in its own thread.
 fn is_made_again(
     program: &Program,
     system: &mut System,
@@ -123,7 +123,7 @@ fn is_made_again(
     system.turn(actor, slice).ok() == answers.pop()
 }
 
-/// Whether each turn of the history is answered as it was in its own thread.
+/// Whether each turn of the history has the same result as in its own thread.
 fn are_made_again(
     program: &Program,
     system: &mut System,
@@ -141,7 +141,7 @@ fn are_made_again(
     true
 }
 
-/// The turns of the history by one thread; `None` if one isn't answered as it was in its own.
+/// The turns of the history by one thread; `None` if one has another result than in its own.
 fn played_again(
     alloc: Global,
     program: &Program,
@@ -162,7 +162,7 @@ fn end_of(alloc: Global, system: &mut System) -> Option<Vec<u8>> {
     Some(writer.into_inner())
 }
 
-/// A system of the program after all turns of all seats, and what they were answered.
+/// A system of the program after all turns of all seats, and their results.
 fn played<R: Threads + Wait + Sync>(
     rt: &R,
     alloc: Global,
@@ -180,7 +180,7 @@ fn played<R: Threads + Wait + Sync>(
     }
 }
 
-/// Whether one thread that makes the turns of the system's history gets the same answers, and writes the same end.
+/// Whether one thread that makes the turns of the system's history gets the same results, and writes the same end.
 fn ends_alike(
     alloc: Global,
     program: &Program,

@@ -5,10 +5,10 @@ use Rattle.lot_machine.specs.declared.funding.Edge.{Edge}
 use Rattle.lot_machine.specs.declared.funding.Node.{Node}
 use Rattle.lot_machine.specs.Funding.{IsEdge, ends_of}
 use Rattle.lot_machine.specs.Equations.{HasEachOnce, LeadsInto}
+use Rattle.lot_machine.proofs.Tickets.{some-injective}
 use Rattle.lot_graph.specs.declared.layout.Layout.{Layout}
 use Rattle.lot_graph.specs.Places.{layout_of, node_place}
 use Rattle.lot_graph.proofs.SpreadLemmas.{list-low}
-use Rattle.lot_value.proofs.Ends.{edge-there, from-is}
 use Rattle.lot_value.proofs.Listed.{each-next, each-here, each-done}
 use Rattle.lot_value.proofs.Spreading.{listed-some}
 use Rattle.lot_value.proofs.Raising.{free-none, raising-start, raising-kept, raising-none}
@@ -27,7 +27,7 @@ pub unreachable-requires : goal.unreachable-requires
 unreachable-requires c =
     let w = c.args.graph.now in
     let here = each-here (LeadsInto w.funding c.args.node) c.loop-edge.yielded _ _ c.in-Some.edge c.in-Some.ensures.steps c.loop-edge.invariant.split in
-    c.in_default.not-Some _ (c.ends_of_edge.ensures.ends ∙ edge-there w.funding c.in-Some.edge here.0 c.args.node here.1)
+    c.in_default.not-Some here.0 (c.source_of_edge.ensures.source here.0 c.args.node here.1)
 
 -- where the next edge leads from, and the place of that node
 next-source : (c : After-list_of-place)
@@ -36,11 +36,10 @@ next-source : (c : After-list_of-place)
 next-source c =
     let w = c.args.graph.now in
     let edge = c.in-Some.edge in
-    let e = c.in-Some-ends_of_edge.ends in
-    let is = sym c.ends_of_edge.ensures.ends ∙ c.in-Some-ends_of_edge.is in
+    let e = c.in-Some-source_of_edge.source in
     let (from, ends) = each-here (LeadsInto w.funding c.args.node) c.loop-edge.yielded _ _ edge c.in-Some.ensures.steps c.loop-edge.invariant.split in
-    let same = ap (node_place (layout_of w)) (from-is w.funding edge from c.args.node ends e is) in
-    (from, ends, c.list_of-place.ensures ∙ ap (λ (l : Layout). node_place l e.from) c.layout-layout.ensures.layout ∙ same)
+    let same = ap (node_place (layout_of w)) (some-injective e from (sym c.in-Some-source_of_edge.is ∙ c.source_of_edge.ensures.source from c.args.node ends)) in
+    (from, ends, c.list_of-place.ensures ∙ ap (λ (l : Layout). node_place l e) c.layout-layout.ensures.layout ∙ same)
 
 pub list_of-requires : goal.list_of-requires
 list_of-requires c =

@@ -3,10 +3,10 @@ use Rattle.lot_lists.specs.NodeLists.{nodes_of, with_pushed, with_removed}
 use Rattle.lot_machine.specs.declared.funding.Edge.{Edge}
 use Rattle.lot_machine.specs.Equations.{HasEachOnce, LeadsInto}
 use Rattle.lot_machine.proofs.EachOnce.{place-in}
+use Rattle.lot_machine.proofs.Tickets.{some-injective}
 use Rattle.lot_graph.specs.Places.{layout_of, node_place}
 use Rattle.lot_graph.proofs.SpreadLemmas.{list-low}
 use Rattle.lot_graph.specs.declared.layout.Layout.{Layout}
-use Rattle.lot_value.proofs.Ends.{edge-there, from-is}
 use Rattle.lot_value.proofs.Listed.{each-next, each-here, each-done}
 use Rattle.lot_value.proofs.Spreading.{listed-some}
 use Rattle.lot_value.proofs.Raising.{same-list, free-none, raising-start, raising-moved, raising-kept, raising-raised, raising-none}
@@ -16,7 +16,7 @@ pub unreachable-requires : goal.unreachable-requires
 unreachable-requires c =
     let w = c.args.graph.now in
     let here = each-here (LeadsInto w.funding c.args.node) c.loop-edge.yielded _ _ c.in-Some.edge c.in-Some.ensures.steps c.loop-edge.invariant.split in
-    c.in_default.not-Some _ (c.ends_of_edge.ensures.ends ∙ edge-there w.funding c.in-Some.edge here.0 c.args.node here.1)
+    c.in_default.not-Some here.0 (c.source_of_edge.ensures.source here.0 c.args.node here.1)
 
 pub loop-edge-init : goal.loop-edge-init
 loop-edge-init c = record {
@@ -30,9 +30,9 @@ list_of-requires c =
     let w = c.args.graph.now in
     let l = layout_of w in
     let edge = c.in-Some.edge in
-    let is = sym c.ends_of_edge.ensures.ends ∙ c.in-Some-ends_of_edge.is in
+    let source = c.in-Some-source_of_edge.source in
     let (from, ends) = each-here (LeadsInto w.funding c.args.node) c.loop-edge.yielded _ _ edge c.in-Some.ensures.steps c.loop-edge.invariant.split in
-    let place = c.list_of-source.ensures ∙ ap (λ (x : Layout). node_place x c.in-Some-ends_of_edge.ends.from) c.layout-layout.ensures.layout ∙ ap (node_place l) (from-is w.funding edge from c.args.node ends c.in-Some-ends_of_edge.ends is) in
+    let place = c.list_of-place.ensures ∙ ap (λ (x : Layout). node_place x source) c.layout-layout.ensures.layout ∙ ap (node_place l) (some-injective source from (sym c.in-Some-source_of_edge.is ∙ c.source_of_edge.ensures.source from c.args.node ends)) in
     let low = list-low l from (c.layout-layout.ensures.fits.from edge from c.args.node ends) in
     omega (arith, place, low, c.loop-edge.invariant.list.nodes)
 
@@ -41,11 +41,11 @@ loop-edge-preserved-then-is_some c =
     let w = c.args.graph.now in
     let l = layout_of w in
     let edge = c.in-Some.edge in
-    let is = sym c.ends_of_edge.ensures.ends ∙ c.in-Some-ends_of_edge.is in
+    let source = c.in-Some-source_of_edge.source in
     let (from, ends) = each-here (LeadsInto w.funding c.args.node) c.loop-edge.yielded _ _ edge c.in-Some.ensures.steps c.loop-edge.invariant.split in
-    let place = c.list_of-source.ensures ∙ ap (λ (x : Layout). node_place x c.in-Some-ends_of_edge.ends.from) c.layout-layout.ensures.layout ∙ ap (node_place l) (from-is w.funding edge from c.args.node ends c.in-Some-ends_of_edge.ends is) in
-    let there = listed-some c.loop-edge.stale c.list_of-source.result c.list_of.result c.is_some.result c.loop-edge.invariant.list.one c.is_some.ensures c.if-is_some.true c.list_of.ensures.found in
-    let r = place-in (nodes_of c.loop-edge.stale 0) c.list_of-source.result there in record {
+    let place = c.list_of-place.ensures ∙ ap (λ (x : Layout). node_place x source) c.layout-layout.ensures.layout ∙ ap (node_place l) (some-injective source from (sym c.in-Some-source_of_edge.is ∙ c.source_of_edge.ensures.source from c.args.node ends)) in
+    let there = listed-some c.loop-edge.stale c.list_of-place.result c.list_of.result c.is_some.result c.loop-edge.invariant.list.one c.is_some.ensures c.if-is_some.true c.list_of.ensures.found in
+    let r = place-in (nodes_of c.loop-edge.stale 0) c.list_of-place.result there in record {
       split = each-next (LeadsInto w.funding c.args.node) c.loop-edge.yielded _ _ edge c.in-Some.ensures.steps c.loop-edge.invariant.split;
       list = same-list c.loop-edge.stale c.move_to.new.self _ c.loop-edge.invariant.list c.move_to.ensures.same_size c.move_to.ensures.consistent;
       raising =
@@ -58,10 +58,10 @@ loop-edge-preserved c =
     let w = c.args.graph.now in
     let l = layout_of w in
     let edge = c.in-Some.edge in
-    let is = sym c.ends_of_edge.ensures.ends ∙ c.in-Some-ends_of_edge.is in
+    let source = c.in-Some-source_of_edge.source in
     let (from, ends) = each-here (LeadsInto w.funding c.args.node) c.loop-edge.yielded _ _ edge c.in-Some.ensures.steps c.loop-edge.invariant.split in
-    let place = c.list_of-source.ensures ∙ ap (λ (x : Layout). node_place x c.in-Some-ends_of_edge.ends.from) c.layout-layout.ensures.layout ∙ ap (node_place l) (from-is w.funding edge from c.args.node ends c.in-Some-ends_of_edge.ends is) in
-    let off = free-none c.loop-edge.stale c.list_of-source.result c.list_of.result c.is_some.result c.is_some.ensures c.if-is_some.false c.list_of.ensures.free in record {
+    let place = c.list_of-place.ensures ∙ ap (λ (x : Layout). node_place x source) c.layout-layout.ensures.layout ∙ ap (node_place l) (some-injective source from (sym c.in-Some-source_of_edge.is ∙ c.source_of_edge.ensures.source from c.args.node ends)) in
+    let off = free-none c.loop-edge.stale c.list_of-place.result c.list_of.result c.is_some.result c.is_some.ensures c.if-is_some.false c.list_of.ensures.free in record {
       split = each-next (LeadsInto w.funding c.args.node) c.loop-edge.yielded _ _ edge c.in-Some.ensures.steps c.loop-edge.invariant.split;
       list = c.loop-edge.invariant.list;
       raising =

@@ -1,4 +1,4 @@
-use Rattle.std.proofs.Common.{Option, option_map, ap, sym, ◌∙◌}
+use Rattle.std.proofs.Common.{option_map, ap, sym, ◌∙◌}
 use Rattle.lot_machine.specs.declared.ticket.Ticket.{Ticket}
 use Rattle.lot_active.proofs.tests.Kept.is_active.Goals as goal
 

@@ -4,7 +4,7 @@ use Rattle.lot_graph.specs.Graphs.{LeadsOutOf}
 use Rattle.lot_graph.specs.Places.{node_count, layout_of}
 use Rattle.lot_value.specs.Marking.{IsStaleList, Spreads}
 use Rattle.lot_value.proofs.Spreading.{IsTargetOf}
-use Rattle.lot_value.proofs.marking.add_targets.Given as goal
+use Rattle.lot_value.proofs.marking.add_borrowers.Given as goal
 
 -- the edges are those that were yielded and those that are left, and what the former lead to was added
 abbrev pub invariant-loop-edge : goal.invariant-loop-edge

@@ -9,7 +9,7 @@ use Rattle.lot_graph.specs.declared.layout.Layout.{Layout}
 use Rattle.lot_value.proofs.Ends.{edge-there, to-is}
 use Rattle.lot_value.proofs.Listed.{each-next, each-here, each-done}
 use Rattle.lot_value.proofs.Spreading.{targets-none, targets-more, targets-all}
-use Rattle.lot_value.proofs.marking.add_targets.Goals as goal
+use Rattle.lot_value.proofs.marking.add_borrowers.Goals as goal
 
 pub loop-edge-init : goal.loop-edge-init
 loop-edge-init c = record {
