@@ -14,6 +14,3 @@ mod turns;
 mod won;
 
 pub use explaining::{explain, explain_bytes};
-
-#[cfg(test)]
-mod tests;

@@ -7,6 +7,3 @@ mod showing;
 
 pub use gathering::gather;
 pub use showing::{chart, shares};
-
-#[cfg(test)]
-mod tests;

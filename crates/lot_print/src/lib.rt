@@ -32,6 +32,3 @@ pub use totals::{
     ProcessorTotal, WholeTotal, write_processor_total, write_report_line, write_thread_total,
     write_whole_total,
 };
-
-#[cfg(test)]
-mod tests;

@@ -17,6 +17,3 @@ pub use builder::ScriptBuilder;
 pub use place::Place;
 pub use script::Script;
 pub use slice::{Slice, SliceDone};
-
-#[cfg(test)]
-mod tests;

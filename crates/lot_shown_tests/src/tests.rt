@@ -1,5 +1,9 @@
-//! Inputs that are explained, and shown as tables and pictures: for runs in which one allocation is refused, each in
-//! turn.
+//! Inputs that are explained, and shown as tables and pictures. The tests of this file are for runs in which one
+//! allocation is refused, each in turn; those of the modules need all memory that they ask for.
+
+mod explained;
+mod pictures;
+mod words;
 
 use crate::has_written_or_lacked_memory;
 use lot_curves::Measure;

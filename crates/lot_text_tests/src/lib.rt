@@ -1,5 +1,6 @@
-//! Tests of `lot_text`: inputs that are read or refused, and readers and writers that fail. They stand in a crate of
-//! their own, so that `lot_text` is not proved a second time for them.
+//! Tests of `lot_script`, `lot_text` and `lot_print`: slices of scripts, inputs that are read or refused, readers and
+//! writers that fail, and what is printed. They stand in a crate of their own, so that those three aren't proved a
+//! second time for them.
 #![tactic(auto)]
 
 mod faults;

@@ -1,5 +1,7 @@
 ghost use Rattle.std.specs.Prelude.{◌≤◌, IfOk};
 
+mod printing;
+mod slices;
 mod watched;
 
 use crate::fault_of;

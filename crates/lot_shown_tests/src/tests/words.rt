@@ -1,5 +1,6 @@
-use crate::{CommandLines, write_words};
+//! Inputs that are refused, and what is said of each.
 use lot_text::{ParseFault, parse};
+use lot_words::{CommandLines, write_words};
 use std::alloc::Global;
 use std::process::Abort;
 use std::test::Fail;

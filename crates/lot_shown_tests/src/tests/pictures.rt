@@ -1,26 +1,12 @@
 //! A short run, as tables and as a picture.
-use crate::{chart, shares};
+use super::SCHEDULED;
 use lot_curves::Measure;
+use lot_pictures::{chart, shares};
 use lot_system::{PlayFault, Played};
 use lot_text::Watched;
 use std::alloc::Global;
 use std::process::Abort;
 use std::test::Fail;
-
-/// Two threads, of which one has a ticket: it wins both draws, and runs for two quanta of 2 ticks.
-const INPUT: &str = "lottery 1
-quantum 2
-script spin
-compute 9
-endscript
-script trap
-endscript
-mktkt 1 base
-mkthr a spin
-fund 1 a
-mkthr b trap
-schedule 0 0 0 0 1 1 1 1
-";
 
 /// A thread comes at tick 2. It runs for 4 ticks to the end of its quantum, and for 2 and the one of its end.
 const IN_TIME: &str = "lottery 3
@@ -57,9 +43,9 @@ fn tables(rt: HostRuntime) -> Result<(), Fail> {
     let alloc = rt.alloc();
     let done = Ok(Played::Done);
     let ticks = "tick,a,b\n0,0,0\n1,1,0\n2,2,0\n3,3,0\n4,4,0\n";
-    check_shares(&rt, alloc, Measure::Ticks, INPUT, done, ticks);
+    check_shares(&rt, alloc, Measure::Ticks, SCHEDULED, done, ticks);
     let draws = "tick,a,b\n0,1,0\n1,1,0\n2,2,0\n3,2,0\n4,2,0\n";
-    check_shares(&rt, alloc, Measure::Draws, INPUT, done, draws);
+    check_shares(&rt, alloc, Measure::Draws, SCHEDULED, done, draws);
     check_shares(&rt, alloc, Measure::Ticks, "lottery 1\n", done, "tick\n0\n");
     let refused = "refused line 1 50 BadHeader\n";
     check_shares(
@@ -86,7 +72,7 @@ fn tables_in_time(rt: HostRuntime) {
 #[test]
 fn pictures(rt: HostRuntime) -> Result<(), Fail> {
     let alloc = rt.alloc();
-    let mut reader = Watched::new(INPUT.as_bytes());
+    let mut reader = Watched::new(SCHEDULED.as_bytes());
     let mut writer = Watched::new(Vec::new(alloc));
     let mut refused = Vec::new(alloc);
     let came = chart(alloc, "Two & none", &mut refused, &mut reader, &mut writer);

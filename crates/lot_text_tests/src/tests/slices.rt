@@ -1,5 +1,5 @@
 //! Worked scripts. What is expected follows from their lists, unrolled by hand.
-use super::*;
+use lot_script::{Script, ScriptBuilder};
 use lot_simulation::{InputRefusal, Line, ScriptTrap};
 use std::alloc::{AllocError, Global};
 use std::process::Abort;

@@ -1,10 +1,16 @@
+//! What is printed for replies, listings, totals, histories and refused inputs. What is expected is written out by hand.
 ghost use Rattle.std.specs.Prelude.{◌≡◌, false};
 
-use crate::runs::{after_line, first_run};
-use crate::*;
 use lot_machine::{
     Action, CurrencyRow, Event, Kind, Limits, Name, Outcome, Refusal, Reply, Sizes, Status,
     ThreadRow, TicketRow, TrapRefusal,
+};
+use lot_print::{
+    Heading, Page, ProcessorTotal, ThreadShares, TimedProcessorTotal, TimedWholeTotal, WholeTotal,
+    WriteFault, write_currency, write_ended, write_fault, write_history, write_listing_line,
+    write_processor_total, write_reply, write_report_line, write_thread, write_thread_total,
+    write_ticket, write_timed_processor_total, write_timed_thread_total, write_timed_whole_total,
+    write_whole_total,
 };
 use lot_simulation::{InputFault, InputRefusal, Manner, Waits};
 use lot_text::Watched;
@@ -708,18 +714,10 @@ fn prints_mixed_histories(rt: HostRuntime) {
     check_history(&rt, rt.alloc(), 256, &mixed_history(), MIXED_LINES);
 }
 
-fn check_first_run(rt: &impl Abort, history: &[u8], wanted: Option<(u8, usize)>) {
-    assert_eq!(rt; first_run(history), wanted);
-}
-
 #[test]
-fn first_runs_of_histories(rt: HostRuntime) {
-    check_first_run(&rt, &[], None);
-    check_first_run(&rt, &[2, 2, 2, 0, 2], Some((2, 3)));
-}
-
-fn check_after_line(rt: &impl Abort, history: &[u8], wanted: &[u8]) {
-    assert_eq!(rt; after_line(history), wanted);
+fn prints_runs(rt: HostRuntime) {
+    check_history(&rt, rt.alloc(), 256, &[2, 2, 2, 0, 2], "runs 2 3 0 1 2 1\n");
+    check_history(&rt, rt.alloc(), 256, &[1, 1, 0], "runs 1 2 0 1\n");
 }
 
 /// 33 runs of two turns.
@@ -732,11 +730,14 @@ fn history_of_pairs(alloc: Global) -> Result<Vec<u8>, Fail> {
     Ok(history)
 }
 
+const LINES_OF_PAIRS: &str =
+    "runs 0 2 1 2 2 2 3 2 4 2 5 2 6 2 7 2 8 2 9 2 10 2 11 2 12 2 13 2 14 2 15 2 16 2 17 2 18 2 19 2 20 2 21 2 22 2 23 2 \
+    24 2 25 2 26 2 27 2 28 2 29 2 30 2 31 2\nruns 32 2\n";
+
 #[test]
-fn histories_after_a_line(rt: HostRuntime) -> Result<(), Fail> {
+fn prints_runs_after_a_line(rt: HostRuntime) -> Result<(), Fail> {
     let history = history_of_pairs(rt.alloc())?;
-    check_after_line(&rt, &[1, 1, 0], &[]);
-    check_after_line(&rt, &history, &[32, 32]);
+    check_history(&rt, rt.alloc(), 256, history.as_slice(), LINES_OF_PAIRS);
     Ok(())
 }
 

@@ -1,5 +1,5 @@
 //! Inputs that are explained, and their explanations.
-use crate::explain;
+use lot_explain::explain;
 use lot_system::Played;
 use lot_text::Watched;
 use std::alloc::Global;
