@@ -2,16 +2,14 @@
 ghost use Rattle.std.specs.Prelude.{IsTrue};
 ghost use Rattle.lot_graph.specs.Graphs.{IsNodeOf, IsTarget};
 
-use super::*;
+use super::helpers::{Won, is_won};
 use lot_draw::Winner;
 use lot_graph::Graph;
 use lot_machine::{Limits, Name, Node, Record, Sizes, Status, Target, Thread};
+use lot_threads::Threads;
 use std::alloc::Global;
 use std::process::Abort;
 use std::test::Fail;
-
-/// A thread that wins a draw, its number, and the total.
-type Won = (u32, u128, u128);
 
 /// A step of a row: a change, or a question and its expected answer.
 #[derive(Clone, Copy)]
@@ -140,13 +138,6 @@ fn move_mutex(rt: &impl Abort, threads: &mut Threads, mutex: u32, owner: u32, ne
     assert!(rt; 0 < next && next <= graph.threads() && owner != next);
     assert!(rt; threads.is_live(owner) && threads.is_live(next));
     threads.move_mutex(mutex, owner, next);
-}
-
-fn is_won(winner: Option<Winner>, (thread, number, total): Won) -> bool {
-    match winner {
-        Some(won) => won.thread == thread && won.number == number && won.total == total,
-        None => false,
-    }
 }
 
 /// A draw, and how many edges it read.

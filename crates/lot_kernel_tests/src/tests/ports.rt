@@ -1,15 +1,12 @@
 //! Calls, receipts and replies among a few threads, with what is lent by them.
-use super::*;
-use lot_draw::Winner;
-use lot_machine::{After, Limits, Name, Outcome, Record, Sizes, Status, Target, Thread};
+use super::helpers::{Won, add_thread, finish, is_won};
+use lot_machine::{Limits, Outcome, Sizes, Status};
+use lot_ports::{call, receive, reply, serve};
 use lot_queues::Queues;
 use lot_threads::{Effect, Threads};
 use std::alloc::Global;
 use std::process::Abort;
 use std::test::Fail;
-
-/// A thread that wins a draw, its number, and the total.
-type Won = (u32, u128, u128);
 
 /// A step of a row: a trap and its outcome, or a question and its expected answer.
 #[derive(Clone, Copy)]
@@ -28,20 +25,6 @@ enum Step {
     Stands(u32, Status),
     /// What is delivered to a thread when it next runs.
     Gets(u32, Option<u32>),
-}
-
-fn add_thread(rt: &impl Abort, threads: &mut Threads, queues: &mut Queues, amount: u32) {
-    let made = threads.records().len();
-    assert!(rt; made < threads.graph().layout().threads as usize);
-    assert!(rt; queues.threads() < queues.room());
-    let name = Name::new("thread").expect(rt, "a name");
-    let thread = threads.add_thread(Thread { name, script: 1 });
-    queues.add_thread();
-    assert!(rt; 0 < amount && threads.graph().is_currency(0));
-    let ticket = threads.issue(0, amount).expect(rt, "a ticket");
-    assert!(rt; threads.graph().is_unfunded(ticket));
-    assert!(rt; 0 < thread && thread <= threads.graph().threads());
-    assert!(rt; threads.fund(ticket, Target::Thread(thread)).is_ok());
 }
 
 fn make_call(
@@ -100,24 +83,6 @@ fn make_serving(
     assert!(rt; threads.records().len() == queues.threads() as usize);
     let client = queues.first_client(server)?;
     Some(serve(threads, queues, server, client, port, number))
-}
-
-/// The thread that made a trap goes on, or gets the status that it leaves with.
-fn finish(rt: &impl Abort, threads: &mut Threads, thread: u32, after: After) {
-    let After::Leaves(status) = after else {
-        return;
-    };
-    let before = threads.record(thread).expect(rt, "a thread");
-    let next = Record { status, ..before };
-    assert!(rt; threads.can_change(thread, next));
-    threads.change(thread, next);
-}
-
-fn is_won(winner: Option<Winner>, (thread, number, total): Won) -> bool {
-    match winner {
-        Some(won) => won.thread == thread && won.number == number && won.total == total,
-        None => false,
-    }
 }
 
 /// Makes a trap, and compares its outcome.
