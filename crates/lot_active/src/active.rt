@@ -151,9 +151,8 @@ impl Active {
         }
     }
 
-    /// How many edges were passed on, up to now.
-    #[cfg(test)]
-    pub(crate) fn passed(&self) -> u64 {
+    /// How many edges were passed on, up to now. It is for tests: no clause sees it.
+    pub fn passed(&self) -> u64 {
         self.marks.passed()
     }
 

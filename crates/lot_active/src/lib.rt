@@ -10,8 +10,6 @@ mod changed;
 mod edge_ends;
 pub mod laws;
 mod marks;
-#[cfg(test)]
-mod tests;
 
 pub use active::Active;
 pub use changed::ChangedNodes;

@@ -67,7 +67,6 @@ impl Marks {
         self.amounts[node]
     }
 
-    #[cfg(test)]
     pub(crate) fn passed(&self) -> u64 {
         self.passed
     }

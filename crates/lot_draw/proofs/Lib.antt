@@ -2,4 +2,3 @@
 pub mod Lotteries
 pub mod Ready
 pub mod Weighing
-pub mod Together

@@ -11,8 +11,6 @@ mod generator;
 pub mod laws;
 mod lottery;
 mod run_queue;
-#[cfg(test)]
-mod tests;
 
 pub use competing::{Competitor, Winner};
 pub use generator::{ParkMiller, mixed_seed};

@@ -1,5 +1,6 @@
-//! Tests of `lot_kernel`: rows of events with their replies, and what draws, unlocks and rows read. They stand in a
-//! crate of their own, so that `lot_kernel` is not proved a second time for them.
+//! Tests of `lot_kernel`: rows of events with their replies, and what draws, unlocks and rows read; and of the threads,
+//! mutexes and ports below it. They stand in a crate of their own, so that those crates aren't proved a second time for
+//! them.
 #![tactic(auto)]
 
 mod replies;

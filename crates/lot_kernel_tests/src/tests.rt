@@ -1,5 +1,9 @@
 mod bounds;
+mod helpers;
+mod mutexes;
+mod ports;
 mod reads;
+mod threads;
 mod traps;
 
 use crate::{trapped, won};

@@ -8,8 +8,6 @@
 mod checks;
 mod lottery;
 mod mutexes;
-#[cfg(test)]
-mod tests;
 
 pub use checks::{are_waiting, have_same_owners};
 pub use lottery::Lottery;

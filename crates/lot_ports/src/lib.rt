@@ -6,7 +6,5 @@
 #![tactic(auto)]
 
 mod ports;
-#[cfg(test)]
-mod tests;
 
 pub use ports::{call, receive, reply, serve};

@@ -9,8 +9,6 @@ mod effect;
 mod following;
 mod moves;
 mod runners;
-#[cfg(test)]
-mod tests;
 mod threads;
 
 pub use effect::Effect;

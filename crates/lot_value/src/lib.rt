@@ -13,8 +13,6 @@ mod marking;
 mod meter;
 mod readings;
 mod settling;
-#[cfg(test)]
-mod tests;
 mod touching;
 mod valued_graph;
 mod values;

@@ -1,0 +1,3 @@
+pub mod SumLemmas
+pub mod BothLemmas
+pub mod Together

@@ -1,0 +1,10 @@
+//! Tests of `lot_graph`, `lot_active`, `lot_value` and `lot_draw`: rows of changes, of what is active and what all is
+//! worth then, and draws. They are in a crate of their own, so that the crates below aren't proved a second time for
+//! them.
+#![tactic(auto)]
+
+mod nodes;
+#[cfg(test)]
+mod tests;
+
+pub use nodes::{is_mutex, is_target, is_thread};

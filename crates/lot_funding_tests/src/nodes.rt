@@ -1,0 +1,35 @@
+//! Which threads and mutexes are in a graph, and what a ticket may fund there.
+ghost use Rattle.std.specs.Prelude.{◌≤◌, IsTrue};
+ghost use Rattle.lot_machine.specs.declared.funding.Node.TheVariants.{Thread as ThreadNode, Mutex as MutexNode};
+ghost use Rattle.lot_graph.specs.Graphs.{IsMutex, IsNodeOf, IsTarget, IsThread};
+
+use lot_graph::Graph;
+use lot_machine::Target;
+
+/// Whether a thread has this number.
+pub fn is_thread(graph: &Graph, thread: u32) -> bool
+    ensures there { IsTrue result → IsThread graph.now.funding thread }
+    ensures node { IsTrue result → IsNodeOf graph.now (ThreadNode thread) }
+    ensures within { IsTrue result → thread ≤ graph.now.thread_limit }
+{
+    0 < thread && thread <= graph.threads()
+}
+
+/// Whether a mutex has this number.
+pub fn is_mutex(graph: &Graph, mutex: u32) -> bool
+    ensures there { IsTrue result → IsMutex graph.now.funding mutex }
+    ensures node { IsTrue result → IsNodeOf graph.now (MutexNode mutex) }
+{
+    0 < mutex && mutex <= graph.mutexes()
+}
+
+/// Whether a ticket may fund the target.
+pub fn is_target(graph: &Graph, target: Target) -> bool
+    ensures { IsTrue result → IsTarget graph.now.funding target }
+{
+    match target {
+        Target::Unfunded => false,
+        Target::Currency(currency) => 0 < currency && graph.is_currency(currency),
+        Target::Thread(thread) => is_thread(graph, thread),
+    }
+}

@@ -1,0 +1,366 @@
+//! Draws among the threads of small graphs, and of large ones.
+use crate::{is_target, is_thread};
+use lot_draw::{Competitor, RunQueue, Winner};
+use lot_machine::{Limits, Sizes, Target};
+use lot_value::ValuedGraph;
+use std::alloc::{AllocError, Global};
+use std::marker::Model;
+use std::process::Abort;
+use std::test::Fail;
+
+/// A graph, and the queue of its threads.
+#[derive(Drop)]
+struct Room {
+    graph: ValuedGraph,
+    queue: RunQueue,
+}
+
+impl Model for Room {
+    ghost use Rattle.lot_value.specs.Valued.{Valued};
+    ghost use Rattle.lot_draw.specs.Queued.{Queued, AreWeights, CompetesIn};
+
+    ghost Value = { Valued × Queued };
+
+    ghost view = { λ s. (s.graph, s.queue) };
+
+    ghost invariant = { λ s. record { weights : AreWeights s.queue s.graph.known; competes : CompetesIn s.queue.competitors s.graph } };
+}
+
+impl Room {
+    fn new(alloc: Global, limits: &Limits) -> Result<Self, AllocError> {
+        Ok(Room {
+            graph: ValuedGraph::new(alloc, limits)?,
+            queue: RunQueue::new(alloc, limits)?,
+        })
+    }
+
+    fn make_currency(&mut self, rt: &impl Abort) -> u32 {
+        self.graph.make_currency().expect(rt, "no currency is left")
+    }
+
+    /// A thread that is live and competes.
+    fn add_thread(&mut self, rt: &impl Abort) -> u32 {
+        let graph = self.graph.graph();
+        assert!(rt; graph.threads() < graph.layout().threads);
+        self.graph.add_thread();
+        let thread = self.graph.graph().threads();
+        assert!(rt; is_thread(self.graph.graph(), thread));
+        self.graph.set_live(thread, true);
+        self.compete(rt, thread, None);
+        thread
+    }
+
+    /// Makes a thread compete, with a compensation or without.
+    fn compete(&mut self, rt: &impl Abort, thread: u32, compensation: Option<u32>) {
+        assert!(rt; is_thread(self.graph.graph(), thread));
+        if let Some(used) = compensation {
+            assert!(rt; 0 < used);
+        }
+        self.queue
+            .set_competitor(thread, Some(Competitor { compensation }));
+    }
+
+    /// A thread runs, and doesn't compete.
+    fn run(&mut self, rt: &impl Abort, thread: u32) {
+        assert!(rt; is_thread(self.graph.graph(), thread));
+        self.queue.set_competitor(thread, None);
+    }
+
+    /// Funds a currency or a thread with a new ticket.
+    fn fund(&mut self, rt: &impl Abort, amount: u32, currency: u32, target: Target) {
+        let graph = self.graph.graph();
+        assert!(rt; 0 < amount && graph.is_currency(currency));
+        assert!(rt; is_target(graph, target));
+        let ticket = self
+            .graph
+            .issue(currency, amount)
+            .expect(rt, "no ticket is left");
+        assert!(rt; self.graph.graph().is_unfunded(ticket));
+        assert!(rt; self.graph.fund(ticket, target).is_ok());
+    }
+
+    /// Takes a ticket from what it funds.
+    fn unfund(&mut self, rt: &impl Abort, ticket: u32) {
+        assert!(rt; self.graph.graph().is_funding(ticket));
+        self.graph.unfund(ticket);
+    }
+
+    /// A draw, with the counts of what it read and visited.
+    fn draw(&mut self, d: u128) -> (Option<Winner>, u64, u64) {
+        let reads = self.graph.reads();
+        let visits = self.queue.visits();
+        let winner = self.queue.draw(&mut self.graph, d);
+        (
+            winner,
+            self.graph.reads().saturating_sub(reads),
+            self.queue.visits().saturating_sub(visits),
+        )
+    }
+}
+
+fn small_limits() -> Option<Limits> {
+    Limits::new(Sizes {
+        tickets: 20,
+        currencies: 4,
+        threads: 8,
+        quantum: 100,
+        ..Sizes::SMALLEST
+    })
+}
+
+/// A thread that wins a draw, its number, and the total.
+type Won = (u32, u128, u128);
+
+/// A step of a row: a change, or a draw and what must come of it.
+#[derive(Clone, Copy)]
+enum Step {
+    /// A new thread, which is live and competes.
+    AddThread,
+    MakeCurrency,
+    /// A new ticket of this amount and currency, which funds the target.
+    Fund(u32, u32, Target),
+    Unfund(u32),
+    Run(u32),
+    /// A thread competes, with a compensation or without.
+    Compete(u32, Option<u32>),
+    /// A drawn number, and who wins.
+    Wins(u128, Won),
+    /// The same, with how many edges the draw reads, and how many places it visits at most.
+    Reads(u128, Won, u64, u64),
+    /// A drawn number that nobody wins, which reads and visits nothing.
+    Idles(u128),
+}
+
+fn is_won(winner: Option<Winner>, (thread, number, total): Won) -> bool {
+    match winner {
+        Some(won) => won.thread == thread && won.number == number && won.total == total,
+        None => false,
+    }
+}
+
+/// Draws, and checks who wins.
+fn check_winner(rt: &impl Abort, room: &mut Room, d: u128, won: Won) {
+    let (winner, _, _) = room.draw(d);
+    assert!(rt; is_won(winner, won), "at {d}");
+}
+
+/// Draws, and checks who wins and the counts.
+fn check_counts(rt: &impl Abort, room: &mut Room, d: u128, won: Won, reads: u64, most: u64) {
+    let (winner, read, visits) = room.draw(d);
+    assert!(rt; is_won(winner, won), "at {d}");
+    assert!(rt; read == reads, "{read} at {d}");
+    assert!(rt; visits >= 1 && visits <= most, "{visits} at {d}");
+}
+
+/// Draws, and checks that nobody wins.
+fn check_idle(rt: &impl Abort, room: &mut Room, d: u128) {
+    let (winner, read, visits) = room.draw(d);
+    assert!(rt; winner.is_none(), "at {d}");
+    assert!(rt; read == 0 && visits == 0, "at {d}");
+}
+
+/// A thread that a ticket of base funds.
+fn add_funded(rt: &impl Abort, room: &mut Room, amount: u32) {
+    let thread = room.add_thread(rt);
+    room.fund(rt, amount, 0, Target::Thread(thread));
+}
+
+/// Takes a step.
+fn take(rt: &impl Abort, room: &mut Room, step: Step) {
+    match step {
+        Step::AddThread => {
+            room.add_thread(rt);
+        }
+        Step::MakeCurrency => {
+            room.make_currency(rt);
+        }
+        Step::Fund(amount, currency, target) => room.fund(rt, amount, currency, target),
+        Step::Unfund(ticket) => room.unfund(rt, ticket),
+        Step::Run(thread) => room.run(rt, thread),
+        Step::Compete(thread, compensation) => room.compete(rt, thread, compensation),
+        Step::Wins(d, won) => check_winner(rt, room, d, won),
+        Step::Reads(d, won, reads, most) => check_counts(rt, room, d, won, reads, most),
+        Step::Idles(d) => check_idle(rt, room, d),
+    }
+}
+
+/// Takes the steps in turn.
+fn take_all(rt: &impl Abort, room: &mut Room, steps: &[Step]) {
+    for step in steps {
+        take(rt, room, *step);
+    }
+}
+
+/// Takes the steps in a new room of these limits.
+fn play(
+    rt: &impl Abort,
+    alloc: Global,
+    limits: Option<Limits>,
+    steps: &[Step],
+) -> Result<(), Fail> {
+    let limits = limits.ok_or("limits")?;
+    let mut room = Room::new(alloc, &limits)?;
+    take_all(rt, &mut room, steps);
+    Ok(())
+}
+
+/// 100 of base fund a currency, and 33 of it fund each of three threads.
+const THIRDS: [Step; 8] = [
+    Step::MakeCurrency,
+    Step::Fund(100, 0, Target::Currency(1)),
+    Step::AddThread,
+    Step::Fund(33, 1, Target::Thread(1)),
+    Step::AddThread,
+    Step::Fund(33, 1, Target::Thread(2)),
+    Step::AddThread,
+    Step::Fund(33, 1, Target::Thread(3)),
+];
+
+/// Takes the steps after these.
+fn play_thirds(rt: &impl Abort, alloc: Global, steps: &[Step]) -> Result<(), Fail> {
+    let limits = small_limits().ok_or("limits")?;
+    let mut room = Room::new(alloc, &limits)?;
+    take_all(rt, &mut room, &THIRDS);
+    take_all(rt, &mut room, steps);
+    Ok(())
+}
+
+const STALE: [Step; 4] = [
+    Step::Reads(0, (1, 0, 99), 4, 4),
+    Step::Reads(98, (3, 98, 99), 0, 4),
+    Step::Reads(100, (1, 1, 99), 0, 4),
+    Step::Reads(33, (2, 33, 99), 0, 4),
+];
+
+// Each edge into what was stale is read once: one into the currency, and one into each thread.
+#[test]
+fn reads_what_is_stale(rt: HostRuntime) -> Result<(), Fail> {
+    play_thirds(&rt, rt.alloc(), &STALE)
+}
+
+const FUNDED_BETWEEN: [Step; 3] = [
+    Step::Reads(0, (1, 0, 99), 4, 4),
+    Step::Fund(50, 0, Target::Currency(1)),
+    Step::Reads(149, (3, 149, 150), 5, 4),
+];
+
+// A ticket that is made and funds the currency reads nothing by itself; the next draw reads the edges into what got
+// stale.
+#[test]
+fn funded_between_draws(rt: HostRuntime) -> Result<(), Fail> {
+    play_thirds(&rt, rt.alloc(), &FUNDED_BETWEEN)
+}
+
+const UPSTREAM: [Step; 10] = [
+    Step::AddThread,
+    Step::MakeCurrency,
+    Step::MakeCurrency,
+    Step::Fund(100, 0, Target::Currency(1)),
+    Step::Fund(10, 1, Target::Currency(2)),
+    Step::Fund(7, 2, Target::Thread(1)),
+    Step::Fund(60, 0, Target::Thread(1)),
+    Step::Wins(159, (1, 159, 160)),
+    Step::Unfund(1),
+    Step::Wins(59, (1, 59, 60)),
+];
+
+// A ticket two currencies upstream of the thread goes: only the thread's other funding still counts.
+#[test]
+fn unfunded_upstream(rt: HostRuntime) -> Result<(), Fail> {
+    play(&rt, rt.alloc(), small_limits(), &UPSTREAM)
+}
+
+const RUNNING: [Step; 8] = [
+    Step::Run(1),
+    Step::Wins(0, (2, 0, 66)),
+    Step::Run(2),
+    Step::Wins(7, (3, 7, 33)),
+    Step::Run(3),
+    Step::Idles(5),
+    Step::Compete(2, None),
+    Step::Wins(40, (2, 7, 33)),
+];
+
+// A thread that runs is worth what it was, and only the others are drawn.
+#[test]
+fn leaves_out_who_runs(rt: HostRuntime) -> Result<(), Fail> {
+    play_thirds(&rt, rt.alloc(), &RUNNING)
+}
+
+const COMPENSATED: [Step; 12] = [
+    Step::AddThread,
+    Step::Fund(400, 0, Target::Thread(1)),
+    Step::AddThread,
+    Step::Fund(400, 0, Target::Thread(2)),
+    Step::Compete(1, Some(20)),
+    Step::Wins(2399, (2, 2399, 2400)),
+    Step::Compete(1, Some(99)),
+    Step::Wins(803, (2, 803, 804)),
+    Step::Compete(1, Some(1)),
+    Step::Wins(40399, (2, 40399, 40400)),
+    Step::Compete(1, None),
+    Step::Wins(799, (2, 799, 800)),
+];
+
+// Quantum 100: a thread that used 20 ticks of it weighs five times what it is worth.
+#[test]
+fn compensates(rt: HostRuntime) -> Result<(), Fail> {
+    play(&rt, rt.alloc(), small_limits(), &COMPENSATED)
+}
+
+/// A room of 1000 threads, each of which a ticket of 1 funds.
+fn thousand(rt: &impl Abort, alloc: Global) -> Result<Room, Fail> {
+    let limits = Limits::new(Sizes {
+        tickets: 1000,
+        threads: 1000,
+        quantum: 100,
+        ..Sizes::SMALLEST
+    })
+    .ok_or("limits")?;
+    let mut room = Room::new(alloc, &limits)?;
+    for _ in 0..1000 {
+        add_funded(rt, &mut room, 1);
+    }
+    Ok(room)
+}
+
+#[test]
+fn visits_a_place_a_digit(rt: HostRuntime) -> Result<(), Fail> {
+    let mut room = thousand(&rt, rt.alloc())?;
+    for d in 0..1000 {
+        let reads = if d == 0 { 1000 } else { 0 };
+        let number = u128::from(d);
+        let won = (d + 1, number, 1000);
+        check_counts(&rt, &mut room, number, won, reads, 10);
+    }
+    Ok(())
+}
+
+const LEAST: [Step; 4] = [
+    Step::Idles(7),
+    Step::AddThread,
+    Step::Fund(u32::MAX, 0, Target::Thread(1)),
+    Step::Reads(7, (1, 7, 4294967295), 1, 1),
+];
+
+#[test]
+fn queue_of_the_least_size(rt: HostRuntime) -> Result<(), Fail> {
+    let limits = Limits::new(Sizes::SMALLEST);
+    play(&rt, rt.alloc(), limits, &LEAST)
+}
+
+const LARGEST: [Step; 4] = [
+    Step::Idles(7),
+    Step::AddThread,
+    Step::Fund(u32::MAX, 0, Target::Thread(1)),
+    Step::Reads(7, (1, 7, 4294967295), 1, 13),
+];
+
+#[test]
+fn queue_of_the_largest_size(rt: HostRuntime) -> Result<(), Fail> {
+    let limits = Limits::new(Sizes {
+        unit: 1,
+        ..Sizes::LARGEST
+    });
+    play(&rt, rt.alloc(), limits, &LARGEST)
+}

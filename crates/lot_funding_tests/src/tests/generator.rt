@@ -1,0 +1,57 @@
+//! The generator of drawn numbers, and the seeds of processors.
+use lot_draw::{ParkMiller, mixed_seed};
+use std::test::Fail;
+
+#[test]
+fn seeds(rt: HostRuntime) {
+    for (seed, is_one) in [
+        (0, false),
+        (1, true),
+        (2147483646, true),
+        (2147483647, false),
+    ] {
+        assert_eq!(rt; ParkMiller::new(seed).is_some(), is_one, "{seed}");
+    }
+}
+
+#[test]
+fn numbers(rt: HostRuntime) -> Result<(), Fail> {
+    let mut generator = ParkMiller::new(1).ok_or("seed")?;
+    assert_eq!(rt; generator.number(), 36090892629924);
+    Ok(())
+}
+
+// By the definition: from 1 the values 16807, 282475249, 1622650073 and 984943658.
+#[test]
+fn wide_numbers(rt: HostRuntime) -> Result<(), Fail> {
+    let mut generator = ParkMiller::new(1).ok_or("seed")?;
+    assert_eq!(rt; generator.wide_number(), 166439864623969647858139600294153);
+    assert_eq!(rt; generator.next(), 1144108930);
+    Ok(())
+}
+
+// The first values of that generator, and its published 10000th.
+#[test]
+fn mixed_seeds(rt: HostRuntime) {
+    for (processor, seed) in [
+        (0, 1),
+        (1, 48271),
+        (2, 182605794),
+        (3, 1291394886),
+        (10000, 399268537),
+    ] {
+        assert_eq!(rt; mixed_seed(processor), seed, "{processor}");
+    }
+}
+
+// The check that Park and Miller give for their generator: from 1, the value after 10000 steps.
+#[test]
+fn ten_thousandth(rt: HostRuntime) -> Result<(), Fail> {
+    let mut generator = ParkMiller::new(1).ok_or("seed")?;
+    let mut value = 1;
+    for _ in 0..10000 {
+        value = generator.next();
+    }
+    assert_eq!(rt; value, 1043618065);
+    Ok(())
+}

@@ -1,0 +1,516 @@
+//! The worked examples of cycles, of the largest sizes and of removal, on the graph alone.
+ghost use Rattle.std.specs.Prelude.{◌≡◌, sum_by};
+ghost use Rattle.lot_machine.specs.declared.funding.Node.TheVariants.{Currency as CurrencyNode};
+ghost use Rattle.lot_machine.specs.Funding.{backing_currency};
+ghost use Rattle.lot_graph.specs.Graphs.{IsNodeOf, edge_amount};
+
+use crate::is_target;
+use lot_graph::Graph;
+use lot_machine::{Edge, Lend, Limits, Node, Sizes, Target};
+use std::alloc::Global;
+use std::process::Abort;
+use std::test::Fail;
+
+/// A graph of the largest tables.
+fn largest(rt: &impl Abort, alloc: Global) -> Result<Graph, Fail> {
+    let limits = Limits::new(Sizes::LARGEST);
+    let limits = limits.expect(rt, "limits are not in bounds");
+    Ok(Graph::new(alloc, &limits)?)
+}
+
+fn add_thread(rt: &impl Abort, graph: &mut Graph) {
+    assert!(rt; graph.threads() < graph.layout().threads);
+    graph.add_thread();
+}
+
+/// One more currency.
+fn make_currency(rt: &impl Abort, graph: &mut Graph) -> u32 {
+    graph
+        .make_currency()
+        .expect(rt, "there is no room for a currency")
+}
+
+fn make_currencies(rt: &impl Abort, graph: &mut Graph, count: u32) {
+    for _ in 0..count {
+        make_currency(rt, graph);
+    }
+}
+
+fn remove_currency(rt: &impl Abort, graph: &mut Graph, currency: u32) {
+    assert!(rt; 0 < currency && graph.is_currency(currency));
+    assert!(rt; graph.is_unused(currency));
+    graph.remove_currency(currency);
+}
+
+/// A ticket in a currency, or `None` if as many were made as the limit allows.
+fn try_issue(rt: &impl Abort, graph: &mut Graph, currency: u32, amount: u32) -> Option<u32> {
+    assert!(rt; 0 < amount && graph.is_currency(currency));
+    graph.issue(currency, amount)
+}
+
+/// A ticket in a currency.
+fn issue(rt: &impl Abort, graph: &mut Graph, currency: u32, amount: u32) -> u32 {
+    try_issue(rt, graph, currency, amount).expect(rt, "there is no room for a ticket")
+}
+
+fn destroy(rt: &impl Abort, graph: &mut Graph, ticket: u32) {
+    assert!(rt; graph.is_unfunded(ticket));
+    graph.destroy(ticket);
+}
+
+/// Makes a ticket fund a target, or returns false if it would make a cycle.
+fn fund(rt: &impl Abort, graph: &mut Graph, ticket: u32, target: Target) -> bool {
+    assert!(rt; is_target(graph, target));
+    assert!(rt; graph.is_unfunded(ticket));
+    graph.fund(ticket, target).is_ok()
+}
+
+fn unfund(rt: &impl Abort, graph: &mut Graph, ticket: u32) {
+    assert!(rt; graph.is_funding(ticket));
+    graph.unfund(ticket);
+}
+
+/// Makes a thread lend to another, or returns false if it would make a cycle.
+fn lend(rt: &impl Abort, graph: &mut Graph, thread: u32, server: u32) -> bool {
+    assert!(rt; 0 < server && server <= graph.threads());
+    assert!(rt; 0 < thread && thread <= graph.threads());
+    assert!(rt; matches!(graph.lend_of(thread), Some(Lend::Nobody)));
+    if graph.reaches(Node::Thread(server), Node::Thread(thread)) {
+        return false;
+    }
+    graph.lend(thread, Lend::ToThread(server));
+    true
+}
+
+/// The same with a mutex.
+fn wait(rt: &impl Abort, graph: &mut Graph, thread: u32, mutex: u32) -> bool {
+    assert!(rt; 0 < mutex && mutex <= graph.mutexes());
+    assert!(rt; 0 < thread && thread <= graph.threads());
+    assert!(rt; matches!(graph.lend_of(thread), Some(Lend::Nobody)));
+    if graph.reaches(Node::Mutex(mutex), Node::Thread(thread)) {
+        return false;
+    }
+    graph.lend(thread, Lend::ToMutex(mutex));
+    true
+}
+
+fn unlend(rt: &impl Abort, graph: &mut Graph, thread: u32) {
+    assert!(rt; matches!(graph.lend_of(thread), Some(Lend::ToThread(_))));
+    graph.unlend(thread);
+}
+
+/// Gives a mutex to a thread.
+fn give(rt: &impl Abort, graph: &mut Graph, mutex: u32, thread: u32) {
+    assert!(rt; 0 < mutex && mutex <= graph.mutexes());
+    assert!(rt; 0 < thread && thread <= graph.threads());
+    graph.give_up_mutex(mutex);
+    assert!(rt; !graph.reaches(Node::Thread(thread), Node::Mutex(mutex)));
+    graph.take_mutex(mutex, thread);
+}
+
+/// Tickets of base, each of the largest amount, that fund a thread.
+fn fill(rt: &impl Abort, graph: &mut Graph, thread: u32, count: u32) {
+    for _ in 0..count {
+        let ticket = issue(rt, graph, 0, u32::MAX);
+        assert!(rt; fund(rt, graph, ticket, Target::Thread(thread)));
+    }
+}
+
+/// A ticket of one currency that funds the other.
+fn link(rt: &impl Abort, graph: &mut Graph, from: u32, to: u32) {
+    let ticket = issue(rt, graph, from, 1);
+    assert!(rt; fund(rt, graph, ticket, Target::Currency(to)));
+}
+
+/// One more currency, which the one before funds.
+fn extend(rt: &impl Abort, graph: &mut Graph, last: u32) -> u32 {
+    let next = make_currency(rt, graph);
+    link(rt, graph, last, next);
+    next
+}
+
+/// Currencies, each of which funds the next. Returns the last.
+fn chain(rt: &impl Abort, graph: &mut Graph, length: u32) -> u32 {
+    let mut last = make_currency(rt, graph);
+    for _ in 1..length {
+        last = extend(rt, graph, last);
+    }
+    last
+}
+
+/// One currency funds two.
+fn split(rt: &impl Abort, graph: &mut Graph, top: u32, sides: (u32, u32)) {
+    link(rt, graph, top, sides.0);
+    link(rt, graph, top, sides.1);
+}
+
+/// Two currencies fund one.
+fn join(rt: &impl Abort, graph: &mut Graph, sides: (u32, u32), bottom: u32) {
+    link(rt, graph, sides.0, bottom);
+    link(rt, graph, sides.1, bottom);
+}
+
+/// Two ways from a currency to a new one, which it returns.
+fn diamond(rt: &impl Abort, graph: &mut Graph, top: u32) -> u32 {
+    let left = make_currency(rt, graph);
+    let right = make_currency(rt, graph);
+    let bottom = make_currency(rt, graph);
+    split(rt, graph, top, (left, right));
+    join(rt, graph, (left, right), bottom);
+    bottom
+}
+
+/// Diamonds, each below the one before. Returns the last currency.
+fn ladder(rt: &impl Abort, graph: &mut Graph, diamonds: u32) -> u32 {
+    let mut top = make_currency(rt, graph);
+    for _ in 0..diamonds {
+        top = diamond(rt, graph, top);
+    }
+    top
+}
+
+/// The amount of a ticket's edge, and 0 for any other.
+fn amount_of(graph: &Graph, edge: Edge) -> u32
+    ensures { result ≡ edge_amount graph.now.funding edge }
+{
+    match edge {
+        Edge::OfTicket(number) => match graph.ticket(number) {
+            Some(ticket) => ticket.amount,
+            None => 0,
+        },
+        _ => 0,
+    }
+}
+
+/// What backs a currency: the amounts of its backing tickets, added up over the walk.
+fn backing_of(graph: &Graph, currency: u32) -> u64
+    requires currency { IsNodeOf graph.now (CurrencyNode currency) }
+    ensures { result ≡ sum_by (λ t. t.amount) (backing_currency graph.now.funding currency) }
+{
+    let mut sum = 0;
+    for edge in graph.edges_into(Node::Currency(currency)) {
+        sum += u64::from(amount_of(graph, edge));
+    }
+    sum
+}
+
+/// The same of an existing currency.
+fn backing(rt: &impl Abort, graph: &Graph, currency: u32) -> u64 {
+    assert!(rt; graph.is_currency(currency));
+    backing_of(graph, currency)
+}
+
+/// How many tickets a currency issues.
+fn issued_by(rt: &impl Abort, graph: &Graph, currency: u32) -> usize {
+    assert!(rt; graph.is_currency(currency));
+    graph.tickets_of(currency).count()
+}
+
+/// Whether an existing currency has neither issued nor backing tickets.
+fn is_unused(rt: &impl Abort, graph: &Graph, currency: u32) -> bool {
+    assert!(rt; graph.is_currency(currency));
+    graph.is_unused(currency)
+}
+
+/// The amounts of the tickets that fund a thread.
+fn funded_with(rt: &impl Abort, graph: &Graph, thread: u32) -> u64 {
+    assert!(rt; 0 < thread && thread <= graph.threads());
+    let mut sum: u64 = 0;
+    for edge in graph.edges_into(Node::Thread(thread)) {
+        if let Edge::OfTicket(number) = edge {
+            let amount = graph.ticket(number).map_or(0, |t| t.amount);
+            sum = sum.saturating_add(u64::from(amount));
+        }
+    }
+    sum
+}
+
+/// How many edges lead into a thread.
+fn edges_into(rt: &impl Abort, graph: &Graph, thread: u32) -> usize {
+    assert!(rt; 0 < thread && thread <= graph.threads());
+    graph.edges_into(Node::Thread(thread)).count()
+}
+
+/// How many edges lead out of a node.
+fn edges_out_of(rt: &impl Abort, graph: &Graph, node: Node) -> usize {
+    assert!(rt;
+        match node {
+            Node::Currency(currency) => currency <= graph.layout().currencies,
+            Node::Thread(thread) => 0 < thread && thread <= graph.threads(),
+            Node::Mutex(mutex) => 0 < mutex && mutex <= graph.mutexes(),
+        }
+    );
+    graph.edges_out_of(node).count()
+}
+
+/// Whether a thread lends to the other.
+fn lends_to(graph: &Graph, thread: u32, server: u32) -> bool {
+    match graph.lend_of(thread) {
+        Some(Lend::ToThread(to)) => to == server,
+        _ => false,
+    }
+}
+
+/// A step of a row: a change, or what the graph must then show.
+#[derive(Clone, Copy)]
+enum Step {
+    AddThread,
+    /// A new currency, which gets this number.
+    MakeCurrency(u32),
+    MakeCurrencies(u32),
+    RemoveCurrency(u32),
+    /// A new ticket of this currency and amount, which gets this number.
+    Issue(u32, u32, u32),
+    Destroy(u32),
+    Fund(u32, Target),
+    /// The ticket would make a cycle if it funded this, and doesn't fund it.
+    FundCycle(u32, Target),
+    Unfund(u32),
+    /// A thread lends to another, or doesn't, since it would make a cycle.
+    Lend(u32, u32, bool),
+    /// The same with a mutex.
+    Wait(u32, u32, bool),
+    Unlend(u32),
+    /// A mutex, and the thread that it is given to.
+    Give(u32, u32),
+    /// A thread, and how many tickets of base of the largest amount fund it.
+    Fill(u32, u32),
+    /// A chain of this many currencies, and its last one.
+    Chain(u32, u32),
+    /// A ladder of this many diamonds, and its last currency.
+    Ladder(u32, u32),
+    NoCurrencyLeft,
+    NoTicketLeft,
+    Shows(Fact),
+}
+
+/// What a graph must show.
+#[derive(Clone, Copy)]
+enum Fact {
+    IsCurrency(u32, bool),
+    IsUnused(u32, bool),
+    IsUnfunded(u32, bool),
+    IsFunding(u32, bool),
+    NoTicket(u32),
+    /// How many tickets were made, including the destroyed ones.
+    Made(u32),
+    /// A currency, and how many tickets it issues.
+    Issued(u32, usize),
+    /// A currency, and the amounts that back it.
+    Backing(u32, u64),
+    /// A thread, and the amounts that fund it.
+    FundedWith(u32, u64),
+    /// A mutex and its owner.
+    OwnedBy(u32, u32),
+    LendsTo(u32, u32),
+    /// A thread, and how many edges lead into it.
+    EdgesInto(u32, usize),
+    EdgesOutOf(Node, usize),
+}
+
+/// Checks what the graph must show.
+fn check(rt: &impl Abort, graph: &Graph, fact: Fact) {
+    match fact {
+        Fact::IsCurrency(currency, is) => assert!(rt; graph.is_currency(currency) == is),
+        Fact::IsUnused(currency, is) => assert!(rt; is_unused(rt, graph, currency) == is),
+        Fact::IsUnfunded(ticket, is) => assert!(rt; graph.is_unfunded(ticket) == is),
+        Fact::IsFunding(ticket, is) => assert!(rt; graph.is_funding(ticket) == is),
+        Fact::NoTicket(ticket) => assert!(rt; graph.ticket(ticket).is_none()),
+        Fact::Made(count) => assert!(rt; graph.ticket_count() == count),
+        Fact::Issued(currency, count) => assert!(rt; issued_by(rt, graph, currency) == count),
+        Fact::Backing(currency, sum) => assert!(rt; backing(rt, graph, currency) == sum),
+        Fact::FundedWith(thread, sum) => assert!(rt; funded_with(rt, graph, thread) == sum),
+        Fact::OwnedBy(mutex, owner) => assert!(rt; graph.owner(mutex) == Some(owner)),
+        Fact::LendsTo(thread, server) => assert!(rt; lends_to(graph, thread, server)),
+        Fact::EdgesInto(thread, count) => assert!(rt; edges_into(rt, graph, thread) == count),
+        Fact::EdgesOutOf(node, count) => assert!(rt; edges_out_of(rt, graph, node) == count),
+    }
+}
+
+/// Takes a step.
+fn take(rt: &impl Abort, graph: &mut Graph, step: Step) {
+    match step {
+        Step::AddThread => add_thread(rt, graph),
+        Step::MakeCurrency(number) => assert!(rt; make_currency(rt, graph) == number),
+        Step::MakeCurrencies(count) => make_currencies(rt, graph, count),
+        Step::RemoveCurrency(currency) => remove_currency(rt, graph, currency),
+        Step::Issue(currency, amount, number) => {
+            assert!(rt; issue(rt, graph, currency, amount) == number);
+        }
+        Step::Destroy(ticket) => destroy(rt, graph, ticket),
+        Step::Fund(ticket, target) => assert!(rt; fund(rt, graph, ticket, target)),
+        Step::FundCycle(ticket, target) => assert!(rt; !fund(rt, graph, ticket, target)),
+        Step::Unfund(ticket) => unfund(rt, graph, ticket),
+        Step::Lend(thread, server, does) => assert!(rt; lend(rt, graph, thread, server) == does),
+        Step::Wait(thread, mutex, does) => assert!(rt; wait(rt, graph, thread, mutex) == does),
+        Step::Unlend(thread) => unlend(rt, graph, thread),
+        Step::Give(mutex, thread) => give(rt, graph, mutex, thread),
+        Step::Fill(thread, count) => fill(rt, graph, thread, count),
+        Step::Chain(length, last) => assert!(rt; chain(rt, graph, length) == last),
+        Step::Ladder(diamonds, last) => assert!(rt; ladder(rt, graph, diamonds) == last),
+        Step::NoCurrencyLeft => assert!(rt; graph.make_currency().is_none()),
+        Step::NoTicketLeft => assert!(rt; try_issue(rt, graph, 0, 1).is_none()),
+        Step::Shows(fact) => check(rt, graph, fact),
+    }
+}
+
+/// Takes the steps in a new graph of the largest tables.
+fn play(rt: &impl Abort, alloc: Global, steps: &[Step]) -> Result<(), Fail> {
+    let mut graph = largest(rt, alloc)?;
+    for step in steps {
+        take(rt, &mut graph, *step);
+    }
+    Ok(())
+}
+
+const CYCLES: [Step; 16] = [
+    Step::MakeCurrency(1),
+    Step::MakeCurrency(2),
+    Step::MakeCurrency(3),
+    Step::MakeCurrency(4),
+    Step::Issue(1, 1, 1),
+    Step::FundCycle(1, Target::Currency(1)),
+    Step::Fund(1, Target::Currency(2)),
+    Step::Issue(2, 1, 2),
+    Step::Fund(2, Target::Currency(3)),
+    Step::Issue(3, 1, 3),
+    Step::FundCycle(3, Target::Currency(1)),
+    Step::Issue(1, 1, 4),
+    Step::Fund(4, Target::Currency(3)),
+    Step::Fund(3, Target::Currency(4)),
+    Step::Issue(2, 1, 5),
+    Step::Fund(5, Target::Currency(4)),
+];
+
+#[test]
+fn cycles_are_refused(rt: HostRuntime) -> Result<(), Fail> {
+    play(&rt, rt.alloc(), &CYCLES)
+}
+
+const REMOVED: [Step; 18] = [
+    Step::AddThread,
+    Step::MakeCurrency(1),
+    Step::Issue(1, 5, 1),
+    Step::Shows(Fact::IsCurrency(1, true)),
+    Step::Shows(Fact::IsUnused(1, false)),
+    Step::Fund(1, Target::Thread(1)),
+    Step::Shows(Fact::IsUnfunded(1, false)),
+    Step::Unfund(1),
+    Step::Shows(Fact::IsFunding(1, false)),
+    Step::Destroy(1),
+    Step::Shows(Fact::NoTicket(1)),
+    Step::Shows(Fact::Made(1)),
+    Step::Shows(Fact::IsCurrency(1, true)),
+    Step::Shows(Fact::IsUnused(1, true)),
+    Step::RemoveCurrency(1),
+    Step::Shows(Fact::IsCurrency(1, false)),
+    Step::Issue(0, 5, 2),
+    Step::MakeCurrency(2),
+];
+
+#[test]
+fn removed_numbers_are_gone(rt: HostRuntime) -> Result<(), Fail> {
+    play(&rt, rt.alloc(), &REMOVED)
+}
+
+const LARGEST: [Step; 7] = [
+    Step::AddThread,
+    Step::Fill(1, 65535),
+    Step::Shows(Fact::FundedWith(1, 281470681677825)),
+    Step::NoTicketLeft,
+    Step::Shows(Fact::Issued(0, 65535)),
+    Step::MakeCurrencies(4096),
+    Step::NoCurrencyLeft,
+];
+
+#[test]
+fn largest_sizes(rt: HostRuntime) -> Result<(), Fail> {
+    play(&rt, rt.alloc(), &LARGEST)
+}
+
+const BACKED: [Step; 8] = [
+    Step::MakeCurrency(1),
+    Step::Issue(0, 5, 1),
+    Step::Fund(1, Target::Currency(1)),
+    Step::Issue(0, 7, 2),
+    Step::Fund(2, Target::Currency(1)),
+    Step::Issue(0, u32::MAX, 3),
+    Step::Fund(3, Target::Currency(1)),
+    Step::Shows(Fact::Backing(1, 4294967307)),
+];
+
+#[test]
+fn backing_of_a_currency(rt: HostRuntime) -> Result<(), Fail> {
+    play(&rt, rt.alloc(), &BACKED)
+}
+
+const CHAIN: [Step; 4] = [
+    Step::Chain(4096, 4096),
+    Step::Issue(4096, 1, 4096),
+    Step::FundCycle(4096, Target::Currency(1)),
+    Step::Shows(Fact::IsUnfunded(4096, true)),
+];
+
+#[test]
+fn chain_of_currencies(rt: HostRuntime) -> Result<(), Fail> {
+    play(&rt, rt.alloc(), &CHAIN)
+}
+
+const LADDER: [Step; 3] = [
+    Step::Ladder(64, 193),
+    Step::Issue(193, 1, 257),
+    Step::FundCycle(257, Target::Currency(1)),
+];
+
+#[test]
+fn ladder_of_diamonds(rt: HostRuntime) -> Result<(), Fail> {
+    play(&rt, rt.alloc(), &LADDER)
+}
+
+const LENT: [Step; 18] = [
+    Step::AddThread,
+    Step::AddThread,
+    Step::AddThread,
+    Step::Give(1, 1),
+    Step::Shows(Fact::OwnedBy(1, 1)),
+    Step::Wait(2, 1, true),
+    Step::Lend(1, 3, true),
+    Step::Lend(3, 2, false),
+    Step::Wait(3, 1, false),
+    Step::Shows(Fact::EdgesInto(1, 1)),
+    Step::Shows(Fact::EdgesInto(3, 1)),
+    Step::Give(1, 3),
+    Step::Shows(Fact::OwnedBy(1, 3)),
+    Step::Shows(Fact::EdgesInto(1, 0)),
+    Step::Shows(Fact::EdgesInto(3, 2)),
+    Step::Shows(Fact::LendsTo(1, 3)),
+    Step::Unlend(1),
+    Step::Shows(Fact::EdgesInto(3, 1)),
+];
+
+#[test]
+fn lends_and_owners(rt: HostRuntime) -> Result<(), Fail> {
+    play(&rt, rt.alloc(), &LENT)
+}
+
+const EACH_KIND: [Step; 14] = [
+    Step::AddThread,
+    Step::AddThread,
+    Step::Issue(0, 5, 1),
+    Step::Issue(0, 7, 2),
+    Step::Issue(0, 9, 3),
+    Step::Fund(1, Target::Thread(1)),
+    Step::Fund(3, Target::Thread(1)),
+    Step::Shows(Fact::EdgesOutOf(Node::Currency(0), 2)),
+    Step::Shows(Fact::EdgesOutOf(Node::Thread(2), 0)),
+    Step::Lend(2, 1, true),
+    Step::Shows(Fact::EdgesOutOf(Node::Thread(2), 1)),
+    Step::Give(3, 1),
+    Step::Shows(Fact::EdgesOutOf(Node::Mutex(3), 1)),
+    Step::Shows(Fact::EdgesOutOf(Node::Mutex(4), 0)),
+];
+
+#[test]
+fn edges_out_of_each_kind(rt: HostRuntime) -> Result<(), Fail> {
+    play(&rt, rt.alloc(), &EACH_KIND)
+}

@@ -1,0 +1,452 @@
+//! Worked rows over a graph with what everything is worth.
+ghost use Rattle.std.specs.Prelude.{◌≡◌, ◌<◌, ◌≤◌, IfOk, IsTrue};
+ghost use Rattle.lot_graph.specs.Graphs.{IsBorrower, LendReaches};
+
+use crate::{is_mutex, is_target, is_thread};
+use lot_graph::Graph;
+use lot_machine::{Lend, Limits, Node, Sizes, Target};
+use lot_value::{ValuedGraph, Values};
+use std::alloc::Global;
+use std::process::Abort;
+use std::test::Fail;
+
+/// Base alone, with room for two tickets, one currency and two threads, and one mutex.
+fn small_graph(rt: &impl Abort, alloc: Global) -> Result<Graph, Fail>
+    ensures limits { IfOk result (λ g. (g.currency_limit ≡ 1) × (g.thread_limit ≡ 2)) }
+{
+    let limits = Limits::new(Sizes {
+        tickets: 2,
+        currencies: 1,
+        threads: 2,
+        ports: 1,
+        mutexes: 1,
+        processors: 1,
+        scripts: 1,
+        quantum: 100,
+        unit: 1,
+    });
+    let limits = limits.expect(rt, "limits are not in bounds");
+    Ok(Graph::new(alloc, &limits)?)
+}
+
+#[test]
+fn touched_nodes_are_stale(rt: HostRuntime) -> Result<(), Fail> {
+    let graph = small_graph(&rt, rt.alloc())?;
+    let mut values = Values::new(rt.alloc(), &graph, 1)?;
+    assert_eq!(rt; values.value_of(Node::Thread(2)), 0);
+    assert!(rt; !values.is_stale(Node::Thread(2)));
+    values.touch(&graph, Node::Thread(2));
+    assert!(rt; values.is_stale(Node::Thread(2)));
+    assert!(rt; !values.is_stale(Node::Thread(1)));
+    Ok(())
+}
+
+/// A change of a valued graph that a row makes.
+#[derive(Clone, Copy)]
+enum Change {
+    Funding(u32, u32, Target),
+    Unfund(u32),
+    Destroy(u32),
+    RemoveCurrency(u32),
+    Lend(u32, Lend),
+    Unlend(u32),
+    Take(u32, u32),
+    GiveUp(u32),
+    Wake(u32),
+    Sleep(u32),
+}
+
+fn fund(rt: &impl Abort, graph: &mut ValuedGraph, currency: u32, amount: u32, target: Target) {
+    assert!(rt; 0 < amount && graph.graph().is_currency(currency));
+    let ticket = graph.issue(currency, amount);
+    let ticket = ticket.expect(rt, "there is no room for a ticket");
+    assert!(rt; graph.graph().is_unfunded(ticket) && is_target(graph.graph(), target));
+    let funded = graph.fund(ticket, target);
+    assert!(rt; funded.is_ok());
+}
+
+fn lend(rt: &impl Abort, graph: &mut ValuedGraph, thread: u32, lend: Lend) {
+    assert!(rt; is_thread(graph.graph(), thread));
+    assert!(rt; matches!(graph.graph().lend_of(thread), Some(Lend::Nobody)));
+    assert!(rt; may_lend(graph, thread, lend));
+    graph.lend(thread, lend);
+}
+
+/// Whether a thread may lend this way.
+fn may_lend(graph: &mut ValuedGraph, thread: u32, lend: Lend) -> bool
+    requires thread { 0 < thread }
+    requires within { thread ≤ graph.old.now.thread_limit }
+    ensures borrower { IsTrue result → IsBorrower graph.new.now.funding lend }
+    ensures apart { IsTrue result → ¬ LendReaches graph.new.now.funding lend thread }
+    ensures unchanged { graph.new ≡ graph.old }
+{
+    let thread = Node::Thread(thread);
+    match lend {
+        Lend::Nobody => false,
+        Lend::ToThread(server) => {
+            is_thread(graph.graph(), server) && !graph.reaches(Node::Thread(server), thread)
+        }
+        Lend::ToMutex(mutex) => {
+            is_mutex(graph.graph(), mutex) && !graph.reaches(Node::Mutex(mutex), thread)
+        }
+    }
+}
+
+fn take(rt: &impl Abort, graph: &mut ValuedGraph, mutex: u32, owner: u32) {
+    assert!(rt; is_mutex(graph.graph(), mutex) && is_thread(graph.graph(), owner));
+    assert!(rt; graph.graph().owner(mutex).is_none());
+    assert!(rt; !graph.reaches(Node::Thread(owner), Node::Mutex(mutex)));
+    graph.take_mutex(mutex, owner);
+}
+
+fn set_live(rt: &impl Abort, graph: &mut ValuedGraph, thread: u32, live: bool) {
+    assert!(rt; is_thread(graph.graph(), thread));
+    graph.set_live(thread, live);
+}
+
+fn remove_currency(rt: &impl Abort, graph: &mut ValuedGraph, currency: u32) {
+    assert!(rt; 0 < currency && graph.graph().is_currency(currency));
+    assert!(rt; graph.graph().is_unused(currency));
+    graph.remove_currency(currency);
+}
+
+fn make(rt: &impl Abort, graph: &mut ValuedGraph, change: Change) {
+    match change {
+        Change::Funding(currency, amount, target) => fund(rt, graph, currency, amount, target),
+        Change::Unfund(ticket) => {
+            assert!(rt; graph.graph().is_funding(ticket));
+            graph.unfund(ticket);
+        }
+        Change::Destroy(ticket) => {
+            assert!(rt; graph.graph().is_unfunded(ticket));
+            graph.destroy(ticket);
+        }
+        Change::RemoveCurrency(currency) => remove_currency(rt, graph, currency),
+        Change::Lend(thread, to) => lend(rt, graph, thread, to),
+        Change::Unlend(thread) => {
+            assert!(rt;
+                matches!(
+                    graph.graph().lend_of(thread),
+                    Some(Lend::ToThread(_) | Lend::ToMutex(_))
+                )
+            );
+            graph.unlend(thread);
+        }
+        Change::Take(mutex, owner) => take(rt, graph, mutex, owner),
+        Change::GiveUp(mutex) => {
+            assert!(rt; is_mutex(graph.graph(), mutex));
+            graph.give_up_mutex(mutex);
+        }
+        Change::Wake(thread) => set_live(rt, graph, thread, true),
+        Change::Sleep(thread) => set_live(rt, graph, thread, false),
+    }
+}
+
+/// How many edges a settling reads.
+fn settle(graph: &mut ValuedGraph) -> u64 {
+    let before = graph.reads();
+    graph.settle();
+    graph.reads().saturating_sub(before)
+}
+
+fn opening(
+    rt: &impl Abort,
+    alloc: Global,
+    threads: u32,
+    currencies: u32,
+) -> Result<ValuedGraph, Fail> {
+    let limits = Limits::new(Sizes {
+        tickets: 300,
+        currencies: 200,
+        threads: 16,
+        ports: 4,
+        mutexes: 4,
+        processors: 4,
+        scripts: 4,
+        quantum: 1000,
+        unit: 1,
+    });
+    let limits = limits.expect(rt, "limits are not in bounds");
+    let mut graph = ValuedGraph::new(alloc, &limits)?;
+    for _ in 0..threads {
+        add_thread(rt, &mut graph);
+    }
+    for _ in 0..currencies {
+        assert!(rt; graph.make_currency().is_some());
+    }
+    Ok(graph)
+}
+
+fn add_thread(rt: &impl Abort, graph: &mut ValuedGraph) {
+    assert!(rt; graph.graph().threads() < graph.graph().layout().threads);
+    graph.add_thread();
+}
+
+/// Whether a node is worth this much, and isn't stale.
+fn is_worth(graph: &ValuedGraph, node: Node, value: u64) -> bool {
+    let layout = graph.graph().layout();
+    let within = match node {
+        Node::Currency(currency) => currency <= layout.currencies,
+        Node::Thread(thread) => 0 < thread && thread <= layout.threads,
+        Node::Mutex(mutex) => 0 < mutex && mutex <= layout.mutexes,
+    };
+    within && !graph.is_stale(node) && graph.value_of(node) == value
+}
+
+/// Whether a ticket's issuer isn't stale, and one reading says that the ticket is worth this much.
+fn is_ticket_worth(graph: &mut ValuedGraph, number: u32, value: u64) -> bool {
+    let Some(ticket) = graph.graph().ticket(number) else {
+        return false;
+    };
+    if ticket.issuer > graph.graph().layout().currencies {
+        return false;
+    }
+    if graph.is_stale(Node::Currency(ticket.issuer)) {
+        return false;
+    }
+    let before = graph.reads();
+    graph.ticket_value(number) == value && graph.reads().saturating_sub(before) == 1
+}
+
+/// Some changes, how many edges the next settling reads, and what nodes are worth after it.
+#[derive(Clone, Copy)]
+struct Row<'a> {
+    changes: &'a [Change],
+    reads: u64,
+    worth: &'a [(Node, u64)],
+}
+
+fn play(rt: &impl Abort, graph: &mut ValuedGraph, row: &Row) {
+    for step in row.changes {
+        make(rt, graph, *step);
+    }
+    assert!(rt; settle(graph) == row.reads, "reads");
+    check(rt, graph, row.worth);
+}
+
+fn check(rt: &impl Abort, graph: &ValuedGraph, worth: &[(Node, u64)]) {
+    for (node, value) in worth {
+        assert!(rt; is_worth(graph, *node, *value), "worth");
+    }
+}
+
+fn play_all(rt: &impl Abort, graph: &mut ValuedGraph, rows: &[Row]) {
+    for row in rows {
+        play(rt, graph, row);
+    }
+}
+
+/// Base funds a currency, and it three threads. What isn't stale is not read again.
+#[test]
+fn shared_currency(rt: HostRuntime) -> Result<(), Fail> {
+    let rows = [
+        Row {
+            changes: &[
+                Change::Funding(0, 100, Target::Currency(1)),
+                Change::Funding(1, 33, Target::Thread(1)),
+                Change::Funding(1, 33, Target::Thread(2)),
+                Change::Funding(1, 33, Target::Thread(3)),
+                Change::Wake(1),
+                Change::Wake(2),
+                Change::Wake(3),
+            ],
+            reads: 4,
+            worth: &[
+                (Node::Currency(1), 100),
+                (Node::Thread(1), 33),
+                (Node::Thread(2), 33),
+                (Node::Thread(3), 33),
+            ],
+        },
+        Row {
+            changes: &[],
+            reads: 0,
+            worth: &[(Node::Currency(1), 100), (Node::Thread(3), 33)],
+        },
+        Row {
+            changes: &[Change::Funding(0, 50, Target::Currency(1))],
+            reads: 5,
+            worth: &[(Node::Currency(1), 150), (Node::Thread(2), 50)],
+        },
+    ];
+    let mut graph = opening(&rt, rt.alloc(), 3, 1)?;
+    play_all(&rt, &mut graph, &rows);
+    assert!(rt; is_ticket_worth(&mut graph, 1, 100));
+    assert!(rt; is_ticket_worth(&mut graph, 4, 50));
+    Ok(())
+}
+
+/// A ticket two currencies upstream of a thread goes: the thread is worth what it is funded with elsewhere.
+#[test]
+fn unfunded_upstream(rt: HostRuntime) -> Result<(), Fail> {
+    let rows = [
+        Row {
+            changes: &[
+                Change::Funding(0, 100, Target::Currency(1)),
+                Change::Funding(1, 10, Target::Currency(2)),
+                Change::Funding(2, 7, Target::Thread(1)),
+                Change::Funding(0, 60, Target::Thread(1)),
+                Change::Wake(1),
+            ],
+            reads: 4,
+            worth: &[(Node::Currency(2), 100), (Node::Thread(1), 160)],
+        },
+        Row {
+            changes: &[Change::Unfund(1)],
+            reads: 3,
+            worth: &[(Node::Currency(1), 0), (Node::Thread(1), 60)],
+        },
+    ];
+    let mut graph = opening(&rt, rt.alloc(), 1, 2)?;
+    play_all(&rt, &mut graph, &rows);
+    Ok(())
+}
+
+/// The last active edge out of a currency goes and another one comes, and nothing is settled between.
+#[test]
+fn the_last_goes_and_another_comes(rt: HostRuntime) -> Result<(), Fail> {
+    let rows = [
+        Row {
+            changes: &[
+                Change::Wake(1),
+                Change::Wake(2),
+                Change::Funding(0, 60, Target::Currency(1)),
+                Change::Funding(1, 10, Target::Thread(1)),
+            ],
+            reads: 2,
+            worth: &[(Node::Thread(1), 60), (Node::Thread(2), 0)],
+        },
+        Row {
+            changes: &[Change::Unfund(2), Change::Funding(1, 25, Target::Thread(2))],
+            reads: 2,
+            worth: &[(Node::Thread(1), 0), (Node::Thread(2), 60)],
+        },
+        Row {
+            changes: &[Change::Destroy(2), Change::Unfund(3), Change::Destroy(3)],
+            reads: 1,
+            worth: &[(Node::Currency(1), 0), (Node::Thread(2), 0)],
+        },
+        Row {
+            changes: &[
+                Change::Unfund(1),
+                Change::RemoveCurrency(1),
+                Change::Sleep(2),
+            ],
+            reads: 0,
+            worth: &[(Node::Thread(1), 0), (Node::Thread(2), 0)],
+        },
+    ];
+    let mut graph = opening(&rt, rt.alloc(), 2, 1)?;
+    play_all(&rt, &mut graph, &rows);
+    Ok(())
+}
+
+/// A client lends to a server, and two threads wait for a mutex that the server owns.
+#[test]
+fn lent_and_inherited(rt: HostRuntime) -> Result<(), Fail> {
+    let rows = [
+        Row {
+            changes: &[
+                Change::Funding(0, 10, Target::Thread(1)),
+                Change::Funding(0, 20, Target::Thread(2)),
+                Change::Funding(0, 30, Target::Thread(3)),
+                Change::Wake(4),
+                Change::Lend(1, Lend::ToThread(4)),
+            ],
+            reads: 4,
+            worth: &[(Node::Thread(1), 10), (Node::Thread(4), 10)],
+        },
+        Row {
+            changes: &[
+                Change::Take(1, 4),
+                Change::Lend(2, Lend::ToMutex(1)),
+                Change::Lend(3, Lend::ToMutex(1)),
+            ],
+            reads: 6,
+            worth: &[(Node::Mutex(1), 50), (Node::Thread(4), 60)],
+        },
+        Row {
+            changes: &[Change::Unlend(1), Change::GiveUp(1), Change::GiveUp(2)],
+            reads: 5,
+            worth: &[
+                (Node::Thread(1), 0),
+                (Node::Mutex(1), 0),
+                (Node::Thread(4), 0),
+            ],
+        },
+    ];
+    let mut graph = opening(&rt, rt.alloc(), 4, 0)?;
+    play_all(&rt, &mut graph, &rows);
+    Ok(())
+}
+
+/// A thread gets stale before a currency that funds it, and there is a ticket of base before that currency's. Each of
+/// the three edges into the thread is read once, and so are the two into the currency.
+#[test]
+fn stale_before_its_source(rt: HostRuntime) -> Result<(), Fail> {
+    let rows = [
+        Row {
+            changes: &[
+                Change::Funding(0, 1, Target::Thread(1)),
+                Change::Funding(1, 1, Target::Thread(1)),
+                Change::Funding(0, 1, Target::Currency(1)),
+                Change::Wake(1),
+            ],
+            reads: 3,
+            worth: &[(Node::Currency(1), 1), (Node::Thread(1), 2)],
+        },
+        Row {
+            changes: &[
+                Change::Funding(0, 1, Target::Thread(1)),
+                Change::Funding(0, 1, Target::Currency(1)),
+            ],
+            reads: 5,
+            worth: &[(Node::Currency(1), 2), (Node::Thread(1), 4)],
+        },
+    ];
+    let mut graph = opening(&rt, rt.alloc(), 1, 1)?;
+    play_all(&rt, &mut graph, &rows);
+    Ok(())
+}
+
+/// A thread with a hundred tickets of base gets stale before each of twenty currencies that fund it too. The edges into
+/// it are read once, and not again for each of the currencies.
+#[test]
+fn stale_before_many_sources(rt: HostRuntime) -> Result<(), Fail> {
+    let mut graph = opening(&rt, rt.alloc(), 1, 20)?;
+    set_live(&rt, &mut graph, 1, true);
+    for _ in 0..100 {
+        fund(&rt, &mut graph, 0, 1, Target::Thread(1));
+    }
+    for currency in 1..=20 {
+        fund(&rt, &mut graph, currency, 1, Target::Thread(1));
+        fund(&rt, &mut graph, 0, 1, Target::Currency(currency));
+    }
+    assert!(rt; settle(&mut graph) == 140);
+    assert!(rt; is_worth(&graph, Node::Thread(1), 120));
+    Ok(())
+}
+
+/// A step of a ladder: the currency before it funds two, and both fund the next.
+fn diamond(rt: &impl Abort, graph: &mut ValuedGraph, from: u32)
+    requires { from < 1000 }
+{
+    fund(rt, graph, from, 1, Target::Currency(from + 1));
+    fund(rt, graph, from, 1, Target::Currency(from + 2));
+    fund(rt, graph, from + 1, 1, Target::Currency(from + 3));
+    fund(rt, graph, from + 2, 1, Target::Currency(from + 3));
+}
+
+/// A ladder of 64 diamonds: as many ways lead through it as two to the 64. Each of its edges is read once.
+#[test]
+fn ladder_of_diamonds(rt: HostRuntime) -> Result<(), Fail> {
+    let mut graph = opening(&rt, rt.alloc(), 1, 192)?;
+    for step in 0..64 {
+        diamond(&rt, &mut graph, 3 * step);
+    }
+    fund(&rt, &mut graph, 192, 1, Target::Thread(1));
+    set_live(&rt, &mut graph, 1, true);
+    assert!(rt; settle(&mut graph) == 257);
+    assert!(rt; is_worth(&graph, Node::Thread(1), 2));
+    Ok(())
+}

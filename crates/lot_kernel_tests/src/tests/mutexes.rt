@@ -1,0 +1,237 @@
+//! Locks and unlocks among a few threads, with what is lent by them.
+use super::helpers::{Won, add_thread, finish, is_won};
+use lot_machine::{Limits, Outcome, Sizes, Status};
+use lot_mutex::{Lottery, are_waiting, have_same_owners, lock, unlock};
+use lot_queues::Queues;
+use lot_threads::{Effect, Threads};
+use std::alloc::Global;
+use std::process::Abort;
+use std::test::Fail;
+
+/// A step of a row: a trap and its outcome, or a question and its expected answer.
+#[derive(Clone, Copy)]
+enum Step {
+    /// A new thread, which this much base funds.
+    AddThread(u32),
+    Lock(u32, u32, Outcome),
+    /// An unlock by a thread of a mutex, with the number of its lottery, and how many edges it reads.
+    Unlock(u32, u32, u128, Outcome, u64),
+    /// The result of a draw.
+    Wins(u128, Won),
+    Stands(u32, Status),
+    Owner(u32, Option<u32>),
+}
+
+/// Threads and queues, and room for a lottery and to list waiters.
+#[derive(Drop)]
+struct Scene {
+    threads: Threads,
+    queues: Queues,
+    lottery: Lottery,
+    waiters: Vec<u32>,
+}
+
+fn make_lock(
+    rt: &impl Abort,
+    threads: &mut Threads,
+    queues: &mut Queues,
+    thread: u32,
+    mutex: u32,
+) -> Effect {
+    assert!(rt; 0 < mutex && mutex <= queues.mutexes());
+    assert!(rt; 0 < thread && thread <= queues.threads());
+    assert!(rt; threads.is_live(thread) && queues.is_nowhere(thread));
+    assert!(rt; threads.records().len() == queues.threads() as usize);
+    assert!(rt; have_same_owners(threads, queues));
+    lock(threads, queues, thread, mutex)
+}
+
+/// An unlock, and how many edges it reads.
+fn make_unlock(
+    rt: &impl Abort,
+    scene: &mut Scene,
+    owner: u32,
+    mutex: u32,
+    d: u128,
+) -> (Effect, u64) {
+    let Scene {
+        threads,
+        queues,
+        lottery,
+        waiters,
+    } = scene;
+    assert!(rt; 0 < mutex && mutex <= queues.mutexes());
+    assert!(rt; queues.owner(mutex) == Some(owner) && threads.is_live(owner));
+    assert!(rt; waiters.capacity() >= queues.room() as usize);
+    queues.list_waiters(mutex, waiters);
+    assert!(rt; are_waiting(threads, waiters, mutex));
+    assert!(rt; threads.records().len() == queues.threads() as usize);
+    assert!(rt; have_same_owners(threads, queues));
+    assert!(rt; lottery.room() == queues.room());
+    let before = threads.meter().ticket_reads;
+    let effect = unlock(threads, queues, lottery, owner, mutex, d);
+    let read = threads.meter().ticket_reads.saturating_sub(before);
+    (effect, read)
+}
+
+/// Makes a trap, and compares its outcome.
+fn make_trap(rt: &impl Abort, scene: &mut Scene, step: Step) {
+    match step {
+        Step::AddThread(amount) => {
+            add_thread(rt, &mut scene.threads, &mut scene.queues, amount);
+        }
+        Step::Lock(thread, mutex, outcome) => {
+            let effect = make_lock(rt, &mut scene.threads, &mut scene.queues, thread, mutex);
+            assert!(rt; effect.outcome == outcome);
+            finish(rt, &mut scene.threads, thread, effect.after);
+        }
+        Step::Unlock(owner, mutex, d, outcome, reads) => {
+            let (effect, read) = make_unlock(rt, scene, owner, mutex, d);
+            assert!(rt; effect.outcome == outcome && read == reads);
+            finish(rt, &mut scene.threads, owner, effect.after);
+        }
+        _ => {}
+    }
+}
+
+/// Asks, and compares the answer.
+fn check(rt: &impl Abort, scene: &mut Scene, step: Step) {
+    match step {
+        Step::Wins(d, won) => {
+            let winner = scene.threads.draw(d);
+            assert!(rt; is_won(winner, won), "at {d}");
+        }
+        Step::Stands(thread, status) => {
+            let found = scene.threads.record(thread).map(|r| r.status);
+            assert!(rt; found == Some(status), "thread {thread}");
+        }
+        Step::Owner(mutex, owner) => {
+            assert!(rt;
+                scene.threads.graph().owner(mutex) == owner,
+                "mutex {mutex}"
+            );
+        }
+        _ => {}
+    }
+}
+
+/// Takes the steps among threads of these limits, of which none is there yet.
+fn play(
+    rt: &impl Abort,
+    alloc: Global,
+    limits: Option<Limits>,
+    steps: &[Step],
+) -> Result<(), Fail> {
+    let limits = limits.ok_or("limits")?;
+    let mut scene = Scene {
+        threads: Threads::new(alloc, &limits)?,
+        queues: Queues::new(alloc, limits.ports, limits.mutexes, limits.threads)?,
+        lottery: Lottery::new(alloc, limits.threads)?,
+        waiters: Vec::with_capacity(alloc, limits.threads as usize)?,
+    };
+    for step in steps {
+        make_trap(rt, &mut scene, *step);
+        check(rt, &mut scene, *step);
+    }
+    Ok(())
+}
+
+fn small_limits() -> Option<Limits> {
+    Limits::new(Sizes {
+        tickets: 20,
+        threads: 5,
+        mutexes: 2,
+        ..Sizes::SMALLEST
+    })
+}
+
+const PASSED: [Step; 19] = [
+    Step::AddThread(1),
+    Step::AddThread(10),
+    Step::AddThread(100),
+    Step::Lock(1, 1, Outcome::Locked),
+    Step::Owner(1, Some(1)),
+    Step::Lock(3, 1, Outcome::Waits),
+    Step::Lock(2, 1, Outcome::Waits),
+    Step::Stands(2, Status::Waiting(1)),
+    Step::Wins(110, (1, 110, 111)),
+    Step::Unlock(
+        1,
+        1,
+        105,
+        Outcome::Passed {
+            to: 2,
+            draw: Some((105, 110)),
+        },
+        0,
+    ),
+    Step::Owner(1, Some(2)),
+    Step::Stands(1, Status::Ready),
+    Step::Stands(2, Status::Ready),
+    Step::Stands(3, Status::Waiting(1)),
+    Step::Wins(110, (2, 110, 111)),
+    Step::Unlock(
+        2,
+        1,
+        110,
+        Outcome::Passed {
+            to: 3,
+            draw: Some((10, 100)),
+        },
+        0,
+    ),
+    Step::Wins(110, (3, 110, 111)),
+    Step::Unlock(3, 1, 0, Outcome::Freed, 0),
+    Step::Owner(1, None),
+];
+
+// The lottery is among the waiters in the order of waiting, by their values. The others go on waiting and lend to the
+// next owner, and the last owner frees the mutex.
+#[test]
+fn a_mutex_is_passed(rt: HostRuntime) -> Result<(), Fail> {
+    play(&rt, rt.alloc(), small_limits(), &PASSED)
+}
+
+const UNSETTLED: [Step; 5] = [
+    Step::AddThread(1),
+    Step::AddThread(10),
+    Step::Lock(1, 2, Outcome::Locked),
+    Step::Lock(2, 2, Outcome::Waits),
+    Step::Unlock(
+        1,
+        2,
+        3,
+        Outcome::Passed {
+            to: 2,
+            draw: Some((3, 10)),
+        },
+        4,
+    ),
+];
+
+// An unlock reads what is stale before its lottery: two tickets, the lend and the owner.
+#[test]
+fn an_unlock_settles(rt: HostRuntime) -> Result<(), Fail> {
+    play(&rt, rt.alloc(), small_limits(), &UNSETTLED)
+}
+
+const NO_MUTEX: [Step; 2] = [Step::AddThread(3), Step::Wins(2, (1, 2, 3))];
+
+#[test]
+fn the_least_size(rt: HostRuntime) -> Result<(), Fail> {
+    play(&rt, rt.alloc(), Limits::new(Sizes::SMALLEST), &NO_MUTEX)
+}
+
+const LAST_MUTEX: [Step; 6] = [
+    Step::AddThread(3),
+    Step::AddThread(4),
+    Step::Lock(2, 256, Outcome::Locked),
+    Step::Lock(1, 256, Outcome::Waits),
+    Step::Wins(1791, (2, 1791, 1792)),
+    Step::Owner(256, Some(2)),
+];
+
+#[test]
+fn the_largest_size(rt: HostRuntime) -> Result<(), Fail> {
+    play(&rt, rt.alloc(), Limits::new(Sizes::LARGEST), &LAST_MUTEX)
+}

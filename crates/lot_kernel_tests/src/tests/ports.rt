@@ -1,0 +1,278 @@
+//! Calls, receipts and replies among a few threads, with what is lent by them.
+use super::helpers::{Won, add_thread, finish, is_won};
+use lot_machine::{Limits, Outcome, Sizes, Status};
+use lot_ports::{call, receive, reply, serve};
+use lot_queues::Queues;
+use lot_threads::{Effect, Threads};
+use std::alloc::Global;
+use std::process::Abort;
+use std::test::Fail;
+
+/// A step of a row: a trap and its outcome, or a question and its expected answer.
+#[derive(Clone, Copy)]
+enum Step {
+    /// A new thread, which this much base funds.
+    AddThread(u32),
+    /// A call by a thread to a port, with a number.
+    Call(u32, u32, u32, Outcome),
+    Receive(u32, u32, Outcome),
+    /// A reply by a thread with a number, or `None` if it has no client.
+    Reply(u32, u32, Option<Outcome>),
+    /// A reply by a thread with a number, and a receipt at a port; `None` if it has no client.
+    Serve(u32, u32, u32, Option<Outcome>),
+    /// The result of a draw.
+    Wins(u128, Won),
+    Stands(u32, Status),
+    /// What is delivered to a thread when it next runs.
+    Gets(u32, Option<u32>),
+}
+
+fn make_call(
+    rt: &impl Abort,
+    threads: &mut Threads,
+    queues: &mut Queues,
+    caller: u32,
+    port: u32,
+    number: u32,
+) -> Effect {
+    assert!(rt; 0 < port && port <= queues.ports());
+    assert!(rt; 0 < caller && caller <= queues.threads());
+    assert!(rt; queues.is_nowhere(caller));
+    assert!(rt; threads.records().len() == queues.threads() as usize);
+    call(threads, queues, caller, port, number)
+}
+
+fn make_receipt(
+    rt: &impl Abort,
+    threads: &mut Threads,
+    queues: &mut Queues,
+    server: u32,
+    port: u32,
+) -> Effect {
+    assert!(rt; 0 < port && port <= queues.ports());
+    assert!(rt; 0 < server && server <= queues.threads());
+    assert!(rt; threads.is_live(server) && queues.is_nowhere(server));
+    assert!(rt; threads.records().len() == queues.threads() as usize);
+    receive(threads, queues, server, port)
+}
+
+fn make_reply(
+    rt: &impl Abort,
+    threads: &mut Threads,
+    queues: &mut Queues,
+    server: u32,
+    number: u32,
+) -> Option<Effect> {
+    assert!(rt; 0 < server && server <= queues.threads());
+    assert!(rt; threads.records().len() == queues.threads() as usize);
+    let client = queues.first_client(server)?;
+    Some(reply(threads, queues, server, client, number))
+}
+
+fn make_serving(
+    rt: &impl Abort,
+    threads: &mut Threads,
+    queues: &mut Queues,
+    server: u32,
+    port: u32,
+    number: u32,
+) -> Option<Effect> {
+    assert!(rt; 0 < port && port <= queues.ports());
+    assert!(rt; 0 < server && server <= queues.threads());
+    assert!(rt; threads.is_live(server) && queues.is_nowhere(server));
+    assert!(rt; threads.records().len() == queues.threads() as usize);
+    let client = queues.first_client(server)?;
+    Some(serve(threads, queues, server, client, port, number))
+}
+
+/// Makes a trap, and compares its outcome.
+fn make_trap(rt: &impl Abort, threads: &mut Threads, queues: &mut Queues, step: Step) {
+    match step {
+        Step::AddThread(amount) => add_thread(rt, threads, queues, amount),
+        Step::Call(caller, port, number, outcome) => {
+            let effect = make_call(rt, threads, queues, caller, port, number);
+            assert!(rt; effect.outcome == outcome);
+            finish(rt, threads, caller, effect.after);
+        }
+        Step::Receive(server, port, outcome) => {
+            let effect = make_receipt(rt, threads, queues, server, port);
+            assert!(rt; effect.outcome == outcome);
+            finish(rt, threads, server, effect.after);
+        }
+        Step::Reply(server, number, outcome) => {
+            let effect = make_reply(rt, threads, queues, server, number);
+            assert!(rt; effect.map(|e| e.outcome) == outcome);
+        }
+        Step::Serve(server, port, number, outcome) => {
+            let effect = make_serving(rt, threads, queues, server, port, number);
+            assert!(rt; effect.map(|e| e.outcome) == outcome);
+            if let Some(made) = effect {
+                finish(rt, threads, server, made.after);
+            }
+        }
+        _ => {}
+    }
+}
+
+/// Asks, and compares the answer.
+fn check(rt: &impl Abort, threads: &mut Threads, step: Step) {
+    match step {
+        Step::Wins(d, won) => {
+            let winner = threads.draw(d);
+            assert!(rt; is_won(winner, won), "at {d}");
+        }
+        Step::Stands(thread, status) => {
+            let found = threads.record(thread).map(|r| r.status);
+            assert!(rt; found == Some(status), "thread {thread}");
+        }
+        Step::Gets(thread, number) => {
+            let found = threads.record(thread).map(|r| r.delivered);
+            assert!(rt; found == Some(number), "thread {thread}");
+        }
+        _ => {}
+    }
+}
+
+/// Takes the steps among threads of these limits, of which none is there yet.
+fn play(
+    rt: &impl Abort,
+    alloc: Global,
+    limits: Option<Limits>,
+    steps: &[Step],
+) -> Result<(), Fail> {
+    let limits = limits.ok_or("limits")?;
+    let mut threads = Threads::new(alloc, &limits)?;
+    let mut queues = Queues::new(alloc, limits.ports, limits.mutexes, limits.threads)?;
+    for step in steps {
+        make_trap(rt, &mut threads, &mut queues, *step);
+        check(rt, &mut threads, *step);
+    }
+    Ok(())
+}
+
+fn small_limits() -> Option<Limits> {
+    Limits::new(Sizes {
+        tickets: 20,
+        currencies: 1,
+        threads: 4,
+        ports: 2,
+        ..Sizes::SMALLEST
+    })
+}
+
+const RECEIVED_FIRST: [Step; 13] = [
+    Step::AddThread(100),
+    Step::AddThread(20),
+    Step::Receive(2, 1, Outcome::Waits),
+    Step::Stands(2, Status::Receiving(1)),
+    Step::Wins(99, (1, 99, 100)),
+    Step::Call(1, 1, 7, Outcome::ServedBy(2)),
+    Step::Stands(1, Status::Served(2)),
+    Step::Gets(2, Some(7)),
+    Step::Wins(119, (2, 119, 120)),
+    Step::Reply(2, 9, Some(Outcome::Replied(1))),
+    Step::Gets(1, Some(9)),
+    Step::Wins(119, (2, 119, 120)),
+    Step::Reply(2, 9, None),
+];
+
+// A server that waits is Ready at the call, and is worth what its client has too until it replies.
+#[test]
+fn a_server_waits(rt: HostRuntime) -> Result<(), Fail> {
+    play(&rt, rt.alloc(), small_limits(), &RECEIVED_FIRST)
+}
+
+const QUEUED_FIRST: [Step; 18] = [
+    Step::AddThread(1),
+    Step::AddThread(10),
+    Step::AddThread(100),
+    Step::Call(2, 2, 5, Outcome::Queued),
+    Step::Call(3, 2, 6, Outcome::Queued),
+    Step::Stands(2, Status::Queued(2)),
+    Step::Wins(8, (1, 0, 1)),
+    Step::Receive(
+        1,
+        2,
+        Outcome::Received {
+            client: 2,
+            number: 5,
+        },
+    ),
+    Step::Stands(2, Status::Served(1)),
+    Step::Wins(10, (1, 10, 11)),
+    Step::Receive(
+        1,
+        2,
+        Outcome::Received {
+            client: 3,
+            number: 6,
+        },
+    ),
+    Step::Wins(110, (1, 110, 111)),
+    Step::Receive(1, 1, Outcome::Waits),
+    Step::Reply(1, 4, Some(Outcome::Replied(2))),
+    Step::Gets(2, Some(4)),
+    Step::Wins(109, (2, 9, 10)),
+    Step::Reply(1, 3, Some(Outcome::Replied(3))),
+    Step::Wins(109, (3, 109, 110)),
+];
+
+const SERVED: [Step; 13] = [
+    Step::AddThread(1),
+    Step::AddThread(10),
+    Step::AddThread(100),
+    Step::Serve(1, 1, 7, None),
+    Step::Receive(1, 1, Outcome::Waits),
+    Step::Call(2, 1, 5, Outcome::ServedBy(1)),
+    Step::Call(3, 1, 6, Outcome::Queued),
+    Step::Serve(
+        1,
+        1,
+        8,
+        Some(Outcome::RepliedThenReceived {
+            to: 2,
+            client: 3,
+            number: 6,
+        }),
+    ),
+    Step::Gets(2, Some(8)),
+    Step::Wins(110, (2, 110, 111)),
+    Step::Serve(1, 1, 9, Some(Outcome::RepliedThenWaits(3))),
+    Step::Stands(1, Status::Receiving(1)),
+    Step::Wins(109, (3, 109, 110)),
+];
+
+// A server replies and takes the next call, or waits, in one trap; with no client it does neither.
+#[test]
+fn a_server_serves(rt: HostRuntime) -> Result<(), Fail> {
+    play(&rt, rt.alloc(), small_limits(), &SERVED)
+}
+
+// A server takes calls in the order in which clients made them, and replies in the order in which it took them.
+#[test]
+fn calls_wait(rt: HostRuntime) -> Result<(), Fail> {
+    play(&rt, rt.alloc(), small_limits(), &QUEUED_FIRST)
+}
+
+const NO_PORT: [Step; 3] = [
+    Step::AddThread(3),
+    Step::Reply(1, 0, None),
+    Step::Wins(2, (1, 2, 3)),
+];
+
+#[test]
+fn the_least_size(rt: HostRuntime) -> Result<(), Fail> {
+    play(&rt, rt.alloc(), Limits::new(Sizes::SMALLEST), &NO_PORT)
+}
+
+const LAST_PORT: [Step; 4] = [
+    Step::AddThread(3),
+    Step::AddThread(4),
+    Step::Receive(1, 256, Outcome::Waits),
+    Step::Call(2, 256, 4294967295, Outcome::ServedBy(1)),
+];
+
+#[test]
+fn the_largest_size(rt: HostRuntime) -> Result<(), Fail> {
+    play(&rt, rt.alloc(), Limits::new(Sizes::LARGEST), &LAST_PORT)
+}

@@ -1,0 +1,364 @@
+//! Threads of small graphs and of large ones, whose records change between draws.
+ghost use Rattle.std.specs.Prelude.{IsTrue};
+ghost use Rattle.lot_graph.specs.Graphs.{IsNodeOf, IsTarget};
+
+use super::helpers::{Won, is_won};
+use lot_draw::Winner;
+use lot_graph::Graph;
+use lot_machine::{Limits, Name, Node, Record, Sizes, Status, Target, Thread};
+use lot_threads::Threads;
+use std::alloc::Global;
+use std::process::Abort;
+use std::test::Fail;
+
+/// A step of a row: a change, or a question and its expected answer.
+#[derive(Clone, Copy)]
+enum Step {
+    AddThread,
+    MakeCurrency,
+    /// A new ticket of this amount and currency, which funds the target.
+    Fund(u32, u32, Target),
+    Unfund(u32),
+    /// A thread's status and compensation from now on.
+    Change(u32, Status, Option<u32>),
+    /// A thread may not have this status.
+    Refuses(u32, Status),
+    /// A thread becomes the owner of a mutex.
+    Take(u32, u32),
+    GiveUp(u32),
+    /// A mutex moves from one thread to another.
+    Move(u32, u32, u32),
+    /// A drawn number, and who wins.
+    Wins(u128, Won),
+    /// The same, with how many edges the draw reads.
+    Reads(u128, Won, u64),
+    /// A drawn number that nobody wins.
+    Idles(u128),
+    /// Who runs on a processor, and the ticks used there.
+    Runs(u32, Option<(u32, u32)>),
+    /// What a node is worth after settling.
+    Worth(Node, u64),
+    /// How much of a currency is active.
+    Active(u32, u64),
+}
+
+/// Whether a ticket may fund the target.
+fn is_target(graph: &Graph, target: Target) -> bool
+    ensures { IsTrue result → IsTarget graph.now.funding target }
+{
+    match target {
+        Target::Unfunded => false,
+        Target::Currency(currency) => 0 < currency && graph.is_currency(currency),
+        Target::Thread(thread) => 0 < thread && thread <= graph.threads(),
+    }
+}
+
+fn is_node(graph: &Graph, node: Node) -> bool
+    ensures { IsTrue result → IsNodeOf graph.now node }
+{
+    match node {
+        Node::Currency(currency) => graph.is_currency(currency),
+        Node::Thread(thread) => 0 < thread && thread <= graph.threads(),
+        Node::Mutex(mutex) => 0 < mutex && mutex <= graph.mutexes(),
+    }
+}
+
+fn add_thread(rt: &impl Abort, threads: &mut Threads) {
+    let made = threads.records().len();
+    assert!(rt; made < threads.graph().layout().threads as usize);
+    let name = Name::new("thread").expect(rt, "a name");
+    let number = threads.add_thread(Thread { name, script: 1 });
+    assert_eq!(rt; number as usize, made + 1);
+    assert_eq!(rt; threads.threads().len(), made + 1);
+}
+
+fn fund(rt: &impl Abort, threads: &mut Threads, amount: u32, currency: u32, target: Target) {
+    let graph = threads.graph();
+    assert!(rt; 0 < amount && graph.is_currency(currency));
+    assert!(rt; is_target(graph, target));
+    let ticket = threads
+        .issue(currency, amount)
+        .expect(rt, "no ticket is left");
+    assert!(rt; threads.graph().is_unfunded(ticket));
+    assert!(rt; threads.fund(ticket, target).is_ok());
+}
+
+fn unfund(rt: &impl Abort, threads: &mut Threads, ticket: u32) {
+    assert!(rt; threads.graph().is_funding(ticket));
+    threads.unfund(ticket);
+    assert!(rt; threads.graph().is_unfunded(ticket));
+    threads.destroy(ticket);
+}
+
+/// The thread's record, with another status and compensation.
+fn record_with(
+    rt: &impl Abort,
+    threads: &Threads,
+    thread: u32,
+    status: Status,
+    compensation: Option<u32>,
+) -> Record {
+    let before = threads.record(thread).expect(rt, "a thread");
+    Record {
+        status,
+        compensation,
+        ..before
+    }
+}
+
+fn change(
+    rt: &impl Abort,
+    threads: &mut Threads,
+    thread: u32,
+    status: Status,
+    compensation: Option<u32>,
+) {
+    let next = record_with(rt, threads, thread, status, compensation);
+    assert!(rt; threads.can_change(thread, next), "{thread} can't change");
+    threads.change(thread, next);
+    assert!(rt; threads.record(thread) == Some(next));
+}
+
+fn take(rt: &impl Abort, threads: &mut Threads, mutex: u32, owner: u32) {
+    let graph = threads.graph();
+    assert!(rt; 0 < mutex && mutex <= graph.mutexes() && graph.owner(mutex).is_none());
+    assert!(rt; 0 < owner && owner <= graph.threads());
+    assert!(rt; !threads.reaches(Node::Thread(owner), Node::Mutex(mutex)));
+    threads.take_mutex(mutex, owner);
+}
+
+fn give_up(rt: &impl Abort, threads: &mut Threads, mutex: u32) {
+    assert!(rt; 0 < mutex && mutex <= threads.graph().mutexes());
+    threads.give_up_mutex(mutex);
+}
+
+fn move_mutex(rt: &impl Abort, threads: &mut Threads, mutex: u32, owner: u32, next: u32) {
+    let graph = threads.graph();
+    assert!(rt; 0 < mutex && mutex <= graph.mutexes() && graph.owner(mutex) == Some(owner));
+    assert!(rt; 0 < next && next <= graph.threads() && owner != next);
+    assert!(rt; threads.is_live(owner) && threads.is_live(next));
+    threads.move_mutex(mutex, owner, next);
+}
+
+/// A draw, and how many edges it read.
+fn draw(threads: &mut Threads, d: u128) -> (Option<Winner>, u64) {
+    let before = threads.meter().ticket_reads;
+    let winner = threads.draw(d);
+    (winner, threads.meter().ticket_reads.saturating_sub(before))
+}
+
+/// What the thread or mutex is worth after settling.
+fn worth(rt: &impl Abort, threads: &mut Threads, node: Node) -> u64 {
+    threads.settle();
+    assert!(rt; is_node(threads.graph(), node));
+    assert!(rt; !threads.is_stale(node));
+    threads.value_of(node)
+}
+
+fn active(rt: &impl Abort, threads: &Threads, currency: u32) -> u64 {
+    assert!(rt; threads.graph().is_currency(currency));
+    threads.active_amount(currency)
+}
+
+/// Makes a change of the threads.
+fn make_change(rt: &impl Abort, threads: &mut Threads, step: Step) {
+    match step {
+        Step::AddThread => add_thread(rt, threads),
+        Step::MakeCurrency => assert!(rt; threads.make_currency().is_some()),
+        Step::Fund(amount, currency, target) => fund(rt, threads, amount, currency, target),
+        Step::Unfund(ticket) => unfund(rt, threads, ticket),
+        Step::Change(thread, status, used) => change(rt, threads, thread, status, used),
+        Step::Take(mutex, owner) => take(rt, threads, mutex, owner),
+        Step::GiveUp(mutex) => give_up(rt, threads, mutex),
+        Step::Move(mutex, owner, next) => move_mutex(rt, threads, mutex, owner, next),
+        _ => {}
+    }
+}
+
+/// Asks, and checks the answer.
+fn check(rt: &impl Abort, threads: &mut Threads, step: Step) {
+    match step {
+        Step::Refuses(thread, status) => {
+            let next = record_with(rt, threads, thread, status, None);
+            assert!(rt; !threads.can_change(thread, next), "{thread} can change");
+        }
+        Step::Wins(d, won) => assert!(rt; is_won(draw(threads, d).0, won), "at {d}"),
+        Step::Reads(d, won, reads) => {
+            let (winner, read) = draw(threads, d);
+            assert!(rt; is_won(winner, won), "at {d}");
+            assert!(rt; read == reads, "{read} at {d}");
+        }
+        Step::Idles(d) => assert!(rt; draw(threads, d).0.is_none(), "at {d}"),
+        Step::Runs(processor, runs) => {
+            let runner = threads.runner(processor).map(|r| (r.thread, r.used));
+            assert!(rt; runner == runs, "on {processor}");
+        }
+        Step::Worth(node, value) => assert_eq!(rt; worth(rt, threads, node), value),
+        Step::Active(currency, amount) => assert_eq!(rt; active(rt, threads, currency), amount),
+        _ => {}
+    }
+}
+
+/// Takes the steps among new threads of these limits.
+fn play(
+    rt: &impl Abort,
+    alloc: Global,
+    limits: Option<Limits>,
+    steps: &[Step],
+) -> Result<(), Fail> {
+    let limits = limits.ok_or("limits")?;
+    let mut threads = Threads::new(alloc, &limits)?;
+    for step in steps {
+        make_change(rt, &mut threads, *step);
+        check(rt, &mut threads, *step);
+    }
+    Ok(())
+}
+
+fn small_limits() -> Option<Limits> {
+    Limits::new(Sizes {
+        tickets: 20,
+        currencies: 4,
+        threads: 8,
+        mutexes: 2,
+        processors: 2,
+        quantum: 100,
+        ..Sizes::SMALLEST
+    })
+}
+
+/// On processor 1, nothing used yet.
+const FIRST: Status = Status::Running {
+    processor: 1,
+    used: 0,
+};
+
+/// On processor 2, after 30 ticks.
+const SECOND: Status = Status::Running {
+    processor: 2,
+    used: 30,
+};
+
+/// On processor 1, after 20 ticks.
+const LATER: Status = Status::Running {
+    processor: 1,
+    used: 20,
+};
+
+const RUNNING: [Step; 17] = [
+    Step::AddThread,
+    Step::AddThread,
+    Step::Fund(10, 0, Target::Thread(1)),
+    Step::Fund(5, 0, Target::Thread(2)),
+    Step::Wins(9, (1, 9, 15)),
+    Step::Change(1, FIRST, None),
+    Step::Runs(1, Some((1, 0))),
+    Step::Runs(2, None),
+    Step::Refuses(2, FIRST),
+    Step::Wins(9, (2, 4, 5)),
+    Step::Change(2, SECOND, None),
+    Step::Runs(2, Some((2, 30))),
+    Step::Idles(3),
+    Step::Change(1, LATER, None),
+    Step::Change(1, Status::Ready, Some(20)),
+    Step::Runs(1, None),
+    Step::Wins(49, (1, 49, 50)),
+];
+
+// A thread that runs is left out of draws, and another can't run there; after 20 ticks of 100 it weighs five times as
+// much.
+#[test]
+fn threads_run(rt: HostRuntime) -> Result<(), Fail> {
+    play(&rt, rt.alloc(), small_limits(), &RUNNING)
+}
+
+const SERVED: [Step; 20] = [
+    Step::AddThread,
+    Step::AddThread,
+    Step::MakeCurrency,
+    Step::Fund(100, 0, Target::Currency(1)),
+    Step::Fund(7, 1, Target::Thread(1)),
+    Step::Fund(20, 0, Target::Thread(2)),
+    Step::Wins(119, (2, 119, 120)),
+    Step::Change(2, Status::Receiving(1), None),
+    Step::Wins(0, (1, 0, 100)),
+    Step::Change(2, Status::Ready, None),
+    Step::Change(1, Status::Served(2), None),
+    Step::Reads(119, (2, 119, 120), 2),
+    Step::Active(1, 7),
+    Step::Worth(Node::Thread(1), 100),
+    Step::Refuses(2, Status::Served(1)),
+    Step::Change(2, Status::Dead, None),
+    Step::Active(1, 0),
+    Step::Idles(0),
+    Step::Change(1, Status::Ready, None),
+    Step::Wins(99, (1, 99, 100)),
+];
+
+// A client lends all that it is worth to its server, which its tickets stay active for; a server can't lend back.
+#[test]
+fn clients_lend(rt: HostRuntime) -> Result<(), Fail> {
+    play(&rt, rt.alloc(), small_limits(), &SERVED)
+}
+
+const WAITING: [Step; 20] = [
+    Step::AddThread,
+    Step::AddThread,
+    Step::AddThread,
+    Step::Fund(1, 0, Target::Thread(1)),
+    Step::Fund(10, 0, Target::Thread(2)),
+    Step::Fund(100, 0, Target::Thread(3)),
+    Step::Take(1, 1),
+    Step::Change(2, Status::Waiting(1), None),
+    Step::Change(3, Status::Waiting(1), None),
+    Step::Worth(Node::Mutex(1), 110),
+    Step::Wins(110, (1, 110, 111)),
+    Step::Refuses(1, Status::Waiting(1)),
+    Step::Change(2, Status::Ready, None),
+    Step::GiveUp(1),
+    Step::Take(1, 2),
+    Step::Wins(110, (2, 110, 111)),
+    Step::Worth(Node::Thread(2), 110),
+    Step::Move(1, 2, 1),
+    Step::Worth(Node::Thread(1), 101),
+    Step::Worth(Node::Thread(2), 10),
+];
+
+// Waiters lend to the owner of the mutex, whoever it is.
+#[test]
+fn waiters_lend(rt: HostRuntime) -> Result<(), Fail> {
+    play(&rt, rt.alloc(), small_limits(), &WAITING)
+}
+
+const LEAST: [Step; 5] = [
+    Step::Idles(0),
+    Step::AddThread,
+    Step::Idles(1),
+    Step::Fund(u32::MAX, 0, Target::Thread(1)),
+    Step::Wins(4294967295, (1, 0, 4294967295)),
+];
+
+#[test]
+fn least_size(rt: HostRuntime) -> Result<(), Fail> {
+    play(&rt, rt.alloc(), Limits::new(Sizes::SMALLEST), &LEAST)
+}
+
+const LARGEST: [Step; 6] = [
+    Step::AddThread,
+    Step::Fund(1, 0, Target::Thread(1)),
+    Step::Wins(255, (1, 255, 256)),
+    Step::Change(1, LAST, None),
+    Step::Runs(64, Some((1, 999))),
+    Step::Idles(0),
+];
+
+/// On the last processor that there may be, before the last tick.
+const LAST: Status = Status::Running {
+    processor: 64,
+    used: 999,
+};
+
+#[test]
+fn largest_size(rt: HostRuntime) -> Result<(), Fail> {
+    play(&rt, rt.alloc(), Limits::new(Sizes::LARGEST), &LARGEST)
+}
