@@ -12,6 +12,3 @@ pub use fault::RunFault;
 pub use free_runs::{FreeRunFault, free_run};
 pub use gate::{Gate, OpenGate};
 pub use workers::run_all;
-
-#[cfg(test)]
-mod tests;

@@ -71,12 +71,6 @@ dealt_of b x l is dealt =
     each_all (IsSeatOf b) l
     (λ k s e. (ap (λ (y : Seat). y.station) (dealt k s e), ap (λ (y : Seat). y.seen.setting.program.limits.processors) (dealt k s e) ∙ sym is))
 
--- the first of a list, and what it leaves
-pub removed : (b : Baton) (l m : List Seat) (y : Seat) → All (IsSeatOf b) l → 0 < length l → y ≡ get_or l 0 y → m ≡ drop 1 l → IsSeatOf b y × All (IsSeatOf b) m
-removed b [] m y all some e rest = absurd (omega (arith, some))
-removed b (x ∷ xs) m y all some e rest =
-    (subst (IsSeatOf b) (sym e) (all 0 x (omega arith)), subst (λ l. All (IsSeatOf b) l) (sym rest) (λ k d low. all (suc k) d (omega (arith, low))))
-
 -- the last actor is that of the program
 pub last_actor : (b : Baton) (x : Seen) (l : List Seat) → All (IsSeatOf b) l → HasEachSeat b.processors l → All (Shows x) l → b.processors ≡ x.setting.program.limits.processors
 last_actor b x [] all order shows = absurd (omega (arith, order.0))

@@ -7,6 +7,3 @@ mod view;
 
 pub use seat::BatonSeat;
 pub use station::{BatonStation, SeatMissing};
-
-#[cfg(test)]
-mod tests;

@@ -14,6 +14,3 @@ pub use baton::{BatonSeat, BatonStation, SeatMissing};
 pub use desk::TurnLedger;
 pub use seat::Seat;
 pub use station::{CloseFault, Station};
-
-#[cfg(test)]
-mod tests;

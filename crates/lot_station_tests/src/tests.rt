@@ -1,0 +1,90 @@
+//! Stations whose seats take turns one after another and in threads, and workers at gates; the texts of faults, and
+//! runs in which an allocation fails.
+
+mod baton;
+mod full;
+mod gates;
+mod many;
+mod racing;
+mod refusing;
+mod replaying;
+mod runs;
+mod session;
+mod slicing;
+mod texts;
+mod turnstile;
+
+use crate::Shares;
+use lot_machine::Reply;
+use lot_system::{System, write_end};
+use lot_text::{Program, Watched, parse};
+use std::alloc::Global;
+
+/// Two processors with two turns each, and one thread.
+const TWO_PROCESSORS: &str = "lottery 1
+processors 2
+turns 2
+script spin
+compute 150
+endscript
+fundx 10 base a spin
+";
+
+// The replies to turns of the actors 0, 1, 2, 1 and 2 in a system of it.
+
+const FUNDED: Option<Reply> = Some(Reply::Funded {
+    ticket: 1,
+    thread: 1,
+});
+
+const FIRST_DRAW: Option<Reply> = Some(Reply::Winner {
+    thread: 1,
+    number: 4,
+    total: 10,
+    delivered: None,
+});
+
+const IDLE: Option<Reply> = Some(Reply::Idle);
+
+const EXPIRED: Option<Reply> = Some(Reply::Expired {
+    thread: 1,
+    ticks: 100,
+});
+
+const SECOND_DRAW: Option<Reply> = Some(Reply::Winner {
+    thread: 1,
+    number: 3,
+    total: 10,
+    delivered: None,
+});
+
+/// What it writes after these turns.
+const END: &str = "report
+thread 1 a quanta 2 ticks 100
+processor 1 quanta 1 idle 0 ticks 100
+processor 2 quanta 1 idle 1 ticks 0
+total turns 5 quanta 2 ticks 100
+schedule 0 1 2 1 2
+";
+
+/// What the seats have after these turns.
+const ENDED: [Shares; 3] = [(1, 0, 0), (2, 1, 100), (2, 1, 0)];
+
+/// The program of an input.
+fn program_of(alloc: Global, input: &str) -> Option<Program> {
+    parse(alloc, input.as_bytes()).ok()
+}
+
+/// The program of an input, and a system of it with room for this many turns.
+fn opened(alloc: Global, input: &str, room: u32) -> Option<(Program, System)> {
+    let program = program_of(alloc, input)?;
+    let system = System::open(alloc, &program, room).ok()?;
+    Some((program, system))
+}
+
+/// The report and the history.
+fn end_of(alloc: Global, mut system: System) -> Option<Vec<u8>> {
+    let mut writer = Watched::new(Vec::new(alloc));
+    write_end(&mut system, &mut writer).ok()?;
+    Some(writer.into_inner())
+}

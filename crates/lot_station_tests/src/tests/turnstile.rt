@@ -1,0 +1,52 @@
+//! A gate that holds one worker back.
+
+use lot_processors::Gate;
+use std::sync::atomic::{AtomicBool, AtomicU64, Ordering};
+use std::thread;
+
+/// How often a worker that is held back looks whether it may go on.
+pub(super) const TRIES: u32 = 10_000_000;
+
+/// Holds a processor's worker back until the other processors' have come by as often as is wanted, or it has looked
+/// often enough. With no processor of this number it holds none.
+#[derive(Drop)]
+pub(super) struct Turnstile {
+    pub(super) held: u32,
+    wanted: u64,
+    /// How often others came by.
+    others: AtomicU64,
+    gave_up: AtomicBool,
+}
+
+impl Turnstile {
+    /// One that holds this processor's worker, until others have come by this often.
+    pub(super) fn new(held: u32, wanted: u64) -> Turnstile {
+        Turnstile {
+            held,
+            wanted,
+            others: AtomicU64::new(0),
+            gave_up: AtomicBool::new(false),
+        }
+    }
+
+    /// Whether the worker went on though the others hadn't come by.
+    pub(super) fn gave_up(&self) -> bool {
+        self.gave_up.load(Ordering::SeqCst)
+    }
+}
+
+impl Gate for Turnstile {
+    fn pass(&self, processor: u32, _turn: u32) {
+        if processor != self.held {
+            self.others.fetch_add(1, Ordering::SeqCst);
+            return;
+        }
+        for _try in 0..TRIES {
+            if self.others.load(Ordering::SeqCst) >= self.wanted {
+                return;
+            }
+            thread::yield_now();
+        }
+        self.gave_up.store(true, Ordering::SeqCst);
+    }
+}
