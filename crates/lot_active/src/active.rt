@@ -151,7 +151,7 @@ impl Active {
         }
     }
 
-    /// How many edges were passed on, up to now. It is for tests: no clause sees it.
+    /// The number of edges that changes have been passed on along so far: a statistic, of which no clause speaks.
     pub fn passed(&self) -> u64 {
         self.marks.passed()
     }

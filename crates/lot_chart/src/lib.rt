@@ -15,6 +15,3 @@ pub use charts::chart;
 pub use lines::Line;
 pub use standings::Standing;
 pub use tables::table;
-
-#[cfg(test)]
-mod tests;

@@ -1,6 +1,7 @@
 //! Inputs that are explained, and shown as tables and pictures. The tests of this file are for runs in which one
 //! allocation is refused, each in turn; those of the modules need all memory that they ask for.
 
+mod charts;
 mod explained;
 mod pictures;
 mod words;

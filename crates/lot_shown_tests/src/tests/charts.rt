@@ -1,7 +1,7 @@
 //! Curves of a few threads, as a table and as pictures.
 ghost use Rattle.std.specs.Prelude.{◌≤◌, ◌<◌, ◌^◌, IfOk, length, vec_len};
 
-use crate::{chart, table};
+use lot_chart::{chart, table};
 use lot_curves::{Curves, Measure, Stretch};
 use lot_machine::{Name, Reply};
 use std::alloc::Global;

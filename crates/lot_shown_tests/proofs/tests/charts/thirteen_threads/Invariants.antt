@@ -1,7 +1,7 @@
 use Rattle.std.proofs.Common.{◌≤◌, ◌^◌}
 use Rattle.std.specs.Prelude.{vec_len}
 use Rattle.lot_curves.specs.Stretches.{last_end}
-use Rattle.lot_chart.proofs.tests.thirteen_threads.Given as goal
+use Rattle.lot_shown_tests.proofs.tests.charts.thirteen_threads.Given as goal
 
 abbrev pub invariant-loop-ticks : goal.invariant-loop-ticks
 invariant-loop-ticks l = record {

@@ -1,7 +1,7 @@
 use Rattle.std.proofs.Common.{◌≤◌, ◌^◌}
 use Rattle.std.specs.Prelude.{vec_len}
 use Rattle.lot_curves.specs.Stretches.{last_end}
-use Rattle.lot_chart.proofs.tests.three_ticks.Given as goal
+use Rattle.lot_shown_tests.proofs.tests.charts.three_ticks.Given as goal
 
 abbrev pub invariant-loop-end : goal.invariant-loop-end
 invariant-loop-end l = record {
