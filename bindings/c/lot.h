@@ -4,9 +4,9 @@
 // fund things, draws, expiries and traps of the threads that run. It answers each event with a reply. It runs nothing itself: who is
 // to run is in the replies, and running it is yours. docs/MACHINE.md of the repository says what each event does.
 //
-// examples/embed/first_draw.c draws among two threads in ten lines. bindings/check shows how the archive is made and linked:
+// examples/embed/first_draw.c draws among two threads in ten lines. It links the release, or the archive that dist/build makes:
 //
-//     cc -Ibindings/c examples/embed/first_draw.c bindings/out/liblot.a
+//     cc -Ibindings/c examples/embed/first_draw.c dist/x86_64-linux/liblot.a
 //
 // WHAT A CALL ANSWERS. Each call returns a status, but for lot_weight, which cannot fail. LOT_DONE says that it was done; any other
 // says that the call has changed nothing: neither the kernel nor what its pointers point to. (lot_kernel_run is the one exception: it

@@ -1,6 +1,6 @@
 """A lottery-scheduled kernel, proved, from Python.
 
-It calls the shared object that `bindings/check` makes of the archive: the one that LOT_SHARED names, or else bindings/out/liblot.so.
+It loads the shared object that LOT_SHARED names, otherwise the release's, dist/x86_64-linux/liblot.so.
 The calls are those of bindings/c/lot.h, which says what each does; docs/MACHINE.md of the repository says what each event does.
 
     import lot
@@ -16,6 +16,7 @@ One thread at a time may call a kernel.
 
 import ctypes
 import os
+import platform
 from ctypes import POINTER, Structure, byref, c_bool, c_size_t, c_uint8, c_uint32, c_uint64, c_void_p, sizeof
 
 # What a call answers.
@@ -154,7 +155,8 @@ class Drawn(Structure):
 
 def _load():
     here = os.path.dirname(os.path.abspath(__file__))
-    shared = ctypes.CDLL(os.environ.get("LOT_SHARED", os.path.join(here, "..", "out", "liblot.so")))
+    release = os.path.join(here, "..", "..", "dist", f"{platform.machine()}-linux", "liblot.so")
+    shared = ctypes.CDLL(os.environ.get("LOT_SHARED", release))
     calls = {
         "lot_name_new": [ctypes.c_char_p, c_size_t, POINTER(Name)],
         "lot_kernel_new": [POINTER(Sizes), POINTER(Handle)],
