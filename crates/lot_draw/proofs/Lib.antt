@@ -2,3 +2,4 @@
 pub mod Lotteries
 pub mod Ready
 pub mod Weighing
+pub mod Together

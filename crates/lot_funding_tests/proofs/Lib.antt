@@ -1,3 +1,2 @@
 pub mod SumLemmas
 pub mod BothLemmas
-pub mod Together

@@ -1,6 +1,6 @@
 use Rattle.std.proofs.Common.{◌≤◌, arith, rules}
 use Rattle.lot_graph.specs.Graphs.{IsThread}
-use Rattle.lot_funding_tests.proofs.Together.{queue-set}
+use Rattle.lot_draw.proofs.Together.{queue-set}
 use Rattle.lot_funding_tests.proofs.tests.draw.Room.compete.Goals as goal
 
 pub set_competitor-requires-clause-thread : goal.set_competitor-requires-clause-thread

@@ -2,7 +2,7 @@ use Rattle.std.proofs.Common.{◌≡◌, ◌∙◌, List, Option, Some, None, Re
 use Rattle.lot_machine.specs.declared.ticket.Ticket.{Ticket}
 use Rattle.lot_graph.specs.Graphs.{LimitedFunding}
 use Rattle.lot_value.specs.Valued.{Valued}
-use Rattle.lot_funding_tests.proofs.Together.{competes-more, weights-follow}
+use Rattle.lot_draw.proofs.Together.{competes-more, weights-follow}
 use Rattle.lot_funding_tests.proofs.tests.draw.Room.fund.Goals as goal
 use Rattle.lot_graph.specs.Changes.{with_tickets}
 

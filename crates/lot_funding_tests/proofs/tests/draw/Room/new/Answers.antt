@@ -1,7 +1,7 @@
 use Rattle.std.proofs.Common.{ap}
 use Rattle.lot_graph.specs.Graphs.{LimitedFunding}
 use Rattle.lot_draw.specs.Queued.{Queued}
-use Rattle.lot_funding_tests.proofs.Together.{competes-none}
+use Rattle.lot_draw.proofs.Together.{competes-none}
 use Rattle.lot_funding_tests.proofs.tests.draw.Room.new.Goals as goal
 
 pub invariant_of-result : goal.invariant_of-result

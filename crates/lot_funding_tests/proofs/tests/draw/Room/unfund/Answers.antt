@@ -1,6 +1,6 @@
 use Rattle.std.proofs.Common.{◌≡◌, length, ap, refl, arith}
 use Rattle.lot_graph.specs.Graphs.{LimitedFunding}
-use Rattle.lot_funding_tests.proofs.Together.{competes-more, weights-follow}
+use Rattle.lot_draw.proofs.Together.{competes-more, weights-follow}
 use Rattle.lot_funding_tests.proofs.tests.draw.Room.unfund.Goals as goal
 
 pub invariant_of-self : goal.invariant_of-self
