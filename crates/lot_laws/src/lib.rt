@@ -1,0 +1,6 @@
+//! What is claimed of lottery scheduling, as laws of the machine: fair by counting, conserved, insulated, and nothing
+//! lost in a transfer. Each is a function with an empty body whose clauses are the law.
+#![tactic(auto)]
+
+pub mod fairness;
+pub mod worked;

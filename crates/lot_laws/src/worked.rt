@@ -1,0 +1,3 @@
+//! The laws at cases that are small enough to compute by hand.
+
+pub mod fairness;
