@@ -1,1 +1,5 @@
 pub mod AllDraws
+pub mod TicketsKept
+pub mod HaveAmounts
+pub mod KeptPaths
+pub mod Conserved

@@ -1,4 +1,10 @@
 -- What the laws speak of, each in words of the field.
 
--- Fairness by counting: in how many of all the ways to draw n lotteries a place wins (2.2).
+-- Fairness by counting: in how many of all the draws of n lotteries a client wins (2.2).
 pub mod Fairness
+-- The states that a run can come to.
+pub mod Reachable
+-- Conservation: value is handed on, and only rounding loses some (3.3, 4.4).
+pub mod Conservation
+-- Runs and states that are small enough to compute.
+pub mod Runs

@@ -2,5 +2,7 @@
 //! lost in a transfer. Each is a function with an empty body whose clauses are the law.
 #![tactic(auto)]
 
+pub mod conservation;
 pub mod fairness;
+pub mod reachable;
 pub mod worked;

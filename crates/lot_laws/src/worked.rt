@@ -1,3 +1,4 @@
 //! The laws at cases that are small enough to compute by hand.
 
+pub mod conservation;
 pub mod fairness;
