@@ -3,3 +3,8 @@ pub mod TicketsKept
 pub mod HaveAmounts
 pub mod KeptPaths
 pub mod Conserved
+pub mod KeptValues
+pub mod Insulated
+pub mod AmountsKept
+pub mod SharedCurrency
+pub mod TwoCurrencies

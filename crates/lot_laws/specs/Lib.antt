@@ -6,5 +6,7 @@ pub mod Fairness
 pub mod Reachable
 -- Conservation: value is handed on, and only rounding loses some (3.3, 4.4).
 pub mod Conservation
+-- Insulation: what a change can't affect (3.3).
+pub mod Insulation
 -- Runs and states that are small enough to compute.
 pub mod Runs

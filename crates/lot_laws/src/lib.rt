@@ -4,5 +4,6 @@
 
 pub mod conservation;
 pub mod fairness;
+pub mod insulation;
 pub mod reachable;
 pub mod worked;

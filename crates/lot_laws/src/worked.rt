@@ -2,3 +2,4 @@
 
 pub mod conservation;
 pub mod fairness;
+pub mod insulation;
