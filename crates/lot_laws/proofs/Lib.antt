@@ -8,3 +8,12 @@ pub mod Insulated
 pub mod AmountsKept
 pub mod SharedCurrency
 pub mod TwoCurrencies
+pub mod Lending
+pub mod Trapped
+pub mod Blocked
+pub mod CallTaken
+pub mod Replied
+pub mod CallReceived
+pub mod CallQueued
+pub mod MutexWait
+pub mod WaitingServer

@@ -8,5 +8,7 @@ pub mod Reachable
 pub mod Conservation
 -- Insulation: what a change can't affect (3.3).
 pub mod Insulation
+-- Transfers: what a blocked thread lends goes to the thread that it waits for (3.1).
+pub mod Transfers
 -- Runs and states that are small enough to compute.
 pub mod Runs

@@ -1,9 +1,11 @@
 -- Runs and states that are small enough to compute.
-use Rattle.std.specs.Prelude.{Some, List, [], ◌∷◌, codes}
+use Rattle.std.specs.Prelude.{Some, List, [], ◌∷◌, ◌++◌, codes}
+use Rattle.lot_machine.specs.declared.action.Action.TheVariants.{Receive, Lock}
 use Rattle.lot_machine.specs.declared.event.Event.{Event}
+use Rattle.lot_machine.specs.declared.event.Event.TheVariants.{Draw, Trap}
 use Rattle.lot_machine.specs.declared.ticket.Target.TheVariants.{Currency, Thread}
 use Rattle.lot_machine.specs.State.{State}
-use Rattle.lot_machine.specs.Worked.{after, base, mktkt, mkcur, fund, fundx}
+use Rattle.lot_machine.specs.Worked.{after, base, mktkt, mkcur, mkthr, fund, unfund, fundx}
 use Rattle.lot_machine.specs.WorkedRuns.{halves}
 
 -- a currency of 5 base whose only ticket has the amount 0
@@ -13,3 +15,23 @@ nothing_to_share = record (after halves) { tickets = Some (record { amount = 5; 
 -- two currencies of 100 base, each with a thread
 abbrev pub two_currencies : List Event
 two_currencies = mkcur (codes "g") ∷ mkcur (codes "h") ∷ mktkt 100 base ∷ fund 1 (codes "g") ∷ mktkt 100 base ∷ fund 2 (codes "h") ∷ fundx 1 (codes "g") (codes "a") ∷ fundx 1 (codes "h") (codes "b") ∷ []
+
+-- a server with no ticket that waits for a call, and a thread that runs
+abbrev pub waiting_server : List Event
+waiting_server = mkthr (codes "v") ∷ fundx 400 base (codes "c") ∷ mktkt 1 base ∷ fund 2 (codes "v") ∷ Draw 1 0 ∷ Trap 1 0 (Receive 1) ∷ unfund 2 ∷ Draw 1 0 ∷ []
+
+-- a server and a thread of one currency: the server waits for a call, and the thread runs
+abbrev pub server_with_a_ticket : List Event
+server_with_a_ticket = mkcur (codes "g") ∷ mktkt 100 base ∷ fund 1 (codes "g") ∷ fundx 1 (codes "g") (codes "v") ∷ fundx 1 (codes "g") (codes "c") ∷ Draw 1 0 ∷ Trap 1 0 (Receive 1) ∷ Draw 1 0 ∷ []
+
+-- a server with no ticket that runs on one processor, and a thread that runs on another
+abbrev pub busy_server : List Event
+busy_server = mkthr (codes "v") ∷ fundx 400 base (codes "c") ∷ mktkt 1 base ∷ fund 2 (codes "v") ∷ Draw 1 0 ∷ unfund 2 ∷ Draw 2 0 ∷ []
+
+-- a thread that owns a mutex and runs, and another that runs
+abbrev pub owner_runs : List Event
+owner_runs = fundx 50 base (codes "a") ∷ fundx 100 base (codes "b") ∷ Draw 1 0 ∷ Trap 1 0 (Lock 1) ∷ Draw 2 0 ∷ []
+
+-- the same, but the owner waits for a call
+abbrev pub owner_receives : List Event
+owner_receives = owner_runs ++ Trap 1 0 (Receive 1) ∷ []

@@ -6,4 +6,5 @@ pub mod conservation;
 pub mod fairness;
 pub mod insulation;
 pub mod reachable;
+pub mod transfers;
 pub mod worked;

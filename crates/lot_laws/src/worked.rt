@@ -3,3 +3,4 @@
 pub mod conservation;
 pub mod fairness;
 pub mod insulation;
+pub mod transfers;
