@@ -20,7 +20,7 @@ use Rattle.lot_machine.proofs.Edges.{pair, ends-are}
 
 -- ---- the ends of edges
 
-target-one : (a b : Target) (node : Node) → target_node a ≡ Some node → target_node b ≡ Some node → a ≡ b
+pub target-one : (a b : Target) (node : Node) → target_node a ≡ Some node → target_node b ≡ Some node → a ≡ b
 target-one target.Unfunded b node first second = cc
 target-one a target.Unfunded node first second = cc
 target-one (target.Currency c) (target.Currency d) node first second = cc
@@ -52,7 +52,7 @@ ticket-ends f n c aim to issued funds node =
     ∙ ap (λ a. option_map (pair (Currency t.issuer)) (target_node a)) aims ∙ ap (option_map (pair (Currency t.issuer))) node ∙ ap (λ i. Some (Currency i, to)) same
 
 -- the first ticket of a chain that leads to a thread funds something
-chain-aims : (f : Funding) (n : ℕ) (rest : List ℕ) (t : ℕ) → IsChain f n rest (target.Thread t) → (aim : Target) × (to : Node) × (target_of f n ≡ Some aim) × (target_node aim ≡ Some to)
+pub chain-aims : (f : Funding) (n : ℕ) (rest : List ℕ) (t : ℕ) → IsChain f n rest (target.Thread t) → (aim : Target) × (to : Node) × (target_of f n ≡ Some aim) × (target_node aim ≡ Some to)
 chain-aims f n [] t is = (target.Thread t, Thread t, is, refl)
 chain-aims f n (m ∷ rest) t is = (target.Currency is.0.0, Currency is.0.0, is.0.1, refl)
 
@@ -91,7 +91,7 @@ module _ (f g : Funding) (live now : List Bool) (IsClear : Node → Type 0)
       let more = chain-kept s rest u r.1 is.1 in
       ((r.0, more.0), more.1)
 
-  backed-kept : (t : ℕ) → IsClear (Thread t) → IsBacked f live t → IsBacked g now t
+  pub backed-kept : (t : ℕ) → IsClear (Thread t) → IsBacked f live t → IsBacked g now t
   backed-kept t clear (u, (chain, is), alive) = let r = chain-kept t chain u clear is in (u, (chain, r.0), lives u r.1 alive)
 
   -- a chain whose first ticket has the same ends in both

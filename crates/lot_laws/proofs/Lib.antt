@@ -1,6 +1,6 @@
 pub mod AllDraws
 pub mod TicketsKept
-pub mod HaveAmounts
+pub mod EachTicket
 pub mod KeptPaths
 pub mod Conserved
 pub mod KeptValues
@@ -17,3 +17,5 @@ pub mod CallReceived
 pub mod CallQueued
 pub mod MutexWait
 pub mod WaitingServer
+pub mod Enclosed
+pub mod StaysInside

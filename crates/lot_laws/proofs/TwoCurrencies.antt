@@ -1,5 +1,5 @@
--- A new thread in one of two currencies doesn't affect the thread in the other.
-use Rattle.std.proofs.Common.{◌≡◌, ◌≢◌, ℕ, zero, suc, inl, inr, ◌⊎◌, true, Option, Some, None, List, [], ◌∷◌, ◌++◌, codes, refl, sym, ◌∙◌, ap, subst, arith}
+-- A new thread in one of two currencies is inside it, and doesn't affect the thread in the other.
+use Rattle.std.proofs.Common.{◌≡◌, ◌≢◌, ℕ, zero, suc, inl, inr, ◌⊎◌, true, false, Option, Some, None, List, [], ◌∷◌, ◌++◌, codes, refl, sym, ◌∙◌, ap, subst, arith}
 use Rattle.lot_machine.specs.declared.ticket.Ticket.{Ticket}
 use Rattle.lot_machine.specs.declared.ticket.Target.TheVariants as target
 use Rattle.lot_machine.specs.declared.funding.Node.{Node}
@@ -12,9 +12,9 @@ use Rattle.lot_machine.specs.Numbered.{at_number}
 use Rattle.lot_machine.specs.Funding.{Funding, ends_of}
 use Rattle.lot_machine.specs.Lends.{IsLive}
 use Rattle.lot_machine.specs.Touched.{IsEdgeOfEither, IsPath, IsChangedEdge, IsChangedLife, IsChangedNode}
-use Rattle.lot_laws.specs.Insulation.{IsAffected, Affects}
+use Rattle.lot_laws.specs.Insulation.{IsAffected, Affects, ChangesInside}
 use Rattle.lot_machine.specs.Worked.{after, fundx}
-use Rattle.lot_laws.specs.Runs.{two_currencies}
+use Rattle.lot_laws.specs.Runs.{two_currencies, first_threads}
 use Rattle.lot_machine.proofs.Tickets.{at_number-suc, some-injective}
 
 -- the graph, with these tickets and lends besides
@@ -211,3 +211,54 @@ unaffected (touched, (user, (seed, (way, is), begins)), (path, leads)) = by (pat
 pub other-currency : ¬ Affects (after two_currencies) (after (two_currencies ++ fundx 1 (codes "g") (codes "c") ∷ [])) (Thread 2)
 unfolding old new graph
 other-currency = unaffected
+
+-- ---- all that changes is inside the first currency
+
+abbrev Begins : Node → Type 0
+Begins from = (from ≡ Currency 1) ⊎ (first_threads from ≡ true)
+
+not-first : (c : ℕ) → ¬ (c ≡ 1) → ¬ Begins (Currency c)
+not-first c differs (inl e) = let same : c ≡ 1 = cc in differs same
+not-first c differs (inr e) = cc
+
+first-below : (from to : Node) → IsRow from to → (from ≡ Currency 1) ⊎ (first_threads from ≡ true) → first_threads to ≡ true
+first-below from to (inl e) why = absurd (not-first 0 (λ h. absurd (omega (arith, h))) (subst Begins (from_of (Currency 0) (Currency 1) from to e) why))
+first-below from to (inr (inl e)) why = absurd (not-first 0 (λ h. absurd (omega (arith, h))) (subst Begins (from_of (Currency 0) (Currency 2) from to e) why))
+first-below from to (inr (inr (inl e))) why = ap first_threads (to_of (Currency 1) (Thread 1) from to e)
+first-below from to (inr (inr (inr (inl e)))) why = absurd (not-first 2 (λ h. absurd (omega (arith, h))) (subst Begins (from_of (Currency 2) (Thread 2) from to e) why))
+first-below from to (inr (inr (inr (inr e)))) why = ap first_threads (to_of (Currency 1) (Thread 3) from to e)
+
+first-alone : (from to : Node) → IsRow from to → first_threads to ≡ true → (from ≡ Currency 1) ⊎ (first_threads from ≡ true)
+first-alone from to (inl e) is = let never : true ≡ false = sym is ∙ ap first_threads (to_of (Currency 0) (Currency 1) from to e) in cc
+first-alone from to (inr (inl e)) is = let never : true ≡ false = sym is ∙ ap first_threads (to_of (Currency 0) (Currency 2) from to e) in cc
+first-alone from to (inr (inr (inl e))) is = inl (from_of (Currency 1) (Thread 1) from to e)
+first-alone from to (inr (inr (inr (inl e)))) is = let never : true ≡ false = sym is ∙ ap first_threads (to_of (Currency 2) (Thread 2) from to e) in cc
+first-alone from to (inr (inr (inr (inr e)))) is = inl (from_of (Currency 1) (Thread 3) from to e)
+
+first-lives : (t : ℕ) → IsChangedLife (true ∷ true ∷ []) (true ∷ true ∷ true ∷ []) t → first_threads (Thread t) ≡ true
+first-lives zero (inl (alive, ended)) = cc
+first-lives (suc zero) (inl (alive, ended)) = absurd (ended refl)
+first-lives (suc (suc zero)) (inl (alive, ended)) = absurd (ended refl)
+first-lives (suc (suc (suc n))) (inl (alive, ended)) = let never : None ≡ Some true = sym (at_number-suc (true ∷ true ∷ []) (suc (suc n))) ∙ alive in cc
+first-lives zero (inr (alive, none)) = cc
+first-lives (suc zero) (inr (alive, none)) = absurd (none refl)
+first-lives (suc (suc zero)) (inr (alive, none)) = absurd (none refl)
+first-lives (suc (suc (suc zero))) (inr (alive, none)) = refl
+first-lives (suc (suc (suc (suc n)))) (inr (alive, none)) = let never : None ≡ Some true = sym (at_number-suc (true ∷ true ∷ true ∷ []) (suc (suc (suc n)))) ∙ alive in cc
+
+pub changes-inside : ChangesInside (after two_currencies) (after (two_currencies ++ fundx 1 (codes "g") (codes "c") ∷ [])) 1 first_threads
+unfolding old new graph
+changes-inside = record {
+  enclosed_before = record {
+    itself = refl;
+    below = λ from to edge. first-below from to (old-rows edge.0 from to edge.1);
+    alone = λ from to edge is user. first-alone from to (old-rows edge.0 from to edge.1) is;
+  };
+  enclosed_after = record {
+    itself = refl;
+    below = λ from to edge. first-below from to (new-rows edge.0 from to edge.1);
+    alone = λ from to edge is user. first-alone from to (new-rows edge.0 from to edge.1) is;
+  };
+  edges = λ from to edge. ap first_threads (to_of (Currency 1) (Thread 3) from to (changed from to edge));
+  lives = first-lives;
+}

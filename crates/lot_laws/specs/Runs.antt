@@ -1,9 +1,11 @@
 -- Runs and states that are small enough to compute.
-use Rattle.std.specs.Prelude.{Some, List, [], ◌∷◌, ◌++◌, codes}
-use Rattle.lot_machine.specs.declared.action.Action.TheVariants.{Receive, Lock}
+use Rattle.std.specs.Prelude.{Some, ◌==◌, ◌||◌, Bool, false, List, [], ◌∷◌, ◌++◌, codes}
+use Rattle.lot_machine.specs.declared.action.Action.TheVariants.{Receive, Lock, Exit}
 use Rattle.lot_machine.specs.declared.event.Event.{Event}
 use Rattle.lot_machine.specs.declared.event.Event.TheVariants.{Draw, Trap}
 use Rattle.lot_machine.specs.declared.ticket.Target.TheVariants.{Currency, Thread}
+use Rattle.lot_machine.specs.declared.funding.Node.{Node}
+use Rattle.lot_machine.specs.declared.funding.Node.TheVariants as nodes
 use Rattle.lot_machine.specs.State.{State}
 use Rattle.lot_machine.specs.Worked.{after, base, mktkt, mkcur, mkthr, fund, unfund, fundx}
 use Rattle.lot_machine.specs.WorkedRuns.{halves}
@@ -35,3 +37,21 @@ owner_runs = fundx 50 base (codes "a") ∷ fundx 100 base (codes "b") ∷ Draw 1
 -- the same, but the owner waits for a call
 abbrev pub owner_receives : List Event
 owner_receives = owner_runs ++ Trap 1 0 (Receive 1) ∷ []
+
+-- two currencies of 100 base, which share a thread: the first has another besides, and so has the second
+abbrev pub shared_thread : List Event
+shared_thread = mkcur (codes "g") ∷ mkcur (codes "h") ∷ mktkt 100 base ∷ fund 1 (codes "g") ∷ mktkt 100 base ∷ fund 2 (codes "h")
+    ∷ fundx 1 (codes "g") (codes "a") ∷ fundx 1 (codes "g") (codes "b") ∷ mktkt 1 (codes "h") ∷ fund 5 (codes "a") ∷ fundx 1 (codes "h") (codes "c") ∷ Draw 1 0 ∷ []
+
+-- the shared thread exits, and a new one takes its place in the first currency
+abbrev pub shared_thread_replaced : List Event
+shared_thread_replaced = Trap 1 0 Exit ∷ fundx 1 (codes "g") (codes "d") ∷ []
+
+-- the threads of the first of two currencies, one of them new
+abbrev pub first_threads : Node → Bool
+first_threads (nodes.Thread t) = (t == 1) || (t == 3)
+first_threads other = false
+
+-- a currency of 100 base that funds a thread, and another currency that funds nothing yet
+abbrev pub idle_currency : List Event
+idle_currency = mkcur (codes "g") ∷ mkcur (codes "h") ∷ mktkt 100 base ∷ fund 1 (codes "g") ∷ fundx 1 (codes "g") (codes "a") ∷ mktkt 1 (codes "g") ∷ fund 3 (codes "h") ∷ []

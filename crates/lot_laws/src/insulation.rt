@@ -1,16 +1,18 @@
-//! Currencies insulate: what a change can't affect keeps its value (3.3, 4.4).
-ghost use Rattle.std.specs.Prelude.{◌≡◌, Bool, List, ℕ};
+//! Currencies insulate: what a change can't affect keeps its value, and what changes inside a currency changes no
+//! value outside it (3.2, 3.3).
+ghost use Rattle.std.specs.Prelude.{◌≡◌, ◌<◌, ◌↔◌, Bool, false, List, ℕ};
 ghost use Rattle.lot_machine.specs.declared.event.Event.{Event};
 ghost use Rattle.lot_machine.specs.declared.funding.Node.{Node};
-ghost use Rattle.lot_machine.specs.declared.funding.Node.TheVariants as nodes;
 ghost use Rattle.lot_machine.specs.Funding.{Funding};
+ghost use Rattle.lot_machine.specs.Activity.{active_amount};
 ghost use Rattle.lot_machine.specs.Value.{node_value};
 ghost use Rattle.lot_machine.specs.Equations.{HasEquation};
-ghost use Rattle.lot_machine.specs.State.{State, funding_of, live_of, value_of};
+ghost use Rattle.lot_machine.specs.State.{State, funding_of};
 ghost use Rattle.lot_machine.specs.Facts.{HasNoCycle, FundsThere};
 ghost use Rattle.lot_machine.specs.Order.{IsInOrder};
-ghost use Rattle.lot_machine.specs.Step.{step};
-ghost use Rattle.lot_laws.specs.Insulation.{KeepsAmounts, IsAffected, Affects};
+ghost use Rattle.lot_machine.specs.Step.{step, state_after};
+ghost use Rattle.lot_laws.specs.Insulation.{KeepsAmounts, IsAffected, Affects, IsChangeInside, ChangesInside, amount_in, worth_in};
+ghost use Rattle.lot_laws.specs.Reachable.{IsReachable, IsWellFormed};
 
 /// However tickets, lends, owners and live threads change, a node keeps its value if no touched node leads to it.
 /// Nothing may make a cycle before or after, and no ticket may get another amount. It is not enough that the node
@@ -21,15 +23,42 @@ pub fn changes_are_insulated()
         → node_value unit before live node ≡ node_value unit after now_live node }
 {}
 
-/// No event gives a ticket another amount.
-pub fn events_keep_amounts()
-    ensures { (s : State) (e : Event) → KeepsAmounts (funding_of s) (funding_of (step s e).state) }
+/// No event, and no run of events, gives a ticket another amount.
+pub fn amounts_stay()
+    ensures { (s : State) (events : List Event) → KeepsAmounts (funding_of s) (funding_of (state_after s events)) }
 {}
 
-/// A currency, a thread or a mutex that an event doesn't affect keeps its value.
+/// A currency, a thread or a mutex that an event doesn't affect keeps its value, and so does one that a whole run of
+/// events doesn't affect.
 pub fn events_are_insulated()
-    ensures node { (s : State) (e : Event) (node : Node) → IsInOrder s → HasEquation (funding_of s) node → ¬ Affects s (step s e).state node
-        → node_value s.limits.unit (funding_of (step s e).state) (live_of (step s e).state) node ≡ node_value s.limits.unit (funding_of s) (live_of s) node }
-    ensures thread { (s : State) (e : Event) (t : ℕ) → IsInOrder s → HasEquation (funding_of s) (nodes.Thread t) → ¬ Affects s (step s e).state (nodes.Thread t)
-        → value_of (step s e).state t ≡ value_of s t }
+    ensures event { (s : State) (e : Event) (node : Node) → IsInOrder s → HasEquation (funding_of s) node → ¬ Affects s (step s e).state node → worth_in (step s e).state node ≡ worth_in s node }
+    ensures run { (s : State) (events : List Event) (node : Node) → IsInOrder s → HasEquation (funding_of s) node → ¬ Affects s (state_after s events) node
+        → worth_in (state_after s events) node ≡ worth_in s node }
+{}
+
+/// What changes inside a currency changes no value outside it, and not the currency's own, if the currency has an
+/// active amount before and after, or neither. Its own value needs no premise: the currency is outside of what is
+/// inside it.
+pub fn changes_stay_inside()
+    ensures { (before after : Funding) → IsWellFormed before → IsWellFormed after → KeepsAmounts before after
+        → (unit : ℕ) (live now_live : List Bool) (c : ℕ) (inside : Node → Bool) → IsChangeInside before after live now_live c inside
+        → ((0 < active_amount before live c) ↔ (0 < active_amount after now_live c))
+        → (node : Node) → inside node ≡ false → HasEquation before node → HasEquation after node → node_value unit before live node ≡ node_value unit after now_live node }
+{}
+
+/// What is issued, funded or removed inside a currency whose active amount stays changes no value outside it, and not
+/// its own value (3.3). All that is inside must be reached through the currency alone:
+/// `worked::insulation::funded_from_outside` shows what changes otherwise.
+pub fn currencies_insulate()
+    ensures { (s : State) (events : List Event) (c : ℕ) (inside : Node → Bool) → IsReachable s → ChangesInside s (state_after s events) c inside
+        → amount_in (state_after s events) c ≡ amount_in s c
+        → (node : Node) → inside node ≡ false → HasEquation (funding_of s) node → worth_in (state_after s events) node ≡ worth_in s node }
+{}
+
+/// Inflation is local (3.2): tickets that are made inside a currency with active tickets change no value outside it,
+/// however many they are.
+pub fn inflation_is_local()
+    ensures { (s : State) (events : List Event) (c : ℕ) (inside : Node → Bool) → IsReachable s → ChangesInside s (state_after s events) c inside
+        → 0 < amount_in s c → 0 < amount_in (state_after s events) c
+        → (node : Node) → inside node ≡ false → HasEquation (funding_of s) node → worth_in (state_after s events) node ≡ worth_in s node }
 {}

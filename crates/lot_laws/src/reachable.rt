@@ -1,21 +1,18 @@
 //! What the other laws ask of a state, each state has that a run can come to.
-ghost use Rattle.std.specs.Prelude.{ℕ};
+ghost use Rattle.std.specs.Prelude.{List};
 ghost use Rattle.lot_machine.specs.declared.event.Event.{Event};
 ghost use Rattle.lot_machine.specs.State.{State, funding_of};
-ghost use Rattle.lot_machine.specs.Facts.{HasNoCycle, FundsThere};
 ghost use Rattle.lot_machine.specs.Order.{IsInOrder};
-ghost use Rattle.lot_machine.specs.Step.{step};
+ghost use Rattle.lot_machine.specs.Step.{step, state_after};
 ghost use Rattle.lot_laws.specs.Conservation.{HasAmounts};
-ghost use Rattle.lot_laws.specs.Reachable.{IsReachable};
+ghost use Rattle.lot_laws.specs.Reachable.{IsReachable, IsWellFormed};
 
-/// Each reachable state is in order, nothing makes a cycle in it, tickets fund only currencies that are there, and no
-/// ticket has the amount 0. After an event it is reachable.
+/// Each reachable state is in order, and its funding is well formed: nothing makes a cycle, no ticket has the amount
+/// 0, and tickets fund only threads and user currencies that are there. It is reachable after a run of events.
 pub fn reachable_states_meet_the_premises()
     ensures in_order { (s : State) → IsReachable s → IsInOrder s }
-    ensures no_cycle { (s : State) → IsReachable s → HasNoCycle (funding_of s) }
-    ensures funds_there { (s : State) → IsReachable s → FundsThere (funding_of s) }
-    ensures amounts { (s : State) → IsReachable s → HasAmounts (funding_of s) }
-    ensures event { (s : State) (e : Event) → IsReachable s → IsReachable (step s e).state }
+    ensures well_formed { (s : State) → IsReachable s → IsWellFormed (funding_of s) }
+    ensures run { (s : State) (events : List Event) → IsReachable s → IsReachable (state_after s events) }
 {}
 
 /// No event makes a ticket with the amount 0.

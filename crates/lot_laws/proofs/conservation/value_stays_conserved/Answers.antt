@@ -1,5 +1,5 @@
 use Rattle.lot_machine.specs.State.{funding_of, live_of}
-use Rattle.lot_laws.proofs.HaveAmounts.{reachable-amounts, reachable-order}
+use Rattle.lot_laws.proofs.EachTicket.{reachable-amounts, reachable-order}
 use Rattle.lot_laws.proofs.Conserved.{conserved, few-lost, loses-most}
 use Rattle.lot_laws.proofs.conservation.value_stays_conserved.Goals as goal
 
