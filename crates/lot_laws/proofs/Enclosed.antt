@@ -40,7 +40,7 @@ none-any test (t ∷ ts) none = at (test t) refl (none-any test ts) none
     at false is more = rw is more
 
 -- a currency with an active amount issues an active ticket
-active-found : (f : Funding) (live : List Bool) (c : ℕ) → 0 < active_amount f live c → (n : ℕ) × (t : Ticket) × (ticket_at f n ≡ Some t) × (t.issuer ≡ c) × (is_active f live t ≡ true)
+pub active-found : (f : Funding) (live : List Bool) (c : ℕ) → 0 < active_amount f live c → (n : ℕ) × (t : Ticket) × (ticket_at f n ≡ Some t) × (t.issuer ≡ c) × (is_active f live t ≡ true)
 active-found f live c some = by (list_any (is_active f live) (issued_in f c)) refl
   where
     by : (b : Bool) → list_any (is_active f live) (issued_in f c) ≡ b → (n : ℕ) × (t : Ticket) × (ticket_at f n ≡ Some t) × (t.issuer ≡ c) × (is_active f live t ≡ true)

@@ -19,3 +19,4 @@ pub mod MutexWait
 pub mod WaitingServer
 pub mod Enclosed
 pub mod StaysInside
+pub mod Inflated

@@ -1,13 +1,14 @@
 -- Insulation: what a change can't affect (3.3, 4.4).
-use Rattle.std.specs.Prelude.{◌≡◌, ◌≢◌, ◌⊎◌, ℕ, Bool, true, false, Some, List}
+use Rattle.std.specs.Prelude.{◌≡◌, ◌≢◌, ◌⊎◌, ℕ, Bool, true, false, Some, List, option_and_then}
 use Rattle.lot_machine.specs.declared.ticket.Ticket.{Ticket}
 use Rattle.lot_machine.specs.declared.ticket.Target.TheVariants as target
 use Rattle.lot_machine.specs.declared.funding.Node.{Node}
 use Rattle.lot_machine.specs.declared.funding.Node.TheVariants.{Currency, Thread}
-use Rattle.lot_machine.specs.Funding.{Funding, ticket_at, target_of, IsEdge}
+use Rattle.lot_machine.specs.Funding.{Funding, ticket_at, target_of, target_node, IsEdge}
 use Rattle.lot_machine.specs.Activity.{active_amount}
 use Rattle.lot_machine.specs.Value.{node_value}
 use Rattle.lot_machine.specs.State.{State, funding_of, live_of}
+use Rattle.lot_machine.specs.Commands.{target_named}
 use Rattle.lot_machine.specs.Touched.{PathLeads, IsTouched, IsChangedEdge, IsChangedLife}
 
 -- a ticket that is there before and after has the same amount
@@ -55,3 +56,7 @@ amount_in s c = active_amount (funding_of s) (live_of s) c
 -- what a node is worth in a state; base counts as its active amount
 abbrev pub worth_in : State → Node → ℕ
 worth_in s node = node_value s.limits.unit (funding_of s) (live_of s) node
+
+-- what has the name is inside
+abbrev pub IsNamedInside : State → List ℕ → (Node → Bool) → Type 0
+IsNamedInside s name inside = (node : Node) → option_and_then target_node (target_named s name) ≡ Some node → inside node ≡ true

@@ -1,17 +1,21 @@
 //! Currencies insulate: what a change can't affect keeps its value, and what changes inside a currency changes no
 //! value outside it (3.2, 3.3).
-ghost use Rattle.std.specs.Prelude.{◌≡◌, ◌<◌, ◌↔◌, Bool, false, List, ℕ};
+ghost use Rattle.std.specs.Prelude.{◌≡◌, ◌+◌, ◌<◌, ◌↔◌, Bool, true, false, Some, List, ℕ, length};
 ghost use Rattle.lot_machine.specs.declared.event.Event.{Event};
+ghost use Rattle.lot_machine.specs.declared.event.Event.TheVariants.{Command};
+ghost use Rattle.lot_machine.specs.declared.command.Command.TheVariants.{Fund, MakeFunded};
 ghost use Rattle.lot_machine.specs.declared.funding.Node.{Node};
-ghost use Rattle.lot_machine.specs.Funding.{Funding};
+ghost use Rattle.lot_machine.specs.declared.funding.Node.TheVariants.{Thread};
+ghost use Rattle.lot_machine.specs.Funding.{Funding, issuer_of};
 ghost use Rattle.lot_machine.specs.Activity.{active_amount};
 ghost use Rattle.lot_machine.specs.Value.{node_value};
 ghost use Rattle.lot_machine.specs.Equations.{HasEquation};
 ghost use Rattle.lot_machine.specs.State.{State, funding_of};
 ghost use Rattle.lot_machine.specs.Facts.{HasNoCycle, FundsThere};
 ghost use Rattle.lot_machine.specs.Order.{IsInOrder};
+ghost use Rattle.lot_machine.specs.Commands.{currency_named};
 ghost use Rattle.lot_machine.specs.Step.{step, state_after};
-ghost use Rattle.lot_laws.specs.Insulation.{KeepsAmounts, IsAffected, Affects, IsChangeInside, ChangesInside, amount_in, worth_in};
+ghost use Rattle.lot_laws.specs.Insulation.{KeepsAmounts, IsAffected, Affects, Encloses, IsChangeInside, ChangesInside, IsNamedInside, amount_in, worth_in};
 ghost use Rattle.lot_laws.specs.Reachable.{IsReachable, IsWellFormed};
 
 /// However tickets, lends, owners and live threads change, a node keeps its value if no touched node leads to it.
@@ -56,9 +60,17 @@ pub fn currencies_insulate()
 {}
 
 /// Inflation is local (3.2): tickets that are made inside a currency with active tickets change no value outside it,
-/// however many they are.
+/// whatever their amounts. So of one that funds what has a name inside, of one that a new thread inside is made with,
+/// and of a whole run that changes nothing outside. In a currency with no active ticket the first one activates what
+/// funds the currency, as `worked::insulation::first_active_ticket` shows.
 pub fn inflation_is_local()
-    ensures { (s : State) (events : List Event) (c : ℕ) (inside : Node → Bool) → IsReachable s → ChangesInside s (state_after s events) c inside
+    ensures fund { (s : State) (n c : ℕ) (name : List ℕ) (inside : Node → Bool) → IsReachable s → Encloses (funding_of s) c inside → issuer_of (funding_of s) n ≡ Some c
+        → IsNamedInside s name inside → 0 < amount_in s c → (node : Node) → inside node ≡ false → HasEquation (funding_of s) node
+        → worth_in (step s (Command (Fund n name))).state node ≡ worth_in s node }
+    ensures make { (s : State) (amount c : ℕ) (currency name : List ℕ) (script : ℕ) (inside : Node → Bool) → IsReachable s → Encloses (funding_of s) c inside → currency_named s currency ≡ Some c
+        → inside (Thread (length s.threads + 1)) ≡ true → 0 < amount_in s c → (node : Node) → inside node ≡ false → HasEquation (funding_of s) node
+        → worth_in (step s (Command (MakeFunded amount currency name script))).state node ≡ worth_in s node }
+    ensures run { (s : State) (events : List Event) (c : ℕ) (inside : Node → Bool) → IsReachable s → ChangesInside s (state_after s events) c inside
         → 0 < amount_in s c → 0 < amount_in (state_after s events) c
         → (node : Node) → inside node ≡ false → HasEquation (funding_of s) node → worth_in (state_after s events) node ≡ worth_in s node }
 {}
