@@ -378,13 +378,25 @@ module _ (s : State) (no_cycle : HasNoCycle (funding_of s)) (there : FundsThere 
       let both = sum-plus handed lost users in
       omega (arith, went, once, split, base, parts, came, shared, no_more, both, threads-get, currencies-get, currencies-give)
 
--- rounding loses at most one at each active ticket that isn't base's
-pub few-lost : (s : State) → HasNoCycle (funding_of s) → FundsThere (funding_of s) → HasAmounts (funding_of s) → lost_value s ≤ rounded_tickets s
+-- of sums of terms, each of which is at least one less than another, if that isn't 0
+sum-less : (g h : ℕ → ℕ) (a n : ℕ) → ((k : ℕ) → a ≤ k → g k ≤ h k - 1) → sum_by g (range_with_len a n) ≤ sum_by h (range_with_len a n) - 1
+sum-less g h a zero less = omega arith
+sum-less g h a (suc n) less =
+    omega (
+      arith,
+      less a (omega arith),
+      sum-less g h (a + 1) n (λ k above. less k (omega (arith, above))),
+      sum_by-cons g a (range_with_len (a + 1) n),
+      sum_by-cons h a (range_with_len (a + 1) n),
+    )
+
+-- rounding loses less than one for each active ticket that isn't base's
+pub few-lost : (s : State) → HasNoCycle (funding_of s) → FundsThere (funding_of s) → HasAmounts (funding_of s) → lost_value s ≤ rounded_tickets s - 1
 few-lost s no_cycle there amounts =
     let n = length (funding_of s).currencies - 1 in
     let all = all_tickets (funding_of s) in
-    let each : lost_value s ≤ sum_by (λ c. sum_by (λ (t : Ticket). cond (t.issuer == c) (active t) 0) all) (range_with_len 1 n) =
-    sum-le_from (lost_at s.limits.unit (funding_of s) (live_of s)) (λ c. sum_by (λ (t : Ticket). cond (t.issuer == c) (active t) 0) all) 1 n one in
+    let each : lost_value s ≤ sum_by (λ c. sum_by (λ (t : Ticket). cond (t.issuer == c) (active t) 0) all) (range_with_len 1 n) - 1 =
+    sum-less (lost_at s.limits.unit (funding_of s) (live_of s)) (λ c. sum_by (λ (t : Ticket). cond (t.issuer == c) (active t) 0) all) 1 n one in
     let swapped = sum-swap (λ c (t : Ticket). cond (t.issuer == c) (active t) 0) (range_with_len 1 n) all in
     let within : sum_by (λ (t : Ticket). sum_by (λ c. cond (t.issuer == c) (active t) 0) (range_with_len 1 n)) all ≤ rounded_tickets s =
     sum-le (λ (t : Ticket). sum_by (λ c. cond (t.issuer == c) (active t) 0) (range_with_len 1 n)) (λ t. cond (is_active (funding_of s) (live_of s) t && not (t.issuer == 0)) 1 0) all (λ t. at t (t.issuer == 0) refl) in
@@ -393,7 +405,7 @@ few-lost s no_cycle there amounts =
     active : Ticket → ℕ
     active t = cond (is_active (funding_of s) (live_of s) t) 1 0
 
-    one : (c : ℕ) → 1 ≤ c → lost_at s.limits.unit (funding_of s) (live_of s) c ≤ sum_by (λ (t : Ticket). cond (t.issuer == c) (active t) 0) (all_tickets (funding_of s))
+    one : (c : ℕ) → 1 ≤ c → lost_at s.limits.unit (funding_of s) (live_of s) c ≤ sum_by (λ (t : Ticket). cond (t.issuer == c) (active t) 0) (all_tickets (funding_of s)) - 1
     one c some =
         omega (arith, loses-most (funding_of s) no_cycle there s.limits.unit (live_of s) amounts c (λ base. absurd (omega (arith, some, base))), length-filter (is_active (funding_of s) (live_of s)) (issued_in (funding_of s) c), sum-filter active (λ (t : Ticket). t.issuer == c) (all_tickets (funding_of s)))
 

@@ -20,3 +20,4 @@ pub mod WaitingServer
 pub mod Enclosed
 pub mod StaysInside
 pub mod Inflated
+pub mod Served

@@ -43,7 +43,7 @@ lives-on records t p used ticks quantum before is =
 -- ---- the state
 
 -- the records after the caller woke, and after the server went on
-abbrev woken : State → ℕ → ℕ → List Record
+abbrev pub woken : State → ℕ → ℕ → List Record
 woken s number caller = change_record (λ r. record r { status = Ready; delivered = Some number }) s.records caller
 
 abbrev gone_on : State → ℕ → ℕ → ℕ → ℕ → ℕ → ℕ → List Record

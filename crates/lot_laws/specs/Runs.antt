@@ -1,6 +1,6 @@
 -- Runs and states that are small enough to compute.
 use Rattle.std.specs.Prelude.{Some, ◌==◌, ◌||◌, Bool, false, List, [], ◌∷◌, ◌++◌, codes}
-use Rattle.lot_machine.specs.declared.action.Action.TheVariants.{Receive, Lock, Exit}
+use Rattle.lot_machine.specs.declared.action.Action.TheVariants.{Call, Receive, Lock, Exit}
 use Rattle.lot_machine.specs.declared.event.Event.{Event}
 use Rattle.lot_machine.specs.declared.event.Event.TheVariants.{Draw, Trap}
 use Rattle.lot_machine.specs.declared.ticket.Target.TheVariants.{Currency, Thread}
@@ -29,6 +29,10 @@ server_with_a_ticket = mkcur (codes "g") ∷ mktkt 100 base ∷ fund 1 (codes "g
 -- a server with no ticket that runs on one processor, and a thread that runs on another
 abbrev pub busy_server : List Event
 busy_server = mkthr (codes "v") ∷ fundx 400 base (codes "c") ∷ mktkt 1 base ∷ fund 2 (codes "v") ∷ Draw 1 0 ∷ unfund 2 ∷ Draw 2 0 ∷ []
+
+-- a server with no ticket that serves a thread of 400 base, and another thread of 100 whose call is queued
+abbrev pub two_callers : List Event
+two_callers = busy_server ++ Trap 2 0 (Call 1 9) ∷ Trap 1 0 (Receive 1) ∷ fundx 100 base (codes "d") ∷ Draw 2 0 ∷ Trap 2 0 (Call 1 8) ∷ []
 
 -- a thread that owns a mutex and runs, and another that runs
 abbrev pub owner_runs : List Event

@@ -1,11 +1,11 @@
 -- Transfers: what a blocked thread lends goes to the thread that it waits for (3.1, 4.6, 6.1).
 use Rattle.std.specs.Prelude.{◌≡◌, ℕ, Bool, Some, []}
-use Rattle.lot_machine.specs.declared.action.Action.TheVariants.{Call, Receive, Reply as ReplyTo, Lock}
+use Rattle.lot_machine.specs.declared.action.Action.TheVariants.{Call, Receive, Reply as ReplyTo, Serve, Lock}
 use Rattle.lot_machine.specs.declared.event.Event.{Event}
 use Rattle.lot_machine.specs.declared.event.Event.TheVariants.{Trap}
 use Rattle.lot_machine.specs.declared.record.Status.TheVariants.{Ready}
 use Rattle.lot_machine.specs.declared.reply.Reply.TheVariants.{Trapped}
-use Rattle.lot_machine.specs.declared.reply.Outcome.TheVariants.{ServedBy, Queued, Received, Replied, Waits}
+use Rattle.lot_machine.specs.declared.reply.Outcome.TheVariants.{ServedBy, Queued, Received, Replied, RepliedThenReceived, RepliedThenWaits, Waits}
 use Rattle.lot_machine.specs.Funding.{owner_of, backing_thread}
 use Rattle.lot_machine.specs.Lends.{LendsTo}
 use Rattle.lot_machine.specs.State.{State, funding_of, change_record}
@@ -32,6 +32,17 @@ TakesQueuedCall s e caller server =
 abbrev pub RepliesTo : State → Event → ℕ → ℕ → Type 0
 RepliesTo s e caller server =
     (p : ℕ) × (ran : ℕ) × (number : ℕ) × (ticks : ℕ) × (ends : Bool) × (e ≡ Trap p ran (ReplyTo number)) × ((step s e).reply ≡ Trapped server ticks (Replied caller) ends)
+
+-- the server replies to the caller and receives, in one trap, and waits for a call
+abbrev pub RepliesThenWaits : State → Event → ℕ → ℕ → Type 0
+RepliesThenWaits s e caller server =
+    (p : ℕ) × (ran : ℕ) × (port : ℕ) × (number : ℕ) × (ticks : ℕ) × (ends : Bool) × (e ≡ Trap p ran (Serve port number)) × ((step s e).reply ≡ Trapped server ticks (RepliedThenWaits caller) ends)
+
+-- the server replies to the caller and receives, in one trap, and takes the next caller's queued call
+abbrev pub RepliesThenReceives : State → Event → ℕ → ℕ → ℕ → Type 0
+RepliesThenReceives s e caller next server =
+    (p : ℕ) × (ran : ℕ) × (port : ℕ) × (number : ℕ) × (taken : ℕ) × (ticks : ℕ) × (ends : Bool) × (e ≡ Trap p ran (Serve port number))
+    × ((step s e).reply ≡ Trapped server ticks (RepliedThenReceived caller next taken) ends)
 
 -- the thread locks a mutex that the owner has, and waits for it
 abbrev pub WaitsFor : State → Event → ℕ → ℕ → Type 0

@@ -17,17 +17,17 @@ pub fn currencies_hand_on()
         → lost_at unit f live c ≤ length (active_issued f live c) - 1 }
 {}
 
-/// The live threads are worth together what base's active tickets are worth, less what rounding loses: at most 1 at
-/// each active ticket of another currency.
+/// The live threads are worth together what base's active tickets are worth, less what rounding loses: less than 1
+/// for each active ticket of another currency.
 pub fn value_is_conserved()
     ensures adds_up { (s : State) → HasNoCycle (funding_of s) → FundsThere (funding_of s) → base_value s ≡ live_value s + lost_value s }
-    ensures most { (s : State) → HasNoCycle (funding_of s) → FundsThere (funding_of s) → HasAmounts (funding_of s) → lost_value s ≤ rounded_tickets s }
+    ensures most { (s : State) → HasNoCycle (funding_of s) → FundsThere (funding_of s) → HasAmounts (funding_of s) → lost_value s ≤ rounded_tickets s - 1 }
 {}
 
 /// So value is conserved in each reachable state.
 pub fn value_stays_conserved()
     ensures adds_up { (s : State) → IsReachable s → base_value s ≡ live_value s + lost_value s }
-    ensures most { (s : State) → IsReachable s → lost_value s ≤ rounded_tickets s }
+    ensures most { (s : State) → IsReachable s → lost_value s ≤ rounded_tickets s - 1 }
     ensures currency { (s : State) (c : ℕ) → IsReachable s → c ≢ 0
         → lost_at s.limits.unit (funding_of s) (live_of s) c ≤ length (active_issued (funding_of s) (live_of s) c) - 1 }
 {}

@@ -7,7 +7,7 @@ ghost use Rattle.lot_machine.specs.State.{State, funding_of, live_of, value_of};
 ghost use Rattle.lot_machine.specs.Facts.{live_value};
 ghost use Rattle.lot_machine.specs.Order.{IsInOrder};
 ghost use Rattle.lot_machine.specs.Step.{step};
-ghost use Rattle.lot_laws.specs.Transfers.{TakesCall, QueuesCall, TakesQueuedCall, RepliesTo, WaitsFor, OwnsNothing, with_ready};
+ghost use Rattle.lot_laws.specs.Transfers.{TakesCall, QueuesCall, TakesQueuedCall, RepliesTo, RepliesThenWaits, RepliesThenReceives, WaitsFor, OwnsNothing, with_ready};
 
 /// A thread with nothing of its own is worth nothing.
 pub fn nothing_is_worth_nothing()
@@ -57,6 +57,26 @@ pub fn replies_return_value()
     ensures caller { (s : State) (e : Event) (caller server : ℕ) → IsInOrder s → RepliesTo s e caller server → value_of (step s e).state caller ≡ value_of s caller }
     ensures others { (s : State) (e : Event) (caller server other : ℕ) → IsInOrder s → RepliesTo s e caller server → other ≢ server → value_of (step s e).state other ≡ value_of s other }
     ensures together { (s : State) (e : Event) (caller server : ℕ) → IsInOrder s → RepliesTo s e caller server → live_value (step s e).state ≡ live_value s }
+{}
+
+/// A server that replies and then waits for a call, in one trap, and is left with nothing, gives back what a reply
+/// does.
+pub fn servings_return_value()
+    ensures server { (s : State) (e : Event) (caller server : ℕ) → IsInOrder s → RepliesThenWaits s e caller server → OwnsNothing (step s e).state server → value_of s server ≡ value_of s caller }
+    ensures others { (s : State) (e : Event) (caller server other : ℕ) → IsInOrder s → RepliesThenWaits s e caller server → other ≢ server → OwnsNothing (step s e).state server
+        → value_of (step s e).state other ≡ value_of s other }
+    ensures together { (s : State) (e : Event) (caller server : ℕ) → IsInOrder s → RepliesThenWaits s e caller server → OwnsNothing (step s e).state server → live_value (step s e).state ≡ live_value s }
+{}
+
+/// A server that replies and then takes the next caller's queued call, in one trap, gets what this caller would be
+/// worth if both callers were Ready, and all other values and the sum are then as if they were.
+pub fn servings_transfer_value()
+    ensures server { (s : State) (e : Event) (caller next server : ℕ) → IsInOrder s → RepliesThenReceives s e caller next server
+        → value_of (step s e).state server ≡ value_of (with_ready (with_ready s caller) next) server + value_of (with_ready (with_ready s caller) next) next }
+    ensures others { (s : State) (e : Event) (caller next server other : ℕ) → IsInOrder s → RepliesThenReceives s e caller next server → other ≢ server
+        → value_of (step s e).state other ≡ value_of (with_ready (with_ready s caller) next) other }
+    ensures together { (s : State) (e : Event) (caller next server : ℕ) → IsInOrder s → RepliesThenReceives s e caller next server
+        → live_value (step s e).state ≡ live_value (with_ready (with_ready s caller) next) }
 {}
 
 /// A thread that waits for a mutex hands what it is worth to the owner, and to each thread to which the owner's lends
