@@ -39,7 +39,7 @@ win_count wins draws = count_by wins draws
 abbrev pub wins_in_all : (ℕ → Bool) → ℕ → ℕ → ℕ
 wins_in_all wins total n = sum_by (win_count wins) (all_draws total n)
 
--- in how many of all draws of n lotteries it wins just k of them
+-- in how many of all draws of n lotteries it wins exactly k of them
 abbrev pub draws_with_wins : (ℕ → Bool) → ℕ → ℕ → ℕ → ℕ
 draws_with_wins wins total n k = count_by (λ draws. win_count wins draws == k) (all_draws total n)
 

@@ -1,12 +1,12 @@
--- Insulation: what a change can't affect (3.3, 4.4).
+-- Insulation: what a change can't affect, and what is inside a currency (3.2, 3.3).
 use Rattle.std.specs.Prelude.{◌≡◌, ◌≢◌, ◌⊎◌, ℕ, Bool, true, false, Some, List, option_and_then}
 use Rattle.lot_machine.specs.declared.ticket.Ticket.{Ticket}
 use Rattle.lot_machine.specs.declared.ticket.Target.TheVariants as target
 use Rattle.lot_machine.specs.declared.funding.Node.{Node}
 use Rattle.lot_machine.specs.declared.funding.Node.TheVariants.{Currency, Thread}
 use Rattle.lot_machine.specs.Funding.{Funding, ticket_at, target_of, target_node, IsEdge}
-use Rattle.lot_machine.specs.Activity.{active_amount}
-use Rattle.lot_machine.specs.Value.{node_value}
+use Rattle.lot_machine.specs.Activity.{is_active, active_amount}
+use Rattle.lot_machine.specs.Value.{ticket_value, node_value}
 use Rattle.lot_machine.specs.State.{State, funding_of, live_of}
 use Rattle.lot_machine.specs.Commands.{target_named}
 use Rattle.lot_machine.specs.Touched.{PathLeads, IsTouched, IsChangedEdge, IsChangedLife}
@@ -56,6 +56,13 @@ amount_in s c = active_amount (funding_of s) (live_of s) c
 -- what a node is worth in a state; base counts as its active amount
 abbrev pub worth_in : State → Node → ℕ
 worth_in s node = node_value s.limits.unit (funding_of s) (live_of s) node
+
+-- whether a ticket is active in a state, and what it is worth there
+abbrev pub is_active_in : State → Ticket → Bool
+is_active_in s t = is_active (funding_of s) (live_of s) t
+
+abbrev pub ticket_worth_in : State → Ticket → ℕ
+ticket_worth_in s t = ticket_value s.limits.unit (funding_of s) (live_of s) t
 
 -- what has the name is inside
 abbrev pub IsNamedInside : State → List ℕ → (Node → Bool) → Type 0

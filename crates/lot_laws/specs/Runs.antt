@@ -18,6 +18,10 @@ nothing_to_share = record (after halves) { tickets = Some (record { amount = 5; 
 abbrev pub two_currencies : List Event
 two_currencies = mkcur (codes "g") ∷ mkcur (codes "h") ∷ mktkt 100 base ∷ fund 1 (codes "g") ∷ mktkt 100 base ∷ fund 2 (codes "h") ∷ fundx 1 (codes "g") (codes "a") ∷ fundx 1 (codes "h") (codes "b") ∷ []
 
+-- the same with one more thread in the first currency, whose first thread runs
+abbrev pub first_of_three_runs : List Event
+first_of_three_runs = two_currencies ++ fundx 1 (codes "g") (codes "c") ∷ Draw 1 0 ∷ []
+
 -- a server with no ticket that waits for a call, and a thread that runs
 abbrev pub waiting_server : List Event
 waiting_server = mkthr (codes "v") ∷ fundx 400 base (codes "c") ∷ mktkt 1 base ∷ fund 2 (codes "v") ∷ Draw 1 0 ∷ Trap 1 0 (Receive 1) ∷ unfund 2 ∷ Draw 1 0 ∷ []
@@ -47,9 +51,9 @@ abbrev pub shared_thread : List Event
 shared_thread = mkcur (codes "g") ∷ mkcur (codes "h") ∷ mktkt 100 base ∷ fund 1 (codes "g") ∷ mktkt 100 base ∷ fund 2 (codes "h")
     ∷ fundx 1 (codes "g") (codes "a") ∷ fundx 1 (codes "g") (codes "b") ∷ mktkt 1 (codes "h") ∷ fund 5 (codes "a") ∷ fundx 1 (codes "h") (codes "c") ∷ Draw 1 0 ∷ []
 
--- the shared thread exits, and a new one takes its place in the first currency
-abbrev pub shared_thread_replaced : List Event
-shared_thread_replaced = Trap 1 0 Exit ∷ fundx 1 (codes "g") (codes "d") ∷ []
+-- the first thread exits, and a new one takes its place in the first currency
+abbrev pub first_replaced : List Event
+first_replaced = Trap 1 0 Exit ∷ fundx 1 (codes "g") (codes "d") ∷ []
 
 -- the threads of the first of two currencies, one of them new
 abbrev pub first_threads : Node → Bool

@@ -1,5 +1,5 @@
-//! Lotteries are fair: over all numbers that n lotteries may draw, a client wins in proportion to its weight, and its
-//! wins have the binomial distribution (2.2). All by counting. That the generator spreads its numbers evenly is no
+//! Lotteries are fair by counting: over all numbers that n lotteries may draw, a client wins in proportion to its
+//! weight, and its wins have the binomial distribution (2.2). That the generator spreads its numbers evenly is no
 //! part of it.
 ghost use Rattle.std.specs.Prelude.{◌≡◌, ◌+◌, ◌-◌, ◌*◌, ◌^◌, ◌<◌, Some, List, All, ℕ, length, slice_get, sum};
 ghost use Rattle.lot_machine.specs.Equations.{HasEachOnce};
@@ -14,9 +14,9 @@ pub fn all_draws_are_there()
     ensures count { (total n : ℕ) → length (all_draws total n) ≡ total ^ n }
 {}
 
-/// In all draws of n lotteries together, a client of weight w wins n * w * total ^ (n - 1) times: in the mean n * w /
-/// total times, as the means say without a division (2.2). A client is a place in a lottery over any weights, or a
-/// Ready thread in any state.
+/// A client of weight w wins n * w * total ^ (n - 1) times in all draws of n lotteries together, so n * w / total
+/// times in the mean; the clauses of the means say that without a division (2.2). A client is a place in a lottery
+/// over any weights, or a Ready thread in any state.
 pub fn wins_are_in_proportion()
     ensures place { (ws : List ℕ) (place weight n : ℕ) → slice_get ws place ≡ Some weight → wins_in_all (place_wins ws place) (sum ws) n ≡ n * weight * sum ws ^ (n - 1) }
     ensures thread { (s : State) (p t n : ℕ) → status_of s.records t ≡ Some Ready
@@ -27,8 +27,8 @@ pub fn wins_are_in_proportion()
         → wins_in_all (thread_wins s p t) (total_weight s) n * total_weight s ≡ n * weight_of s t * length (all_draws (total_weight s) n) }
 {}
 
-/// Wins have the binomial distribution (2.2): a client of weight w wins just k of n lotteries in choose n k * w ^ k *
-/// (total - w) ^ (n - k) of all draws.
+/// Wins have the binomial distribution (2.2): a client of weight w wins exactly k of n lotteries in choose n k * w ^
+/// k * (total - w) ^ (n - k) of all draws.
 pub fn wins_are_binomial()
     ensures place { (ws : List ℕ) (place weight n k : ℕ) → slice_get ws place ≡ Some weight
         → draws_with_wins (place_wins ws place) (sum ws) n k ≡ choose n k * weight ^ k * (sum ws - weight) ^ (n - k) }
@@ -47,9 +47,10 @@ pub fn first_wins_are_geometric()
     ensures thread_never { (s : State) (p t n : ℕ) → status_of s.records t ≡ Some Ready → draws_with_wins (thread_wins s p t) (total_weight s) n 0 ≡ (total_weight s - weight_of s t) ^ n }
 {}
 
-/// Wins have the binomial's variance, n * (w / total) * (1 - w / total): over all draws, the squares of wins * total
-/// - n * w sum to n * w * (total - w) for each. They grow as n and not as its square, so the more lotteries, the
-/// nearer a client comes to its share of the wins (2.2).
+/// Wins have the variance of the binomial distribution, n * (w / total) * (1 - w / total): over all draws of n
+/// lotteries the squares of wins * total - n * w sum to n * w * (total - w) * total ^ n. The variance grows as n and
+/// not as its square, so the more lotteries, the nearer a client's share of the wins is to its share of the weights
+/// (2.2).
 pub fn wins_have_the_binomial_variance()
     ensures place { (ws : List ℕ) (place weight n : ℕ) → slice_get ws place ≡ Some weight
         → squared_distances (place_wins ws place) (sum ws) weight n ≡ n * weight * (sum ws - weight) * sum ws ^ n }

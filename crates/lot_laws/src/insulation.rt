@@ -1,12 +1,13 @@
 //! Currencies insulate: what a change can't affect keeps its value, and what changes inside a currency changes no
 //! value outside it (3.2, 3.3).
-ghost use Rattle.std.specs.Prelude.{◌≡◌, ◌+◌, ◌<◌, ◌↔◌, Bool, true, false, Some, List, ℕ, length};
+ghost use Rattle.std.specs.Prelude.{◌≡◌, ◌≢◌, IsTrue, ◌+◌, ◌<◌, ◌↔◌, Bool, true, false, Some, List, ℕ, length};
 ghost use Rattle.lot_machine.specs.declared.event.Event.{Event};
 ghost use Rattle.lot_machine.specs.declared.event.Event.TheVariants.{Command};
 ghost use Rattle.lot_machine.specs.declared.command.Command.TheVariants.{Fund, MakeFunded};
 ghost use Rattle.lot_machine.specs.declared.funding.Node.{Node};
 ghost use Rattle.lot_machine.specs.declared.funding.Node.TheVariants.{Thread};
-ghost use Rattle.lot_machine.specs.Funding.{Funding, issuer_of};
+ghost use Rattle.lot_machine.specs.declared.ticket.Ticket.{Ticket};
+ghost use Rattle.lot_machine.specs.Funding.{Funding, ticket_at, issuer_of};
 ghost use Rattle.lot_machine.specs.Activity.{active_amount};
 ghost use Rattle.lot_machine.specs.Value.{node_value};
 ghost use Rattle.lot_machine.specs.Equations.{HasEquation};
@@ -15,7 +16,7 @@ ghost use Rattle.lot_machine.specs.Facts.{HasNoCycle, FundsThere};
 ghost use Rattle.lot_machine.specs.Order.{IsInOrder};
 ghost use Rattle.lot_machine.specs.Commands.{currency_named};
 ghost use Rattle.lot_machine.specs.Step.{step, state_after};
-ghost use Rattle.lot_laws.specs.Insulation.{KeepsAmounts, IsAffected, Affects, Encloses, IsChangeInside, ChangesInside, IsNamedInside, amount_in, worth_in};
+ghost use Rattle.lot_laws.specs.Insulation.{KeepsAmounts, IsAffected, Affects, Encloses, IsChangeInside, ChangesInside, IsNamedInside, amount_in, worth_in, is_active_in, ticket_worth_in};
 ghost use Rattle.lot_laws.specs.Reachable.{IsReachable, IsWellFormed};
 
 /// However tickets, lends, owners and live threads change, a node keeps its value if no touched node leads to it.
@@ -40,9 +41,8 @@ pub fn events_are_insulated()
         → worth_in (state_after s events) node ≡ worth_in s node }
 {}
 
-/// What changes inside a currency changes no value outside it, and not the currency's own, if the currency has an
-/// active amount before and after, or neither. Its own value needs no premise: the currency is outside of what is
-/// inside it.
+/// What changes inside a currency changes no value outside it, the currency's own included, if the currency has an
+/// active amount before and after, or neither.
 pub fn changes_stay_inside()
     ensures { (before after : Funding) → IsWellFormed before → IsWellFormed after → KeepsAmounts before after
         → (unit : ℕ) (live now_live : List Bool) (c : ℕ) (inside : Node → Bool) → IsChangeInside before after live now_live c inside
@@ -50,13 +50,17 @@ pub fn changes_stay_inside()
         → (node : Node) → inside node ≡ false → HasEquation before node → HasEquation after node → node_value unit before live node ≡ node_value unit after now_live node }
 {}
 
-/// What is issued, funded or removed inside a currency whose active amount stays changes no value outside it, and not
-/// its own value (3.3). All that is inside must be reached through the currency alone:
-/// `worked::insulation::funded_from_outside` shows what changes otherwise.
+/// What is issued, funded or removed inside a currency whose active amount stays changes no value outside it, the
+/// currency's own included, and leaves the values of the currency's other tickets (3.3). Only the currency, base and
+/// what is inside may lead inside: `worked::insulation::funded_from_outside` shows what changes otherwise.
 pub fn currencies_insulate()
-    ensures { (s : State) (events : List Event) (c : ℕ) (inside : Node → Bool) → IsReachable s → ChangesInside s (state_after s events) c inside
+    ensures outside { (s : State) (events : List Event) (c : ℕ) (inside : Node → Bool) → IsReachable s → ChangesInside s (state_after s events) c inside
         → amount_in (state_after s events) c ≡ amount_in s c
         → (node : Node) → inside node ≡ false → HasEquation (funding_of s) node → worth_in (state_after s events) node ≡ worth_in s node }
+    ensures tickets { (s : State) (events : List Event) (c : ℕ) (inside : Node → Bool) → IsReachable s → ChangesInside s (state_after s events) c inside
+        → amount_in (state_after s events) c ≡ amount_in s c → c ≢ 0
+        → (n : ℕ) (t u : Ticket) → ticket_at (funding_of s) n ≡ Some t → ticket_at (funding_of (state_after s events)) n ≡ Some u → t.issuer ≡ c → u.issuer ≡ c
+        → IsTrue (is_active_in s t) → IsTrue (is_active_in (state_after s events) u) → ticket_worth_in (state_after s events) u ≡ ticket_worth_in s t }
 {}
 
 /// Inflation is local (3.2): tickets that are made inside a currency with active tickets change no value outside it,

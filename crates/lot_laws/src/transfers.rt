@@ -9,14 +9,10 @@ ghost use Rattle.lot_machine.specs.Order.{IsInOrder};
 ghost use Rattle.lot_machine.specs.Step.{step};
 ghost use Rattle.lot_laws.specs.Transfers.{TakesCall, QueuesCall, TakesQueuedCall, RepliesTo, RepliesThenWaits, RepliesThenReceives, WaitsFor, OwnsNothing, with_ready};
 
-/// A thread with nothing of its own is worth nothing.
-pub fn nothing_is_worth_nothing()
-    ensures { (s : State) (t : ℕ) → IsInOrder s → OwnsNothing s t → value_of s t ≡ 0 }
-{}
-
-/// A server with nothing of its own that takes a call is worth just what the caller was. Each other thread, the
-/// caller too, keeps its value, and so do the live threads together.
+/// A server with nothing of its own is worth nothing, and once it takes a call, exactly what the caller was. Each
+/// other thread, the caller too, keeps its value, and so do the live threads together.
 pub fn calls_transfer_value()
+    ensures before { (s : State) (server : ℕ) → IsInOrder s → OwnsNothing s server → value_of s server ≡ 0 }
     ensures server { (s : State) (e : Event) (caller server : ℕ) → IsInOrder s → TakesCall s e caller server → OwnsNothing s server → value_of (step s e).state server ≡ value_of s caller }
     ensures others { (s : State) (e : Event) (caller server other : ℕ) → IsInOrder s → TakesCall s e caller server → OwnsNothing s server → other ≢ server
         → value_of (step s e).state other ≡ value_of s other }
@@ -49,7 +45,7 @@ pub fn queued_calls_transfer_value()
         → live_value (step (step s e).state next).state ≡ live_value s }
 {}
 
-/// A server that replies gives back just what the caller is worth, which is all that it had if it is left with
+/// A server that replies gives back exactly what the caller is worth, which is all that it had if it is left with
 /// nothing. Each other thread, the caller too, keeps its value, and so do the live threads together.
 pub fn replies_return_value()
     ensures server { (s : State) (e : Event) (caller server : ℕ) → IsInOrder s → RepliesTo s e caller server → value_of s server ≡ value_of (step s e).state server + value_of s caller }
@@ -80,7 +76,7 @@ pub fn servings_transfer_value()
 {}
 
 /// A thread that waits for a mutex hands what it is worth to the owner, and to each thread to which the owner's lends
-/// lead. An owner with nothing of its own is then worth just that. Each other thread, the waiter too, keeps its
+/// lead. An owner with nothing of its own is then worth exactly that. Each other thread, the waiter too, keeps its
 /// value, and so do the live threads together. The owner must be backed: else nobody gets what the waiter was worth,
 /// as `worked::transfers::owner_not_backed` shows.
 pub fn waits_transfer_value()

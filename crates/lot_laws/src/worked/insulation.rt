@@ -6,7 +6,7 @@ ghost use Rattle.lot_machine.specs.declared.funding.Node.TheVariants.{Currency, 
 ghost use Rattle.lot_machine.specs.Worked.{after, values, fundx};
 ghost use Rattle.lot_machine.specs.WorkedRuns.{currency_graph, two_to_one};
 ghost use Rattle.lot_machine.specs.Touched.{Touches};
-ghost use Rattle.lot_laws.specs.Runs.{two_currencies, first_threads, shared_thread, shared_thread_replaced, idle_currency};
+ghost use Rattle.lot_laws.specs.Runs.{two_currencies, first_threads, first_of_three_runs, first_replaced, shared_thread, idle_currency};
 ghost use Rattle.lot_laws.specs.Insulation.{Affects, ChangesInside, amount_in, worth_in};
 
 /// A new thread in one of alice's currencies takes from her other threads, and nothing from bob's.
@@ -25,6 +25,15 @@ pub fn other_currency()
     ensures after { values (after (two_currencies ++ fundx 1 (codes "g") (codes "c") ∷ [])) ≡ 50 ∷ 100 ∷ 50 ∷ [] }
 {}
 
+/// A thread of the first currency exits, and a new one takes its place: the currency's active amount stays, and so do
+/// the value of its other thread and of the other currency's.
+pub fn replaced_thread()
+    ensures amount { amount_in (after first_of_three_runs) 1 ≡ 2 }
+    ensures amount_stays { amount_in (after (first_of_three_runs ++ first_replaced)) 1 ≡ 2 }
+    ensures before { values (after first_of_three_runs) ≡ 50 ∷ 100 ∷ 50 ∷ [] }
+    ensures after { values (after (first_of_three_runs ++ first_replaced)) ≡ 0 ∷ 100 ∷ 50 ∷ 50 ∷ [] }
+{}
+
 /// Two threads share a currency, and one exits. That touches neither the other thread nor an edge to it, but affects
 /// it through the currency: the other is worth more then. So it is not enough that a node isn't touched.
 pub fn untouched_but_affected()
@@ -39,11 +48,11 @@ pub fn untouched_but_affected()
 /// what is inside may lead inside.
 pub fn funded_from_outside()
     ensures amount { amount_in (after shared_thread) 1 ≡ 2 }
-    ensures amount_stays { amount_in (after (shared_thread ++ shared_thread_replaced)) 1 ≡ 2 }
+    ensures amount_stays { amount_in (after (shared_thread ++ first_replaced)) 1 ≡ 2 }
     ensures value { worth_in (after shared_thread) (Currency 1) ≡ 100 }
-    ensures value_stays { worth_in (after (shared_thread ++ shared_thread_replaced)) (Currency 1) ≡ 100 }
+    ensures value_stays { worth_in (after (shared_thread ++ first_replaced)) (Currency 1) ≡ 100 }
     ensures before { values (after shared_thread) ≡ 100 ∷ 50 ∷ 50 ∷ [] }
-    ensures after { values (after (shared_thread ++ shared_thread_replaced)) ≡ 0 ∷ 50 ∷ 100 ∷ 50 ∷ [] }
+    ensures after { values (after (shared_thread ++ first_replaced)) ≡ 0 ∷ 50 ∷ 100 ∷ 50 ∷ [] }
 {}
 
 /// If a currency has no active ticket, the first one in it activates the tickets that fund it, and these take from
