@@ -109,10 +109,12 @@ module _ (s : State) (p ran used before port number caller : ℕ) (runs : status
 after-queued : (P : State → Type 0) (s : State) (e : Event) (caller : ℕ) → QueuesCall s e caller
     → ((p ran used before port number : ℕ) → status_of s.records caller ≡ Some (Running p before) → P (queued s p ran used port number caller)) → P (step s e).state
 after-queued P s e caller (p, ran, port, number, ticks, ends, is, replied) holds =
-    let done : IsDone s p ran (Call port number) caller Queued (step s (Trap p ran (Call port number))).state =
-    trap-done s p ran (Call port number) caller ticks Queued ends (λ refusal same. cc) (ap (λ x. (step s x).reply) (sym is) ∙ replied) in
-    let here : (step s e).state ≡ queued s p ran done.used port number caller = ap (λ x. (step s x).state) is ∙ done.state ∙ call-queued s p ran done.used port number caller done.came in
-    subst P (sym here) (holds p ran done.used done.before port number done.runs)
+    by (trap-done s p ran (Call port number) caller ticks Queued ends (λ refusal same. cc) (ap (λ x. (step s x).reply) (sym is) ∙ replied))
+  where
+    by : IsDone s p ran (Call port number) caller Queued (step s (Trap p ran (Call port number))).state → P (step s e).state
+    by done =
+        let here : (step s e).state ≡ queued s p ran done.used port number caller = ap (λ x. (step s x).state) is ∙ done.state ∙ call-queued s p ran done.used port number caller done.came in
+        subst P (sym here) (holds p ran done.used done.before port number done.runs)
 
 pub ready-worth : (s : State) (e : Event) (caller v : ℕ) → QueuesCall s e caller → value_of (with_ready (step s e).state caller) v ≡ value_of s v
 ready-worth s e caller v queues =

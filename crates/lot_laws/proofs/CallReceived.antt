@@ -273,12 +273,14 @@ after-receipt : (P : State → Type 0) (s : State) (e : Event) (caller server : 
     → (port_at s.ports port).calls ≡ first ∷ others → first.caller ≡ caller → HasNoCycle (funding_of (received s p ran used port others caller server)) → P (received s p ran used port others caller server))
     → P (step s e).state
 after-receipt P s e caller server order (p, ran, port, number, ticks, ends_now, is, replied) holds =
-    let done : IsDone s p ran (Receive port) server (Received caller number) (step s (Trap p ran (Receive port))).state =
-    trap-done s p ran (Receive port) server ticks (Received caller number) ends_now (λ refusal same. cc) (ap (λ x. (step s x).reply) (sym is) ∙ replied) in
-    let (first, others, calls, caller_is, state) = call-received s p ran done.used port number caller server done.came in
-    let here : (step s e).state ≡ received s p ran done.used port others caller server = ap (λ x. (step s x).state) is ∙ done.state ∙ state in
-    let now : HasNoCycle (funding_of (step s e).state) = (step-order s e order).no_cycle in
-    subst P (sym here) (holds p ran done.used done.before port first others done.runs (port-there s port NoPort done.passed) calls caller_is (subst (λ x. HasNoCycle (funding_of x)) here now))
+    by (trap-done s p ran (Receive port) server ticks (Received caller number) ends_now (λ refusal same. cc) (ap (λ x. (step s x).reply) (sym is) ∙ replied))
+  where
+    by : IsDone s p ran (Receive port) server (Received caller number) (step s (Trap p ran (Receive port))).state → P (step s e).state
+    by done =
+        let (first, others, calls, caller_is, state) = call-received s p ran done.used port number caller server done.came in
+        let here : (step s e).state ≡ received s p ran done.used port others caller server = ap (λ x. (step s x).state) is ∙ done.state ∙ state in
+        let now : HasNoCycle (funding_of (step s e).state) = (step-order s e order).no_cycle in
+        subst P (sym here) (holds p ran done.used done.before port first others done.runs (port-there s port NoPort done.passed) calls caller_is (subst (λ x. HasNoCycle (funding_of x)) here now))
 
 pub server-gets : (s : State) (e : Event) (caller server : ℕ) → IsInOrder s → TakesQueuedCall s e caller server → value_of (step s e).state server ≡ value_of (with_ready s caller) server + value_of (with_ready s caller) caller
 server-gets s e caller server order takes =

@@ -149,12 +149,14 @@ after-call : (P : State → Type 0) (s : State) (e : Event) (caller server : ℕ
     → (port_at s.ports port).receivers ≡ server ∷ others → HasNoCycle (funding_of (called s p ran used port number others server caller)) → P (called s p ran used port number others server caller))
     → P (step s e).state
 after-call P s e caller server order (p, ran, port, number, ticks, ends, is, replied) holds =
-    let done : IsDone s p ran (Call port number) caller (ServedBy server) (step s (Trap p ran (Call port number))).state =
-    trap-done s p ran (Call port number) caller ticks (ServedBy server) ends (λ refusal same. cc) (ap (λ x. (step s x).reply) (sym is) ∙ replied) in
-    let (others, receivers, state) = call-taken s p ran done.used port number caller server done.came in
-    let here : (step s e).state ≡ called s p ran done.used port number others server caller = ap (λ x. (step s x).state) is ∙ done.state ∙ state in
-    let now : HasNoCycle (funding_of (step s e).state) = (step-order s e order).no_cycle in
-    subst P (sym here) (holds p ran done.used done.before port number others done.runs (port-there s port NoPort done.passed) receivers (subst (λ x. HasNoCycle (funding_of x)) here now))
+    by (trap-done s p ran (Call port number) caller ticks (ServedBy server) ends (λ refusal same. cc) (ap (λ x. (step s x).reply) (sym is) ∙ replied))
+  where
+    by : IsDone s p ran (Call port number) caller (ServedBy server) (step s (Trap p ran (Call port number))).state → P (step s e).state
+    by done =
+        let (others, receivers, state) = call-taken s p ran done.used port number caller server done.came in
+        let here : (step s e).state ≡ called s p ran done.used port number others server caller = ap (λ x. (step s x).state) is ∙ done.state ∙ state in
+        let now : HasNoCycle (funding_of (step s e).state) = (step-order s e order).no_cycle in
+        subst P (sym here) (holds p ran done.used done.before port number others done.runs (port-there s port NoPort done.passed) receivers (subst (λ x. HasNoCycle (funding_of x)) here now))
 
 pub server-gets : (s : State) (e : Event) (caller server : ℕ) → IsInOrder s → TakesCall s e caller server → OwnsNothing s server → value_of (step s e).state server ≡ value_of s caller
 server-gets s e caller server order takes owns =

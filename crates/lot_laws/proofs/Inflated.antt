@@ -23,9 +23,9 @@ use Rattle.lot_machine.specs.declared.refusal.Refusal.TheVariants.{NoTicket, NoT
 use Rattle.lot_machine.specs.declared.refusal.TrapRefusal.{TrapRefusal}
 use Rattle.lot_machine.specs.declared.drawn.Drawn.{Drawn}
 use Rattle.lot_machine.specs.Numbered.{at_number, option_any}
-use Rattle.lot_machine.specs.Funding.{Funding, ticket_in, with_new_ticket, with_target, retargeted, target_node, lend_node, issuer_of, is_currency, ends_of, IsEdge}
+use Rattle.lot_machine.specs.Funding.{Funding, ticket_at, ticket_in, with_new_ticket, with_target, retargeted, target_node, lend_node, issuer_of, is_currency, ends_of, IsEdge}
 use Rattle.lot_machine.specs.Lends.{IsLive}
-use Rattle.lot_machine.specs.Activity.{IsActive, active_amount}
+use Rattle.lot_machine.specs.Activity.{IsActive, is_active, active_amount}
 use Rattle.lot_machine.specs.Lottery.{winner}
 use Rattle.lot_machine.specs.Facts.{HasNoCycle, FundsThere}
 use Rattle.lot_machine.specs.Equations.{HasEquation}
@@ -79,17 +79,25 @@ module _ (f g : Funding) (live now : List Bool) (c : ℕ) (inside : Node → Boo
 
   -- an active amount stays above 0
   pub some-stays : HasNoCycle f → FundsThere f → HasNoCycle g → FundsThere g → HasAmounts g → ((t : ℕ) → IsLive live t → IsLive now t) → 0 < active_amount f live c → 0 < active_amount g now c
-  some-stays no_cycle there no_cycle_now there_now have life-on some =
-      let (n, t, at, issued, active) = active-found f live c some in
-      let is : IsActive f live n = (is_active-exact f no_cycle there live n t at).0 active in
-      let (aim, to, aims, to_is) = chain-aims f n is.0 is.1 is.2 in
-      let before : ends_of f (OfTicket n) ≡ ends (Currency t.issuer) to = ticket-ends f n t.issuer aim to (issuer-of f n t at) aims to_is in
-      let after = on (OfTicket n) (Currency t.issuer) to before in
-      let (u, u_at, u_from, u_to) = ends-ticket g n (Currency t.issuer) to after in
-      let issuer : t.issuer ≡ u.issuer = cc in
-      let is_now : IsActive g now n = active-same f g live now (λ node. Unit {0}) (λ edge from next clear ends_are. (on edge from next ends_are, tt)) (λ v clear alive. life-on v alive) n (Currency t.issuer) to before after tt is in
-      let amount : u.amount ≤ active_amount g now c = subst (λ i. u.amount ≤ active_amount g now i) (sym issuer ∙ issued) (issuer-amount g now n u u_at ((is_active-exact g no_cycle_now there_now now n u u_at).1 is_now)) in
-      omega (arith, amount, have n u u_at)
+  some-stays no_cycle there no_cycle_now there_now have life-on some = found (active-found f live c some)
+    where
+      -- by an active ticket, where its edge leads, and the ticket that has it in the other
+      ends-there : (n : ℕ) (t : Ticket) → t.issuer ≡ c → IsActive f live n → (to : Node) → ends_of f (OfTicket n) ≡ ends (Currency t.issuer) to → ends_of g (OfTicket n) ≡ ends (Currency t.issuer) to
+          → (u : Ticket) × (ticket_at g n ≡ Some u) × (Currency t.issuer ≡ Currency u.issuer) × (target_node u.target ≡ Some to) → 0 < active_amount g now c
+      ends-there n t issued is to before after (u, at, from, leads) =
+          let issuer : t.issuer ≡ u.issuer = cc in
+          let is_now : IsActive g now n = active-same f g live now (λ node. Unit {0}) (λ edge first next clear ends_are. (on edge first next ends_are, tt)) (λ v clear alive. life-on v alive) n (Currency t.issuer) to before after tt is in
+          let amount : u.amount ≤ active_amount g now u.issuer = issuer-amount g now n u at ((is_active-exact g no_cycle_now there_now now n u at).1 is_now) in
+          subst (λ i. 0 < active_amount g now i) (sym issuer ∙ issued) (omega (arith, amount, have n u at))
+
+      active-is : (n : ℕ) (t : Ticket) → ticket_at f n ≡ Some t → t.issuer ≡ c → IsActive f live n → 0 < active_amount g now c
+      active-is n t at issued is =
+          let (aim, to, aims, to_is) = chain-aims f n is.0 is.1 is.2 in
+          let before : ends_of f (OfTicket n) ≡ ends (Currency t.issuer) to = ticket-ends f n t.issuer aim to (issuer-of f n t at) aims to_is in
+          ends-there n t issued is to before (on (OfTicket n) (Currency t.issuer) to before) (ends-ticket g n (Currency t.issuer) to (on (OfTicket n) (Currency t.issuer) to before))
+
+      found : (n : ℕ) × (t : Ticket) × (ticket_at f n ≡ Some t) × (t.issuer ≡ c) × (is_active f live t ≡ true) → 0 < active_amount g now c
+      found (n, t, at, issued, active) = active-is n t at issued ((is_active-exact f no_cycle there live n t at).0 active)
 
 -- the node that a ticket's edge leads to, from its issuer
 abbrev edge-of : Option Ticket → Option (Node × Node)

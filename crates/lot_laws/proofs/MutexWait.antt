@@ -117,16 +117,18 @@ after-wait : (P : State → Type 0) (s : State) (e : Event) (t owner : ℕ) → 
     → HasNoCycle (funding_of (waiting s p ran used m owner t)) → P (waiting s p ran used m owner t))
     → P (step s e).state
 after-wait P s e t owner order (p, ran, m, ticks, ends, is, replied, seen) holds =
-    let done : IsDone s p ran (Lock m) t Waits (step s (Trap p ran (Lock m))).state =
-    trap-done s p ran (Lock m) t ticks Waits ends (λ refusal same. cc) (ap (λ x. (step s x).reply) (sym is) ∙ replied) in
-    let passed = all-pass ((is_none (at_number s.mutexes m), NoMutex) ∷ (owns s t m, AlreadyOwner)
-    ∷ (option_any (λ u. lends_on_to (funding_of s) u t) (mutex_at s.mutexes m).owner, LockCycle) ∷ []) done.passed in
-    let (mutex, there) = some-of (at_number s.mutexes m) passed.0 in
-    let (u, has, state) = lock-waits s p ran done.used m t done.came in
-    let (owned, same) = owner-seen s m owner u mutex there seen has in
-    let here : (step s e).state ≡ waiting s p ran done.used m owner t = ap (λ x. (step s x).state) is ∙ done.state ∙ state ∙ ap (λ x. waiting s p ran done.used m x t) same in
-    let now : HasNoCycle (funding_of (step s e).state) = (step-order s e order).no_cycle in
-    subst P (sym here) (holds p ran done.used done.before m mutex done.runs there owned seen (subst (λ x. HasNoCycle (funding_of x)) here now))
+    by (trap-done s p ran (Lock m) t ticks Waits ends (λ refusal same. cc) (ap (λ x. (step s x).reply) (sym is) ∙ replied))
+  where
+    by : IsDone s p ran (Lock m) t Waits (step s (Trap p ran (Lock m))).state → P (step s e).state
+    by done =
+        let passed = all-pass ((is_none (at_number s.mutexes m), NoMutex) ∷ (owns s t m, AlreadyOwner)
+        ∷ (option_any (λ u. lends_on_to (funding_of s) u t) (mutex_at s.mutexes m).owner, LockCycle) ∷ []) done.passed in
+        let (mutex, there) = some-of (at_number s.mutexes m) passed.0 in
+        let (u, has, state) = lock-waits s p ran done.used m t done.came in
+        let (owned, same) = owner-seen s m owner u mutex there seen has in
+        let here : (step s e).state ≡ waiting s p ran done.used m owner t = ap (λ x. (step s x).state) is ∙ done.state ∙ state ∙ ap (λ x. waiting s p ran done.used m x t) same in
+        let now : HasNoCycle (funding_of (step s e).state) = (step-order s e order).no_cycle in
+        subst P (sym here) (holds p ran done.used done.before m mutex done.runs there owned seen (subst (λ x. HasNoCycle (funding_of x)) here now))
 
 pub worth-then : (s : State) (e : Event) (t owner v : ℕ) → IsInOrder s → WaitsFor s e t owner → IsBacked (funding_of s) (live_of s) owner
     → value_of (step s e).state v ≡ value_of s v + cond (lends_lead (funding_of s) owner v) (value_of s t) 0

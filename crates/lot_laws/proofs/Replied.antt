@@ -171,12 +171,14 @@ after-reply : (P : State → Type 0) (s : State) (e : Event) (caller server : �
     → ((p ran used before number : ℕ) → status_of s.records server ≡ Some (Running p before) → first_client s.clients server ≡ Some caller → HasNoCycle (funding_of (replied s p ran used number caller server)) → P (replied s p ran used number caller server))
     → P (step s e).state
 after-reply P s e caller server order (p, ran, number, ticks, ends, is, replies) holds =
-    let done : IsDone s p ran (ReplyTo number) server (Replied caller) (step s (Trap p ran (ReplyTo number))).state =
-    trap-done s p ran (ReplyTo number) server ticks (Replied caller) ends (λ refusal same. cc) (ap (λ x. (step s x).reply) (sym is) ∙ replies) in
-    let here : (step s e).state ≡ replied s p ran done.used number caller server = ap (λ x. (step s x).state) is ∙ done.state ∙ reply-done s p ran done.used number caller server done.came in
-    let some : is_none (first_client s.clients server) ≡ false = (all-pass ((is_none (first_client s.clients server), NothingToReply) ∷ []) done.passed).0 in
-    let now : HasNoCycle (funding_of (step s e).state) = (step-order s e order).no_cycle in
-    subst P (sym here) (holds p ran done.used done.before number done.runs (caller-first s number caller server done.came some) (subst (λ x. HasNoCycle (funding_of x)) here now))
+    by (trap-done s p ran (ReplyTo number) server ticks (Replied caller) ends (λ refusal same. cc) (ap (λ x. (step s x).reply) (sym is) ∙ replies))
+  where
+    by : IsDone s p ran (ReplyTo number) server (Replied caller) (step s (Trap p ran (ReplyTo number))).state → P (step s e).state
+    by done =
+        let here : (step s e).state ≡ replied s p ran done.used number caller server = ap (λ x. (step s x).state) is ∙ done.state ∙ reply-done s p ran done.used number caller server done.came in
+        let some : is_none (first_client s.clients server) ≡ false = (all-pass ((is_none (first_client s.clients server), NothingToReply) ∷ []) done.passed).0 in
+        let now : HasNoCycle (funding_of (step s e).state) = (step-order s e order).no_cycle in
+        subst P (sym here) (holds p ran done.used done.before number done.runs (caller-first s number caller server done.came some) (subst (λ x. HasNoCycle (funding_of x)) here now))
 
 pub server-returns : (s : State) (e : Event) (caller server : ℕ) → IsInOrder s → RepliesTo s e caller server → value_of s server ≡ value_of (step s e).state server + value_of s caller
 server-returns s e caller server order replies =

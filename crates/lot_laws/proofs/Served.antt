@@ -318,28 +318,32 @@ after-wait : (P : State → Type 0) (s : State) (e : Event) (caller server : ℕ
     → ((p ran used before port number : ℕ) → status_of s.records server ≡ Some (Running p before) → first_client s.clients server ≡ Some caller → HasNoCycle (funding_of (waiting s p ran used port number caller server))
     → P (waiting s p ran used port number caller server)) → P (step s e).state
 after-wait P s e caller server order (p, ran, port, number, ticks, ends, is, replies) holds =
-    let done : IsDone s p ran (Serve port number) server (RepliedThenWaits caller) (step s (Trap p ran (Serve port number))).state =
-    trap-done s p ran (Serve port number) server ticks (RepliedThenWaits caller) ends (λ refusal same. cc) (ap (λ x. (step s x).reply) (sym is) ∙ replies) in
-    let (same, state) = serve-waits s p ran done.used port number caller server done.came in
-    let checks = all-pass ((is_none (at_number s.ports port), NoPort) ∷ (is_none (first_client s.clients server), NothingToReply) ∷ []) done.passed in
-    let here : (step s e).state ≡ waiting s p ran done.used port number caller server = ap (λ x. (step s x).state) is ∙ done.state ∙ state in
-    let now : HasNoCycle (funding_of (step s e).state) = (step-order s e order).no_cycle in
-    subst P (sym here) (holds p ran done.used done.before port number done.runs (caller-first s caller server same checks.1.0) (subst (λ x. HasNoCycle (funding_of x)) here now))
+    by (trap-done s p ran (Serve port number) server ticks (RepliedThenWaits caller) ends (λ refusal same. cc) (ap (λ x. (step s x).reply) (sym is) ∙ replies))
+  where
+    by : IsDone s p ran (Serve port number) server (RepliedThenWaits caller) (step s (Trap p ran (Serve port number))).state → P (step s e).state
+    by done =
+        let (same, state) = serve-waits s p ran done.used port number caller server done.came in
+        let checks = all-pass ((is_none (at_number s.ports port), NoPort) ∷ (is_none (first_client s.clients server), NothingToReply) ∷ []) done.passed in
+        let here : (step s e).state ≡ waiting s p ran done.used port number caller server = ap (λ x. (step s x).state) is ∙ done.state ∙ state in
+        let now : HasNoCycle (funding_of (step s e).state) = (step-order s e order).no_cycle in
+        subst P (sym here) (holds p ran done.used done.before port number done.runs (caller-first s caller server same checks.1.0) (subst (λ x. HasNoCycle (funding_of x)) here now))
 
 after-serve : (P : State → Type 0) (s : State) (e : Event) (caller next server : ℕ) → IsInOrder s → RepliesThenReceives s e caller next server
     → ((p ran used before port number : ℕ) (queued : QueuedCall) (others : List QueuedCall) → status_of s.records server ≡ Some (Running p before) → first_client s.clients server ≡ Some caller
     → at_number s.ports port ≡ Some (port_at s.ports port) → (port_at s.ports port).calls ≡ queued ∷ others → queued.caller ≡ next
     → HasNoCycle (funding_of (serving s p ran used port number others caller next server)) → P (serving s p ran used port number others caller next server)) → P (step s e).state
 after-serve P s e caller next server order (p, ran, port, number, got, ticks, ends, is, replies) holds =
-    let done : IsDone s p ran (Serve port number) server (RepliedThenReceived caller next got) (step s (Trap p ran (Serve port number))).state =
-    trap-done s p ran (Serve port number) server ticks (RepliedThenReceived caller next got) ends (λ refusal same. cc) (ap (λ x. (step s x).reply) (sym is) ∙ replies) in
-    let (queued, others, calls, next_is, same, state) = serve-receives s p ran done.used port number caller next got server done.came in
-    let checks = all-pass ((is_none (at_number s.ports port), NoPort) ∷ (is_none (first_client s.clients server), NothingToReply) ∷ []) done.passed in
-    let (x, found) = some-of (at_number s.ports port) checks.0 in
-    let there : at_number s.ports port ≡ Some (port_at s.ports port) = found ∙ ap Some (sym (ap (λ (o : Option Port). unwrap_or o (record { calls = []; receivers = [] })) found)) in
-    let here : (step s e).state ≡ serving s p ran done.used port number others caller next server = ap (λ x. (step s x).state) is ∙ done.state ∙ state in
-    let now : HasNoCycle (funding_of (step s e).state) = (step-order s e order).no_cycle in
-    subst P (sym here) (holds p ran done.used done.before port number queued others done.runs (caller-first s caller server same checks.1.0) there calls next_is (subst (λ x. HasNoCycle (funding_of x)) here now))
+    by (trap-done s p ran (Serve port number) server ticks (RepliedThenReceived caller next got) ends (λ refusal same. cc) (ap (λ x. (step s x).reply) (sym is) ∙ replies))
+  where
+    by : IsDone s p ran (Serve port number) server (RepliedThenReceived caller next got) (step s (Trap p ran (Serve port number))).state → P (step s e).state
+    by done =
+        let (queued, others, calls, next_is, same, state) = serve-receives s p ran done.used port number caller next got server done.came in
+        let checks = all-pass ((is_none (at_number s.ports port), NoPort) ∷ (is_none (first_client s.clients server), NothingToReply) ∷ []) done.passed in
+        let (x, found) = some-of (at_number s.ports port) checks.0 in
+        let there : at_number s.ports port ≡ Some (port_at s.ports port) = found ∙ ap Some (sym (ap (λ (o : Option Port). unwrap_or o (record { calls = []; receivers = [] })) found)) in
+        let here : (step s e).state ≡ serving s p ran done.used port number others caller next server = ap (λ x. (step s x).state) is ∙ done.state ∙ state in
+        let now : HasNoCycle (funding_of (step s e).state) = (step-order s e order).no_cycle in
+        subst P (sym here) (holds p ran done.used done.before port number queued others done.runs (caller-first s caller server same checks.1.0) there calls next_is (subst (λ x. HasNoCycle (funding_of x)) here now))
 
 -- that a server is left with nothing, if it is in the state then
 pub waits-server : (s : State) (e : Event) (caller server : ℕ) → IsInOrder s → RepliesThenWaits s e caller server → OwnsNothing (step s e).state server → value_of s server ≡ value_of s caller
