@@ -1,5 +1,5 @@
 -- The receipt of a queued call: what threads are worth then, against the same state with the caller Ready.
-use Rattle.std.proofs.Common.{◌≡◌, ◌≢◌, ℕ, ◌+◌, Bool, true, false, cond, ◌⊎◌, inl, inr, Option, Some, None, List, [], ◌∷◌, length, map, option_map, option_and_then, refl, sym, ◌∙◌, ap, subst, arith}
+use Rattle.std.proofs.Common.{◌≡◌, ◌≢◌, ℕ, ◌+◌, Bool, true, false, cond, is_none, ◌⊎◌, inl, inr, Option, Some, None, List, [], ◌∷◌, length, map, option_map, option_and_then, refl, sym, ◌∙◌, ap, subst, arith}
 use Rattle.std.proofs.lemmas.Bool.{cases_eq, eqb-true}
 use Rattle.lot_machine.specs.declared.record.Record.{Record}
 use Rattle.lot_machine.specs.declared.record.Status.{Status}
@@ -28,6 +28,7 @@ use Rattle.lot_machine.specs.Order.{IsQueue, IsInOrder}
 use Rattle.lot_machine.proofs.Sums.{sum-filter, sum-same, sum-nothing}
 use Rattle.lot_machine.proofs.Tickets.{some-injective}
 use Rattle.lot_machine.proofs.Tickets as tickets
+use Rattle.lot_machine.proofs.CommandsKept.{all-pass}
 use Rattle.lot_machine.proofs.Queues.{status-now, status-other}
 use Rattle.lot_machine.proofs.TrapCycles.{cycle-nobody}
 use Rattle.lot_machine.proofs.LendDepth.{lends_lead-exact, is_backed-exact}
@@ -280,7 +281,7 @@ after-receipt P s e caller server order (p, ran, port, number, ticks, ends_now, 
         let (first, others, calls, caller_is, state) = call-received s p ran done.used port number caller server done.came in
         let here : (step s e).state ≡ received s p ran done.used port others caller server = ap (λ x. (step s x).state) is ∙ done.state ∙ state in
         let now : HasNoCycle (funding_of (step s e).state) = (step-order s e order).no_cycle in
-        subst P (sym here) (holds p ran done.used done.before port first others done.runs (port-there s port NoPort done.passed) calls caller_is (subst (λ x. HasNoCycle (funding_of x)) here now))
+        subst P (sym here) (holds p ran done.used done.before port first others done.runs (port-there s port (all-pass ((is_none (at_number s.ports port), NoPort) ∷ []) done.passed).0) calls caller_is (subst (λ x. HasNoCycle (funding_of x)) here now))
 
 pub server-gets : (s : State) (e : Event) (caller server : ℕ) → IsInOrder s → TakesQueuedCall s e caller server → value_of (step s e).state server ≡ value_of (with_ready s caller) server + value_of (with_ready s caller) caller
 server-gets s e caller server order takes =

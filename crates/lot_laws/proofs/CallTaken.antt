@@ -1,5 +1,5 @@
 -- A call that a waiting server takes: what threads are worth then.
-use Rattle.std.proofs.Common.{◌≡◌, ◌≢◌, ℕ, ◌+◌, false, cond, is_none, ◌⊎◌, inl, inr, Option, Some, None, List, [], ◌∷◌, length, option_map, unwrap_or, refl, sym, ◌∙◌, ap, subst, arith}
+use Rattle.std.proofs.Common.{◌≡◌, ◌≢◌, ℕ, ◌+◌, false, cond, is_none, ◌⊎◌, inl, inr, Option, Some, List, [], ◌∷◌, length, option_map, unwrap_or, refl, sym, ◌∙◌, ap, subst, arith}
 use Rattle.std.proofs.lemmas.Bool.{cases_eq}
 use Rattle.lot_machine.specs.declared.record.Record.{Record}
 use Rattle.lot_machine.specs.declared.record.Status.TheVariants.{Ready, Running, Receiving, Served}
@@ -7,13 +7,11 @@ use Rattle.lot_machine.specs.declared.action.Action.TheVariants.{Call}
 use Rattle.lot_machine.specs.declared.event.Event.{Event}
 use Rattle.lot_machine.specs.declared.event.Event.TheVariants.{Trap}
 use Rattle.lot_machine.specs.declared.reply.Outcome.TheVariants.{ServedBy}
-use Rattle.lot_machine.specs.declared.refusal.TrapRefusal.{TrapRefusal}
 use Rattle.lot_machine.specs.declared.refusal.TrapRefusal.TheVariants.{NoPort}
 use Rattle.lot_machine.specs.declared.after.After.TheVariants.{Leaves}
 use Rattle.lot_machine.specs.Numbered.{at_number, set_number}
 use Rattle.lot_machine.specs.Lends.{lends_lead}
 use Rattle.lot_machine.specs.State.{State, Port, funding_of, live_of, lend_of, is_live_status, status_of, value_of, change_record}
-use Rattle.lot_machine.specs.Commands.{first_failing}
 use Rattle.lot_machine.specs.Traps.{after_trap, with_ticks}
 use Rattle.lot_machine.specs.Ports.{port_at, with_client, call}
 use Rattle.lot_machine.specs.Step.{of_ports, finish_trap, step}
@@ -29,11 +27,10 @@ use Rattle.lot_laws.proofs.Trapped.{IsDone, trap-done, change-length}
 use Rattle.lot_laws.proofs.Lending.{worth-nothing}
 use Rattle.lot_laws.proofs.Blocked.{lead-itself, lead-other, lends-nobody, is-live, woken-worth, woken-own}
 
--- the port that a call or a receipt passed the check of
-pub port-there : (s : State) (port : ℕ) (refusal : TrapRefusal) → first_failing ((is_none (at_number s.ports port), refusal) ∷ []) ≡ None → at_number s.ports port ≡ Some (port_at s.ports port)
-port-there s port refusal passed =
-    let (x, there) = some-of (at_number s.ports port) (all-pass ((is_none (at_number s.ports port), refusal) ∷ []) passed).0 in
-    there ∙ ap Some (sym (ap (λ (o : Option Port). unwrap_or o (record { calls = []; receivers = [] })) there))
+-- a port that is there
+pub port-there : (s : State) (port : ℕ) → is_none (at_number s.ports port) ≡ false → at_number s.ports port ≡ Some (port_at s.ports port)
+port-there s port some =
+    let (x, there) = some-of (at_number s.ports port) some in there ∙ ap Some (sym (ap (λ (o : Option Port). unwrap_or o (record { calls = []; receivers = [] })) there))
 
 -- ---- the state
 
@@ -156,7 +153,7 @@ after-call P s e caller server order (p, ran, port, number, ticks, ends, is, rep
         let (others, receivers, state) = call-taken s p ran done.used port number caller server done.came in
         let here : (step s e).state ≡ called s p ran done.used port number others server caller = ap (λ x. (step s x).state) is ∙ done.state ∙ state in
         let now : HasNoCycle (funding_of (step s e).state) = (step-order s e order).no_cycle in
-        subst P (sym here) (holds p ran done.used done.before port number others done.runs (port-there s port NoPort done.passed) receivers (subst (λ x. HasNoCycle (funding_of x)) here now))
+        subst P (sym here) (holds p ran done.used done.before port number others done.runs (port-there s port (all-pass ((is_none (at_number s.ports port), NoPort) ∷ []) done.passed).0) receivers (subst (λ x. HasNoCycle (funding_of x)) here now))
 
 pub server-gets : (s : State) (e : Event) (caller server : ℕ) → IsInOrder s → TakesCall s e caller server → OwnsNothing s server → value_of (step s e).state server ≡ value_of s caller
 server-gets s e caller server order takes owns =

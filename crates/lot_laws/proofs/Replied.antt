@@ -58,17 +58,15 @@ replied s p ran used number caller server = record s {
 }
 
 reply-done : (s : State) (p ran used number caller server : ℕ) → (reply s.records s.clients s.ports server number).outcome ≡ Replied caller
-    → (finish_trap s p server (ran + 1) used (of_ports s (reply s.records s.clients s.ports server number))).state ≡ replied s p ran used number caller server
+    → (unwrap_or (first_client s.clients server) 0 ≡ caller) × ((finish_trap s p server (ran + 1) used (of_ports s (reply s.records s.clients s.ports server number))).state ≡ replied s p ran used number caller server)
 reply-done s p ran used number caller server came =
     let same : unwrap_or (first_client s.clients server) 0 ≡ caller = cc in
-    ap (λ x. replied s p ran used number x server) same
+    (same, ap (λ x. replied s p ran used number x server) same)
 
 -- the caller is the first client
-caller-first : (s : State) (number caller server : ℕ) → (reply s.records s.clients s.ports server number).outcome ≡ Replied caller → is_none (first_client s.clients server) ≡ false → first_client s.clients server ≡ Some caller
-caller-first s number caller server came some =
-    let (x, there) = some-of (first_client s.clients server) some in
-    let same : unwrap_or (first_client s.clients server) 0 ≡ caller = cc in
-    there ∙ ap Some (sym (ap (λ (o : Option ℕ). unwrap_or o 0) there) ∙ same)
+pub caller-first : (s : State) (caller server : ℕ) → unwrap_or (first_client s.clients server) 0 ≡ caller → is_none (first_client s.clients server) ≡ false → first_client s.clients server ≡ Some caller
+caller-first s caller server same some =
+    let (x, there) = some-of (first_client s.clients server) some in there ∙ ap Some (sym (ap (λ (o : Option ℕ). unwrap_or o 0) there) ∙ same)
 
 module _ (s : State) (order : IsInOrder s) (p ran used before number caller server : ℕ) (runs : status_of s.records server ≡ Some (Running p before))
     (first : first_client s.clients server ≡ Some caller) (no_cycle_now : HasNoCycle (funding_of (replied s p ran used number caller server))) where
@@ -175,10 +173,11 @@ after-reply P s e caller server order (p, ran, number, ticks, ends, is, replies)
   where
     by : IsDone s p ran (ReplyTo number) server (Replied caller) (step s (Trap p ran (ReplyTo number))).state → P (step s e).state
     by done =
-        let here : (step s e).state ≡ replied s p ran done.used number caller server = ap (λ x. (step s x).state) is ∙ done.state ∙ reply-done s p ran done.used number caller server done.came in
+        let (same, state) = reply-done s p ran done.used number caller server done.came in
+        let here : (step s e).state ≡ replied s p ran done.used number caller server = ap (λ x. (step s x).state) is ∙ done.state ∙ state in
         let some : is_none (first_client s.clients server) ≡ false = (all-pass ((is_none (first_client s.clients server), NothingToReply) ∷ []) done.passed).0 in
         let now : HasNoCycle (funding_of (step s e).state) = (step-order s e order).no_cycle in
-        subst P (sym here) (holds p ran done.used done.before number done.runs (caller-first s number caller server done.came some) (subst (λ x. HasNoCycle (funding_of x)) here now))
+        subst P (sym here) (holds p ran done.used done.before number done.runs (caller-first s caller server same some) (subst (λ x. HasNoCycle (funding_of x)) here now))
 
 pub server-returns : (s : State) (e : Event) (caller server : ℕ) → IsInOrder s → RepliesTo s e caller server → value_of s server ≡ value_of (step s e).state server + value_of s caller
 server-returns s e caller server order replies =

@@ -1,5 +1,5 @@
 -- A reply and a receipt in one trap: what threads are worth then.
-use Rattle.std.proofs.Common.{◌≡◌, ◌≢◌, ℕ, ◌+◌, true, false, cond, is_none, ◌⊎◌, inl, inr, Option, Some, List, [], ◌∷◌, ◌++◌, length, drop, map, option_map, unwrap_or, refl, sym, ◌∙◌, ap, subst, arith}
+use Rattle.std.proofs.Common.{◌≡◌, ◌≢◌, ℕ, ◌+◌, true, false, cond, is_none, ◌⊎◌, inl, inr, Some, List, [], ◌∷◌, ◌++◌, length, drop, map, option_map, unwrap_or, refl, sym, ◌∙◌, ap, subst, arith}
 use Rattle.std.proofs.lemmas.Bool.{cases_eq}
 use Rattle.lot_machine.specs.declared.record.Record.{Record}
 use Rattle.lot_machine.specs.declared.record.Status.TheVariants.{Ready, Running, Receiving, Queued as QueuedAt, Served}
@@ -12,14 +12,14 @@ use Rattle.lot_machine.specs.declared.refusal.TrapRefusal.TheVariants.{NoPort, N
 use Rattle.lot_machine.specs.declared.after.After.TheVariants.{GoesOn, Leaves}
 use Rattle.lot_machine.specs.Numbered.{at_number, set_number}
 use Rattle.lot_machine.specs.Lends.{IsBacked, lends_lead}
-use Rattle.lot_machine.specs.State.{State, Port, QueuedCall, funding_of, live_of, lend_of, is_live_status, status_of, value_of, change_record}
+use Rattle.lot_machine.specs.State.{State, QueuedCall, funding_of, live_of, lend_of, is_live_status, status_of, value_of, change_record}
 use Rattle.lot_machine.specs.Traps.{after_trap, with_ticks}
 use Rattle.lot_machine.specs.Ports.{port_at, clients_of, first_client, with_client, serve}
 use Rattle.lot_machine.specs.Step.{of_ports, finish_trap, step}
 use Rattle.lot_machine.specs.Facts.{HasNoCycle, live_value}
 use Rattle.lot_machine.specs.Order.{IsQueue, IsInOrder}
 use Rattle.lot_machine.proofs.Tickets.{some-injective}
-use Rattle.lot_machine.proofs.CommandsKept.{all-pass, some-of}
+use Rattle.lot_machine.proofs.CommandsKept.{all-pass}
 use Rattle.lot_machine.proofs.Queues.{status-now, status-other, queue-clients}
 use Rattle.lot_machine.proofs.TrapCycles.{cycle-nobody}
 use Rattle.lot_machine.proofs.CountsOnce.{counts-once}
@@ -28,7 +28,8 @@ use Rattle.lot_laws.specs.Transfers.{RepliesThenWaits, RepliesThenReceives, Owns
 use Rattle.lot_laws.proofs.Trapped.{IsDone, trap-done, change-length}
 use Rattle.lot_laws.proofs.Lending.{worth-nothing, comes-alone}
 use Rattle.lot_laws.proofs.Blocked.{lead-itself, lead-other, lends-nobody, is-live, woken-worth, woken-own, blocked-worth, blocked-own}
-use Rattle.lot_laws.proofs.Replied.{woken, lends-on, lives-on}
+use Rattle.lot_laws.proofs.CallTaken.{port-there}
+use Rattle.lot_laws.proofs.Replied.{woken, lends-on, lives-on, caller-first}
 
 -- ---- the state
 
@@ -309,11 +310,6 @@ module _ (s : State) (order : IsInOrder s) (p before caller server : ℕ) (runs 
 
 -- ---- the event
 
--- the caller is the first client
-caller-first : (s : State) (caller server : ℕ) → unwrap_or (first_client s.clients server) 0 ≡ caller → is_none (first_client s.clients server) ≡ false → first_client s.clients server ≡ Some caller
-caller-first s caller server same some =
-    let (x, there) = some-of (first_client s.clients server) some in there ∙ ap Some (sym (ap (λ (o : Option ℕ). unwrap_or o 0) there) ∙ same)
-
 after-wait : (P : State → Type 0) (s : State) (e : Event) (caller server : ℕ) → IsInOrder s → RepliesThenWaits s e caller server
     → ((p ran used before port number : ℕ) → status_of s.records server ≡ Some (Running p before) → first_client s.clients server ≡ Some caller → HasNoCycle (funding_of (waiting s p ran used port number caller server))
     → P (waiting s p ran used port number caller server)) → P (step s e).state
@@ -339,8 +335,7 @@ after-serve P s e caller next server order (p, ran, port, number, got, ticks, en
     by done =
         let (queued, others, calls, next_is, same, state) = serve-receives s p ran done.used port number caller next got server done.came in
         let checks = all-pass ((is_none (at_number s.ports port), NoPort) ∷ (is_none (first_client s.clients server), NothingToReply) ∷ []) done.passed in
-        let (x, found) = some-of (at_number s.ports port) checks.0 in
-        let there : at_number s.ports port ≡ Some (port_at s.ports port) = found ∙ ap Some (sym (ap (λ (o : Option Port). unwrap_or o (record { calls = []; receivers = [] })) found)) in
+        let there : at_number s.ports port ≡ Some (port_at s.ports port) = port-there s port checks.0 in
         let here : (step s e).state ≡ serving s p ran done.used port number others caller next server = ap (λ x. (step s x).state) is ∙ done.state ∙ state in
         let now : HasNoCycle (funding_of (step s e).state) = (step-order s e order).no_cycle in
         subst P (sym here) (holds p ran done.used done.before port number queued others done.runs (caller-first s caller server same checks.1.0) there calls next_is (subst (λ x. HasNoCycle (funding_of x)) here now))
