@@ -1,0 +1,168 @@
+-- What holds of each ticket that a command makes or aims holds of each ticket in a reachable state: no amount is 0,
+-- and none funds base.
+use Rattle.std.proofs.Common.{◌≡◌, ◌≢◌, ℕ, ◌+◌, ◌<◌, ◌==◌, ◌⊎◌, inl, inr, zero, suc, ◌||◌, not, ◌-◌, true, false, length, nat_lt, is_none, unwrap_or, Option, Some, None, List, [], ◌∷◌, ◌++◌, option_map, refl, sym, ◌∙◌, ap, subst, arith}
+use Rattle.std.specs.Option.{option_flatten}
+use Rattle.std.proofs.lemmas.Bool.{or_parts, eqb-false}
+use Rattle.lot_machine.specs.declared.ticket.Ticket.{Ticket}
+use Rattle.lot_machine.specs.declared.ticket.Target.{Target}
+use Rattle.lot_machine.specs.declared.ticket.Target.TheVariants as target
+use Rattle.lot_machine.specs.declared.command.Command.{Command}
+use Rattle.lot_machine.specs.declared.command.Command.TheVariants.{MakeTicket, RemoveTicket, MakeCurrency, RemoveCurrency, Fund, Unfund, MakeThread, MakeFunded, List as Listing}
+use Rattle.lot_machine.specs.declared.event.Event.{Event}
+use Rattle.lot_machine.specs.declared.event.Event.TheVariants as event
+use Rattle.lot_machine.specs.declared.refusal.Refusal.TheVariants.{BadName, NameTaken, NoCurrency, NoTicket, NoTarget, BadAmount, Funding, Cycle, BaseFixed, DeadThread, Full, NoScript}
+use Rattle.lot_machine.specs.declared.sizes.Sizes.{Sizes}
+use Rattle.lot_machine.specs.Numbered.{at_number, set_number, option_any}
+use Rattle.lot_machine.specs.Funding.{ticket_in, with_new_ticket, without_ticket, with_target, retargeted, is_currency}
+use Rattle.lot_machine.specs.State.{State, opening, funding_of}
+use Rattle.lot_machine.specs.Commands.{currency_named, is_good_name, is_taken, is_bad_amount, is_no_script, are_tickets_full, are_threads_full, is_dead_thread, is_funding, is_cycle, command_effect, command_step, currency_or_base, target_named}
+use Rattle.lot_machine.specs.Order.{IsInOrder}
+use Rattle.lot_machine.specs.Step.{step, draw, event_effect, thread_there, used_there, state_after}
+use Rattle.lot_machine.proofs.Tickets.{some-injective, ticket_in-suc}
+use Rattle.lot_machine.proofs.Changes.{number-push, number-set}
+use Rattle.lot_machine.proofs.CommandsKept.{unrefused, all-pass}
+use Rattle.lot_machine.proofs.OrderKept.{reached-order}
+use Rattle.lot_laws.specs.Conservation.{HasAmounts}
+use Rattle.lot_laws.specs.Insulation.{FundsNoBase}
+use Rattle.lot_laws.specs.Reachable.{IsReachable}
+use Rattle.lot_laws.proofs.TicketsKept.{draw-tickets, trap-tickets}
+
+-- a target that isn't base
+not-base : (o : Option Target) → option_any (is_currency 0) o ≡ false → unwrap_or o target.Unfunded ≢ target.Currency 0
+not-base None is same = cc
+not-base (Some to) is same = let never : false ≡ true = sym is ∙ ap (is_currency 0) same in cc
+
+-- what holds of a ticket that is made, and still holds if the ticket is aimed at something but base
+module _ (IsSo : Ticket → Type 0)
+    (made : (amount issuer : ℕ) (to : Target) → is_bad_amount amount ≡ false → to ≢ target.Currency 0 → IsSo (record { amount = amount; issuer = issuer; target = to }))
+    (aimed : (t : Ticket) (to : Target) → to ≢ target.Currency 0 → IsSo t → IsSo (retargeted to t)) where
+  abbrev Each : List (Option Ticket) → Type 0
+  Each xs = (n : ℕ) (t : Ticket) → ticket_in xs n ≡ Some t → IsSo t
+
+  one-more : (xs : List (Option Ticket)) (amount issuer : ℕ) (to : Target) → is_bad_amount amount ≡ false → to ≢ target.Currency 0 → Each xs → Each (with_new_ticket xs amount issuer to)
+  one-more xs amount issuer to good user each n t at = by (number-push xs (Some new) n)
+    where
+      new : Ticket
+      new = record { amount = amount; issuer = issuer; target = to }
+
+      by : (at_number (xs ++ Some new ∷ []) n ≡ at_number xs n) ⊎ ((at_number xs n ≡ None) × (at_number (xs ++ Some new ∷ []) n ≡ Some (Some new))) → IsSo t
+      by (inl same) = each n t (sym (ap option_flatten same) ∙ at)
+      by (inr (none, is)) = subst IsSo (some-injective new t (sym (ap option_flatten is) ∙ at)) (made amount issuer to good user)
+
+  one-changed : (xs : List (Option Ticket)) (m : ℕ) (x : Option Ticket) → ((t : Ticket) → x ≡ Some t → IsSo t) → Each xs → Each (set_number xs m x)
+  one-changed xs m x new each n t at = by (number-set xs m x n)
+    where
+      by : (at_number (set_number xs m x) n ≡ at_number xs n) ⊎ ((n ≡ suc (m - 1)) × (at_number (set_number xs m x) n ≡ Some x)) → IsSo t
+      by (inl same) = each n t (sym (ap option_flatten same) ∙ at)
+      by (inr (place, is)) = new t (sym (ap option_flatten is) ∙ at)
+
+  removed : (xs : List (Option Ticket)) (m : ℕ) → Each xs → Each (without_ticket xs m)
+  removed xs m each = one-changed xs m None (λ t is. cc) each
+
+  one-aimed : (xs : List (Option Ticket)) (m : ℕ) (to : Target) → to ≢ target.Currency 0 → Each xs → Each (with_target xs m to)
+  one-aimed xs m to user each = one-changed xs m (option_map (retargeted to) (ticket_in xs m)) (λ t is. by t (ticket_in xs m) refl is) each
+    where
+      by : (t : Ticket) (o : Option Ticket) → ticket_in xs m ≡ o → option_map (retargeted to) o ≡ Some t → IsSo t
+      by t None at is = cc
+      by t (Some u) at is = subst IsSo (some-injective (retargeted to u) t is) (aimed u to user (each m u at))
+
+  -- ---- events
+
+  abbrev EachIn : State → Type 0
+  EachIn s = Each s.tickets
+
+  command-each : (s : State) (c : Command) → EachIn s → EachIn (command_step s c).state
+  command-each s (MakeTicket amount currency) each =
+      unrefused EachIn s _ (command_effect s (MakeTicket amount currency)) each (λ e.
+      let passed = all-pass ((is_bad_amount amount, BadAmount) ∷ (is_none (currency_named s currency), NoCurrency) ∷ (are_tickets_full s, Full) ∷ []) e in
+      one-more s.tickets amount (currency_or_base s currency) target.Unfunded passed.0 (λ same. cc) each)
+  command-each s (RemoveTicket n) each = unrefused EachIn s _ (command_effect s (RemoveTicket n)) each (λ _. removed s.tickets n each)
+  command-each s (MakeCurrency name) each = unrefused EachIn s _ (command_effect s (MakeCurrency name)) each (λ _. each)
+  command-each s (RemoveCurrency currency) each = unrefused EachIn s _ (command_effect s (RemoveCurrency currency)) each (λ _. each)
+  command-each s (Fund n name) each =
+      unrefused EachIn s _ (command_effect s (Fund n name)) each (λ e.
+      let passed = all-pass ((is_none (ticket_in s.tickets n), NoTicket) ∷ (is_none (target_named s name), NoTarget)
+      ∷ (option_any (is_currency 0) (target_named s name), BaseFixed) ∷ (option_any (is_dead_thread s) (target_named s name), DeadThread)
+      ∷ (option_any is_funding (ticket_in s.tickets n), Funding) ∷ (option_any (is_cycle s n) (target_named s name), Cycle) ∷ []) e in
+      one-aimed s.tickets n (unwrap_or (target_named s name) target.Unfunded) (not-base (target_named s name) passed.1.1.0) each)
+  command-each s (Unfund n) each = unrefused EachIn s _ (command_effect s (Unfund n)) each (λ _. one-aimed s.tickets n target.Unfunded (λ same. cc) each)
+  command-each s (MakeThread name script) each = unrefused EachIn s _ (command_effect s (MakeThread name script)) each (λ _. each)
+  command-each s (MakeFunded amount currency name script) each =
+      unrefused EachIn s _ (command_effect s (MakeFunded amount currency name script)) each (λ e.
+      let passed = all-pass ((is_bad_amount amount, BadAmount) ∷ (is_none (currency_named s currency), NoCurrency) ∷ (not (is_good_name name), BadName)
+      ∷ (is_taken s name, NameTaken) ∷ (is_no_script s script, NoScript) ∷ (are_tickets_full s || are_threads_full s, Full) ∷ []) e in
+      one-more s.tickets amount (currency_or_base s currency) (target.Thread (length s.threads + 1)) passed.0 (λ same. cc) each)
+  command-each s (Listing kind) each = each
+
+  pub event-each : (s : State) (e : Event) → EachIn s → EachIn (step s e).state
+  event-each s (event.Command command) each = command-each s command each
+  event-each s (event.Draw p d) each = unrefused EachIn s _ (draw s p d) each (λ _. subst Each (sym (draw-tickets s p d)) each)
+  event-each s (event.Expire p) each = unrefused EachIn s _ (event_effect s (event.Expire p)) each (λ _. each)
+  event-each s (event.Trap p ran action) each =
+      unrefused EachIn s _ (event_effect s (event.Trap p ran action)) each (λ _. subst Each (sym (trap-tickets s p (thread_there s p) (used_there s p) ran action)) each)
+
+  run-each : (s : State) (events : List Event) → EachIn s → EachIn (state_after s events)
+  run-each s [] each = each
+  run-each s (e ∷ events) each = run-each (step s e).state events (event-each s e each)
+
+  none-made : (limits : Sizes) → EachIn (opening limits)
+  none-made limits zero t at = cc
+  none-made limits (suc i) t at = let none : ticket_in [] (suc i) ≡ None = ticket_in-suc [] i in let never : None ≡ Some t = sym none ∙ at in cc
+
+  pub reachable-each : (s : State) → IsReachable s → EachIn s
+  reachable-each s (limits, events, bounds, is) = subst EachIn (sym is) (run-each (opening limits) events (none-made limits))
+
+-- ---- amounts
+
+HasSome : Ticket → Type 0
+HasSome t = 0 < t.amount
+
+some-made : (amount issuer : ℕ) (to : Target) → is_bad_amount amount ≡ false → to ≢ target.Currency 0 → HasSome (record { amount = amount; issuer = issuer; target = to })
+unfolding HasSome
+some-made amount issuer to good user = let some : ¬ (amount ≡ 0) = eqb-false amount 0 (or_parts (amount == 0) (nat_lt 4294967295 amount) good).0 in omega (arith, some)
+
+some-aimed : (t : Ticket) (to : Target) → to ≢ target.Currency 0 → HasSome t → HasSome (retargeted to t)
+unfolding HasSome
+some-aimed t to user some = some
+
+pub event-amounts : (s : State) (e : Event) → HasAmounts (funding_of s) → HasAmounts (funding_of (step s e).state)
+unfolding HasSome
+event-amounts = event-each HasSome some-made some-aimed
+
+pub reachable-amounts : (s : State) → IsReachable s → HasAmounts (funding_of s)
+unfolding HasSome
+reachable-amounts = reachable-each HasSome some-made some-aimed
+
+-- ---- targets
+
+IsUser : Ticket → Type 0
+IsUser t = t.target ≢ target.Currency 0
+
+user-made : (amount issuer : ℕ) (to : Target) → is_bad_amount amount ≡ false → to ≢ target.Currency 0 → IsUser (record { amount = amount; issuer = issuer; target = to })
+unfolding IsUser
+user-made amount issuer to good user = user
+
+user-aimed : (t : Ticket) (to : Target) → to ≢ target.Currency 0 → IsUser t → IsUser (retargeted to t)
+unfolding IsUser
+user-aimed t to user other = user
+
+pub reachable-no-base : (s : State) → IsReachable s → FundsNoBase (funding_of s)
+unfolding IsUser
+reachable-no-base s is n funds = by (ticket_in s.tickets n) refl funds
+  where
+    by : (o : Option Ticket) → ticket_in s.tickets n ≡ o → option_map (λ (t : Ticket). t.target) o ≡ Some (target.Currency 0) → ⊥
+    by None at none = cc
+    by (Some t) at base = reachable-each IsUser user-made user-aimed s is n t at (some-injective t.target (target.Currency 0) base)
+
+-- ---- order and runs
+
+pub reachable-order : (s : State) → IsReachable s → IsInOrder s
+reachable-order s (limits, events, bounds, is) = subst IsInOrder (sym is) (reached-order limits events bounds)
+
+-- a run, and one event more
+run-on : (s : State) (events : List Event) (e : Event) → state_after s (events ++ e ∷ []) ≡ (step (state_after s events) e).state
+run-on s [] e = refl
+run-on s (first ∷ events) e = run-on (step s first).state events e
+
+pub reachable-next : (s : State) (e : Event) → IsReachable s → IsReachable (step s e).state
+reachable-next s e (limits, events, bounds, is) = (limits, events ++ e ∷ [], bounds, ap (λ x. (step x e).state) is ∙ sym (run-on (opening limits) events e))

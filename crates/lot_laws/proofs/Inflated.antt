@@ -1,0 +1,367 @@
+-- A ticket more inside a currency: all that changes is inside it, and it keeps its active tickets.
+use Rattle.std.proofs.Common.{◌≡◌, ◌≢◌, ℕ, zero, suc, ◌+◌, ◌-◌, ◌<◌, ◌≤◌, ◌⊎◌, inl, inr, not, Bool, true, false, is_none, Option, Some, None, List, [], ◌∷◌, ◌++◌, length, map, option_map, option_and_then, unwrap_or, slice_get, get_or, refl, sym, ◌∙◌, ap, subst, arith}
+use Rattle.std.specs.Option.{option_flatten}
+use Rattle.std.proofs.lemmas.List.{length-append}
+use Rattle.std.proofs.lemmas.Option.{slice_get_within, slice_get_cases}
+use Rattle.lot_machine.specs.declared.ticket.Ticket.{Ticket}
+use Rattle.lot_machine.specs.declared.ticket.Target.{Target}
+use Rattle.lot_machine.specs.declared.ticket.Target.TheVariants as target
+use Rattle.lot_machine.specs.declared.funding.Node.{Node}
+use Rattle.lot_machine.specs.declared.funding.Node.TheVariants.{Currency, Thread}
+use Rattle.lot_machine.specs.declared.funding.Edge.{Edge}
+use Rattle.lot_machine.specs.declared.funding.Edge.TheVariants.{OfTicket, OfLender, OfMutex}
+use Rattle.lot_machine.specs.declared.funding.Lend.{Lend}
+use Rattle.lot_machine.specs.declared.record.Record.{Record}
+use Rattle.lot_machine.specs.declared.record.Status.TheVariants as status
+use Rattle.lot_machine.specs.declared.command.Command.TheVariants.{Fund, MakeFunded}
+use Rattle.lot_machine.specs.declared.event.Event.{Event}
+use Rattle.lot_machine.specs.declared.event.Event.TheVariants as event
+use Rattle.lot_machine.specs.declared.action.Action.{Action}
+use Rattle.lot_machine.specs.declared.action.Action.TheVariants.{Yield, Call, Receive, Reply as ReplyTo, Serve, Lock, Unlock, Exit}
+use Rattle.lot_machine.specs.declared.refusal.Refusal.{Refusal}
+use Rattle.lot_machine.specs.declared.refusal.Refusal.TheVariants.{NoTicket, NoTarget, Funding as IsFunding, Cycle, BaseFixed, DeadThread}
+use Rattle.lot_machine.specs.declared.refusal.TrapRefusal.{TrapRefusal}
+use Rattle.lot_machine.specs.declared.drawn.Drawn.{Drawn}
+use Rattle.lot_machine.specs.Numbered.{at_number, option_any}
+use Rattle.lot_machine.specs.Funding.{Funding, ticket_at, ticket_in, with_new_ticket, with_target, retargeted, target_node, lend_node, issuer_of, is_currency, ends_of, IsEdge}
+use Rattle.lot_machine.specs.Lends.{IsLive}
+use Rattle.lot_machine.specs.Activity.{IsActive, is_active, active_amount}
+use Rattle.lot_machine.specs.Lottery.{winner}
+use Rattle.lot_machine.specs.Facts.{HasNoCycle, FundsThere}
+use Rattle.lot_machine.specs.Equations.{HasEquation}
+use Rattle.lot_machine.specs.Touched.{IsChangedEdge, IsChangedLife}
+use Rattle.lot_machine.specs.State.{State, opening, funding_of, live_of, lend_of, is_live_status, ready_threads, weight_of}
+use Rattle.lot_machine.specs.Commands.{currency_named, target_named, currency_or_base, is_dead_thread, is_funding, is_unfunded, is_cycle, command_refusal, command_effect, unless_refused, with_thread}
+use Rattle.lot_machine.specs.Step.{step, draw, trap, trap_refusal, trap_effect, checked_effect, event_effect, thread_there, used_there, state_after}
+use Rattle.lot_machine.proofs.Tickets.{at_number-suc, some-injective, issuer-of}
+use Rattle.lot_machine.proofs.TicketDepth.{is_active-exact}
+use Rattle.lot_machine.proofs.NodeBounds.{issuer-amount}
+use Rattle.lot_machine.proofs.Changes.{number-set, number-push}
+use Rattle.lot_machine.proofs.CommandsKept.{unrefused, all-pass}
+use Rattle.lot_machine.proofs.TrapCycles.{at_number-map}
+use Rattle.lot_machine.proofs.StepSizes.{step-sizes, command-grown}
+use Rattle.lot_laws.specs.Conservation.{HasAmounts}
+use Rattle.lot_laws.specs.Insulation.{Encloses, IsChangeInside, ChangesInside, IsNamedInside, amount_in, worth_in}
+use Rattle.lot_laws.specs.Reachable.{IsReachable, IsWellFormed}
+use Rattle.lot_laws.proofs.KeptPaths.{ends-ticket, ticket-ends, chain-aims, active-same}
+use Rattle.lot_laws.proofs.KeptValues.{ends}
+use Rattle.lot_laws.proofs.Enclosed.{active-found}
+use Rattle.lot_laws.proofs.StaysInside.{well-formed, reachable-run, run-inside}
+
+-- ---- edges that come inside
+
+-- each edge stays, and each that comes leads inside from the currency
+module _ (f g : Funding) (live now : List Bool) (c : ℕ) (inside : Node → Bool) (encloses : Encloses f c inside)
+    (on : (edge : Edge) (from to : Node) → ends_of f edge ≡ ends from to → ends_of g edge ≡ ends from to)
+    (back : (edge : Edge) (from to : Node) → ends_of g edge ≡ ends from to → (ends_of f edge ≡ ends from to) ⊎ ((from ≡ Currency c) × (inside to ≡ true)))
+    (lives : (t : ℕ) → IsChangedLife live now t → inside (Thread t) ≡ true) where
+  still-encloses : Encloses g c inside
+  still-encloses = record { itself = encloses.itself; below = λ from to edge why. below from to edge why (back edge.0 from to edge.1); alone = λ from to edge is user. alone from to edge is user (back edge.0 from to edge.1) }
+    where
+      below : (from to : Node) (edge : IsEdge g from to) → (from ≡ Currency c) ⊎ (inside from ≡ true) → (ends_of f edge.0 ≡ ends from to) ⊎ ((from ≡ Currency c) × (inside to ≡ true)) → inside to ≡ true
+      below from to edge why (inl was) = encloses.below from to (edge.0, was) why
+      below from to edge why (inr new) = new.1
+
+      alone : (from to : Node) (edge : IsEdge g from to) → inside to ≡ true → from ≢ Currency 0 → (ends_of f edge.0 ≡ ends from to) ⊎ ((from ≡ Currency c) × (inside to ≡ true)) → (from ≡ Currency c) ⊎ (inside from ≡ true)
+      alone from to edge is user (inl was) = encloses.alone from to (edge.0, was) is user
+      alone from to edge is user (inr new) = inl new.0
+
+  pub comes-inside : IsChangeInside f g live now c inside
+  comes-inside = record { enclosed_before = encloses; enclosed_after = still-encloses; edges = λ from to changed. by from to changed; lives = lives }
+    where
+      came : (from to : Node) (edge : Edge) → ends_of f edge ≢ ends from to → (ends_of f edge ≡ ends from to) ⊎ ((from ≡ Currency c) × (inside to ≡ true)) → inside to ≡ true
+      came from to edge new (inl was) = absurd (new was)
+      came from to edge new (inr is) = is.1
+
+      by : (from to : Node) → IsChangedEdge f g from to → inside to ≡ true
+      by from to (inl (edge, is, gone)) = absurd (gone (on edge from to is))
+      by from to (inr (edge, is, new)) = came from to edge new (back edge from to is)
+
+  -- an active amount stays above 0
+  pub some-stays : HasNoCycle f → FundsThere f → HasNoCycle g → FundsThere g → HasAmounts g → ((t : ℕ) → IsLive live t → IsLive now t) → 0 < active_amount f live c → 0 < active_amount g now c
+  some-stays no_cycle there no_cycle_now there_now have life-on some = found (active-found f live c some)
+    where
+      -- by an active ticket, where its edge leads, and the ticket that has it in the other
+      ends-there : (n : ℕ) (t : Ticket) → t.issuer ≡ c → IsActive f live n → (to : Node) → ends_of f (OfTicket n) ≡ ends (Currency t.issuer) to → ends_of g (OfTicket n) ≡ ends (Currency t.issuer) to
+          → (u : Ticket) × (ticket_at g n ≡ Some u) × (Currency t.issuer ≡ Currency u.issuer) × (target_node u.target ≡ Some to) → 0 < active_amount g now c
+      ends-there n t issued is to before after (u, at, from, leads) =
+          let issuer : t.issuer ≡ u.issuer = cc in
+          let is_now : IsActive g now n = active-same f g live now (λ node. Unit {0}) (λ edge first next clear ends_are. (on edge first next ends_are, tt)) (λ v clear alive. life-on v alive) n (Currency t.issuer) to before after tt is in
+          let amount : u.amount ≤ active_amount g now u.issuer = issuer-amount g now n u at ((is_active-exact g no_cycle_now there_now now n u at).1 is_now) in
+          subst (λ i. 0 < active_amount g now i) (sym issuer ∙ issued) (omega (arith, amount, have n u at))
+
+      active-is : (n : ℕ) (t : Ticket) → ticket_at f n ≡ Some t → t.issuer ≡ c → IsActive f live n → 0 < active_amount g now c
+      active-is n t at issued is =
+          let (aim, to, aims, to_is) = chain-aims f n is.0 is.1 is.2 in
+          let before : ends_of f (OfTicket n) ≡ ends (Currency t.issuer) to = ticket-ends f n t.issuer aim to (issuer-of f n t at) aims to_is in
+          ends-there n t issued is to before (on (OfTicket n) (Currency t.issuer) to before) (ends-ticket g n (Currency t.issuer) to (on (OfTicket n) (Currency t.issuer) to before))
+
+      found : (n : ℕ) × (t : Ticket) × (ticket_at f n ≡ Some t) × (t.issuer ≡ c) × (is_active f live t ≡ true) → 0 < active_amount g now c
+      found (n, t, at, issued, active) = active-is n t at issued ((is_active-exact f no_cycle there live n t at).0 active)
+
+-- the node that a ticket's edge leads to, from its issuer
+abbrev edge-of : Option Ticket → Option (Node × Node)
+edge-of o = option_and_then (λ (t : Ticket). option_map (λ to. (Currency t.issuer, to)) (target_node t.target)) o
+
+-- the edge of a ticket that is there
+edge-is : (t : Ticket) (from to : Node) → edge-of (Some t) ≡ ends from to → (from ≡ Currency t.issuer) × (target_node t.target ≡ Some to)
+edge-is t from to is = by (target_node t.target) is
+  where
+    by : (o : Option Node) → option_map (λ (next : Node). (Currency t.issuer, next)) o ≡ ends from to → (from ≡ Currency t.issuer) × (o ≡ Some to)
+    by None e = cc
+    by (Some next) e = (sym (ap (λ (x : Node × Node). x.0) (some-injective _ _ e)), ap Some (ap (λ (x : Node × Node). x.1) (some-injective _ _ e)))
+
+-- ---- a ticket that is there funds something inside
+
+module _ (s : State) (n c : ℕ) (name : List ℕ) (inside : Node → Bool) (issued : issuer_of (funding_of s) n ≡ Some c) (named : IsNamedInside s name inside)
+    (unfunded : option_any is_funding (ticket_in s.tickets n) ≡ false) where
+  abbrev funded : State
+  funded = record s { tickets = with_target s.tickets n (unwrap_or (target_named s name) target.Unfunded) }
+
+  -- the ticket, and that it funds nothing
+  the-ticket : (t : Ticket) × (ticket_in s.tickets n ≡ Some t) × (t.issuer ≡ c) × (target_node t.target ≡ None)
+  the-ticket = by (ticket_in s.tickets n) refl issued unfunded
+    where
+      none : (to : Target) → not (is_unfunded to) ≡ false → target_node to ≡ None
+      none target.Unfunded e = refl
+      none (target.Currency d) e = cc
+      none (target.Thread u) e = cc
+
+      by : (o : Option Ticket) → ticket_in s.tickets n ≡ o → option_map (λ (t : Ticket). t.issuer) o ≡ Some c → option_any is_funding o ≡ false → (t : Ticket) × (ticket_in s.tickets n ≡ Some t) × (t.issuer ≡ c) × (target_node t.target ≡ None)
+      by None at is off = cc
+      by (Some t) at is off = (t, at, some-injective t.issuer c is, none t.target off)
+
+  -- where the changed ticket stands
+  its-place : suc (n - 1) ≡ n
+  its-place = by n (the-ticket.1)
+    where
+      by : (m : ℕ) → ticket_in s.tickets m ≡ Some (the-ticket.0) → suc (m - 1) ≡ m
+      by zero at = cc
+      by (suc i) at = omega arith
+
+  fund-on : (edge : Edge) (from to : Node) → ends_of (funding_of s) edge ≡ ends from to → ends_of (funding_of funded) edge ≡ ends from to
+  fund-on (OfTicket m) from to is = by (number-set s.tickets n (option_map (retargeted (unwrap_or (target_named s name) target.Unfunded)) (ticket_in s.tickets n)) m)
+    where
+      by : (at_number (with_target s.tickets n (unwrap_or (target_named s name) target.Unfunded)) m ≡ at_number s.tickets m)
+          ⊎ ((m ≡ suc (n - 1)) × (at_number (with_target s.tickets n (unwrap_or (target_named s name) target.Unfunded)) m ≡ Some (option_map (retargeted (unwrap_or (target_named s name) target.Unfunded)) (ticket_in s.tickets n))))
+          → edge-of (ticket_in (with_target s.tickets n (unwrap_or (target_named s name) target.Unfunded)) m) ≡ ends from to
+      by (inl same) = ap edge-of (ap option_flatten same) ∙ is
+      by (inr (at, now)) =
+          let (t, there, issuer, none) = the-ticket in
+          let here : ticket_in s.tickets m ≡ Some t = ap (ticket_in s.tickets) (at ∙ its-place) ∙ there in
+          let (from_is, to_is) = edge-is t from to (sym (ap edge-of here) ∙ is) in
+          let never : None ≡ Some to = sym none ∙ to_is in cc
+  fund-on (OfLender t) from to is = is
+  fund-on (OfMutex m) from to is = is
+
+  fund-back : (edge : Edge) (from to : Node) → ends_of (funding_of funded) edge ≡ ends from to → (ends_of (funding_of s) edge ≡ ends from to) ⊎ ((from ≡ Currency c) × (inside to ≡ true))
+  fund-back (OfTicket m) from to is = by (number-set s.tickets n (option_map (retargeted (unwrap_or (target_named s name) target.Unfunded)) (ticket_in s.tickets n)) m)
+    where
+      aims : (o : Option Target) → target_named s name ≡ o → target_node (unwrap_or o target.Unfunded) ≡ Some to → inside to ≡ true
+      aims None e none = let never : None ≡ Some to = none in cc
+      aims (Some x) e node = named to (ap (option_and_then target_node) e ∙ node)
+
+      by : (at_number (with_target s.tickets n (unwrap_or (target_named s name) target.Unfunded)) m ≡ at_number s.tickets m)
+          ⊎ ((m ≡ suc (n - 1)) × (at_number (with_target s.tickets n (unwrap_or (target_named s name) target.Unfunded)) m ≡ Some (option_map (retargeted (unwrap_or (target_named s name) target.Unfunded)) (ticket_in s.tickets n))))
+          → (edge-of (ticket_in s.tickets m) ≡ ends from to) ⊎ ((from ≡ Currency c) × (inside to ≡ true))
+      by (inl same) = inl (sym (ap edge-of (ap option_flatten same)) ∙ is)
+      by (inr (at, now)) =
+          let (t, there, issuer, none) = the-ticket in
+          let here : ticket_in (with_target s.tickets n (unwrap_or (target_named s name) target.Unfunded)) m ≡ Some (retargeted (unwrap_or (target_named s name) target.Unfunded) t) =
+          ap option_flatten now ∙ ap (option_map (retargeted (unwrap_or (target_named s name) target.Unfunded))) there in
+          let (from_is, to_is) = edge-is (retargeted (unwrap_or (target_named s name) target.Unfunded) t) from to (sym (ap edge-of here) ∙ is) in
+          inr (from_is ∙ ap Currency issuer, aims (target_named s name) refl to_is)
+  fund-back (OfLender t) from to is = inl is
+  fund-back (OfMutex m) from to is = inl is
+
+  fund-lives : (t : ℕ) → IsChangedLife (live_of s) (live_of s) t → inside (Thread t) ≡ true
+  fund-lives t (inl (alive, ended)) = absurd (ended alive)
+  fund-lives t (inr (alive, none)) = absurd (none alive)
+
+  fund-inside : Encloses (funding_of s) c inside → IsChangeInside (funding_of s) (funding_of funded) (live_of s) (live_of funded) c inside
+  fund-inside encloses = comes-inside (funding_of s) (funding_of funded) (live_of s) (live_of s) c inside encloses fund-on fund-back fund-lives
+
+  fund-active : Encloses (funding_of s) c inside → HasNoCycle (funding_of s) → FundsThere (funding_of s) → HasNoCycle (funding_of funded) → FundsThere (funding_of funded) → HasAmounts (funding_of funded)
+      → 0 < amount_in s c → 0 < amount_in funded c
+  fund-active encloses no_cycle there no_cycle_now there_now have =
+      some-stays (funding_of s) (funding_of funded) (live_of s) (live_of s) c inside encloses fund-on fund-back fund-lives no_cycle there no_cycle_now there_now have (λ t alive. alive)
+
+  pub fund-kept : Encloses (funding_of s) c inside → IsReachable s → (e : Event) → (step s e).state ≡ funded → 0 < amount_in s c → (node : Node) → inside node ≡ false → HasEquation (funding_of s) node
+      → worth_in (step s e).state node ≡ worth_in s node
+  fund-kept encloses reachable e is some =
+      let well = well-formed s reachable in
+      let after = subst (λ x. IsWellFormed (funding_of x)) is (well-formed (step s e).state (reachable-run s (e ∷ []) reachable)) in
+      run-inside s (e ∷ []) c inside reachable (subst (λ x. ChangesInside s x c inside) (sym is) (fund-inside encloses))
+      (λ _. subst (λ x. 0 < amount_in x c) (sym is) (fund-active encloses well.no_cycle well.funds_there after.no_cycle after.funds_there after.amounts some)) (λ _. some)
+
+-- a refused command leaves the state, and with it each value
+pub fund-local : (s : State) (n c : ℕ) (name : List ℕ) (inside : Node → Bool) → IsReachable s → Encloses (funding_of s) c inside → issuer_of (funding_of s) n ≡ Some c → IsNamedInside s name inside → 0 < amount_in s c
+    → (node : Node) → inside node ≡ false → HasEquation (funding_of s) node → worth_in (step s (event.Command (Fund n name))).state node ≡ worth_in s node
+fund-local s n c name inside reachable encloses issued named some node out has = by (command_refusal s (Fund n name)) refl
+  where
+    by : (o : Option Refusal) → command_refusal s (Fund n name) ≡ o → worth_in (step s (event.Command (Fund n name))).state node ≡ worth_in s node
+    by (Some refusal) is = ap (λ x. worth_in x node) (ap (λ o. (unless_refused s o (command_effect s (Fund n name))).state) is)
+    by None is =
+        let passed = all-pass ((is_none (ticket_in s.tickets n), NoTicket) ∷ (is_none (target_named s name), NoTarget)
+        ∷ (option_any (is_currency 0) (target_named s name), BaseFixed) ∷ (option_any (is_dead_thread s) (target_named s name), DeadThread)
+        ∷ (option_any is_funding (ticket_in s.tickets n), IsFunding) ∷ (option_any (is_cycle s n) (target_named s name), Cycle) ∷ []) is in
+        let done : (step s (event.Command (Fund n name))).state ≡ record s { tickets = with_target s.tickets n (unwrap_or (target_named s name) target.Unfunded) } =
+        ap (λ o. (unless_refused s o (command_effect s (Fund n name))).state) is in
+        fund-kept s n c name inside issued named passed.1.1.1.1.0 encloses reachable (event.Command (Fund n name)) done some node out has
+
+-- ---- as many threads as records
+
+draw-threads : (s : State) (p d : ℕ) → (draw s p d).state.threads ≡ s.threads
+draw-threads s p d = at (winner (map (weight_of s) (ready_threads s.records)) d) refl
+  where
+    at : (o : Option Drawn) → winner (map (weight_of s) (ready_threads s.records)) d ≡ o → (draw s p d).state.threads ≡ s.threads
+    at None is = rw is refl
+    at (Some w) is = rw is refl
+
+effect-threads : (s : State) (t : ℕ) (action : Action) → (trap_effect s t action).state.threads ≡ s.threads
+effect-threads s t Yield = refl
+effect-threads s t (Call port number) = refl
+effect-threads s t (Receive port) = refl
+effect-threads s t (ReplyTo number) = refl
+effect-threads s t (Serve port number) = refl
+effect-threads s t (Lock m) = refl
+effect-threads s t (Unlock m d) = refl
+effect-threads s t Exit = refl
+
+trap-threads : (s : State) (p t used ran : ℕ) (action : Action) → (trap s p t used ran action).state.threads ≡ s.threads
+trap-threads s p t used ran action = by (trap_refusal s t action)
+  where
+    by : (o : Option TrapRefusal) → (checked_effect s o (trap_effect s t action)).state.threads ≡ s.threads
+    by None = effect-threads s t action
+    by (Some refusal) = refl
+
+abbrev KeepsThreads : State → State → Type 0
+KeepsThreads s after = after.threads ≡ s.threads
+
+step-many : (s : State) (e : Event) → length s.threads ≡ length s.records → length (step s e).state.threads ≡ length (step s e).state.records
+step-many s (event.Command command) same = let grown = command-grown s command in omega (arith, same, grown.1.1, grown.1.2)
+step-many s (event.Draw p d) same =
+    let kept : KeepsThreads s (step s (event.Draw p d)).state = unrefused (KeepsThreads s) s _ (draw s p d) refl (λ _. draw-threads s p d) in
+    ap length kept ∙ same ∙ sym (step-sizes s (event.Draw p d) p refl).1
+step-many s (event.Expire p) same =
+    let kept : KeepsThreads s (step s (event.Expire p)).state = unrefused (KeepsThreads s) s _ (event_effect s (event.Expire p)) refl (λ _. refl) in
+    ap length kept ∙ same ∙ sym (step-sizes s (event.Expire p) p refl).1
+step-many s (event.Trap p ran action) same =
+    let kept : KeepsThreads s (step s (event.Trap p ran action)).state =
+    unrefused (KeepsThreads s) s _ (event_effect s (event.Trap p ran action)) refl (λ _. trap-threads s p (thread_there s p) (used_there s p) ran action) in
+    ap length kept ∙ same ∙ sym (step-sizes s (event.Trap p ran action) p refl).1
+
+run-many : (s : State) (events : List Event) → length s.threads ≡ length s.records → length (state_after s events).threads ≡ length (state_after s events).records
+run-many s [] same = same
+run-many s (e ∷ events) same = run-many (step s e).state events (step-many s e same)
+
+reachable-many : (s : State) → IsReachable s → length s.threads ≡ length s.records
+reachable-many s (limits, events, bounds, is) = subst (λ x. length x.threads ≡ length x.records) (sym is) (run-many (opening limits) events refl)
+
+-- the number of what is added at the end
+new-number : {A : Type 0} (xs : List A) (x : A) (n : ℕ) → at_number xs n ≡ None → at_number (xs ++ x ∷ []) n ≡ Some x → n ≡ length xs + 1
+new-number {A = A} xs x zero none is = cc
+new-number {A = A} xs x (suc i) none is = by (slice_get_cases xs i).1
+  where
+    low : i < length xs + 1
+    low = let within = slice_get_within (xs ++ x ∷ []) i x (sym (at_number-suc (xs ++ x ∷ []) i) ∙ is) in omega (arith, within, length-append xs (x ∷ []))
+
+    by : ((y : A) × (i < length xs) × (slice_get xs i ≡ Some y) × (get_or xs i y ≡ y)) ⊎ ((length xs ≤ i) × (slice_get xs i ≡ None)) → suc i ≡ length xs + 1
+    by (inl found) = let never : None ≡ Some found.0 = sym none ∙ at_number-suc xs i ∙ found.2 in cc
+    by (inr past) = omega (arith, low, past.0)
+
+-- ---- a new thread with a ticket of the currency
+
+module _ (s : State) (amount c : ℕ) (currency name : List ℕ) (script : ℕ) (inside : Node → Bool) (issued : currency_named s currency ≡ Some c)
+    (new : inside (Thread (length s.threads + 1)) ≡ true) (many : length s.threads ≡ length s.records) where
+  abbrev fresh : Record
+  fresh = record { status = status.Ready; compensation = None; delivered = None; quanta = 0; ticks = 0 }
+
+  abbrev its-ticket : Ticket
+  its-ticket = record { amount = amount; issuer = currency_or_base s currency; target = target.Thread (length s.threads + 1) }
+
+  abbrev made : State
+  made = record (with_thread s name script) { tickets = with_new_ticket s.tickets amount (currency_or_base s currency) (target.Thread (length s.threads + 1)) }
+
+  -- the edge of a thread with this record
+  abbrev lend-edge : ℕ → Option Record → Option (Node × Node)
+  lend-edge t o = option_and_then (λ (lend : Lend). option_map (λ (to : Node). (Thread t, to)) (lend_node lend)) (option_map (λ (r : Record). lend_of r.status) o)
+
+  lender-is : (records : List Record) (t : ℕ) → option_and_then (λ (lend : Lend). option_map (λ (to : Node). (Thread t, to)) (lend_node lend)) (at_number (map (λ (r : Record). lend_of r.status) records) t) ≡ lend-edge t (at_number records t)
+  lender-is records t = ap (option_and_then (λ (lend : Lend). option_map (λ (to : Node). (Thread t, to)) (lend_node lend))) (at_number-map (λ (r : Record). lend_of r.status) records t)
+
+  make-on : (edge : Edge) (from to : Node) → ends_of (funding_of s) edge ≡ ends from to → ends_of (funding_of made) edge ≡ ends from to
+  make-on (OfTicket m) from to is = by (number-push s.tickets (Some its-ticket) m)
+    where
+      by : (at_number (s.tickets ++ Some its-ticket ∷ []) m ≡ at_number s.tickets m) ⊎ ((at_number s.tickets m ≡ None) × (at_number (s.tickets ++ Some its-ticket ∷ []) m ≡ Some (Some its-ticket)))
+          → edge-of (ticket_in (s.tickets ++ Some its-ticket ∷ []) m) ≡ ends from to
+      by (inl same) = ap edge-of (ap option_flatten same) ∙ is
+      by (inr (none, now)) = let never : None ≡ ends from to = sym (ap edge-of (ap option_flatten none)) ∙ is in cc
+  make-on (OfLender t) from to is = lender-is (s.records ++ fresh ∷ []) t ∙ by (number-push s.records fresh t)
+    where
+      by : (at_number (s.records ++ fresh ∷ []) t ≡ at_number s.records t) ⊎ ((at_number s.records t ≡ None) × (at_number (s.records ++ fresh ∷ []) t ≡ Some fresh)) → lend-edge t (at_number (s.records ++ fresh ∷ []) t) ≡ ends from to
+      by (inl same) = ap (lend-edge t) same ∙ sym (lender-is s.records t) ∙ is
+      by (inr (none, now)) = let never : None ≡ ends from to = sym (ap (lend-edge t) none) ∙ sym (lender-is s.records t) ∙ is in cc
+  make-on (OfMutex m) from to is = is
+
+  make-back : (edge : Edge) (from to : Node) → ends_of (funding_of made) edge ≡ ends from to → (ends_of (funding_of s) edge ≡ ends from to) ⊎ ((from ≡ Currency c) × (inside to ≡ true))
+  make-back (OfTicket m) from to is = by (number-push s.tickets (Some its-ticket) m)
+    where
+      by : (at_number (s.tickets ++ Some its-ticket ∷ []) m ≡ at_number s.tickets m) ⊎ ((at_number s.tickets m ≡ None) × (at_number (s.tickets ++ Some its-ticket ∷ []) m ≡ Some (Some its-ticket)))
+          → (edge-of (ticket_in s.tickets m) ≡ ends from to) ⊎ ((from ≡ Currency c) × (inside to ≡ true))
+      by (inl same) = inl (sym (ap edge-of (ap option_flatten same)) ∙ is)
+      by (inr (none, now)) =
+          let (from_is, to_is) = edge-is its-ticket from to (sym (ap edge-of (ap option_flatten now)) ∙ is) in
+          let to_thread : Thread (length s.threads + 1) ≡ to = some-injective (Thread (length s.threads + 1)) to to_is in
+          inr (from_is ∙ ap (λ (o : Option ℕ). Currency (unwrap_or o 0)) issued, subst (λ x. inside x ≡ true) to_thread new)
+  make-back (OfLender t) from to is = by (number-push s.records fresh t)
+    where
+      by : (at_number (s.records ++ fresh ∷ []) t ≡ at_number s.records t) ⊎ ((at_number s.records t ≡ None) × (at_number (s.records ++ fresh ∷ []) t ≡ Some fresh))
+          → (ends_of (funding_of s) (OfLender t) ≡ ends from to) ⊎ ((from ≡ Currency c) × (inside to ≡ true))
+      by (inl same) = inl (lender-is s.records t ∙ sym (ap (lend-edge t) same) ∙ sym (lender-is (s.records ++ fresh ∷ []) t) ∙ is)
+      by (inr (none, now)) = let never : None ≡ ends from to = sym (ap (lend-edge t) now) ∙ sym (lender-is (s.records ++ fresh ∷ []) t) ∙ is in cc
+  make-back (OfMutex m) from to is = inl is
+
+  -- whether the thread with this record lives
+  abbrev lives-by : Option Record → Option Bool
+  lives-by o = option_map (λ (r : Record). is_live_status r.status) o
+
+  life-is : (records : List Record) (t : ℕ) → at_number (map (λ (r : Record). is_live_status r.status) records) t ≡ lives-by (at_number records t)
+  life-is records t = at_number-map (λ (r : Record). is_live_status r.status) records t
+
+  make-life : (t : ℕ) → IsLive (live_of s) t → IsLive (live_of made) t
+  make-life t alive = life-is (s.records ++ fresh ∷ []) t ∙ by (number-push s.records fresh t)
+    where
+      by : (at_number (s.records ++ fresh ∷ []) t ≡ at_number s.records t) ⊎ ((at_number s.records t ≡ None) × (at_number (s.records ++ fresh ∷ []) t ≡ Some fresh)) → lives-by (at_number (s.records ++ fresh ∷ []) t) ≡ Some true
+      by (inl same) = ap lives-by same ∙ sym (life-is s.records t) ∙ alive
+      by (inr (none, now)) = let never : None ≡ Some true = sym (ap lives-by none) ∙ sym (life-is s.records t) ∙ alive in cc
+
+  make-lives : (t : ℕ) → IsChangedLife (live_of s) (live_of made) t → inside (Thread t) ≡ true
+  make-lives t (inl (alive, ended)) = absurd (ended (make-life t alive))
+  make-lives t (inr (alive, none)) = by (number-push s.records fresh t)
+    where
+      by : (at_number (s.records ++ fresh ∷ []) t ≡ at_number s.records t) ⊎ ((at_number s.records t ≡ None) × (at_number (s.records ++ fresh ∷ []) t ≡ Some fresh)) → inside (Thread t) ≡ true
+      by (inl same) = absurd (none (life-is s.records t ∙ sym (ap lives-by same) ∙ sym (life-is (s.records ++ fresh ∷ []) t) ∙ alive))
+      by (inr (was, now)) =
+          let number : length s.threads + 1 ≡ t = ap (λ n. n + 1) many ∙ sym (new-number s.records fresh t was now) in subst (λ x. inside (Thread x) ≡ true) number new
+
+  pub make-kept : Encloses (funding_of s) c inside → IsReachable s → (e : Event) → (step s e).state ≡ made → 0 < amount_in s c → (node : Node) → inside node ≡ false → HasEquation (funding_of s) node
+      → worth_in (step s e).state node ≡ worth_in s node
+  make-kept encloses reachable e is some =
+      let well = well-formed s reachable in
+      let after = subst (λ x. IsWellFormed (funding_of x)) is (well-formed (step s e).state (reachable-run s (e ∷ []) reachable)) in
+      let change : ChangesInside s made c inside = comes-inside (funding_of s) (funding_of made) (live_of s) (live_of made) c inside encloses make-on make-back make-lives in
+      let active : 0 < amount_in made c =
+      some-stays (funding_of s) (funding_of made) (live_of s) (live_of made) c inside encloses make-on make-back make-lives well.no_cycle well.funds_there after.no_cycle after.funds_there after.amounts make-life some in
+      run-inside s (e ∷ []) c inside reachable (subst (λ x. ChangesInside s x c inside) (sym is) change) (λ _. subst (λ x. 0 < amount_in x c) (sym is) active) (λ _. some)
+
+pub make-local : (s : State) (amount c : ℕ) (currency name : List ℕ) (script : ℕ) (inside : Node → Bool) → IsReachable s → Encloses (funding_of s) c inside → currency_named s currency ≡ Some c
+    → inside (Thread (length s.threads + 1)) ≡ true → 0 < amount_in s c → (node : Node) → inside node ≡ false → HasEquation (funding_of s) node
+    → worth_in (step s (event.Command (MakeFunded amount currency name script))).state node ≡ worth_in s node
+make-local s amount c currency name script inside reachable encloses issued new some node out has = by (command_refusal s (MakeFunded amount currency name script)) refl
+  where
+    by : (o : Option Refusal) → command_refusal s (MakeFunded amount currency name script) ≡ o → worth_in (step s (event.Command (MakeFunded amount currency name script))).state node ≡ worth_in s node
+    by (Some refusal) is = ap (λ x. worth_in x node) (ap (λ o. (unless_refused s o (command_effect s (MakeFunded amount currency name script))).state) is)
+    by None is =
+        make-kept s amount c currency name script inside issued new (reachable-many s reachable) encloses reachable (event.Command (MakeFunded amount currency name script))
+        (ap (λ o. (unless_refused s o (command_effect s (MakeFunded amount currency name script))).state) is) some node out has

@@ -1,0 +1,95 @@
+-- What a trap that isn't refused makes of the state, by its reply.
+use Rattle.std.proofs.Common.{◌≡◌, ℕ, ◌+◌, Bool, true, false, is_none, nat_lt, ◌-◌, Option, Some, None, List, [], ◌∷◌, length, map, option_map, refl, sym, ◌∙◌, ap}
+use Rattle.std.proofs.Math.ListN.{length-set}
+use Rattle.lot_machine.specs.declared.record.Record.{Record}
+use Rattle.lot_machine.specs.declared.record.Status.TheVariants.{Running}
+use Rattle.lot_machine.specs.declared.funding.Lend.TheVariants.{Nobody}
+use Rattle.lot_machine.specs.declared.action.Action.{Action}
+use Rattle.lot_machine.specs.declared.event.Event.TheVariants.{Trap}
+use Rattle.lot_machine.specs.declared.reply.Reply.TheVariants.{Trapped}
+use Rattle.lot_machine.specs.declared.reply.Outcome.{Outcome}
+use Rattle.lot_machine.specs.declared.reply.Outcome.TheVariants.{Refused}
+use Rattle.lot_machine.specs.declared.refusal.Refusal.{Refusal}
+use Rattle.lot_machine.specs.declared.refusal.Refusal.TheVariants.{BadProcessor, NotRunning, BadTicks}
+use Rattle.lot_machine.specs.declared.refusal.TrapRefusal.{TrapRefusal}
+use Rattle.lot_machine.specs.declared.after.After.TheVariants.{GoesOn}
+use Rattle.lot_machine.specs.Numbered.{at_number}
+use Rattle.lot_machine.specs.State.{State, live_in, lend_of, is_live_status, status_of, thread_on, change_record}
+use Rattle.lot_machine.specs.Commands.{Step, unless_refused}
+use Rattle.lot_machine.specs.Traps.{after_trap, with_ticks}
+use Rattle.lot_machine.specs.Step.{is_bad_processor, trap_refusal, trap_effect, checked_effect, finish_trap, thread_there, used_there, event_refusal, event_effect, step}
+use Rattle.lot_machine.proofs.CommandsKept.{all-pass}
+use Rattle.lot_machine.proofs.TrapCycles.{at_number-map}
+use Rattle.lot_machine.proofs.OrderKept.{there-runs}
+
+-- the thread ran on the processor, its trap wasn't refused and had this outcome, and this is the state then
+pub record IsDone (s : State) (p ran : ℕ) (action : Action) (t : ℕ) (outcome : Outcome) (after : State) : Type 0 where
+  pub used : ℕ
+  pub before : ℕ
+  pub runs : status_of s.records t ≡ Some (Running p before)
+  pub passed : trap_refusal s t action ≡ None
+  pub came : (trap_effect s t action).outcome ≡ outcome
+  pub state : after ≡ (finish_trap s p t (ran + 1) used (trap_effect s t action)).state
+
+module _ (s : State) (p ran : ℕ) (action : Action) (t ticks : ℕ) (outcome : Outcome) (ends : Bool) (unrefused : (refusal : TrapRefusal) → ¬ (Refused refusal ≡ outcome)) where
+  abbrev Replies : Step → Type 0
+  Replies next = next.reply ≡ Trapped t ticks outcome ends
+
+  -- a trap of some thread
+  of-thread : (u before used : ℕ) → status_of s.records u ≡ Some (Running p before) → (o : Option TrapRefusal) → trap_refusal s u action ≡ o
+      → Replies (finish_trap s p u (ran + 1) used (checked_effect s o (trap_effect s u action)))
+      → IsDone s p ran action t outcome (finish_trap s p u (ran + 1) used (checked_effect s o (trap_effect s u action))).state
+  of-thread u before used runs (Some refusal) is replied = let same : Refused refusal ≡ outcome = cc in absurd (unrefused refusal same)
+  of-thread u before used runs None is replied =
+      let same : u ≡ t = cc in
+      let came : (trap_effect s u action).outcome ≡ outcome = cc in
+      record {
+        used = used;
+        before = before;
+        runs = sym (ap (status_of s.records) same) ∙ runs;
+        passed = sym (ap (λ x. trap_refusal s x action) same) ∙ is;
+        came = sym (ap (λ x. (trap_effect s x action).outcome) same) ∙ came;
+        state = ap (λ x. (finish_trap s p x (ran + 1) used (trap_effect s x action)).state) same;
+      }
+
+  pub trap-done : Replies (step s (Trap p ran action)) → IsDone s p ran action t outcome (step s (Trap p ran action)).state
+  trap-done = by (event_refusal s (Trap p ran action)) refl
+    where
+      by : (o : Option Refusal) → event_refusal s (Trap p ran action) ≡ o → Replies (unless_refused s o (event_effect s (Trap p ran action)))
+          → IsDone s p ran action t outcome (unless_refused s o (event_effect s (Trap p ran action))).state
+      by (Some refusal) is replied = cc
+      by None is replied =
+          let checks = all-pass ((is_bad_processor s p, BadProcessor) ∷ (is_none (thread_on s.records p), NotRunning) ∷ (nat_lt s.limits.quantum (used_there s p + ran + 1), BadTicks) ∷ []) is in
+          let runs = there-runs s p checks.1.0 in
+          of-thread (thread_there s p) runs.0 (used_there s p + ran + 1) runs.1 (trap_refusal s (thread_there s p) action) refl replied
+
+-- ---- what records say
+
+pub lend-is : (records : List Record) (u : ℕ) → at_number (map (λ (r : Record). lend_of r.status) records) u ≡ option_map lend_of (status_of records u)
+lend-is records u = at_number-map (λ (r : Record). lend_of r.status) records u ∙ by (at_number records u)
+  where
+    by : (o : Option Record) → option_map (λ (r : Record). lend_of r.status) o ≡ option_map lend_of (option_map (λ (r : Record). r.status) o)
+    by None = refl
+    by (Some r) = refl
+
+pub live-is : (records : List Record) (u : ℕ) → at_number (live_in records) u ≡ option_map is_live_status (status_of records u)
+live-is records u = at_number-map (λ (r : Record). is_live_status r.status) records u ∙ by (at_number records u)
+  where
+    by : (o : Option Record) → option_map (λ (r : Record). is_live_status r.status) o ≡ option_map is_live_status (option_map (λ (r : Record). r.status) o)
+    by None = refl
+    by (Some r) = refl
+
+pub change-length : (change : Record → Record) (records : List Record) (t : ℕ) → length (change_record change records t) ≡ length records
+change-length change records t = at (at_number records t) refl
+  where
+    at : (o : Option Record) → at_number records t ≡ o → length (change_record change records t) ≡ length records
+    at None is = rw is refl
+    at (Some r) is = rw is (length-set records (t - 1) (change r))
+
+-- a thread that goes on after its trap lends to nobody, and is live
+pub goes-on : (ticks p used quantum : ℕ) (r : Record) → (lend_of (with_ticks ticks (after_trap GoesOn p used quantum r)).status ≡ Nobody) × (is_live_status (with_ticks ticks (after_trap GoesOn p used quantum r)).status ≡ true)
+goes-on ticks p used quantum r = by (nat_lt used quantum) refl
+  where
+    by : (b : Bool) → nat_lt used quantum ≡ b → (lend_of (with_ticks ticks (after_trap GoesOn p used quantum r)).status ≡ Nobody) × (is_live_status (with_ticks ticks (after_trap GoesOn p used quantum r)).status ≡ true)
+    by true is = rw is (refl, refl)
+    by false is = rw is (refl, refl)

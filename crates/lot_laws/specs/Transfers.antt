@@ -1,0 +1,61 @@
+-- Transfers: what a blocked thread lends goes to the thread that it waits for (3.1, 4.6, 6.1).
+use Rattle.std.specs.Prelude.{◌≡◌, ℕ, Bool, Some, []}
+use Rattle.lot_machine.specs.declared.action.Action.TheVariants.{Call, Receive, Reply as ReplyTo, Serve, Lock}
+use Rattle.lot_machine.specs.declared.event.Event.{Event}
+use Rattle.lot_machine.specs.declared.event.Event.TheVariants.{Trap}
+use Rattle.lot_machine.specs.declared.record.Status.TheVariants.{Ready}
+use Rattle.lot_machine.specs.declared.reply.Reply.TheVariants.{Trapped}
+use Rattle.lot_machine.specs.declared.reply.Outcome.TheVariants.{ServedBy, Queued, Received, Replied, RepliedThenReceived, RepliedThenWaits, Waits}
+use Rattle.lot_machine.specs.Funding.{owner_of, backing_thread}
+use Rattle.lot_machine.specs.Lends.{LendsTo}
+use Rattle.lot_machine.specs.State.{State, funding_of, change_record}
+use Rattle.lot_machine.specs.Step.{step}
+
+-- ---- events
+
+-- the thread calls, and a server that waits at the port takes the call
+abbrev pub TakesCall : State → Event → ℕ → ℕ → Type 0
+TakesCall s e caller server =
+    (p : ℕ) × (ran : ℕ) × (port : ℕ) × (number : ℕ) × (ticks : ℕ) × (ends : Bool) × (e ≡ Trap p ran (Call port number)) × ((step s e).reply ≡ Trapped caller ticks (ServedBy server) ends)
+
+-- the thread calls, and no server waits at the port: the call is queued
+abbrev pub QueuesCall : State → Event → ℕ → Type 0
+QueuesCall s e caller =
+    (p : ℕ) × (ran : ℕ) × (port : ℕ) × (number : ℕ) × (ticks : ℕ) × (ends : Bool) × (e ≡ Trap p ran (Call port number)) × ((step s e).reply ≡ Trapped caller ticks Queued ends)
+
+-- the server receives, and takes the caller's queued call
+abbrev pub TakesQueuedCall : State → Event → ℕ → ℕ → Type 0
+TakesQueuedCall s e caller server =
+    (p : ℕ) × (ran : ℕ) × (port : ℕ) × (number : ℕ) × (ticks : ℕ) × (ends : Bool) × (e ≡ Trap p ran (Receive port)) × ((step s e).reply ≡ Trapped server ticks (Received caller number) ends)
+
+-- the server replies to the caller
+abbrev pub RepliesTo : State → Event → ℕ → ℕ → Type 0
+RepliesTo s e caller server =
+    (p : ℕ) × (ran : ℕ) × (number : ℕ) × (ticks : ℕ) × (ends : Bool) × (e ≡ Trap p ran (ReplyTo number)) × ((step s e).reply ≡ Trapped server ticks (Replied caller) ends)
+
+-- the server replies to the caller and receives, in one trap, and waits for a call
+abbrev pub RepliesThenWaits : State → Event → ℕ → ℕ → Type 0
+RepliesThenWaits s e caller server =
+    (p : ℕ) × (ran : ℕ) × (port : ℕ) × (number : ℕ) × (ticks : ℕ) × (ends : Bool) × (e ≡ Trap p ran (Serve port number)) × ((step s e).reply ≡ Trapped server ticks (RepliedThenWaits caller) ends)
+
+-- the server replies to the caller and receives, in one trap, and takes the next caller's queued call
+abbrev pub RepliesThenReceives : State → Event → ℕ → ℕ → ℕ → Type 0
+RepliesThenReceives s e caller next server =
+    (p : ℕ) × (ran : ℕ) × (port : ℕ) × (number : ℕ) × (taken : ℕ) × (ticks : ℕ) × (ends : Bool) × (e ≡ Trap p ran (Serve port number))
+    × ((step s e).reply ≡ Trapped server ticks (RepliedThenReceived caller next taken) ends)
+
+-- the thread locks a mutex that the owner has, and waits for it
+abbrev pub WaitsFor : State → Event → ℕ → ℕ → Type 0
+WaitsFor s e t owner =
+    (p : ℕ) × (ran : ℕ) × (m : ℕ) × (ticks : ℕ) × (ends : Bool) × (e ≡ Trap p ran (Lock m)) × ((step s e).reply ≡ Trapped t ticks Waits ends) × (owner_of (funding_of s) m ≡ Some owner)
+
+-- ---- states
+
+-- The thread has nothing of its own: no ticket funds it, and nobody lends to it, so it has no client, and nobody
+-- waits for a mutex that it owns.
+abbrev pub OwnsNothing : State → ℕ → Type 0
+OwnsNothing s t = (backing_thread (funding_of s) t ≡ []) × ((u : ℕ) → ¬ LendsTo (funding_of s) u t)
+
+-- the same state, but the thread is Ready
+abbrev pub with_ready : State → ℕ → State
+with_ready s t = record s { records = change_record (λ r. record r { status = Ready }) s.records t }
