@@ -14,6 +14,7 @@ use Rattle.lot_machine.specs.Facts.{total_weight}
 use Rattle.lot_machine.specs.Equations.{HasEachOnce}
 use Rattle.lot_machine.proofs.EachOnce.{IsApart, contains-nothing, contains-later, contains-mapped, mapped-contains, apart-append, apart-map, apart-range, range-contains, once-from}
 use Rattle.lot_machine.proofs.Sums.{sum-same, sum-plus, sum-times, sum-nothing}
+use Rattle.lot_machine.proofs.EdgeSums.{sum-mapped}
 use Rattle.lot_machine.proofs.Shares.{place-share, thread-share}
 
 -- ---- sums over lists of n elements
@@ -21,11 +22,6 @@ use Rattle.lot_machine.proofs.Shares.{place-share, thread-share}
 sum-flat : {A B : Type 0} (g : B → ℕ) (f : A → List B) (xs : List A) → sum_by g (flat_map f xs) ≡ sum_by (λ x. sum_by g (f x)) xs
 sum-flat g f [] = refl
 sum-flat g f (x ∷ xs) = omega (arith, sum_by-append g (f x) (flat_map f xs), sum_by-cons (λ y. sum_by g (f y)) x xs, sum-flat g f xs)
-
--- over what elements are mapped to
-sum-mapped : {A B : Type 0} (g : B → ℕ) (h : A → B) (xs : List A) → sum_by g (map h xs) ≡ sum_by (λ x. g (h x)) xs
-sum-mapped g h [] = refl
-sum-mapped g h (x ∷ xs) = omega (arith, sum_by-cons g (h x) (map h xs), sum_by-cons (λ y. g (h y)) x xs, sum-mapped g h xs)
 
 -- the same amount for each element
 sum-all : {A : Type 0} (amount : ℕ) (xs : List A) → sum_by (λ x. amount) xs ≡ length xs * amount

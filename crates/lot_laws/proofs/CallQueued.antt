@@ -24,7 +24,8 @@ use Rattle.lot_machine.proofs.Queues.{number-set_same, record-of}
 use Rattle.lot_machine.proofs.TrapCycles.{at_number-map}
 use Rattle.lot_machine.proofs.OrderKept.{step-order}
 use Rattle.lot_laws.specs.Transfers.{QueuesCall, TakesQueuedCall, with_ready}
-use Rattle.lot_laws.proofs.Trapped.{IsDone, trap-done, change-length}
+use Rattle.lot_machine.proofs.StepSizes.{change-length}
+use Rattle.lot_laws.proofs.Trapped.{IsDone, trap-done}
 use Rattle.lot_laws.proofs.Lending.{lending}
 use Rattle.lot_laws.proofs.Blocked.{lends_in}
 use Rattle.lot_laws.proofs.CallReceived as received

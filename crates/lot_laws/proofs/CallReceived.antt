@@ -36,7 +36,8 @@ use Rattle.lot_machine.proofs.ValueDepth.{ticket_value-unfolds}
 use Rattle.lot_machine.proofs.CountsOnce.{counts-once}
 use Rattle.lot_machine.proofs.OrderKept.{step-order}
 use Rattle.lot_laws.specs.Transfers.{TakesQueuedCall, OwnsNothing, with_ready}
-use Rattle.lot_laws.proofs.Trapped.{IsDone, trap-done, lend-is, live-is, change-length}
+use Rattle.lot_machine.proofs.StepSizes.{change-length}
+use Rattle.lot_laws.proofs.Trapped.{IsDone, trap-done, lend-is, live-is}
 use Rattle.lot_laws.proofs.Lending.{same-borrower, leads-itself, worth-nothing, comes-alone}
 use Rattle.lot_laws.proofs.Blocked.{lends_in, lead-itself, lead-other, lends-nobody, is-live, not-live, blocked-worth, blocked-own}
 use Rattle.lot_laws.proofs.CallTaken.{port-there}

@@ -23,7 +23,8 @@ use Rattle.lot_machine.proofs.Queues.{status-now, status-other}
 use Rattle.lot_machine.proofs.CountsOnce.{counts-once}
 use Rattle.lot_machine.proofs.OrderKept.{step-order}
 use Rattle.lot_laws.specs.Transfers.{TakesCall, OwnsNothing}
-use Rattle.lot_laws.proofs.Trapped.{IsDone, trap-done, change-length}
+use Rattle.lot_machine.proofs.StepSizes.{change-length}
+use Rattle.lot_laws.proofs.Trapped.{IsDone, trap-done}
 use Rattle.lot_laws.proofs.Lending.{worth-nothing}
 use Rattle.lot_laws.proofs.Blocked.{lead-itself, lead-other, lends-nobody, is-live, woken-worth, woken-own}
 

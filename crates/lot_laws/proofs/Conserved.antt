@@ -1,5 +1,5 @@
 -- What base's active tickets are worth comes to the live threads, less what rounding loses.
-use Rattle.std.proofs.Common.{◌≡◌, ◌≢◌, ℕ, suc, ◌+◌, ◌-◌, ◌*◌, ◌/◌, ◌<◌, ◌≤◌, ◌==◌, ◌&&◌, ◌⊎◌, inl, inr, not, zero, Bool, true, false, Option, Some, None, List, [], ◌∷◌, length, filter_map, sum_by, cond, slice_get, refl, ap, subst, sym, ◌∙◌, arith}
+use Rattle.std.proofs.Common.{◌≡◌, ◌≢◌, ℕ, suc, ◌+◌, ◌-◌, ◌*◌, ◌/◌, ◌<◌, ◌≤◌, ◌==◌, ◌&&◌, ◌⊎◌, inl, inr, not, zero, Bool, true, false, Some, List, [], ◌∷◌, length, sum_by, cond, slice_get, refl, ap, subst, sym, ◌∙◌, arith}
 use Rattle.std.specs.List.{range_with_len, list_any}
 use Rattle.std.specs.Option.{option_flatten}
 use Rattle.std.proofs.Math.Nat.{lt-div-mul-add, mul-add, add-mul, mul-le-mul_right, div-le_self}
@@ -16,10 +16,10 @@ use Rattle.lot_machine.specs.declared.funding.Edge.TheVariants.{OfTicket}
 use Rattle.lot_machine.specs.declared.record.Record.{Record}
 use Rattle.lot_machine.specs.Numbered.{numbers}
 use Rattle.lot_machine.specs.Funding.{Funding, all_tickets, ticket_at, target_of, issued_in, backing_currency, is_currency, is_thread, ChainLeads, IsEdge}
-use Rattle.lot_machine.specs.Lends.{IsLive, is_backed, IsBacked}
+use Rattle.lot_machine.specs.Lends.{is_backed, IsBacked}
 use Rattle.lot_machine.specs.Activity.{IsActive, is_active, active_amount, activates_within}
 use Rattle.lot_machine.specs.Value.{ticket_value, currency_value, own_value}
-use Rattle.lot_machine.specs.State.{State, funding_of, live_of, lend_of, is_live_status}
+use Rattle.lot_machine.specs.State.{State, funding_of, live_of, lend_of}
 use Rattle.lot_machine.specs.Facts.{HasNoCycle, FundsThere, live_value, base_value}
 use Rattle.lot_laws.specs.Conservation.{HasAmounts, active_issued, handed_out, lost_at, lost_value, rounded_tickets}
 use Rattle.lot_machine.proofs.Sums.{sum-filter, sum-le, sum-same, sum-plus, sum-under, sum-swap, sum-on, sum-nothing, sum-le_from, sum-none, sum-at_most, sum-one}
@@ -32,25 +32,8 @@ use Rattle.lot_machine.proofs.LendDepth.{lender_within, is_backed-exact}
 use Rattle.lot_machine.proofs.ValueDepth.{ticket_value-unfolds}
 use Rattle.lot_machine.proofs.NodeBounds.{issuer-amount}
 use Rattle.lot_machine.proofs.Flow.{base_worth, handed_out as hands_no_more}
-use Rattle.lot_machine.proofs.CountsOnce.{counts-once}
-
--- ---- sums over the tickets that are there
-
-sum-le_there : (g h : Ticket → ℕ) (xs : List (Option Ticket)) → ((i : ℕ) (t : Ticket) → slice_get xs i ≡ Some (Some t) → g t ≤ h t)
-    → sum_by g (filter_map (λ o. o) xs) ≤ sum_by h (filter_map (λ o. o) xs)
-sum-le_there g h [] le = omega arith
-sum-le_there g h (None ∷ xs) le = sum-le_there g h xs (λ i t here. le (suc i) t here)
-sum-le_there g h (Some t ∷ xs) le =
-    omega (arith, sum_by-cons g t (filter_map (λ o. o) xs), sum_by-cons h t (filter_map (λ o. o) xs), le zero t refl, sum-le_there g h xs (λ i u here. le (suc i) u here))
-
--- ---- live threads
-
--- a live thread is one of the threads
-live-within : (s : State) (t : ℕ) → IsLive (live_of s) t → (1 ≤ t) × (t < 1 + length s.records)
-live-within s zero alive = cc
-live-within s (suc i) alive =
-    let low : i < length (live_of s) = slice_get_within (live_of s) i true (sym (at_number-suc (live_of s) i) ∙ alive) in
-    (omega arith, omega (arith, low, length-map s.records (λ (r : Record). is_live_status r.status)))
+use Rattle.lot_machine.proofs.CountsOnce.{counts-once, live-thread}
+use Rattle.lot_machine.proofs.CurrencyFlow.{sum-le_there}
 
 -- ---- shares, each rounded down
 
@@ -243,7 +226,7 @@ module _ (s : State) (no_cycle : HasNoCycle (funding_of s)) (there : FundsThere 
   backed-there u is = by ((is_backed-exact (funding_of s) no_cycle.lends (live_of s) u).0 is)
     where
       by : IsBacked (funding_of s) (live_of s) u → (1 ≤ u) × (u < 1 + length s.records)
-      by (v, ([], same), alive) = let r = live-within s v alive in (omega (arith, same, r.0), omega (arith, same, r.1))
+      by (v, ([], same), alive) = let r = live-thread s no_cycle v alive in (omega (arith, same, r.0), omega (arith, same, r.1))
       by (v, (w ∷ rest, (lends, more)), alive) =
           let (i, same, low) = lender_within (funding_of s) u w lends in
           (omega (arith, same), omega (arith, same, low, length-map s.records (λ (r : Record). lend_of r.status)))

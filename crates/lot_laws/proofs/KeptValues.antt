@@ -1,5 +1,5 @@
 -- Nodes keep their values if the same edges lead into them, and these pass on as much.
-use Rattle.std.proofs.Common.{◌≡◌, ◌≢◌, ℕ, suc, ◌*◌, ◌/◌, ◌==◌, ◌⊎◌, inl, inr, Bool, true, false, cond, Option, Some, None, List, [], ◌∷◌, slice_get, sum_by, filter, filter_map, option_map, unwrap_or, refl, sym, ◌∙◌, ap, subst, arith, if◌then◌else◌}
+use Rattle.std.proofs.Common.{◌≡◌, ◌≢◌, ℕ, suc, ◌*◌, ◌/◌, ◌==◌, ◌⊎◌, inl, inr, Bool, true, false, cond, Option, Some, None, List, [], ◌∷◌, slice_get, sum_by, filter, option_map, unwrap_or, refl, sym, ◌∙◌, ap, arith, if◌then◌else◌}
 use Rattle.std.specs.Option.{option_flatten}
 use Rattle.std.proofs.lemmas.Bool.{eq-eqb, eqb-true, cases_eq}
 use Rattle.std.proofs.lemmas.List.Sums.{sum_by-cons}
@@ -17,10 +17,9 @@ use Rattle.lot_machine.specs.Touched.{IsEdgeOfEither}
 use Rattle.lot_machine.proofs.Sums.{sum-filter}
 use Rattle.lot_machine.proofs.Tickets.{some-injective, ticket_in-suc}
 use Rattle.lot_machine.proofs.TicketDepth.{is_active-exact}
-use Rattle.lot_machine.proofs.LendSums.{number-within}
-use Rattle.lot_machine.proofs.Edges.{ends-are}
 use Rattle.lot_machine.proofs.EdgesOnce.{kept-shares}
-use Rattle.lot_machine.proofs.NodeShares.{values-solve, solution}
+use Rattle.lot_machine.proofs.EdgeSums.{sum-there}
+use Rattle.lot_machine.proofs.NodeShares.{values-solve, begins-there, solution}
 use Rattle.lot_laws.specs.Insulation.{KeepsAmounts}
 use Rattle.lot_laws.proofs.KeptPaths.{ends-ticket, currency-one}
 
@@ -74,11 +73,6 @@ same-bool false true to back = back refl
 same-bool false false to back = refl
 
 -- sums over the tickets that are there, and number by number
-sum-there : {A : Type 0} (g : Option A → ℕ) (h : A → ℕ) → g None ≡ 0 → ((x : A) → g (Some x) ≡ h x) → (xs : List (Option A)) → sum_by g xs ≡ sum_by h (filter_map (λ o. o) xs)
-sum-there g h none some [] = refl
-sum-there g h none some (None ∷ xs) = omega (arith, sum_by-cons g None xs, none, sum-there g h none some xs)
-sum-there g h none some (Some x ∷ xs) = omega (arith, sum_by-cons g (Some x) xs, some x, sum_by-cons h x (filter_map (λ o. o) xs), sum-there g h none some xs)
-
 sum-each : (g h : Option Ticket → ℕ) → g None ≡ 0 → h None ≡ 0 → (xs ys : List (Option Ticket)) → ((i : ℕ) → g (option_flatten (slice_get xs i)) ≡ h (option_flatten (slice_get ys i))) → sum_by g xs ≡ sum_by h ys
 sum-each g h first second [] [] each = refl
 sum-each g h first second [] (y ∷ ys) each = omega (arith, sum_by-cons h y ys, first, each 0, sum-each g h first second [] ys (λ i. each (suc i)))
@@ -147,15 +141,6 @@ module _ (f g : Funding) (live now : List Bool) (amounts : KeepsAmounts f g) (c 
 
 -- ---- values
 
--- what leads to a node has an equation, unless it is base
-begins-there : (f : Funding) (from to : Node) → IsEdge f from to → from ≢ Currency 0 → HasEquation f from
-begins-there f from to (edge, is) differs = by edge is
-  where
-    by : (e : Edge) → ends_of f e ≡ Some (from, to) → HasEquation f from
-    by (OfTicket n) at = let r = ends-are f (OfTicket n) from to at in subst (HasEquation f) (sym r.2) (λ base. differs (r.2 ∙ ap Currency base))
-    by (OfLender s) at = let r = ends-are f (OfLender s) from to at in subst (HasEquation f) (sym r.2) (number-within f.lends s r.0 r.1)
-    by (OfMutex m) at = let r = ends-are f (OfMutex m) from to at in subst (HasEquation f) (sym r.2) tt
-
 -- Some nodes, to which no others lead but base: the same edges lead into them before and after, the same tickets of
 -- these are active, and the active amounts of their issuers stay.
 module _ (f g : Funding) (no_cycle : HasNoCycle f) (there : FundsThere f) (no_cycle_now : HasNoCycle g) (there_now : FundsThere g) (amounts : KeepsAmounts f g) (unit : ℕ) (live now : List Bool)
@@ -210,7 +195,7 @@ module _ (f g : Funding) (no_cycle : HasNoCycle f) (there : FundsThere f) (no_cy
 
   sources : (from to : Node) → IsEdge g from to → IsKnown to → from ≢ Currency 0 → IsKnown from
   sources from to edge (has, has_now, kept) user =
-      (begins-there f from to (edge.0, edge-back edge.0 from to kept edge.1) user, begins-there g from to edge user, source from to kept (inr edge) user)
+      (begins-there f no_cycle there unit live from to (edge.0, edge-back edge.0 from to kept edge.1) user, begins-there g no_cycle_now there_now unit now from to edge user, source from to kept (inr edge) user)
 
   pub kept-value : (node : Node) → IsKept node → HasEquation f node → HasEquation g node → node_value unit f live node ≡ node_value unit g now node
   kept-value node kept has has_now =

@@ -27,7 +27,8 @@ use Rattle.lot_machine.proofs.CountsOnce.{counts-once}
 use Rattle.lot_machine.proofs.LendDepth.{lends_lead-exact}
 use Rattle.lot_machine.proofs.OrderKept.{step-order}
 use Rattle.lot_laws.specs.Transfers.{WaitsFor}
-use Rattle.lot_laws.proofs.Trapped.{IsDone, trap-done, change-length}
+use Rattle.lot_machine.proofs.StepSizes.{change-length}
+use Rattle.lot_laws.proofs.Trapped.{IsDone, trap-done}
 use Rattle.lot_laws.proofs.Lending.{lending}
 use Rattle.lot_laws.proofs.Blocked.{lends_in, blocked-worth, blocked-own}
 use Rattle.lot_laws.proofs.CallQueued.{map-kept}

@@ -24,7 +24,8 @@ use Rattle.lot_machine.proofs.Queues.{record-of, status-set, status-now, status-
 use Rattle.lot_machine.proofs.CountsOnce.{counts-once}
 use Rattle.lot_machine.proofs.OrderKept.{step-order}
 use Rattle.lot_laws.specs.Transfers.{RepliesTo}
-use Rattle.lot_laws.proofs.Trapped.{IsDone, trap-done, lend-is, live-is, change-length, goes-on}
+use Rattle.lot_machine.proofs.StepSizes.{change-length}
+use Rattle.lot_laws.proofs.Trapped.{IsDone, trap-done, lend-is, live-is, goes-on}
 use Rattle.lot_laws.proofs.Blocked.{lead-itself, lead-other, blocked-worth, blocked-own}
 
 -- a thread that goes on after its trap: what it lends to, and that it is live

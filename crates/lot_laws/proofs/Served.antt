@@ -25,7 +25,8 @@ use Rattle.lot_machine.proofs.TrapCycles.{cycle-nobody}
 use Rattle.lot_machine.proofs.CountsOnce.{counts-once}
 use Rattle.lot_machine.proofs.OrderKept.{step-order}
 use Rattle.lot_laws.specs.Transfers.{RepliesThenWaits, RepliesThenReceives, OwnsNothing, with_ready}
-use Rattle.lot_laws.proofs.Trapped.{IsDone, trap-done, change-length}
+use Rattle.lot_machine.proofs.StepSizes.{change-length}
+use Rattle.lot_laws.proofs.Trapped.{IsDone, trap-done}
 use Rattle.lot_laws.proofs.Lending.{worth-nothing, comes-alone}
 use Rattle.lot_laws.proofs.Blocked.{lead-itself, lead-other, lends-nobody, is-live, woken-worth, woken-own, blocked-worth, blocked-own}
 use Rattle.lot_laws.proofs.CallTaken.{port-there}

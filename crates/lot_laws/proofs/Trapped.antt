@@ -1,6 +1,5 @@
 -- What a trap that isn't refused makes of the state, by its reply.
-use Rattle.std.proofs.Common.{◌≡◌, ℕ, ◌+◌, Bool, true, false, is_none, nat_lt, ◌-◌, Option, Some, None, List, [], ◌∷◌, length, map, option_map, refl, sym, ◌∙◌, ap}
-use Rattle.std.proofs.Math.ListN.{length-set}
+use Rattle.std.proofs.Common.{◌≡◌, ℕ, ◌+◌, Bool, true, false, is_none, nat_lt, Option, Some, None, List, [], ◌∷◌, map, option_map, refl, sym, ◌∙◌, ap}
 use Rattle.lot_machine.specs.declared.record.Record.{Record}
 use Rattle.lot_machine.specs.declared.record.Status.TheVariants.{Running}
 use Rattle.lot_machine.specs.declared.funding.Lend.TheVariants.{Nobody}
@@ -14,7 +13,7 @@ use Rattle.lot_machine.specs.declared.refusal.Refusal.TheVariants.{BadProcessor,
 use Rattle.lot_machine.specs.declared.refusal.TrapRefusal.{TrapRefusal}
 use Rattle.lot_machine.specs.declared.after.After.TheVariants.{GoesOn}
 use Rattle.lot_machine.specs.Numbered.{at_number}
-use Rattle.lot_machine.specs.State.{State, live_in, lend_of, is_live_status, status_of, thread_on, change_record}
+use Rattle.lot_machine.specs.State.{State, live_in, lend_of, is_live_status, status_of, thread_on}
 use Rattle.lot_machine.specs.Commands.{Step, unless_refused}
 use Rattle.lot_machine.specs.Traps.{after_trap, with_ticks}
 use Rattle.lot_machine.specs.Step.{is_bad_processor, trap_refusal, trap_effect, checked_effect, finish_trap, thread_there, used_there, event_refusal, event_effect, step}
@@ -78,13 +77,6 @@ live-is records u = at_number-map (λ (r : Record). is_live_status r.status) rec
     by : (o : Option Record) → option_map (λ (r : Record). is_live_status r.status) o ≡ option_map is_live_status (option_map (λ (r : Record). r.status) o)
     by None = refl
     by (Some r) = refl
-
-pub change-length : (change : Record → Record) (records : List Record) (t : ℕ) → length (change_record change records t) ≡ length records
-change-length change records t = at (at_number records t) refl
-  where
-    at : (o : Option Record) → at_number records t ≡ o → length (change_record change records t) ≡ length records
-    at None is = rw is refl
-    at (Some r) is = rw is (length-set records (t - 1) (change r))
 
 -- a thread that goes on after its trap lends to nobody, and is live
 pub goes-on : (ticks p used quantum : ℕ) (r : Record) → (lend_of (with_ticks ticks (after_trap GoesOn p used quantum r)).status ≡ Nobody) × (is_live_status (with_ticks ticks (after_trap GoesOn p used quantum r)).status ≡ true)
