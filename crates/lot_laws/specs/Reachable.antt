@@ -14,7 +14,7 @@ use Rattle.lot_laws.specs.Insulation.{FundsNoBase}
 abbrev pub IsReachable : State → Type 0
 IsReachable s = (limits : Sizes) × (events : List Event) × IsWithinBounds limits × (s ≡ state_after (opening limits) events)
 
--- nothing makes a cycle, and tickets have amounts, and fund only user currencies that are there, besides threads
+-- nothing makes a cycle, tickets have amounts, and they fund only threads and user currencies that are there
 pub record IsWellFormed (f : Funding) : Type 0 where
   pub no_cycle : HasNoCycle f
   pub funds_there : FundsThere f

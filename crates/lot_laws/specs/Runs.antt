@@ -46,7 +46,7 @@ owner_runs = fundx 50 base (codes "a") ∷ fundx 100 base (codes "b") ∷ Draw 1
 abbrev pub owner_receives : List Event
 owner_receives = owner_runs ++ Trap 1 0 (Receive 1) ∷ []
 
--- two currencies of 100 base, which share a thread: the first has another besides, and so has the second
+-- two currencies of 100 base, which share a thread: each also has one of its own
 abbrev pub shared_thread : List Event
 shared_thread = mkcur (codes "g") ∷ mkcur (codes "h") ∷ mktkt 100 base ∷ fund 1 (codes "g") ∷ mktkt 100 base ∷ fund 2 (codes "h")
     ∷ fundx 1 (codes "g") (codes "a") ∷ fundx 1 (codes "g") (codes "b") ∷ mktkt 1 (codes "h") ∷ fund 5 (codes "a") ∷ fundx 1 (codes "h") (codes "c") ∷ Draw 1 0 ∷ []

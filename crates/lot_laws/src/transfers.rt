@@ -77,8 +77,8 @@ pub fn servings_transfer_value()
 
 /// A thread that waits for a mutex hands what it is worth to the owner, and to each thread to which the owner's lends
 /// lead. An owner with nothing of its own is then worth exactly that. Each other thread, the waiter too, keeps its
-/// value, and so do the live threads together. The owner must be backed: else nobody gets what the waiter was worth,
-/// as `worked::transfers::owner_not_backed` shows.
+/// value, and so do the live threads together. The owner must be backed: otherwise nobody gets what the waiter was
+/// worth, as `worked::transfers::owner_not_backed` shows.
 pub fn waits_transfer_value()
     ensures owner { (s : State) (e : Event) (t owner : ℕ) → IsInOrder s → WaitsFor s e t owner → IsBacked (funding_of s) (live_of s) owner
         → value_of (step s e).state owner ≡ value_of s owner + value_of s t }
