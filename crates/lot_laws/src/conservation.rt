@@ -5,7 +5,8 @@ ghost use Rattle.lot_machine.specs.Funding.{Funding};
 ghost use Rattle.lot_machine.specs.Value.{currency_value};
 ghost use Rattle.lot_machine.specs.State.{State, funding_of, live_of};
 ghost use Rattle.lot_machine.specs.Facts.{HasNoCycle, FundsThere, live_value, base_value};
-ghost use Rattle.lot_laws.specs.Conservation.{HasAmounts, active_issued, handed_out, lost_at, lost_value, rounded_tickets};
+ghost use Rattle.lot_laws.specs.Conservation.{HasAmounts, active_issued, handed_out, lost_at, lost_value};
+ghost use Rattle.lot_laws.specs.Conservation.{rounded_tickets};
 ghost use Rattle.lot_laws.specs.Reachable.{IsReachable};
 
 /// A user currency's tickets are worth together what it is worth, less what rounding loses: at most k - 1 if k of its
@@ -13,15 +14,18 @@ ghost use Rattle.lot_laws.specs.Reachable.{IsReachable};
 pub fn currencies_hand_on()
     ensures adds_up { (f : Funding) → HasNoCycle f → FundsThere f → (unit : ℕ) (live : List Bool) (c : ℕ) → c ≢ 0
         → currency_value unit f live c ≡ handed_out unit f live c + lost_at unit f live c }
-    ensures most { (f : Funding) → HasNoCycle f → FundsThere f → HasAmounts f → (unit : ℕ) (live : List Bool) (c : ℕ) → c ≢ 0
+    ensures most { (f : Funding) → HasNoCycle f → FundsThere f → HasAmounts f
+        → (unit : ℕ) (live : List Bool) (c : ℕ) → c ≢ 0
         → lost_at unit f live c ≤ length (active_issued f live c) - 1 }
 {}
 
 /// The live threads are worth together what base's active tickets are worth, less what rounding loses: less than 1
 /// for each active ticket of another currency.
 pub fn value_is_conserved()
-    ensures adds_up { (s : State) → HasNoCycle (funding_of s) → FundsThere (funding_of s) → base_value s ≡ live_value s + lost_value s }
-    ensures most { (s : State) → HasNoCycle (funding_of s) → FundsThere (funding_of s) → HasAmounts (funding_of s) → lost_value s ≤ rounded_tickets s - 1 }
+    ensures adds_up { (s : State) → HasNoCycle (funding_of s) → FundsThere (funding_of s)
+        → base_value s ≡ live_value s + lost_value s }
+    ensures most { (s : State) → HasNoCycle (funding_of s) → FundsThere (funding_of s) → HasAmounts (funding_of s)
+        → lost_value s ≤ rounded_tickets s - 1 }
 {}
 
 /// So value is conserved in each reachable state.

@@ -6,11 +6,13 @@ ghost use Rattle.lot_machine.specs.Equations.{HasEachOnce};
 ghost use Rattle.lot_machine.specs.State.{State, status_of, weight_of};
 ghost use Rattle.lot_machine.specs.Facts.{total_weight};
 ghost use Rattle.lot_machine.specs.declared.record.Status.TheVariants.{Ready};
-ghost use Rattle.lot_laws.specs.Fairness.{place_wins, thread_wins, all_draws, wins_in_all, draws_with_wins, draws_first_won_after, squared_distances, choose};
+ghost use Rattle.lot_laws.specs.Fairness.{place_wins, thread_wins, all_draws, wins_in_all, draws_with_wins};
+ghost use Rattle.lot_laws.specs.Fairness.{draws_first_won_after, squared_distances, choose};
 
 /// All draws of n lotteries are the lists of n numbers below the total, each once: total ^ n lists.
 pub fn all_draws_are_there()
-    ensures once { (total n : ℕ) → HasEachOnce (all_draws total n) (λ draws. (length draws ≡ n) × All (λ d. d < total) draws) }
+    ensures once { (total n : ℕ) → HasEachOnce (all_draws total n) (λ draws. (length draws ≡ n)
+        × All (λ d. d < total) draws) }
     ensures count { (total n : ℕ) → length (all_draws total n) ≡ total ^ n }
 {}
 
@@ -18,13 +20,15 @@ pub fn all_draws_are_there()
 /// times in the mean; the clauses of the means say that without a division (2.2). A client is a place in a lottery
 /// over any weights, or a Ready thread in any state.
 pub fn wins_are_in_proportion()
-    ensures place { (ws : List ℕ) (place weight n : ℕ) → slice_get ws place ≡ Some weight → wins_in_all (place_wins ws place) (sum ws) n ≡ n * weight * sum ws ^ (n - 1) }
+    ensures place { (ws : List ℕ) (place weight n : ℕ) → slice_get ws place ≡ Some weight
+        → wins_in_all (place_wins ws place) (sum ws) n ≡ n * weight * sum ws ^ (n - 1) }
     ensures thread { (s : State) (p t n : ℕ) → status_of s.records t ≡ Some Ready
         → wins_in_all (thread_wins s p t) (total_weight s) n ≡ n * weight_of s t * total_weight s ^ (n - 1) }
     ensures place_mean { (ws : List ℕ) (place weight n : ℕ) → slice_get ws place ≡ Some weight
         → wins_in_all (place_wins ws place) (sum ws) n * sum ws ≡ n * weight * length (all_draws (sum ws) n) }
     ensures thread_mean { (s : State) (p t n : ℕ) → status_of s.records t ≡ Some Ready
-        → wins_in_all (thread_wins s p t) (total_weight s) n * total_weight s ≡ n * weight_of s t * length (all_draws (total_weight s) n) }
+        → wins_in_all (thread_wins s p t) (total_weight s) n * total_weight s
+        ≡ n * weight_of s t * length (all_draws (total_weight s) n) }
 {}
 
 /// Wins have the binomial distribution (2.2): a client of weight w wins exactly k of n lotteries in choose n k * w ^
@@ -33,18 +37,23 @@ pub fn wins_are_binomial()
     ensures place { (ws : List ℕ) (place weight n k : ℕ) → slice_get ws place ≡ Some weight
         → draws_with_wins (place_wins ws place) (sum ws) n k ≡ choose n k * weight ^ k * (sum ws - weight) ^ (n - k) }
     ensures thread { (s : State) (p t n k : ℕ) → status_of s.records t ≡ Some Ready
-        → draws_with_wins (thread_wins s p t) (total_weight s) n k ≡ choose n k * weight_of s t ^ k * (total_weight s - weight_of s t) ^ (n - k) }
+        → draws_with_wins (thread_wins s p t) (total_weight s) n k
+        ≡ choose n k * weight_of s t ^ k * (total_weight s - weight_of s t) ^ (n - k) }
 {}
 
 /// The first win has the geometric distribution (2.2): it comes after k losses in (total - w) ^ k * w * total ^ (n -
 /// (k + 1)) of all draws of n lotteries, and in (total - w) ^ n of them never.
 pub fn first_wins_are_geometric()
     ensures place { (ws : List ℕ) (place weight n k : ℕ) → slice_get ws place ≡ Some weight → k < n
-        → draws_first_won_after (place_wins ws place) (sum ws) n k ≡ (sum ws - weight) ^ k * weight * sum ws ^ (n - (k + 1)) }
+        → draws_first_won_after (place_wins ws place) (sum ws) n k
+        ≡ (sum ws - weight) ^ k * weight * sum ws ^ (n - (k + 1)) }
     ensures thread { (s : State) (p t n k : ℕ) → status_of s.records t ≡ Some Ready → k < n
-        → draws_first_won_after (thread_wins s p t) (total_weight s) n k ≡ (total_weight s - weight_of s t) ^ k * weight_of s t * total_weight s ^ (n - (k + 1)) }
-    ensures place_never { (ws : List ℕ) (place weight n : ℕ) → slice_get ws place ≡ Some weight → draws_with_wins (place_wins ws place) (sum ws) n 0 ≡ (sum ws - weight) ^ n }
-    ensures thread_never { (s : State) (p t n : ℕ) → status_of s.records t ≡ Some Ready → draws_with_wins (thread_wins s p t) (total_weight s) n 0 ≡ (total_weight s - weight_of s t) ^ n }
+        → draws_first_won_after (thread_wins s p t) (total_weight s) n k
+        ≡ (total_weight s - weight_of s t) ^ k * weight_of s t * total_weight s ^ (n - (k + 1)) }
+    ensures place_never { (ws : List ℕ) (place weight n : ℕ) → slice_get ws place ≡ Some weight
+        → draws_with_wins (place_wins ws place) (sum ws) n 0 ≡ (sum ws - weight) ^ n }
+    ensures thread_never { (s : State) (p t n : ℕ) → status_of s.records t ≡ Some Ready
+        → draws_with_wins (thread_wins s p t) (total_weight s) n 0 ≡ (total_weight s - weight_of s t) ^ n }
 {}
 
 /// Wins have the variance of the binomial distribution, n * (w / total) * (1 - w / total): over all draws of n
@@ -55,5 +64,6 @@ pub fn wins_have_the_binomial_variance()
     ensures place { (ws : List ℕ) (place weight n : ℕ) → slice_get ws place ≡ Some weight
         → squared_distances (place_wins ws place) (sum ws) weight n ≡ n * weight * (sum ws - weight) * sum ws ^ n }
     ensures thread { (s : State) (p t n : ℕ) → status_of s.records t ≡ Some Ready
-        → squared_distances (thread_wins s p t) (total_weight s) (weight_of s t) n ≡ n * weight_of s t * (total_weight s - weight_of s t) * total_weight s ^ n }
+        → squared_distances (thread_wins s p t) (total_weight s) (weight_of s t) n
+        ≡ n * weight_of s t * (total_weight s - weight_of s t) * total_weight s ^ n }
 {}

@@ -16,15 +16,19 @@ ghost use Rattle.lot_machine.specs.Facts.{HasNoCycle, FundsThere};
 ghost use Rattle.lot_machine.specs.Order.{IsInOrder};
 ghost use Rattle.lot_machine.specs.Commands.{currency_named};
 ghost use Rattle.lot_machine.specs.Step.{step, state_after};
-ghost use Rattle.lot_laws.specs.Insulation.{KeepsAmounts, IsAffected, Affects, Encloses, IsChangeInside, ChangesInside, IsNamedInside, amount_in, worth_in, is_active_in, ticket_worth_in};
+ghost use Rattle.lot_laws.specs.Insulation.{KeepsAmounts, IsAffected, Affects, Encloses, IsChangeInside};
+ghost use Rattle.lot_laws.specs.Insulation.{ChangesInside, IsNamedInside, amount_in, worth_in, is_active_in};
+ghost use Rattle.lot_laws.specs.Insulation.{ticket_worth_in};
 ghost use Rattle.lot_laws.specs.Reachable.{IsReachable, IsWellFormed};
 
 /// However tickets, lends, owners and live threads change, a node keeps its value if no touched node leads to it.
 /// Nothing may make a cycle before or after, and no ticket may get another amount. It is not enough that the node
 /// itself isn't touched: `worked::insulation::untouched_but_affected` shows one that isn't, and whose value changes.
 pub fn changes_are_insulated()
-    ensures { (before after : Funding) → HasNoCycle before → FundsThere before → HasNoCycle after → FundsThere after → KeepsAmounts before after
-        → (unit : ℕ) (live now_live : List Bool) (node : Node) → HasEquation before node → HasEquation after node → ¬ IsAffected before after live now_live node
+    ensures { (before after : Funding) → HasNoCycle before → FundsThere before → HasNoCycle after → FundsThere after
+        → KeepsAmounts before after
+        → (unit : ℕ) (live now_live : List Bool) (node : Node) → HasEquation before node → HasEquation after node
+        → ¬ IsAffected before after live now_live node
         → node_value unit before live node ≡ node_value unit after now_live node }
 {}
 
@@ -36,8 +40,10 @@ pub fn amounts_stay()
 /// A currency, a thread or a mutex that an event doesn't affect keeps its value, and so does one that a whole run of
 /// events doesn't affect.
 pub fn events_are_insulated()
-    ensures event { (s : State) (e : Event) (node : Node) → IsInOrder s → HasEquation (funding_of s) node → ¬ Affects s (step s e).state node → worth_in (step s e).state node ≡ worth_in s node }
-    ensures run { (s : State) (events : List Event) (node : Node) → IsInOrder s → HasEquation (funding_of s) node → ¬ Affects s (state_after s events) node
+    ensures event { (s : State) (e : Event) (node : Node) → IsInOrder s → HasEquation (funding_of s) node
+        → ¬ Affects s (step s e).state node → worth_in (step s e).state node ≡ worth_in s node }
+    ensures run { (s : State) (events : List Event) (node : Node) → IsInOrder s → HasEquation (funding_of s) node
+        → ¬ Affects s (state_after s events) node
         → worth_in (state_after s events) node ≡ worth_in s node }
 {}
 
@@ -45,22 +51,29 @@ pub fn events_are_insulated()
 /// active amount before and after, or neither.
 pub fn changes_stay_inside()
     ensures { (before after : Funding) → IsWellFormed before → IsWellFormed after → KeepsAmounts before after
-        → (unit : ℕ) (live now_live : List Bool) (c : ℕ) (inside : Node → Bool) → IsChangeInside before after live now_live c inside
+        → (unit : ℕ) (live now_live : List Bool) (c : ℕ) (inside : Node → Bool)
+        → IsChangeInside before after live now_live c inside
         → ((0 < active_amount before live c) ↔ (0 < active_amount after now_live c))
-        → (node : Node) → inside node ≡ false → HasEquation before node → HasEquation after node → node_value unit before live node ≡ node_value unit after now_live node }
+        → (node : Node) → inside node ≡ false → HasEquation before node → HasEquation after node
+        → node_value unit before live node ≡ node_value unit after now_live node }
 {}
 
 /// What is issued, funded or removed inside a currency whose active amount stays changes no value outside it, the
 /// currency's own included, and leaves the values of the currency's other tickets (3.3). Only the currency, base and
 /// what is inside may lead inside: `worked::insulation::funded_from_outside` shows what changes otherwise.
 pub fn currencies_insulate()
-    ensures outside { (s : State) (events : List Event) (c : ℕ) (inside : Node → Bool) → IsReachable s → ChangesInside s (state_after s events) c inside
+    ensures outside { (s : State) (events : List Event) (c : ℕ) (inside : Node → Bool) → IsReachable s
+        → ChangesInside s (state_after s events) c inside
         → amount_in (state_after s events) c ≡ amount_in s c
-        → (node : Node) → inside node ≡ false → HasEquation (funding_of s) node → worth_in (state_after s events) node ≡ worth_in s node }
-    ensures tickets { (s : State) (events : List Event) (c : ℕ) (inside : Node → Bool) → IsReachable s → ChangesInside s (state_after s events) c inside
+        → (node : Node) → inside node ≡ false → HasEquation (funding_of s) node
+        → worth_in (state_after s events) node ≡ worth_in s node }
+    ensures tickets { (s : State) (events : List Event) (c : ℕ) (inside : Node → Bool) → IsReachable s
+        → ChangesInside s (state_after s events) c inside
         → amount_in (state_after s events) c ≡ amount_in s c → c ≢ 0
-        → (n : ℕ) (t u : Ticket) → ticket_at (funding_of s) n ≡ Some t → ticket_at (funding_of (state_after s events)) n ≡ Some u → t.issuer ≡ c → u.issuer ≡ c
-        → IsTrue (is_active_in s t) → IsTrue (is_active_in (state_after s events) u) → ticket_worth_in (state_after s events) u ≡ ticket_worth_in s t }
+        → (n : ℕ) (t u : Ticket) → ticket_at (funding_of s) n ≡ Some t
+        → ticket_at (funding_of (state_after s events)) n ≡ Some u → t.issuer ≡ c → u.issuer ≡ c
+        → IsTrue (is_active_in s t) → IsTrue (is_active_in (state_after s events) u)
+        → ticket_worth_in (state_after s events) u ≡ ticket_worth_in s t }
 {}
 
 /// Inflation is local (3.2): tickets that are made inside a currency with active tickets change no value outside it,
@@ -68,13 +81,19 @@ pub fn currencies_insulate()
 /// and of a whole run that changes nothing outside. In a currency with no active ticket the first one activates what
 /// funds the currency, as `worked::insulation::first_active_ticket` shows.
 pub fn inflation_is_local()
-    ensures fund { (s : State) (n c : ℕ) (name : List ℕ) (inside : Node → Bool) → IsReachable s → Encloses (funding_of s) c inside → issuer_of (funding_of s) n ≡ Some c
-        → IsNamedInside s name inside → 0 < amount_in s c → (node : Node) → inside node ≡ false → HasEquation (funding_of s) node
+    ensures fund { (s : State) (n c : ℕ) (name : List ℕ) (inside : Node → Bool) → IsReachable s
+        → Encloses (funding_of s) c inside → issuer_of (funding_of s) n ≡ Some c
+        → IsNamedInside s name inside → 0 < amount_in s c → (node : Node) → inside node ≡ false
+        → HasEquation (funding_of s) node
         → worth_in (step s (Command (Fund n name))).state node ≡ worth_in s node }
-    ensures make { (s : State) (amount c : ℕ) (currency name : List ℕ) (script : ℕ) (inside : Node → Bool) → IsReachable s → Encloses (funding_of s) c inside → currency_named s currency ≡ Some c
-        → inside (Thread (length s.threads + 1)) ≡ true → 0 < amount_in s c → (node : Node) → inside node ≡ false → HasEquation (funding_of s) node
+    ensures make { (s : State) (amount c : ℕ) (currency name : List ℕ) (script : ℕ) (inside : Node → Bool)
+        → IsReachable s → Encloses (funding_of s) c inside → currency_named s currency ≡ Some c
+        → inside (Thread (length s.threads + 1)) ≡ true → 0 < amount_in s c → (node : Node) → inside node ≡ false
+        → HasEquation (funding_of s) node
         → worth_in (step s (Command (MakeFunded amount currency name script))).state node ≡ worth_in s node }
-    ensures run { (s : State) (events : List Event) (c : ℕ) (inside : Node → Bool) → IsReachable s → ChangesInside s (state_after s events) c inside
+    ensures run { (s : State) (events : List Event) (c : ℕ) (inside : Node → Bool) → IsReachable s
+        → ChangesInside s (state_after s events) c inside
         → 0 < amount_in s c → 0 < amount_in (state_after s events) c
-        → (node : Node) → inside node ≡ false → HasEquation (funding_of s) node → worth_in (state_after s events) node ≡ worth_in s node }
+        → (node : Node) → inside node ≡ false → HasEquation (funding_of s) node
+        → worth_in (state_after s events) node ≡ worth_in s node }
 {}

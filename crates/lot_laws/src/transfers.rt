@@ -7,71 +7,98 @@ ghost use Rattle.lot_machine.specs.State.{State, funding_of, live_of, value_of};
 ghost use Rattle.lot_machine.specs.Facts.{live_value};
 ghost use Rattle.lot_machine.specs.Order.{IsInOrder};
 ghost use Rattle.lot_machine.specs.Step.{step};
-ghost use Rattle.lot_laws.specs.Transfers.{TakesCall, QueuesCall, TakesQueuedCall, RepliesTo, RepliesThenWaits, RepliesThenReceives, WaitsFor, OwnsNothing, with_ready};
+ghost use Rattle.lot_laws.specs.Transfers.{TakesCall, QueuesCall, TakesQueuedCall, RepliesTo, RepliesThenWaits};
+ghost use Rattle.lot_laws.specs.Transfers.{RepliesThenReceives, WaitsFor, OwnsNothing, with_ready};
 
 /// A server with nothing of its own is worth nothing, and once it takes a call, exactly what the caller was. Each
 /// other thread, the caller too, keeps its value, and so do the live threads together.
 pub fn calls_transfer_value()
     ensures before { (s : State) (server : ℕ) → IsInOrder s → OwnsNothing s server → value_of s server ≡ 0 }
-    ensures server { (s : State) (e : Event) (caller server : ℕ) → IsInOrder s → TakesCall s e caller server → OwnsNothing s server → value_of (step s e).state server ≡ value_of s caller }
-    ensures others { (s : State) (e : Event) (caller server other : ℕ) → IsInOrder s → TakesCall s e caller server → OwnsNothing s server → other ≢ server
+    ensures server { (s : State) (e : Event) (caller server : ℕ) → IsInOrder s → TakesCall s e caller server
+        → OwnsNothing s server → value_of (step s e).state server ≡ value_of s caller }
+    ensures others { (s : State) (e : Event) (caller server other : ℕ) → IsInOrder s → TakesCall s e caller server
+        → OwnsNothing s server → other ≢ server
         → value_of (step s e).state other ≡ value_of s other }
-    ensures together { (s : State) (e : Event) (caller server : ℕ) → IsInOrder s → TakesCall s e caller server → OwnsNothing s server → live_value (step s e).state ≡ live_value s }
+    ensures together { (s : State) (e : Event) (caller server : ℕ) → IsInOrder s → TakesCall s e caller server
+        → OwnsNothing s server → live_value (step s e).state ≡ live_value s }
 {}
 
 /// A caller is worth nothing while its call is queued. A server that takes the call gets what the caller would be
 /// worth Ready, and all other values and the sum are then as if the caller were.
 pub fn receipts_transfer_value()
-    ensures queued { (s : State) (e : Event) (caller server : ℕ) → IsInOrder s → TakesQueuedCall s e caller server → value_of s caller ≡ 0 }
+    ensures queued { (s : State) (e : Event) (caller server : ℕ) → IsInOrder s → TakesQueuedCall s e caller server
+        → value_of s caller ≡ 0 }
     ensures server { (s : State) (e : Event) (caller server : ℕ) → IsInOrder s → TakesQueuedCall s e caller server
-        → value_of (step s e).state server ≡ value_of (with_ready s caller) server + value_of (with_ready s caller) caller }
-    ensures alone { (s : State) (e : Event) (caller server : ℕ) → IsInOrder s → TakesQueuedCall s e caller server → OwnsNothing s server
+        → value_of (step s e).state server
+        ≡ value_of (with_ready s caller) server + value_of (with_ready s caller) caller }
+    ensures alone { (s : State) (e : Event) (caller server : ℕ) → IsInOrder s → TakesQueuedCall s e caller server
+        → OwnsNothing s server
         → value_of (step s e).state server ≡ value_of (with_ready s caller) caller }
-    ensures others { (s : State) (e : Event) (caller server other : ℕ) → IsInOrder s → TakesQueuedCall s e caller server → other ≢ server
+    ensures others { (s : State) (e : Event) (caller server other : ℕ) → IsInOrder s
+        → TakesQueuedCall s e caller server → other ≢ server
         → value_of (step s e).state other ≡ value_of (with_ready s caller) other }
-    ensures together { (s : State) (e : Event) (caller server : ℕ) → IsInOrder s → TakesQueuedCall s e caller server → live_value (step s e).state ≡ live_value (with_ready s caller) }
+    ensures together { (s : State) (e : Event) (caller server : ℕ) → IsInOrder s → TakesQueuedCall s e caller server
+        → live_value (step s e).state ≡ live_value (with_ready s caller) }
 {}
 
 /// So a call that is queued, and that a running server takes in the next event, transfers what a call does that a
 /// waiting server takes at once.
 pub fn queued_calls_transfer_value()
-    ensures server { (s : State) (e next : Event) (caller server : ℕ) → IsInOrder s → QueuesCall s e caller → TakesQueuedCall (step s e).state next caller server
+    ensures server { (s : State) (e next : Event) (caller server : ℕ) → IsInOrder s → QueuesCall s e caller
+        → TakesQueuedCall (step s e).state next caller server
         → value_of (step (step s e).state next).state server ≡ value_of s server + value_of s caller }
-    ensures alone { (s : State) (e next : Event) (caller server : ℕ) → IsInOrder s → QueuesCall s e caller → TakesQueuedCall (step s e).state next caller server → OwnsNothing s server
+    ensures alone { (s : State) (e next : Event) (caller server : ℕ) → IsInOrder s → QueuesCall s e caller
+        → TakesQueuedCall (step s e).state next caller server → OwnsNothing s server
         → value_of (step (step s e).state next).state server ≡ value_of s caller }
-    ensures others { (s : State) (e next : Event) (caller server other : ℕ) → IsInOrder s → QueuesCall s e caller → TakesQueuedCall (step s e).state next caller server → other ≢ server
+    ensures others { (s : State) (e next : Event) (caller server other : ℕ) → IsInOrder s → QueuesCall s e caller
+        → TakesQueuedCall (step s e).state next caller server → other ≢ server
         → value_of (step (step s e).state next).state other ≡ value_of s other }
-    ensures together { (s : State) (e next : Event) (caller server : ℕ) → IsInOrder s → QueuesCall s e caller → TakesQueuedCall (step s e).state next caller server
+    ensures together { (s : State) (e next : Event) (caller server : ℕ) → IsInOrder s → QueuesCall s e caller
+        → TakesQueuedCall (step s e).state next caller server
         → live_value (step (step s e).state next).state ≡ live_value s }
 {}
 
 /// A server that replies gives back exactly what the caller is worth, which is all that it had if it is left with
 /// nothing. Each other thread, the caller too, keeps its value, and so do the live threads together.
 pub fn replies_return_value()
-    ensures server { (s : State) (e : Event) (caller server : ℕ) → IsInOrder s → RepliesTo s e caller server → value_of s server ≡ value_of (step s e).state server + value_of s caller }
-    ensures alone { (s : State) (e : Event) (caller server : ℕ) → IsInOrder s → RepliesTo s e caller server → OwnsNothing (step s e).state server → value_of s server ≡ value_of s caller }
-    ensures caller { (s : State) (e : Event) (caller server : ℕ) → IsInOrder s → RepliesTo s e caller server → value_of (step s e).state caller ≡ value_of s caller }
-    ensures others { (s : State) (e : Event) (caller server other : ℕ) → IsInOrder s → RepliesTo s e caller server → other ≢ server → value_of (step s e).state other ≡ value_of s other }
-    ensures together { (s : State) (e : Event) (caller server : ℕ) → IsInOrder s → RepliesTo s e caller server → live_value (step s e).state ≡ live_value s }
+    ensures server { (s : State) (e : Event) (caller server : ℕ) → IsInOrder s → RepliesTo s e caller server
+        → value_of s server ≡ value_of (step s e).state server + value_of s caller }
+    ensures alone { (s : State) (e : Event) (caller server : ℕ) → IsInOrder s → RepliesTo s e caller server
+        → OwnsNothing (step s e).state server → value_of s server ≡ value_of s caller }
+    ensures caller { (s : State) (e : Event) (caller server : ℕ) → IsInOrder s → RepliesTo s e caller server
+        → value_of (step s e).state caller ≡ value_of s caller }
+    ensures others { (s : State) (e : Event) (caller server other : ℕ) → IsInOrder s → RepliesTo s e caller server
+        → other ≢ server → value_of (step s e).state other ≡ value_of s other }
+    ensures together { (s : State) (e : Event) (caller server : ℕ) → IsInOrder s → RepliesTo s e caller server
+        → live_value (step s e).state ≡ live_value s }
 {}
 
 /// A server that replies and then waits for a call, in one trap, and is left with nothing, gives back what a reply
 /// does.
 pub fn servings_return_value()
-    ensures server { (s : State) (e : Event) (caller server : ℕ) → IsInOrder s → RepliesThenWaits s e caller server → OwnsNothing (step s e).state server → value_of s server ≡ value_of s caller }
-    ensures others { (s : State) (e : Event) (caller server other : ℕ) → IsInOrder s → RepliesThenWaits s e caller server → other ≢ server → OwnsNothing (step s e).state server
+    ensures server { (s : State) (e : Event) (caller server : ℕ) → IsInOrder s → RepliesThenWaits s e caller server
+        → OwnsNothing (step s e).state server → value_of s server ≡ value_of s caller }
+    ensures others { (s : State) (e : Event) (caller server other : ℕ) → IsInOrder s
+        → RepliesThenWaits s e caller server → other ≢ server → OwnsNothing (step s e).state server
         → value_of (step s e).state other ≡ value_of s other }
-    ensures together { (s : State) (e : Event) (caller server : ℕ) → IsInOrder s → RepliesThenWaits s e caller server → OwnsNothing (step s e).state server → live_value (step s e).state ≡ live_value s }
+    ensures together { (s : State) (e : Event) (caller server : ℕ) → IsInOrder s
+        → RepliesThenWaits s e caller server → OwnsNothing (step s e).state server
+        → live_value (step s e).state ≡ live_value s }
 {}
 
 /// A server that replies and then takes the next caller's queued call, in one trap, gets what this caller would be
 /// worth if both callers were Ready, and all other values and the sum are then as if they were.
 pub fn servings_transfer_value()
-    ensures server { (s : State) (e : Event) (caller next server : ℕ) → IsInOrder s → RepliesThenReceives s e caller next server
-        → value_of (step s e).state server ≡ value_of (with_ready (with_ready s caller) next) server + value_of (with_ready (with_ready s caller) next) next }
-    ensures others { (s : State) (e : Event) (caller next server other : ℕ) → IsInOrder s → RepliesThenReceives s e caller next server → other ≢ server
+    ensures server { (s : State) (e : Event) (caller next server : ℕ) → IsInOrder s
+        → RepliesThenReceives s e caller next server
+        → value_of (step s e).state server
+        ≡ value_of (with_ready (with_ready s caller) next) server
+        + value_of (with_ready (with_ready s caller) next) next }
+    ensures others { (s : State) (e : Event) (caller next server other : ℕ) → IsInOrder s
+        → RepliesThenReceives s e caller next server → other ≢ server
         → value_of (step s e).state other ≡ value_of (with_ready (with_ready s caller) next) other }
-    ensures together { (s : State) (e : Event) (caller next server : ℕ) → IsInOrder s → RepliesThenReceives s e caller next server
+    ensures together { (s : State) (e : Event) (caller next server : ℕ) → IsInOrder s
+        → RepliesThenReceives s e caller next server
         → live_value (step s e).state ≡ live_value (with_ready (with_ready s caller) next) }
 {}
 
@@ -80,13 +107,18 @@ pub fn servings_transfer_value()
 /// value, and so do the live threads together. The owner must be backed: otherwise nobody gets what the waiter was
 /// worth, as `worked::transfers::owner_not_backed` shows.
 pub fn waits_transfer_value()
-    ensures owner { (s : State) (e : Event) (t owner : ℕ) → IsInOrder s → WaitsFor s e t owner → IsBacked (funding_of s) (live_of s) owner
+    ensures owner { (s : State) (e : Event) (t owner : ℕ) → IsInOrder s → WaitsFor s e t owner
+        → IsBacked (funding_of s) (live_of s) owner
         → value_of (step s e).state owner ≡ value_of s owner + value_of s t }
-    ensures alone { (s : State) (e : Event) (t owner : ℕ) → IsInOrder s → WaitsFor s e t owner → IsBacked (funding_of s) (live_of s) owner → OwnsNothing s owner
+    ensures alone { (s : State) (e : Event) (t owner : ℕ) → IsInOrder s → WaitsFor s e t owner
+        → IsBacked (funding_of s) (live_of s) owner → OwnsNothing s owner
         → value_of (step s e).state owner ≡ value_of s t }
-    ensures behind { (s : State) (e : Event) (t owner behind : ℕ) → IsInOrder s → WaitsFor s e t owner → IsBacked (funding_of s) (live_of s) owner → LendsLead (funding_of s) owner behind
+    ensures behind { (s : State) (e : Event) (t owner behind : ℕ) → IsInOrder s → WaitsFor s e t owner
+        → IsBacked (funding_of s) (live_of s) owner → LendsLead (funding_of s) owner behind
         → value_of (step s e).state behind ≡ value_of s behind + value_of s t }
-    ensures others { (s : State) (e : Event) (t owner other : ℕ) → IsInOrder s → WaitsFor s e t owner → IsBacked (funding_of s) (live_of s) owner → ¬ LendsLead (funding_of s) owner other
+    ensures others { (s : State) (e : Event) (t owner other : ℕ) → IsInOrder s → WaitsFor s e t owner
+        → IsBacked (funding_of s) (live_of s) owner → ¬ LendsLead (funding_of s) owner other
         → value_of (step s e).state other ≡ value_of s other }
-    ensures together { (s : State) (e : Event) (t owner : ℕ) → IsInOrder s → WaitsFor s e t owner → IsBacked (funding_of s) (live_of s) owner → live_value (step s e).state ≡ live_value s }
+    ensures together { (s : State) (e : Event) (t owner : ℕ) → IsInOrder s → WaitsFor s e t owner
+        → IsBacked (funding_of s) (live_of s) owner → live_value (step s e).state ≡ live_value s }
 {}

@@ -11,7 +11,8 @@ ghost use Rattle.lot_laws.specs.Runs.{nothing_to_share};
 pub fn whole_shares()
     ensures base { base_value (after currency_graph) ≡ 3000 }
     ensures live { live_value (after currency_graph) ≡ 3000 }
-    ensures lost { map (lost_at 1 (funding_of (after currency_graph)) (live_of (after currency_graph))) (1 ∷ 2 ∷ 3 ∷ 4 ∷ 5 ∷ []) ≡ 0 ∷ 0 ∷ 0 ∷ 0 ∷ 0 ∷ [] }
+    ensures lost { map (lost_at 1 (funding_of (after currency_graph)) (live_of (after currency_graph))) (1 ∷ 2 ∷ 3
+        ∷ 4 ∷ 5 ∷ []) ≡ 0 ∷ 0 ∷ 0 ∷ 0 ∷ 0 ∷ [] }
 {}
 
 /// A hundred in three shares loses 1, and 1 in two shares loses 1, all that may be lost. Finer units lose less of the

@@ -6,21 +6,26 @@ ghost use Rattle.lot_machine.specs.declared.funding.Node.TheVariants.{Currency, 
 ghost use Rattle.lot_machine.specs.Worked.{after, values, fundx};
 ghost use Rattle.lot_machine.specs.WorkedRuns.{currency_graph, two_to_one};
 ghost use Rattle.lot_machine.specs.Touched.{Touches};
-ghost use Rattle.lot_laws.specs.Runs.{two_currencies, first_threads, first_of_three_runs, first_replaced, shared_thread, idle_currency};
+ghost use Rattle.lot_laws.specs.Runs.{two_currencies, first_threads, first_of_three_runs, first_replaced};
+ghost use Rattle.lot_laws.specs.Runs.{shared_thread, idle_currency};
 ghost use Rattle.lot_laws.specs.Insulation.{Affects, ChangesInside, amount_in, worth_in};
 
 /// A new thread in one of alice's currencies takes from her other threads, and nothing from bob's.
 pub fn inflation()
     ensures before { values (after currency_graph) ≡ 400 ∷ 600 ∷ 2000 ∷ [] }
-    ensures after { values (after (currency_graph ++ fundx 100 (codes "task1") (codes "thread1") ∷ [])) ≡ 266 ∷ 399 ∷ 2000 ∷ 333 ∷ [] }
-    ensures more { values (after (currency_graph ++ fundx 500 (codes "task2") (codes "thread1") ∷ [])) ≡ 200 ∷ 300 ∷ 2000 ∷ 500 ∷ [] }
+    ensures after { values (after (currency_graph ++ fundx 100 (codes "task1") (codes "thread1") ∷ []))
+        ≡ 266 ∷ 399 ∷ 2000 ∷ 333 ∷ [] }
+    ensures more { values (after (currency_graph ++ fundx 500 (codes "task2") (codes "thread1") ∷ []))
+        ≡ 200 ∷ 300 ∷ 2000 ∷ 500 ∷ [] }
 {}
 
 /// A new thread in one of two currencies takes from that one's thread, and doesn't affect the other's. All that
 /// changes is inside the currency.
 pub fn other_currency()
-    ensures unaffected { ¬ Affects (after two_currencies) (after (two_currencies ++ fundx 1 (codes "g") (codes "c") ∷ [])) (Thread 2) }
-    ensures inside { ChangesInside (after two_currencies) (after (two_currencies ++ fundx 1 (codes "g") (codes "c") ∷ [])) 1 first_threads }
+    ensures unaffected { ¬ Affects (after two_currencies) (after (two_currencies
+        ++ fundx 1 (codes "g") (codes "c") ∷ [])) (Thread 2) }
+    ensures inside { ChangesInside (after two_currencies) (after (two_currencies
+        ++ fundx 1 (codes "g") (codes "c") ∷ [])) 1 first_threads }
     ensures before { values (after two_currencies) ≡ 100 ∷ 100 ∷ [] }
     ensures after { values (after (two_currencies ++ fundx 1 (codes "g") (codes "c") ∷ [])) ≡ 50 ∷ 100 ∷ 50 ∷ [] }
 {}
@@ -37,8 +42,10 @@ pub fn replaced_thread()
 /// Two threads share a currency, and one exits. That touches neither the other thread nor an edge to it, but affects
 /// it through the currency: the other is worth more then. So it is not enough that a node isn't touched.
 pub fn untouched_but_affected()
-    ensures untouched { ¬ Touches (after (two_to_one ++ Draw 1 0 ∷ [])) (after (two_to_one ++ Draw 1 0 ∷ Trap 1 0 Exit ∷ [])) (Thread 2) }
-    ensures affected { Affects (after (two_to_one ++ Draw 1 0 ∷ [])) (after (two_to_one ++ Draw 1 0 ∷ Trap 1 0 Exit ∷ [])) (Thread 2) }
+    ensures untouched { ¬ Touches (after (two_to_one ++ Draw 1 0 ∷ [])) (after (two_to_one ++ Draw 1 0
+        ∷ Trap 1 0 Exit ∷ [])) (Thread 2) }
+    ensures affected { Affects (after (two_to_one ++ Draw 1 0 ∷ [])) (after (two_to_one ++ Draw 1 0
+        ∷ Trap 1 0 Exit ∷ [])) (Thread 2) }
     ensures before { values (after (two_to_one ++ Draw 1 0 ∷ [])) ≡ 133 ∷ 66 ∷ [] }
     ensures after { values (after (two_to_one ++ Draw 1 0 ∷ Trap 1 0 Exit ∷ [])) ≡ 0 ∷ 200 ∷ [] }
 {}

@@ -4,8 +4,10 @@ ghost use Rattle.lot_machine.specs.declared.action.Action.TheVariants.{Call, Rec
 ghost use Rattle.lot_machine.specs.declared.event.Event.TheVariants.{Trap};
 ghost use Rattle.lot_machine.specs.Worked.{after, values};
 ghost use Rattle.lot_machine.specs.Facts.{live_value};
-ghost use Rattle.lot_laws.specs.Runs.{waiting_server, server_with_a_ticket, busy_server, two_callers, owner_runs, owner_receives};
-ghost use Rattle.lot_laws.specs.Transfers.{TakesCall, QueuesCall, TakesQueuedCall, RepliesTo, RepliesThenWaits, RepliesThenReceives, WaitsFor, OwnsNothing};
+ghost use Rattle.lot_laws.specs.Runs.{waiting_server, server_with_a_ticket, busy_server, two_callers, owner_runs};
+ghost use Rattle.lot_laws.specs.Runs.{owner_receives};
+ghost use Rattle.lot_laws.specs.Transfers.{TakesCall, QueuesCall, TakesQueuedCall, RepliesTo, RepliesThenWaits};
+ghost use Rattle.lot_laws.specs.Transfers.{RepliesThenReceives, WaitsFor, OwnsNothing};
 
 /// A server with no ticket of its own gets what its client is worth.
 pub fn call_taken()
@@ -29,18 +31,22 @@ pub fn server_with_a_ticket()
 pub fn call_queued()
     ensures queues { QueuesCall (after busy_server) (Trap 2 0 (Call 1 9)) 2 }
     ensures takes { TakesQueuedCall (after (busy_server ++ Trap 2 0 (Call 1 9) ∷ [])) (Trap 1 0 (Receive 1)) 2 1 }
-    ensures replies { RepliesTo (after (busy_server ++ Trap 2 0 (Call 1 9) ∷ Trap 1 0 (Receive 1) ∷ [])) (Trap 1 0 (ReplyTo 5)) 2 1 }
+    ensures replies { RepliesTo (after (busy_server ++ Trap 2 0 (Call 1 9) ∷ Trap 1 0 (Receive 1)
+        ∷ [])) (Trap 1 0 (ReplyTo 5)) 2 1 }
     ensures before { values (after busy_server) ≡ 0 ∷ 400 ∷ [] }
     ensures queued { values (after (busy_server ++ Trap 2 0 (Call 1 9) ∷ [])) ≡ 0 ∷ 0 ∷ [] }
     ensures taken { values (after (busy_server ++ Trap 2 0 (Call 1 9) ∷ Trap 1 0 (Receive 1) ∷ [])) ≡ 400 ∷ 400 ∷ [] }
-    ensures replied { values (after (busy_server ++ Trap 2 0 (Call 1 9) ∷ Trap 1 0 (Receive 1) ∷ Trap 1 0 (ReplyTo 5) ∷ [])) ≡ 0 ∷ 400 ∷ [] }
+    ensures replied { values (after (busy_server ++ Trap 2 0 (Call 1 9) ∷ Trap 1 0 (Receive 1)
+        ∷ Trap 1 0 (ReplyTo 5) ∷ [])) ≡ 0 ∷ 400 ∷ [] }
 {}
 
 /// A server replies and receives in one trap: with no call in the queue it is worth nothing then, and with one what
 /// the next caller is.
 pub fn servings()
-    ensures waits { RepliesThenWaits (after (busy_server ++ Trap 2 0 (Call 1 9) ∷ Trap 1 0 (Receive 1) ∷ [])) (Trap 1 0 (Serve 1 5)) 2 1 }
-    ensures alone { values (after (busy_server ++ Trap 2 0 (Call 1 9) ∷ Trap 1 0 (Receive 1) ∷ Trap 1 0 (Serve 1 5) ∷ [])) ≡ 0 ∷ 400 ∷ [] }
+    ensures waits { RepliesThenWaits (after (busy_server ++ Trap 2 0 (Call 1 9) ∷ Trap 1 0 (Receive 1)
+        ∷ [])) (Trap 1 0 (Serve 1 5)) 2 1 }
+    ensures alone { values (after (busy_server ++ Trap 2 0 (Call 1 9) ∷ Trap 1 0 (Receive 1)
+        ∷ Trap 1 0 (Serve 1 5) ∷ [])) ≡ 0 ∷ 400 ∷ [] }
     ensures takes { RepliesThenReceives (after two_callers) (Trap 1 0 (Serve 1 5)) 2 3 1 }
     ensures before { values (after two_callers) ≡ 400 ∷ 400 ∷ 0 ∷ [] }
     ensures after { values (after (two_callers ++ Trap 1 0 (Serve 1 5) ∷ [])) ≡ 100 ∷ 400 ∷ 100 ∷ [] }
