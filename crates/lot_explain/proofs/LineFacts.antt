@@ -6,8 +6,8 @@ use Rattle.std.proofs.lemmas.List.Sums.{sum_by-append, sum_by-cons}
 use Rattle.lot_simulation.specs.declared.manner.Manner.{Manner}
 use Rattle.lot_print.specs.declared.lots.Lot.{Lot}
 use Rattle.lot_print.specs.Lots.{lot_line}
-use Rattle.lot_print.specs.Writing.{Begins}
-use Rattle.lot_print.proofs.WritingFacts.{appends-both, begins-after, begins-front}
+use Rattle.lot_io.specs.Writing.{Begins}
+use Rattle.lot_io.proofs.WritingFacts.{appends-both, begins-after, begins-front}
 use Rattle.lot_explain.specs.declared.won.Won.{Won}
 use Rattle.lot_explain.specs.Lots.{lot_lines, total_of}
 

@@ -4,9 +4,9 @@ use Rattle.std.specs.Fmt.{decimal}
 use Rattle.std.proofs.lemmas.List.{take-append-drop}
 use Rattle.lot_machine.specs.declared.event.Event.{Event}
 use Rattle.lot_print.specs.declared.lots.Lot.{Lot}
-use Rattle.lot_print.specs.Writing.{Begins, IsPut}
+use Rattle.lot_io.specs.Writing.{Begins, IsPut}
 use Rattle.lot_print.proofs.PageFacts.{puts-both, puts-stop}
-use Rattle.lot_print.proofs.WritingFacts.{begins-front}
+use Rattle.lot_io.proofs.WritingFacts.{begins-front}
 use Rattle.lot_simulation.specs.declared.manner.Manner.{Manner}
 use Rattle.lot_simulation.specs.declared.manner.Manner.TheVariants.{Timed}
 use Rattle.lot_simulation.specs.Texts.{front, reply_text}

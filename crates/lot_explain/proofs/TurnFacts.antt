@@ -5,25 +5,24 @@ use Rattle.std.proofs.lemmas.List.{take-append-drop, take_more}
 use Rattle.lot_machine.specs.declared.event.Event.{Event}
 use Rattle.lot_machine.specs.declared.reply.Reply.{Reply}
 use Rattle.lot_print.specs.declared.lots.Lot.{Lot}
-use Rattle.lot_print.specs.Writing.{Begins, IsPut}
+use Rattle.lot_io.specs.Writing.{Begins, IsPut, Put}
 use Rattle.lot_print.proofs.PageFacts.{puts-both, puts-stop}
-use Rattle.lot_print.proofs.WritingFacts.{begins-front}
+use Rattle.lot_io.proofs.WritingFacts.{begins-front}
 use Rattle.lot_simulation.specs.declared.manner.Manner.{Manner}
 use Rattle.lot_simulation.specs.declared.manner.Manner.TheVariants.{Whole}
 use Rattle.lot_simulation.specs.Output.{answer_text, turn_text}
 use Rattle.lot_simulation.specs.Texts.{front, newline, refused, reply_text}
 use Rattle.lot_simulation.specs.World.{Program, World, Answer, Turn, opening_world, system_turn, system_after, system_run}
 use Rattle.lot_simulation.specs.World.Answer.{Answered, Ended}
-use Rattle.lot_system.specs.declared.fault.PlayFault.{PlayFault}
+use Rattle.lot_io.specs.declared.fault.IoFault.{IoFault}
 use Rattle.lot_system.specs.Playing.{HasPlayed, IsPlayed, turn_in}
 use Rattle.lot_system.specs.Seen.{Seen, after_turn, world_of}
-use Rattle.lot_system.specs.Writing.{Put}
 use Rattle.lot_system.proofs.PlayingFacts.{played-more, text-after, turn-is}
 use Rattle.lot_explain.specs.Explained.{explained_text, explained_texts, lots_text}
 use Rattle.lot_explain.specs.Lots.{lots_of, won_in, won_lines}
 
 -- one text that is put after another
-pub put-then : {U : Type 0} (old mid new : Option (List ℕ)) (before waits after a b : List ℕ) (failed : Bool) (r : Result U PlayFault) → IsPut old mid before waits a → Put mid new waits after failed r b → Put old new before after failed r (a ++ b)
+pub put-then : {U : Type 0} (old mid new : Option (List ℕ)) (before waits after a b : List ℕ) (failed : Bool) (r : Result U IoFault) → IsPut old mid before waits a → Put mid new waits after failed r b → Put old new before after failed r (a ++ b)
 put-then old mid new before waits after a b failed (Ok done) one two = (two.0, puts-both old mid new before waits after a b one two.1)
 put-then old mid new before waits after a b failed (Err fault) one two = (two.0, two.1, puts-stop old mid new before waits [] a b one two.2)
 

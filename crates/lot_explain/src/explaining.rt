@@ -3,15 +3,16 @@ ghost use Rattle.std.specs.Prelude.{◌≡◌, ℕ, List, false, true, IfErr, If
 ghost use Rattle.std.specs.Io.KnownBytes.{Appends};
 ghost use Rattle.lot_simulation.specs.Grammar.{program_in};
 ghost use Rattle.lot_system.specs.Played.{Leaves, Plays, came_of};
-ghost use Rattle.lot_system.specs.Reading.{Reads};
-ghost use Rattle.lot_system.specs.Writing.{IsFaultOf};
+ghost use Rattle.lot_io.specs.Reading.{Reads};
+ghost use Rattle.lot_io.specs.Writing.{IsFaultOf};
 ghost use Rattle.lot_system.specs.declared.playing.Played.TheVariants.{Done};
 ghost use Rattle.lot_explain.specs.Explained.{explained_output, explained_program};
 
 use crate::in_time::explain_timed;
 use crate::scheduled::explain_scheduled;
-use lot_system::{Leftovers, PlayFault, Played, program_of, read_input, refuse};
-use lot_text::{ParseFault, Program, Watched};
+use lot_io::{IoFault, Watched, read_input};
+use lot_system::{Leftovers, Played, program_of, refuse};
+use lot_text::{ParseFault, Program};
 use std::alloc::Global;
 use std::io::{Read, Write};
 
@@ -21,7 +22,7 @@ pub fn explain<R: Read, W: Write>(
     alloc: Global,
     reader: &mut Watched<R>,
     writer: &mut Watched<W>,
-) -> Result<Played, PlayFault>
+) -> Result<Played, IoFault>
     requires { (reader.old.failed ≡ false) × (writer.old.failed ≡ false) }
     ensures ok { OnOk result ((reader.new.failed ≡ false) × (writer.new.failed ≡ false)) }
     ensures flushed { OnOk result (writer.new.flushed ≡ true) }
@@ -31,7 +32,7 @@ pub fn explain<R: Read, W: Write>(
 {
     let mut bytes = read_input(alloc, reader)?;
     let Ok(mut leftovers) = Leftovers::none(alloc) else {
-        return Err(PlayFault::Memory);
+        return Err(IoFault::Memory);
     };
     explain_bytes(alloc, &mut bytes, &mut leftovers, writer)
 }
@@ -44,14 +45,14 @@ pub fn explain_bytes<W: Write>(
     bytes: &mut Vec<u8>,
     leftovers: &mut Leftovers,
     writer: &mut Watched<W>,
-) -> Result<Played, PlayFault>
+) -> Result<Played, IoFault>
     requires { writer.old.failed ≡ false }
     ensures flushed { OnOk result (writer.new.flushed ≡ true) }
     ensures played { Plays W.contents writer.old writer.new result (came_of (program_in bytes.old.items)) (explained_output bytes.old.items) }
 {
     match program_of(alloc, bytes) {
         Ok(program) => explain_program(alloc, &program, leftovers, writer),
-        Err(ParseFault::Memory) => Err(PlayFault::Memory),
+        Err(ParseFault::Memory) => Err(IoFault::Memory),
         Err(ParseFault::Input(fault)) => refuse(fault, writer),
     }
 }
@@ -62,7 +63,7 @@ fn explain_program<W: Write>(
     program: &Program,
     leftovers: &mut Leftovers,
     writer: &mut Watched<W>,
-) -> Result<Played, PlayFault>
+) -> Result<Played, IoFault>
     requires { writer.old.failed ≡ false }
     ensures flushed { OnOk result (writer.new.flushed ≡ true) }
     ensures played { Plays W.contents writer.old writer.new result Done (explained_program program.now program.now.duration) }

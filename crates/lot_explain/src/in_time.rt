@@ -5,19 +5,18 @@ ghost use Rattle.lot_simulation.specs.World.{opening_world};
 ghost use Rattle.lot_system.specs.InTime.{IsAtEnd, IsFollowed, MadeNext, next_turns};
 ghost use Rattle.lot_system.specs.Played.{Plays};
 ghost use Rattle.lot_system.specs.Seen.{world_of};
-ghost use Rattle.lot_system.specs.Writing.{Puts, Writes};
+ghost use Rattle.lot_io.specs.Writing.{Puts, Writes};
 ghost use Rattle.lot_system.specs.declared.playing.Played.TheVariants.{Done};
 ghost use Rattle.lot_explain.specs.Explained.{explained_in_time, explained_times};
 
 use crate::gathering::Lots;
 use crate::turns::{heading, put_turn};
+use lot_io::{IoFault, Watched, flush};
 use lot_machine::Event;
 use lot_print::Page;
 use lot_simulation::Manner;
-use lot_system::{
-    Following, Leftovers, PlayFault, Played, System, TimedRun, flush, make_due, write_timed_report,
-};
-use lot_text::{Program, Watched};
+use lot_system::{Following, Leftovers, Played, System, TimedRun, make_due, write_timed_report};
+use lot_text::Program;
 use std::alloc::Global;
 use std::io::Write;
 
@@ -28,17 +27,17 @@ pub(crate) fn explain_timed<W: Write>(
     program: &Program,
     leftovers: &mut Leftovers,
     writer: &mut Watched<W>,
-) -> Result<Played, PlayFault>
+) -> Result<Played, IoFault>
     requires timed { IsSome program.now.duration }
     requires working { writer.old.failed ≡ false }
     ensures flushed { OnOk result (writer.new.flushed ≡ true) }
     ensures played { Plays W.contents writer.old writer.new result Done (explained_in_time program.now) }
 {
     let Ok(run) = TimedRun::open(alloc, program) else {
-        return Err(PlayFault::Memory);
+        return Err(IoFault::Memory);
     };
     let Ok(mut lots) = Lots::open(alloc, program.limits().threads) else {
-        return Err(PlayFault::Memory);
+        return Err(IoFault::Memory);
     };
     let TimedRun {
         mut system,
@@ -64,7 +63,7 @@ fn explain_in_time<W: Write>(
     lots: &mut Lots,
     leftovers: &mut Leftovers,
     writer: &mut Watched<W>,
-) -> Result<(), PlayFault>
+) -> Result<(), IoFault>
     requires followed { IsFollowed program.now system.old following.old }
     requires none { system.old.history ≡ [] }
     requires room { lots.old.room ≡ program.now.limits.threads }
@@ -85,7 +84,7 @@ fn explain_turns<W: Write>(
     lots: &mut Lots,
     leftovers: &mut Leftovers,
     writer: &mut Watched<W>,
-) -> Result<(), PlayFault>
+) -> Result<(), IoFault>
     requires followed { IsFollowed program.now system.old following.old }
     requires none { system.old.history ≡ [] }
     requires room { lots.old.room ≡ program.now.limits.threads }
@@ -98,7 +97,8 @@ fn explain_turns<W: Write>(
     while explain_next(
         program, system, following, lots, leftovers, writer, &mut page,
     )? {}
-    Ok(page.write_out(writer)?)
+    page.write_out(writer)?;
+    Ok(())
 }
 
 /// Makes the next turn, if there is one, puts its explanation on the page, and returns whether there was one.
@@ -110,7 +110,7 @@ fn explain_next<W: Write>(
     leftovers: &mut Leftovers,
     writer: &mut Watched<W>,
     page: &mut Page,
-) -> Result<bool, PlayFault>
+) -> Result<bool, IoFault>
     requires followed { IsFollowed program.now system.old following.old }
     requires room { lots.old.room ≡ program.now.limits.threads }
     requires working { writer.old.failed ≡ false }

@@ -1,13 +1,12 @@
 //! Writing the lots of a lottery that was won.
 ghost use Rattle.std.specs.Prelude.{◌≡◌, ◌<◌, false, IfSome};
-ghost use Rattle.lot_system.specs.Writing.{Puts, Writes};
+ghost use Rattle.lot_io.specs.Writing.{Puts, Writes};
 ghost use Rattle.lot_explain.specs.Lots.{lot_lines, total_of, won_in as won_in_spec, won_lines};
 
 use crate::won::{Won, won_in};
+use lot_io::{IoFault, Watched};
 use lot_machine::{Event, Reply};
 use lot_print::{Heading, Lot, Page, write_lot};
-use lot_system::PlayFault;
-use lot_text::Watched;
 use std::io::Write;
 
 /// If the event has held a lottery that was won, by the reply to it, writes the lines of its lots. What is on the
@@ -19,7 +18,7 @@ pub(crate) fn put_lots<W: Write>(
     lots: &[Lot],
     writer: &mut Watched<W>,
     page: &mut Page,
-) -> Result<(), PlayFault>
+) -> Result<(), IoFault>
     requires working { writer.old.failed ≡ false }
     requires unit { 0 < heading.unit }
     requires total { IfSome (won_in_spec event.now reply) (λ won. won.total ≡ total_of lots.now) }
@@ -40,7 +39,7 @@ fn write_lots<W: Write>(
     won: Won,
     lots: &[Lot],
     writer: &mut Watched<W>,
-) -> Result<(), PlayFault>
+) -> Result<(), IoFault>
     requires working { writer.old.failed ≡ false }
     requires unit { 0 < heading.unit }
     requires total { won.total ≡ total_of lots.now }

@@ -2,14 +2,15 @@
 ghost use Rattle.std.specs.Prelude.{◌≡◌, false, true, OnOk};
 ghost use Rattle.lot_system.specs.Played.{Plays};
 ghost use Rattle.lot_system.specs.Playing.{IsOpened};
-ghost use Rattle.lot_system.specs.Writing.{Writes};
+ghost use Rattle.lot_io.specs.Writing.{Writes};
 ghost use Rattle.lot_system.specs.declared.playing.Played.TheVariants.{Done};
 ghost use Rattle.lot_explain.specs.Explained.{explained_schedule};
 
 use crate::gathering::Lots;
 use crate::turns::explain_turns;
-use lot_system::{Leftovers, PlayFault, Played, System, flush, write_report};
-use lot_text::{Program, Watched};
+use lot_io::{IoFault, Watched, flush};
+use lot_system::{Leftovers, Played, System, write_report};
+use lot_text::Program;
 use std::alloc::Global;
 use std::io::Write;
 
@@ -20,17 +21,17 @@ pub(crate) fn explain_scheduled<W: Write>(
     program: &Program,
     leftovers: &mut Leftovers,
     writer: &mut Watched<W>,
-) -> Result<Played, PlayFault>
+) -> Result<Played, IoFault>
     requires { writer.old.failed ≡ false }
     ensures flushed { OnOk result (writer.new.flushed ≡ true) }
     ensures played { Plays W.contents writer.old writer.new result Done (explained_schedule program.now) }
 {
     let room = program.schedule().len() as u32;
     let Ok(mut system) = System::open(alloc, program, room) else {
-        return Err(PlayFault::Memory);
+        return Err(IoFault::Memory);
     };
     let Ok(mut lots) = Lots::open(alloc, program.limits().threads) else {
-        return Err(PlayFault::Memory);
+        return Err(IoFault::Memory);
     };
     explain_schedule(program, &mut system, &mut lots, leftovers, writer)?;
     leftovers.note_end(&mut system);
@@ -44,7 +45,7 @@ fn explain_schedule<W: Write>(
     lots: &mut Lots,
     leftovers: &mut Leftovers,
     writer: &mut Watched<W>,
-) -> Result<(), PlayFault>
+) -> Result<(), IoFault>
     requires opened { IsOpened program.now system.old }
     requires room { lots.old.room ≡ program.now.limits.threads }
     requires working { writer.old.failed ≡ false }

@@ -6,17 +6,18 @@ ghost use Rattle.lot_simulation.specs.World.{opening_world};
 ghost use Rattle.lot_simulation.specs.declared.manner.Manner.TheVariants as manners;
 ghost use Rattle.lot_system.specs.Playing.{HasPlayed, IsOpened, IsPlayed, turn_in};
 ghost use Rattle.lot_system.specs.Seen.{world_of};
-ghost use Rattle.lot_system.specs.Writing.{Puts, Writes};
+ghost use Rattle.lot_io.specs.Writing.{Puts, Writes};
 ghost use Rattle.lot_explain.specs.Explained.{explained_text, explained_texts};
 ghost use Rattle.lot_explain.specs.Lots.{total_of, won_in, won_lines};
 
 use crate::gathering::Lots;
 use crate::lines::put_lots;
+use lot_io::{IoFault, Watched};
 use lot_machine::{Event, Reply};
 use lot_print::{Heading, Lot, Page, write_ended};
 use lot_simulation::Manner;
-use lot_system::{Leftovers, PlayFault, System, next_turn, put_answer};
-use lot_text::{Program, Watched};
+use lot_system::{Leftovers, System, next_turn, put_answer};
+use lot_text::Program;
 use std::io::Write;
 
 /// Makes the turns of the program's schedule, and writes their lines with their explanations.
@@ -26,7 +27,7 @@ pub(crate) fn explain_turns<W: Write>(
     lots: &mut Lots,
     leftovers: &mut Leftovers,
     writer: &mut Watched<W>,
-) -> Result<(), PlayFault>
+) -> Result<(), IoFault>
     requires opened { IsOpened program.now system.old }
     requires room { lots.old.room ≡ program.now.limits.threads }
     requires working { writer.old.failed ≡ false }
@@ -45,7 +46,8 @@ pub(crate) fn explain_turns<W: Write>(
             &mut page,
         )?;
     }
-    Ok(page.write_out(writer)?)
+    page.write_out(writer)?;
+    Ok(())
 }
 
 /// Makes one turn, and puts its lines on the page with their explanation.
@@ -57,7 +59,7 @@ fn explain_turn<W: Write>(
     leftovers: &mut Leftovers,
     writer: &mut Watched<W>,
     page: &mut Page,
-) -> Result<(), PlayFault>
+) -> Result<(), IoFault>
     requires there { actor ≤ system.old.setting.program.limits.processors }
     requires program { system.old.setting.program ≡ program.now }
     requires history { length system.old.history < system.old.setting.room }
@@ -83,7 +85,7 @@ fn explain_turn<W: Write>(
                 page,
             )
         }
-        None => Ok(write_ended(writer, page, heading)?),
+        None => write_ended(writer, page, heading),
     }
 }
 
@@ -96,7 +98,7 @@ pub(crate) fn put_turn<W: Write>(
     lots: &[Lot],
     writer: &mut Watched<W>,
     page: &mut Page,
-) -> Result<(), PlayFault>
+) -> Result<(), IoFault>
     requires working { writer.old.failed ≡ false }
     requires unit { 0 < heading.unit }
     requires total { IfSome (won_in event.now reply) (λ won. won.total ≡ total_of lots.now) }

@@ -6,22 +6,22 @@ use Rattle.std.specs.declared.alloc.AllocError.{AllocError}
 use Rattle.lot_simulation.specs.declared.input.InputFault.{InputFault}
 use Rattle.lot_simulation.specs.World.{Program}
 use Rattle.lot_curves.specs.Curves.{Curves}
-use Rattle.lot_text.specs.Watching.{Watch}
+use Rattle.lot_io.specs.Watching.{Watch}
 use Rattle.lot_system.specs.Played.{Plays, came_of}
 use Rattle.lot_system.specs.declared.playing.Played.{Played}
 use Rattle.lot_system.specs.declared.playing.Played.TheVariants.{Done}
-use Rattle.lot_system.specs.declared.fault.PlayFault.{PlayFault}
-use Rattle.lot_system.specs.declared.fault.PlayFault.TheVariants.{Memory}
+use Rattle.lot_io.specs.declared.fault.IoFault.{IoFault}
+use Rattle.lot_io.specs.declared.fault.IoFault.TheVariants.{Memory}
 use Rattle.lot_pictures.specs.Shown.{HasCurves, Shows, shown_of}
 
 keeps-all : (known : Option (List ℕ)) → Keeps known known
 keeps-all None = tt
 keeps-all (Some bytes) = refl
 
-module _ {T V : Type 0} (contents : T → Option (List ℕ)) (old new : Watch T) (bytes : V → List ℕ) (show : Curves → List ℕ) (result : Result Played PlayFault) (working : old.failed ≡ false) where
+module _ {T V : Type 0} (contents : T → Option (List ℕ)) (old new : Watch T) (bytes : V → List ℕ) (show : Curves → List ℕ) (result : Result Played IoFault) (working : old.failed ≡ false) where
   kept : result ≡ Err Memory → new ≡ old → (came : Played) (text : List ℕ) → Plays contents old new result came text
   kept is same came text =
-      subst (λ (r : Result Played PlayFault). Plays contents old new r came text) (sym is)
+      subst (λ (r : Result Played IoFault). Plays contents old new r came text) (sym is)
       (subst (λ (w : Watch T). Plays contents old w (Err Memory) came text) (sym same) (working, keeps-all (contents old.inner)))
 
   -- the text of the curves was written, if they are those of what was read

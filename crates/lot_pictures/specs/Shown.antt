@@ -9,12 +9,12 @@ use Rattle.lot_curves.specs.declared.stretch.Measure.{Measure}
 use Rattle.lot_curves.specs.Curves.{Curves, curves_of}
 use Rattle.lot_chart.specs.Tables.{table}
 use Rattle.lot_chart.specs.Charts.{chart}
-use Rattle.lot_text.specs.Watching.{Watch}
+use Rattle.lot_io.specs.Watching.{Watch}
 use Rattle.lot_system.specs.Played.{Plays}
 use Rattle.lot_system.specs.declared.playing.Played.{Played}
 use Rattle.lot_system.specs.declared.playing.Played.TheVariants.{Done}
-use Rattle.lot_system.specs.declared.fault.PlayFault.{PlayFault}
-use Rattle.lot_system.specs.declared.fault.PlayFault.TheVariants.{Memory}
+use Rattle.lot_io.specs.declared.fault.IoFault.{IoFault}
+use Rattle.lot_io.specs.declared.fault.IoFault.TheVariants.{Memory}
 
 -- the text of the program's curves, or why the input is refused
 abbrev pub shown_of : (Curves → List ℕ) → Result Program InputFault → List ℕ
@@ -34,6 +34,6 @@ abbrev pub HasCurves : Result Program InputFault → Curves → Type 0
 HasCurves input curves = (program : Program) × (input ≡ Ok program) × (curves ≡ curves_of program)
 
 -- the text was written, or a beginning of it; without one nothing was
-abbrev pub Shows : {T : Type 0} {V : Type 0} → (T → Option (List ℕ)) → Watch T → Watch T → Result V AllocError → (V → List ℕ) → Result Played PlayFault → Type 0
+abbrev pub Shows : {T : Type 0} {V : Type 0} → (T → Option (List ℕ)) → Watch T → Watch T → Result V AllocError → (V → List ℕ) → Result Played IoFault → Type 0
 Shows contents old new (Ok text) bytes result = Plays contents old new result Done (bytes text)
 Shows contents old new (Err fault) bytes result = (result ≡ Err Memory) × (new ≡ old)

@@ -4,15 +4,16 @@ ghost use Rattle.std.specs.Io.KnownBytes.{Appends};
 ghost use Rattle.lot_simulation.specs.Grammar.{program_in};
 ghost use Rattle.lot_text.specs.Faults.{IsFaultOf as IsParseFaultOf};
 ghost use Rattle.lot_system.specs.Played.{Leaves, Plays, came_of};
-ghost use Rattle.lot_system.specs.Reading.{Reads};
-ghost use Rattle.lot_system.specs.Writing.{IsFaultOf, Writes};
+ghost use Rattle.lot_io.specs.Reading.{Reads};
+ghost use Rattle.lot_io.specs.Writing.{IsFaultOf, Writes};
 ghost use Rattle.lot_pictures.specs.Shown.{HasCurves, Shows, chart_output, shares_output};
 
 use crate::gather;
 use lot_chart::table;
 use lot_curves::{Curves, Measure};
-use lot_system::{PlayFault, Played, flush, read_input, refuse};
-use lot_text::{ParseFault, Watched, parse};
+use lot_io::{IoFault, Watched, flush, read_input, write_bytes};
+use lot_system::{Played, refuse};
+use lot_text::{ParseFault, parse};
 use std::alloc::{AllocError, Global};
 use std::io::{Read, Write};
 
@@ -24,7 +25,7 @@ pub fn shares<R: Read, W: Write>(
     refused: &mut Vec<u8>,
     reader: &mut Watched<R>,
     writer: &mut Watched<W>,
-) -> Result<Played, PlayFault>
+) -> Result<Played, IoFault>
     requires { (reader.old.failed ≡ false) × (writer.old.failed ≡ false) }
     ensures flushed { OnOk result (writer.new.flushed ≡ true) }
     ensures err { IfErr result (λ fault. IsFaultOf fault reader.new.failed writer.new.failed) }
@@ -41,14 +42,14 @@ fn write_shares<W: Write>(
     measure: Measure,
     bytes: &mut Vec<u8>,
     writer: &mut Watched<W>,
-) -> Result<Played, PlayFault>
+) -> Result<Played, IoFault>
     requires { writer.old.failed ≡ false }
     ensures flushed { OnOk result (writer.new.flushed ≡ true) }
     ensures shown { Plays W.contents writer.old writer.new result (came_of (program_in bytes.old.items)) (shares_output measure bytes.old.items) }
 {
     match curves_in(alloc, bytes) {
         Ok(curves) => write_text(table(alloc, &curves, measure), writer),
-        Err(ParseFault::Memory) => Err(PlayFault::Memory),
+        Err(ParseFault::Memory) => Err(IoFault::Memory),
         Err(ParseFault::Input(fault)) => refuse(fault, writer),
     }
 }
@@ -61,7 +62,7 @@ pub fn chart<R: Read, W: Write>(
     refused: &mut Vec<u8>,
     reader: &mut Watched<R>,
     writer: &mut Watched<W>,
-) -> Result<Played, PlayFault>
+) -> Result<Played, IoFault>
     requires { (reader.old.failed ≡ false) × (writer.old.failed ≡ false) }
     ensures flushed { OnOk result (writer.new.flushed ≡ true) }
     ensures err { IfErr result (λ fault. IsFaultOf fault reader.new.failed writer.new.failed) }
@@ -78,14 +79,14 @@ fn write_chart<W: Write>(
     title: &str,
     bytes: &mut Vec<u8>,
     writer: &mut Watched<W>,
-) -> Result<Played, PlayFault>
+) -> Result<Played, IoFault>
     requires { writer.old.failed ≡ false }
     ensures flushed { OnOk result (writer.new.flushed ≡ true) }
     ensures shown { Plays W.contents writer.old writer.new result (came_of (program_in bytes.old.items)) (chart_output title.now bytes.old.items) }
 {
     match curves_in(alloc, bytes) {
         Ok(curves) => write_text(lot_chart::chart(alloc, &curves, title), writer),
-        Err(ParseFault::Memory) => Err(PlayFault::Memory),
+        Err(ParseFault::Memory) => Err(IoFault::Memory),
         Err(ParseFault::Input(fault)) => refuse(fault, writer),
     }
 }
@@ -108,35 +109,24 @@ fn curves_in(alloc: Global, bytes: &mut Vec<u8>) -> Result<Curves, ParseFault>
 fn write_text<W: Write>(
     text: Result<Vec<u8>, AllocError>,
     writer: &mut Watched<W>,
-) -> Result<Played, PlayFault>
+) -> Result<Played, IoFault>
     requires { writer.old.failed ≡ false }
     ensures flushed { OnOk result (writer.new.flushed ≡ true) }
     ensures shown { Shows W.contents writer.old writer.new text (λ bytes. bytes.items) result }
 {
     let Ok(text) = text else {
-        return Err(PlayFault::Memory);
+        return Err(IoFault::Memory);
     };
-    write_bytes(text.as_slice(), writer)?;
+    write_flushed(text.as_slice(), writer)?;
     Ok(Played::Done)
 }
 
 /// Writes the bytes, and flushes.
-fn write_bytes<W: Write>(bytes: &[u8], writer: &mut Watched<W>) -> Result<(), PlayFault>
+fn write_flushed<W: Write>(bytes: &[u8], writer: &mut Watched<W>) -> Result<(), IoFault>
     requires { writer.old.failed ≡ false }
     ensures flushed { OnOk result (writer.new.flushed ≡ true) }
     ensures text { Writes W.contents writer.old writer.new result bytes.now }
 {
-    write_unflushed(bytes, writer)?;
+    write_bytes(writer, bytes)?;
     flush(writer)
-}
-
-/// Writes the bytes. No failed write is tried again.
-fn write_unflushed<W: Write>(bytes: &[u8], writer: &mut Watched<W>) -> Result<(), PlayFault>
-    requires { writer.old.failed ≡ false }
-    ensures { Writes W.contents writer.old writer.new result bytes.now }
-{
-    match writer.write_all(bytes) {
-        Ok(()) => Ok(()),
-        Err(_) => Err(PlayFault::Write),
-    }
 }

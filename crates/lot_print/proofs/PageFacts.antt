@@ -1,20 +1,8 @@
 -- Lines that wait to be written.
-use Rattle.std.proofs.Common.{◌≡◌, ℕ, Option, Some, None, List, [], ◌++◌, refl, sym, subst, ◌∙◌, ap, append_assoc, append-nil}
+use Rattle.std.proofs.Common.{◌≡◌, ℕ, Option, List, [], ◌++◌, sym, subst, ◌∙◌, ap, append_assoc, append-nil}
 use Rattle.std.specs.Io.KnownBytes.{Appends}
-use Rattle.lot_print.specs.Writing.{Begins, IsPut}
-use Rattle.lot_print.proofs.WritingFacts.{appends-both, begins-front, begins-after}
-
-appends-none : (old : Option (List ℕ)) → Appends old old []
-appends-none None = tt
-appends-none (Some xs) = sym (append-nil xs)
-
--- nothing is written, and the text waits
-pub put-waits : (old : Option (List ℕ)) (before after text : List ℕ) → after ≡ before ++ text → IsPut old old before after text
-put-waits old before after text is = ([], sym is, appends-none old)
-
--- what waits is written, and nothing waits
-pub put-out : (old new : Option (List ℕ)) (before : List ℕ) → Appends old new before → IsPut old new before [] []
-put-out old new before one = (before, refl, one)
+use Rattle.lot_io.specs.Writing.{Begins, IsPut}
+use Rattle.lot_io.proofs.WritingFacts.{appends-both, begins-after, begins-front}
 
 -- if nothing waited before, and what waits is written, all is
 pub put-all : (old mid new : Option (List ℕ)) (waits text : List ℕ) → IsPut old mid [] waits text → Appends mid new waits → Appends old new text

@@ -1,12 +1,11 @@
 //! The lines of histories.
 ghost use Rattle.std.specs.Prelude.{◌≡◌, ◌≤◌, false, length};
 ghost use Rattle.lot_simulation.specs.Report as reports;
-ghost use Rattle.lot_print.specs.Writing.{Writes};
+ghost use Rattle.lot_io.specs.Writing.{Writes};
 
-use crate::WriteFault;
 use crate::line::Line;
 use crate::runs::write_runs;
-use lot_text::Watched;
+use lot_io::{IoFault, Watched};
 use std::io::Write;
 
 /// Writes the history of a run as lines that an input of this unit may have, which give it back: `schedule` lines if
@@ -15,7 +14,7 @@ pub fn write_history<W: Write>(
     writer: &mut Watched<W>,
     unit: u32,
     history: &[u8],
-) -> Result<(), WriteFault>
+) -> Result<(), IoFault>
     requires { writer.old.failed ≡ false }
     ensures { Writes W.contents writer.old writer.new result (reports.history_lines unit history.now) }
 {
@@ -27,7 +26,7 @@ pub fn write_history<W: Write>(
 }
 
 /// Writes the history in `schedule` lines of 64 actors each, the last with those that remain.
-fn write_schedule<W: Write>(writer: &mut Watched<W>, history: &[u8]) -> Result<(), WriteFault>
+fn write_schedule<W: Write>(writer: &mut Watched<W>, history: &[u8]) -> Result<(), IoFault>
     requires { writer.old.failed ≡ false }
     ensures { Writes W.contents writer.old writer.new result (reports.schedule_lines history.now) }
 {
@@ -41,7 +40,7 @@ fn write_schedule<W: Write>(writer: &mut Watched<W>, history: &[u8]) -> Result<(
 }
 
 /// Writes a line of these actors.
-fn write_schedule_line<W: Write>(writer: &mut Watched<W>, actors: &[u8]) -> Result<(), WriteFault>
+fn write_schedule_line<W: Write>(writer: &mut Watched<W>, actors: &[u8]) -> Result<(), IoFault>
     requires working { writer.old.failed ≡ false }
     requires few { length actors.now ≤ 64 }
     ensures { Writes W.contents writer.old writer.new result (reports.schedule_line actors.now) }

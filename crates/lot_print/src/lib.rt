@@ -3,7 +3,6 @@
 //! on a page, and are written together.
 #![tactic(auto)]
 
-mod fault;
 mod histories;
 mod laws;
 mod line;
@@ -16,7 +15,6 @@ mod runs;
 mod timed_totals;
 mod totals;
 
-pub use fault::WriteFault;
 pub use histories::write_history;
 pub use laws::histories_are_read_back;
 pub use lots::{Lot, Lottery, write_lot};

@@ -2,13 +2,12 @@
 ghost use Rattle.std.specs.Prelude.{◌≡◌, ◌<◌, ◌≤◌, ◌+◌, ◌^◌, ◌++◌, ◌∷◌, [], false, length};
 ghost use Rattle.std.specs.Fmt.{decimal};
 ghost use Rattle.lot_simulation.specs.Texts.{behind_point, drawn_value, front, quotient_text, value_text};
-ghost use Rattle.lot_print.specs.Writing.{Writes};
+ghost use Rattle.lot_io.specs.Writing.{Writes};
 
-use crate::WriteFault;
 use arrayvec::ArrayVec;
 use itoa::{Buffer, Integer};
+use lot_io::{IoFault, Watched, write_bytes};
 use lot_simulation::Manner;
-use lot_text::Watched;
 use std::io::Write;
 use std::marker::Model;
 
@@ -258,7 +257,7 @@ impl<const N: usize> Line<N> {
 
     /// Writes the line.
     #[inline(always)]
-    pub(crate) fn write_to<W: Write>(&self, writer: &mut Watched<W>) -> Result<(), WriteFault>
+    pub(crate) fn write_to<W: Write>(&self, writer: &mut Watched<W>) -> Result<(), IoFault>
         requires { writer.old.failed ≡ false }
         ensures { Writes W.contents writer.old writer.new result self.now }
     {
@@ -268,15 +267,3 @@ impl<const N: usize> Line<N> {
 
 /// The line of a row of a listing, of the report, or of an input's refusal.
 pub(crate) type RowLine = Line<256>;
-
-/// Writes the bytes. No failed write is tried again.
-#[inline(always)]
-pub(crate) fn write_bytes<W: Write>(writer: &mut Watched<W>, bytes: &[u8]) -> Result<(), WriteFault>
-    requires { writer.old.failed ≡ false }
-    ensures { Writes W.contents writer.old writer.new result bytes.now }
-{
-    match writer.write_all(bytes) {
-        Ok(()) => Ok(()),
-        Err(_) => Err(WriteFault),
-    }
-}

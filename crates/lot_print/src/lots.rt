@@ -3,12 +3,12 @@ ghost use Rattle.std.specs.Prelude.{◌≡◌, ◌<◌, ◌≤◌, ◌+◌, ◌^
 ghost use Rattle.std.specs.Fmt.{decimal};
 ghost use Rattle.lot_simulation.specs.Texts.{drawn_value, newline, value_text};
 ghost use Rattle.lot_print.specs.Lots.{lot_line, mark, part_word, weight_word};
-ghost use Rattle.lot_print.specs.Writing.{Writes};
+ghost use Rattle.lot_io.specs.Writing.{Writes};
 
+use crate::Heading;
 use crate::line::RowLine;
-use crate::{Heading, WriteFault};
+use lot_io::{IoFault, Watched};
 use lot_machine::Name;
-use lot_text::Watched;
 use std::io::Write;
 
 /// Whose lottery it is.
@@ -38,7 +38,7 @@ pub fn write_lot<W: Write>(
     winner: u32,
     first: u128,
     lot: &Lot,
-) -> Result<(), WriteFault>
+) -> Result<(), IoFault>
     requires working { writer.old.failed ≡ false }
     requires unit { 0 < heading.unit }
     requires fits { first + lot.now.weight < 2 ^ 128 }

@@ -1,10 +1,9 @@
 //! Lines that are written together.
 ghost use Rattle.std.specs.Prelude.{◌≡◌, ◌≤◌, ◌+◌, [], false, length, OnOk};
-ghost use Rattle.lot_print.specs.Writing.{Puts, Writes};
+ghost use Rattle.lot_io.specs.Writing.{Puts, Writes};
 
-use crate::WriteFault;
 use crate::line::Line;
-use lot_text::Watched;
+use lot_io::{IoFault, Watched};
 use std::io::Write;
 use std::marker::Model;
 
@@ -39,7 +38,7 @@ impl Page {
     }
 
     /// Writes the lines, after which none waits. No failed write is tried again.
-    pub fn write_out<W: Write>(&mut self, writer: &mut Watched<W>) -> Result<(), WriteFault>
+    pub fn write_out<W: Write>(&mut self, writer: &mut Watched<W>) -> Result<(), IoFault>
         requires { writer.old.failed ≡ false }
         ensures text { Writes W.contents writer.old writer.new result self.old }
         ensures none { self.new ≡ [] }
@@ -51,7 +50,7 @@ impl Page {
 
     /// Has room for the line of one more turn: if there is none, it writes the lines.
     #[inline(always)]
-    pub(crate) fn make_room<W: Write>(&mut self, writer: &mut Watched<W>) -> Result<(), WriteFault>
+    pub(crate) fn make_room<W: Write>(&mut self, writer: &mut Watched<W>) -> Result<(), IoFault>
         requires { writer.old.failed ≡ false }
         ensures text { Puts W.contents writer.old writer.new self.old self.new result [] }
         ensures room { OnOk result (length self.new + 192 ≤ 4096) }

@@ -2,17 +2,16 @@
 ghost use Rattle.std.specs.Prelude.{◌≡◌, ◌≤◌, ◌+◌, ◌++◌, codes, false, length};
 ghost use Rattle.std.specs.Fmt.{decimal};
 ghost use Rattle.lot_simulation.specs.Texts.{newline, refused, refusal_code as code_of, refusal_name as name_of, trap_refusal_code as trap_code_of, trap_refusal_name as trap_name_of, input_refusal_code as input_code_of, input_refusal_name as input_name_of, fault_line};
-ghost use Rattle.lot_print.specs.Writing.{Writes};
+ghost use Rattle.lot_io.specs.Writing.{Writes};
 
-use crate::WriteFault;
 use crate::line::{Line, RowLine};
+use lot_io::{IoFault, Watched};
 use lot_machine::{Refusal, TrapRefusal};
 use lot_simulation::{InputFault, InputRefusal};
-use lot_text::Watched;
 use std::io::Write;
 
 /// Writes the one line of a refused input.
-pub fn write_fault<W: Write>(writer: &mut Watched<W>, fault: InputFault) -> Result<(), WriteFault>
+pub fn write_fault<W: Write>(writer: &mut Watched<W>, fault: InputFault) -> Result<(), IoFault>
     requires { writer.old.failed ≡ false }
     ensures { Writes W.contents writer.old writer.new result (fault_line fault) }
 {

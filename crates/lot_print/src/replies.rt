@@ -3,17 +3,16 @@ ghost use Rattle.std.specs.Prelude.{◌≡◌, ◌<◌, ◌≤◌, ◌+◌, ◌+
 ghost use Rattle.std.specs.Fmt.{decimal};
 ghost use Rattle.lot_simulation.specs.Texts as texts;
 ghost use Rattle.lot_simulation.specs.Texts.{delivered_text, drawn_text, drawn_value, ends_text, front, newline, plain_text, received_text, refused, replied_text, trap_text, trap_text_of};
-ghost use Rattle.lot_print.specs.Writing.{Puts};
+ghost use Rattle.lot_io.specs.Writing.{Puts};
 
-use crate::WriteFault;
 use crate::line::Line;
 use crate::page::Page;
 use crate::refused::{
     push_refused, refusal_code, refusal_name, trap_refusal_code, trap_refusal_name,
 };
+use lot_io::{IoFault, Watched};
 use lot_machine::{Action, Event, Outcome, Refusal, Reply};
 use lot_simulation::Manner;
-use lot_text::Watched;
 use std::io::Write;
 
 /// What the line of a turn needs in addition to the reply.
@@ -36,7 +35,7 @@ pub fn write_reply<W: Write>(
     heading: Heading,
     event: &Event,
     reply: &Reply,
-) -> Result<(), WriteFault>
+) -> Result<(), IoFault>
     requires working { writer.old.failed ≡ false }
     requires unit { 0 < heading.unit }
     ensures { Puts W.contents writer.old writer.new page.old page.new result (front heading.manner ++ (decimal heading.actor ++ (codes " " ++ plain_text heading.manner heading.unit event.now reply.now))) }
@@ -51,7 +50,7 @@ pub fn write_ended<W: Write>(
     writer: &mut Watched<W>,
     page: &mut Page,
     heading: Heading,
-) -> Result<(), WriteFault>
+) -> Result<(), IoFault>
     requires { writer.old.failed ≡ false }
     ensures { Puts W.contents writer.old writer.new page.old page.new result (front heading.manner ++ (decimal heading.actor ++ (codes " " ++ (refused 41 (codes "Ended") ++ newline)))) }
 {

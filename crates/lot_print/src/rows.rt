@@ -3,13 +3,12 @@ ghost use Rattle.std.specs.Prelude.{◌≡◌, ◌≤◌, ◌+◌, ◌++◌, cod
 ghost use Rattle.std.specs.Fmt.{decimal};
 ghost use Rattle.lot_simulation.specs.Texts.{activity_text, currency_line, currency_value, front, status_text, thread_line, ticket_line};
 ghost use Rattle.lot_print.specs.Listings.{listing_line, target_text, used_text};
-ghost use Rattle.lot_print.specs.Writing.{Writes};
+ghost use Rattle.lot_io.specs.Writing.{Writes};
 
-use crate::WriteFault;
 use crate::line::{Line, RowLine};
+use lot_io::{IoFault, Watched};
 use lot_machine::{CurrencyRow, Kind, Limits, Name, Status, ThreadRow, TicketRow};
 use lot_simulation::Manner;
-use lot_text::Watched;
 use std::io::Write;
 
 /// Writes the line of an actor's turn that asked for a listing: what it is of, and how many rows follow.
@@ -19,7 +18,7 @@ pub fn write_listing_line<W: Write>(
     actor: u32,
     kind: Kind,
     rows: u32,
-) -> Result<(), WriteFault>
+) -> Result<(), IoFault>
     requires { writer.old.failed ≡ false }
     ensures { Writes W.contents writer.old writer.new result (front manner ++ (decimal actor ++ (codes " " ++ listing_line kind rows))) }
 {
@@ -42,7 +41,7 @@ pub fn write_ticket<W: Write>(
     limits: Limits,
     number: u32,
     row: &TicketRow,
-) -> Result<(), WriteFault>
+) -> Result<(), IoFault>
     requires { writer.old.failed ≡ false }
     ensures { Writes W.contents writer.old writer.new result (ticket_line manner limits.unit number row.now) }
 {
@@ -104,7 +103,7 @@ pub fn write_currency<W: Write>(
     limits: Limits,
     number: u32,
     row: &CurrencyRow,
-) -> Result<(), WriteFault>
+) -> Result<(), IoFault>
     requires { writer.old.failed ≡ false }
     ensures { Writes W.contents writer.old writer.new result (currency_line manner limits.unit number row.now) }
 {
@@ -133,7 +132,7 @@ pub fn write_thread<W: Write>(
     limits: Limits,
     number: u32,
     row: &ThreadRow,
-) -> Result<(), WriteFault>
+) -> Result<(), IoFault>
     requires { writer.old.failed ≡ false }
     ensures { Writes W.contents writer.old writer.new result (thread_line manner limits.unit number row.now) }
 {

@@ -2,19 +2,15 @@
 ghost use Rattle.std.specs.Prelude.{◌≡◌, ◌<◌, ◌≤◌, ◌==◌, [], ◌∷◌, drop, false, length, take, IfSome, MatchOption};
 ghost use Rattle.std.specs.List.{flat_map, prefix_len};
 ghost use Rattle.lot_simulation.specs.Report.{run_text, runs_in, runs_line, runs_lines};
-ghost use Rattle.lot_print.specs.Writing.{Writes};
+ghost use Rattle.lot_io.specs.Writing.{Writes};
 
-use crate::WriteFault;
-use crate::line::{RowLine, write_bytes};
-use lot_text::Watched;
+use crate::line::RowLine;
+use lot_io::{IoFault, Watched, write_bytes};
 use std::io::Write;
 
 /// Writes the history in lines `runs A1 K1 A2 K2 ..` of 32 pairs each, the last with the 1 to 32 that remain: K1 turns
 /// of A1, then K2 of A2, and so on. Neighbouring pairs have different actors, across lines too.
-pub(crate) fn write_runs<W: Write>(
-    writer: &mut Watched<W>,
-    history: &[u8],
-) -> Result<(), WriteFault>
+pub(crate) fn write_runs<W: Write>(writer: &mut Watched<W>, history: &[u8]) -> Result<(), IoFault>
     requires { writer.old.failed ≡ false }
     ensures { Writes W.contents writer.old writer.new result (runs_lines history.now) }
 {
@@ -28,7 +24,7 @@ pub(crate) fn write_runs<W: Write>(
 }
 
 /// Writes a line of the first 32 runs of the history.
-fn write_runs_line<W: Write>(writer: &mut Watched<W>, history: &[u8]) -> Result<(), WriteFault>
+fn write_runs_line<W: Write>(writer: &mut Watched<W>, history: &[u8]) -> Result<(), IoFault>
     requires { writer.old.failed ≡ false }
     ensures { Writes W.contents writer.old writer.new result (runs_line (take 32 (runs_in history.now))) }
 {
@@ -38,7 +34,7 @@ fn write_runs_line<W: Write>(writer: &mut Watched<W>, history: &[u8]) -> Result<
 }
 
 /// Writes the first 32 runs of the history, each after a space.
-fn write_run_texts<W: Write>(writer: &mut Watched<W>, history: &[u8]) -> Result<(), WriteFault>
+fn write_run_texts<W: Write>(writer: &mut Watched<W>, history: &[u8]) -> Result<(), IoFault>
     requires { writer.old.failed ≡ false }
     ensures { Writes W.contents writer.old writer.new result (flat_map run_text (take 32 (runs_in history.now))) }
 {
@@ -54,7 +50,7 @@ fn write_run_texts<W: Write>(writer: &mut Watched<W>, history: &[u8]) -> Result<
 }
 
 /// Writes a run after a space.
-fn write_run<W: Write>(writer: &mut Watched<W>, actor: u8, count: usize) -> Result<(), WriteFault>
+fn write_run<W: Write>(writer: &mut Watched<W>, actor: u8, count: usize) -> Result<(), IoFault>
     requires { writer.old.failed ≡ false }
     ensures { Writes W.contents writer.old writer.new result (run_text (record { actor = actor; count = count })) }
 {

@@ -2,14 +2,13 @@
 ghost use Rattle.std.specs.Prelude.{◌≡◌, ◌<◌, ◌≤◌, ◌+◌, ◌^◌, ◌++◌, false, length};
 ghost use Rattle.lot_simulation.specs.TimedReport.{percent_text, waits_text};
 ghost use Rattle.lot_print.specs.Totals.{timed_processor_line, timed_thread_line, timed_total_line};
-ghost use Rattle.lot_print.specs.Writing.{Writes};
+ghost use Rattle.lot_io.specs.Writing.{Writes};
 
-use crate::WriteFault;
 use crate::line::Line;
 use crate::rows::{push_counts, push_named};
+use lot_io::{IoFault, Watched};
 use lot_machine::ThreadRow;
 use lot_simulation::Waits;
-use lot_text::Watched;
 use std::io::Write;
 
 /// The line of a report of turns in the order of time.
@@ -57,7 +56,7 @@ pub fn write_timed_thread_total<W: Write>(
     number: u32,
     row: &ThreadRow,
     shares: ThreadShares,
-) -> Result<(), WriteFault>
+) -> Result<(), IoFault>
     requires working { writer.old.failed ≡ false }
     requires values { shares.all_values < 2 ^ 96 }
     ensures { Writes W.contents writer.old writer.new result (timed_thread_line number row.now shares.all_ticks shares.live_value shares.all_values shares.mutexes shares.replies) }
@@ -121,7 +120,7 @@ fn push_waits(line: &mut TimedLine, what: &str, waits: Waits)
 pub fn write_timed_processor_total<W: Write>(
     writer: &mut Watched<W>,
     total: TimedProcessorTotal,
-) -> Result<(), WriteFault>
+) -> Result<(), IoFault>
     requires { writer.old.failed ≡ false }
     ensures { Writes W.contents writer.old writer.new result (timed_processor_line total.processor total.quanta total.idles total.ticks total.unused) }
 {
@@ -139,7 +138,7 @@ pub fn write_timed_processor_total<W: Write>(
 pub fn write_timed_whole_total<W: Write>(
     writer: &mut Watched<W>,
     total: TimedWholeTotal,
-) -> Result<(), WriteFault>
+) -> Result<(), IoFault>
     requires { writer.old.failed ≡ false }
     ensures { Writes W.contents writer.old writer.new result (timed_total_line total.turns total.quanta total.ticks total.refused total.left) }
 {

@@ -2,13 +2,12 @@
 ghost use Rattle.std.specs.Prelude.{◌≡◌, codes, false};
 ghost use Rattle.lot_simulation.specs.Report.{thread_total};
 ghost use Rattle.lot_print.specs.Totals.{processor_line, total_line};
-ghost use Rattle.lot_print.specs.Writing.{Writes};
+ghost use Rattle.lot_io.specs.Writing.{Writes};
 
-use crate::WriteFault;
-use crate::line::{RowLine, write_bytes};
+use crate::line::RowLine;
 use crate::rows::{push_named, push_used};
+use lot_io::{IoFault, Watched, write_bytes};
 use lot_machine::ThreadRow;
-use lot_text::Watched;
 use std::io::Write;
 
 /// What the report says of a processor: the draws that somebody won there, the others, and the ticks used there.
@@ -29,7 +28,7 @@ pub struct WholeTotal {
 }
 
 /// Writes the first line of the report.
-pub fn write_report_line<W: Write>(writer: &mut Watched<W>) -> Result<(), WriteFault>
+pub fn write_report_line<W: Write>(writer: &mut Watched<W>) -> Result<(), IoFault>
     requires { writer.old.failed ≡ false }
     ensures { Writes W.contents writer.old writer.new result (codes "report\n") }
 {
@@ -41,7 +40,7 @@ pub fn write_thread_total<W: Write>(
     writer: &mut Watched<W>,
     number: u32,
     row: &ThreadRow,
-) -> Result<(), WriteFault>
+) -> Result<(), IoFault>
     requires { writer.old.failed ≡ false }
     ensures { Writes W.contents writer.old writer.new result (thread_total number row.now) }
 {
@@ -55,7 +54,7 @@ pub fn write_thread_total<W: Write>(
 pub fn write_processor_total<W: Write>(
     writer: &mut Watched<W>,
     total: ProcessorTotal,
-) -> Result<(), WriteFault>
+) -> Result<(), IoFault>
     requires { writer.old.failed ≡ false }
     ensures { Writes W.contents writer.old writer.new result (processor_line total.processor total.quanta total.idles total.ticks) }
 {
@@ -72,7 +71,7 @@ pub fn write_processor_total<W: Write>(
 pub fn write_whole_total<W: Write>(
     writer: &mut Watched<W>,
     total: WholeTotal,
-) -> Result<(), WriteFault>
+) -> Result<(), IoFault>
     requires { writer.old.failed ≡ false }
     ensures { Writes W.contents writer.old writer.new result (total_line total.turns total.quanta total.ticks) }
 {

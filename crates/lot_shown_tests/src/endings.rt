@@ -1,17 +1,18 @@
 //! How a run may end, and what it has written by then.
 ghost use Rattle.std.specs.Prelude.{◌≡◌, ◌<◌, ◌↔◌, ◌⊎◌, Err, IsTrue, Ok};
-ghost use Rattle.lot_system.specs.declared.fault.PlayFault.TheVariants as faults;
+ghost use Rattle.lot_io.specs.declared.fault.IoFault.TheVariants as faults;
 ghost use Rattle.lot_system.specs.declared.playing.Played.TheVariants as came;
 
-use lot_system::{PlayFault, Played};
+use lot_io::IoFault;
+use lot_system::Played;
 
 /// Whether a run was played to its end and has written something, or lacked memory and has written nothing.
-pub fn has_written_or_lacked_memory(ended: Result<Played, PlayFault>, written: usize) -> bool
+pub fn has_written_or_lacked_memory(ended: Result<Played, IoFault>, written: usize) -> bool
     ensures { IsTrue result ↔ (((ended ≡ Ok came.Done) × (0 < written)) ⊎ ((ended ≡ Err faults.Memory) × (written ≡ 0))) }
 {
     match ended {
         Ok(Played::Done) => written > 0,
-        Err(PlayFault::Memory) => written == 0,
+        Err(IoFault::Memory) => written == 0,
         _ => false,
     }
 }

@@ -9,9 +9,9 @@ mod words;
 use crate::has_written_or_lacked_memory;
 use lot_curves::Measure;
 use lot_explain::explain;
+use lot_io::{IoFault, Watched};
 use lot_pictures::{chart, shares};
-use lot_system::{PlayFault, Played};
-use lot_text::Watched;
+use lot_system::Played;
 use std::alloc::Global;
 use std::io;
 use std::io::Write;
@@ -65,7 +65,7 @@ enum Shown {
 }
 
 /// Shows the input, and returns the outcome and how many bytes were written.
-fn show(alloc: Global, shown: Shown, input: &str) -> (Result<Played, PlayFault>, usize) {
+fn show(alloc: Global, shown: Shown, input: &str) -> (Result<Played, IoFault>, usize) {
     let mut reader = Watched::new(input.as_bytes());
     let mut writer = Watched::new(Counting { taken: 0 });
     let mut refused = Vec::new(alloc);

@@ -6,13 +6,13 @@ use Rattle.lot_simulation.specs.Grammar.{program_in}
 use Rattle.lot_simulation.specs.Output.{end_text}
 use Rattle.lot_simulation.specs.Texts.{fault_line}
 use Rattle.lot_simulation.specs.World.{Program}
-use Rattle.lot_text.specs.Watching.{Watch}
+use Rattle.lot_io.specs.Watching.{Watch}
 use Rattle.lot_processors.specs.Workers.{IsFreeRun}
 use Rattle.lot_system.specs.declared.playing.Played.{Played}
 use Rattle.lot_system.specs.declared.playing.Played.TheVariants.{Done, Refused}
-use Rattle.lot_system.specs.declared.fault.PlayFault.TheVariants.{Write}
-use Rattle.lot_system.specs.Reading.{HasRead}
-use Rattle.lot_print.specs.Writing.{Begins}
+use Rattle.lot_io.specs.declared.fault.IoFault.TheVariants.{Write}
+use Rattle.lot_io.specs.Reading.{HasRead}
+use Rattle.lot_io.specs.Writing.{Begins}
 use Rattle.lot_sim.specs.declared.run.RunStop.{RunStop}
 use Rattle.lot_sim.specs.declared.run.RunStop.TheVariants.{Play}
 

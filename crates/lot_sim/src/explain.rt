@@ -4,12 +4,12 @@ ghost use Rattle.std.specs.Io.KnownBytes.{Appends};
 ghost use Rattle.lot_explain.specs.Explained.{explained_output};
 ghost use Rattle.lot_simulation.specs.Grammar.{program_in};
 ghost use Rattle.lot_system.specs.Played.{Leaves, came_of};
-ghost use Rattle.lot_system.specs.Reading.{Reads};
+ghost use Rattle.lot_io.specs.Reading.{Reads};
 
 use crate::told::Told;
 use lot_explain::explain_bytes;
-use lot_system::{PlayFault, Played, read_input};
-use lot_text::Watched;
+use lot_io::{IoFault, Watched, read_input};
+use lot_system::Played;
 use std::alloc::Global;
 use std::io::{Read, Write};
 
@@ -21,7 +21,7 @@ pub(crate) fn explain<R: Read, W: Write>(
     told: &mut Told,
     reader: &mut Watched<R>,
     writer: &mut Watched<W>,
-) -> Result<Played, PlayFault>
+) -> Result<Played, IoFault>
     requires { (reader.old.failed ≡ false) × (writer.old.failed ≡ false) }
     ensures flushed { OnOk result (writer.new.flushed ≡ true) }
     ensures output { IfOk result (λ played. (bytes : List ℕ) × Reads R.remaining reader.old reader.new bytes × (played ≡ came_of (program_in bytes)) × Appends (W.contents writer.old.inner) (W.contents writer.new.inner) (explained_output bytes)) }

@@ -1,14 +1,15 @@
 //! A free run: the turns of an input's program, made by workers.
 ghost use Rattle.std.specs.Prelude.{◌≡◌, ℕ, List, false, true, IfErr, IfOk, OnOk};
 ghost use Rattle.lot_simulation.specs.Grammar.{program_in};
-ghost use Rattle.lot_system.specs.Reading.{Reads};
+ghost use Rattle.lot_io.specs.Reading.{Reads};
 ghost use Rattle.lot_system.specs.declared.playing.Played.TheVariants.{Done};
 ghost use Rattle.lot_sim.specs.Running.{HasRun, RunLeaves, Runs};
 
 use crate::told::Told;
+use lot_io::{IoFault, Watched, read_input};
 use lot_processors::{FreeRunFault, OpenGate, free_run};
-use lot_system::{Leftovers, PlayFault, Played, System, read_input, refuse, write_end};
-use lot_text::{ParseFault, Program, Watched, parse};
+use lot_system::{Leftovers, Played, System, refuse, write_end};
+use lot_text::{ParseFault, Program, parse};
 use std::alloc::Global;
 use std::io::{Read, Write};
 use std::sync::Wait;
@@ -20,7 +21,7 @@ use thiserror::Error;
 pub(crate) enum RunStop {
     /// Out of memory, or the reader or the writer has failed.
     #[error("{0}")]
-    Play(PlayFault),
+    Play(IoFault),
     /// The workers stopped early, or there was no memory for them.
     #[error("{0}")]
     Workers(FreeRunFault),
@@ -70,7 +71,7 @@ fn run_bytes<W: Write, H: Threads + Wait + Sync>(
 {
     match parse(alloc, bytes) {
         Ok(program) => run_program(rt, alloc, &program, leftovers, writer),
-        Err(ParseFault::Memory) => Err(RunStop::Play(PlayFault::Memory)),
+        Err(ParseFault::Memory) => Err(RunStop::Play(IoFault::Memory)),
         Err(ParseFault::Input(fault)) => match refuse(fault, writer) {
             Ok(played) => Ok(played),
             Err(fault) => Err(RunStop::Play(fault)),

@@ -5,8 +5,8 @@ mod timed;
 mod told;
 
 use crate::status::{status, unread_status};
-use lot_system::{PlayFault, Played, play};
-use lot_text::Watched;
+use lot_io::{IoFault, Watched};
+use lot_system::{Played, play};
 use std::alloc::Global;
 use std::io;
 use std::io::{ErrorKind, Read, Write};
@@ -713,7 +713,7 @@ fn writing_fails(
     } = writer.into_inner();
     let whole = output.as_bytes();
     if has_failed {
-        assert_eq!(rt; (ended, calls), (Err(PlayFault::Write), fails_at));
+        assert_eq!(rt; (ended, calls), (Err(IoFault::Write), fails_at));
         assert!(rt; whole.starts_with(written.as_slice()), "at call {fails_at}");
     } else {
         assert_eq!(rt; (ended, is_flushed), (Ok(Played::Done), true));
@@ -801,7 +801,7 @@ fn reading_fails(
     let ended = play(alloc, &mut reader, &mut writer);
     let written = writer.into_inner();
     if reader.failed() {
-        assert_eq!(rt; ended, Err(PlayFault::Read));
+        assert_eq!(rt; ended, Err(IoFault::Read));
         assert!(rt; written.is_empty(), "at call {fails_at}");
     } else {
         assert_eq!(rt; ended, Ok(Played::Done));

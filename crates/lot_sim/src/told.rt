@@ -1,9 +1,10 @@
 //! Diagnostics in words on standard error.
 ghost use Rattle.std.specs.Prelude.{◌≡◌};
 
+use lot_io::Watched;
 use lot_simulation::InputFault;
 use lot_system::Leftovers;
-use lot_text::{ParseFault, Watched, parse};
+use lot_text::{ParseFault, parse};
 use lot_words::{CommandLines, write_leftovers, write_words};
 use std::alloc::{AllocError, Global};
 use std::io;

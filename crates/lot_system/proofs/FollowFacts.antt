@@ -5,9 +5,9 @@ use Rattle.std.specs.List.{flat_map}
 use Rattle.std.proofs.lemmas.Grind.{flat_map-append}
 use Rattle.std.proofs.lemmas.List.{length-map, map-append, take-append-drop}
 use Rattle.std.proofs.Math.Seq.{take-add, take-append_seam, drop-append_seam}
-use Rattle.lot_print.specs.Writing.{Begins, IsPut}
+use Rattle.lot_io.specs.Writing.{Begins, IsPut}
 use Rattle.lot_print.proofs.PageFacts.{puts-both, puts-stop}
-use Rattle.lot_print.proofs.WritingFacts.{begins-front}
+use Rattle.lot_io.proofs.WritingFacts.{begins-front}
 use Rattle.lot_machine.specs.declared.command.Command.{Command}
 use Rattle.lot_machine.specs.declared.event.Event.{Event}
 use Rattle.lot_machine.specs.declared.reply.Reply.{Reply}

@@ -12,6 +12,5 @@ pub mod CountFacts
 pub mod WritingFacts
 pub mod ListingFacts
 pub mod PlayingFacts
-pub mod ReadingFacts
 pub mod WorkFacts
 pub mod Openings

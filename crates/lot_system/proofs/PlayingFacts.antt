@@ -13,10 +13,10 @@ use Rattle.lot_simulation.specs.World.{Program, World, Answer, Turn, opening_wor
 use Rattle.lot_simulation.specs.World.Answer.{Answered}
 use Rattle.lot_system.specs.Playing.{HasPlayed, IsPlayed, turn_in}
 use Rattle.lot_system.specs.Seen.{Seen, Setting, world_of, after_turn}
-use Rattle.lot_print.specs.Writing.{Begins, IsPut}
+use Rattle.lot_io.specs.Writing.{Begins, IsPut}
 use Rattle.lot_system.proofs.Runs.{system_run-one_more, past-more}
 use Rattle.lot_print.proofs.PageFacts.{puts-both, puts-stop}
-use Rattle.lot_print.proofs.WritingFacts.{begins-front}
+use Rattle.lot_io.proofs.WritingFacts.{begins-front}
 
 -- ---- a turn that goes
 

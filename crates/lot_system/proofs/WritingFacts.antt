@@ -2,18 +2,12 @@
 use Rattle.std.proofs.Common.{◌≡◌, ℕ, zero, suc, ◌+◌, ◌-◌, ◌<◌, Bool, Option, Result, Ok, Err, List, [], ◌++◌, sym, subst, ◌∙◌, ap, append_assoc, append-nil, arith}
 use Rattle.std.specs.List.{flat_map, range_with_len}
 use Rattle.std.specs.Io.KnownBytes.{Appends}
-use Rattle.lot_print.specs.Writing.{Begins}
-use Rattle.lot_print.proofs.WritingFacts.{appends-both, begins-front, begins-after}
-use Rattle.lot_system.specs.declared.fault.PlayFault.{PlayFault}
-use Rattle.lot_system.specs.Writing.{Put, Written}
-
--- what is written after what was written already
-pub writes-after : {U : Type 0} (old mid new : Option (List ℕ)) (failed : Bool) (r : Result U PlayFault) (a b : List ℕ) → Appends old mid a → Written mid new failed r b → Written old new failed r (a ++ b)
-writes-after old mid new failed (Ok done) a b one two = (two.0, appends-both old mid new a b one two.1)
-writes-after old mid new failed (Err fault) a b one two = (two.0, two.1, begins-after old mid new a b one two.2)
+use Rattle.lot_io.specs.Writing.{Begins, Put, Written}
+use Rattle.lot_io.proofs.WritingFacts.{appends-both, begins-front, begins-after}
+use Rattle.lot_io.specs.declared.fault.IoFault.{IoFault}
 
 -- a text that is written after what waited, so that nothing waits
-pub put-written : {U : Type 0} (old mid new : Option (List ℕ)) (before after text : List ℕ) (failed : Bool) (r : Result U PlayFault) → after ≡ [] → Appends old mid before → Written mid new failed r text → Put old new before after failed r text
+pub put-written : {U : Type 0} (old mid new : Option (List ℕ)) (before after text : List ℕ) (failed : Bool) (r : Result U IoFault) → after ≡ [] → Appends old mid before → Written mid new failed r text → Put old new before after failed r text
 put-written old mid new before after text failed (Ok done) none one two = (two.0, (before ++ text, sym (append-nil (before ++ text)) ∙ ap (λ xs. (before ++ text) ++ xs) (sym none), appends-both old mid new before text one two.1))
 put-written old mid new before after text failed (Err fault) none one two = (two.0, two.1, begins-after old mid new before text one two.2)
 
@@ -48,7 +42,3 @@ range-stops old mid new f a k n j below is one given =
     let whole : flat_map f (range_with_len a n) ≡ (flat_map f (range_with_len a k) ++ f (a + k)) ++ split.0 =
     ap (λ m. flat_map f (range_with_len a m)) (sym e) ∙ split.1 ∙ ap (λ xs. xs ++ split.0) (range-push f a k) in
     subst (Begins old new) (sym whole) (begins-front old new (flat_map f (range_with_len a k) ++ f (a + k)) split.0 (begins-after old mid new (flat_map f (range_with_len a k)) (f (a + k)) one two))
-
--- flushing writes nothing more
-pub writes-flushed : {U : Type 0} (old mid new : Option (List ℕ)) (failed : Bool) (r : Result U PlayFault) (a : List ℕ) → Appends old mid a → Written mid new failed r [] → Written old new failed r a
-writes-flushed old mid new failed r a one two = subst (Written old new failed r) (append-nil a) (writes-after old mid new failed r a [] one two)

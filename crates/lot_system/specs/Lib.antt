@@ -4,10 +4,8 @@ pub mod Held
 pub mod InTime
 pub mod Turns
 pub mod Counted
-pub mod Writing
 pub mod Listing
 pub mod Playing
-pub mod Reading
 pub mod Played
 pub mod Fitting
 pub mod Kept

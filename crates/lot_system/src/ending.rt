@@ -1,18 +1,17 @@
 //! The end of a run's output: the report, and the history as lines that give it back.
 ghost use Rattle.std.specs.Prelude.{◌≡◌, false, true, OnOk};
 ghost use Rattle.lot_simulation.specs.Output.{end_text};
-ghost use Rattle.lot_system.specs.Writing.{Writes};
+ghost use Rattle.lot_io.specs.Writing.{Writes};
 
+use crate::System;
 use crate::report::write_report;
-use crate::writing::flush;
-use crate::{PlayFault, System};
+use lot_io::{IoFault, Watched, flush};
 use lot_print::write_history;
-use lot_text::Watched;
 use std::io::Write;
 
 /// Writes the report, and after it the history as lines that an input of this unit may have, which give it back; then
 /// flushes.
-pub fn write_end<W: Write>(system: &mut System, writer: &mut Watched<W>) -> Result<(), PlayFault>
+pub fn write_end<W: Write>(system: &mut System, writer: &mut Watched<W>) -> Result<(), IoFault>
     requires { writer.old.failed ≡ false }
     ensures same { system.new ≡ system.old }
     ensures flushed { OnOk result (writer.new.flushed ≡ true) }
@@ -23,12 +22,11 @@ pub fn write_end<W: Write>(system: &mut System, writer: &mut Watched<W>) -> Resu
 }
 
 /// Writes the report, and after it the history.
-fn write_texts<W: Write>(system: &mut System, writer: &mut Watched<W>) -> Result<(), PlayFault>
+fn write_texts<W: Write>(system: &mut System, writer: &mut Watched<W>) -> Result<(), IoFault>
     requires { writer.old.failed ≡ false }
     ensures same { system.new ≡ system.old }
     ensures text { Writes W.contents writer.old writer.new result (end_text system.old.setting.program system.old.history) }
 {
     write_report(system, writer)?;
-    write_history(writer, system.unit(), system.history())?;
-    Ok(())
+    write_history(writer, system.unit(), system.history())
 }

@@ -4,17 +4,17 @@ ghost use Rattle.std.specs.List.{flat_map};
 ghost use Rattle.lot_simulation.specs.Output.{timed_output, timed_text};
 ghost use Rattle.lot_simulation.specs.Timed.{timed_schedule, timed_turns};
 ghost use Rattle.lot_system.specs.InTime.{IsAtEnd, IsFollowed, MadeNext, next_turns};
-ghost use Rattle.lot_system.specs.Writing.{Puts, Writes};
+ghost use Rattle.lot_io.specs.Writing.{Puts, Writes};
 
 use crate::following::{Following, make_next};
 use crate::playing::put_answer;
 use crate::timed_report::write_timed_report;
-use crate::writing::flush;
-use crate::{Leftovers, PlayFault, System, TimedReply};
+use crate::{Leftovers, System, TimedReply};
+use lot_io::{IoFault, Watched, flush};
 use lot_machine::Event;
 use lot_print::Page;
 use lot_simulation::Manner;
-use lot_text::{Program, Watched};
+use lot_text::Program;
 use std::io::Write;
 
 /// Makes the program's turns in the order of time, and writes their lines and their report.
@@ -24,7 +24,7 @@ pub(crate) fn play_in_time<W: Write>(
     following: &mut Following,
     leftovers: &mut Leftovers,
     writer: &mut Watched<W>,
-) -> Result<(), PlayFault>
+) -> Result<(), IoFault>
     requires followed { IsFollowed program.now system.old following.old }
     requires none { system.old.history ≡ [] }
     requires working { writer.old.failed ≡ false }
@@ -43,7 +43,7 @@ fn play_turns<W: Write>(
     following: &mut Following,
     leftovers: &mut Leftovers,
     writer: &mut Watched<W>,
-) -> Result<(), PlayFault>
+) -> Result<(), IoFault>
     requires followed { IsFollowed program.now system.old following.old }
     requires none { system.old.history ≡ [] }
     requires working { writer.old.failed ≡ false }
@@ -54,7 +54,8 @@ fn play_turns<W: Write>(
 {
     let mut page = Page::new();
     while play_next(program, system, following, leftovers, writer, &mut page)? {}
-    Ok(page.write_out(writer)?)
+    page.write_out(writer)?;
+    Ok(())
 }
 
 /// Makes the next turn, if there is one, puts its lines on the page, and returns whether there was one.
@@ -65,7 +66,7 @@ fn play_next<W: Write>(
     leftovers: &mut Leftovers,
     writer: &mut Watched<W>,
     page: &mut Page,
-) -> Result<bool, PlayFault>
+) -> Result<bool, IoFault>
     requires followed { IsFollowed program.now system.old following.old }
     requires working { writer.old.failed ≡ false }
     ensures made { IfOk result (MadeNext program.now system.old system.new following.new) }

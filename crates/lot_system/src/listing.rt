@@ -8,13 +8,13 @@ ghost use Rattle.lot_machine.specs.Rows as rows;
 ghost use Rattle.lot_system.specs.Seen.{world_of};
 ghost use Rattle.lot_system.specs.Listing as listing;
 ghost use Rattle.lot_system.specs.Listing.{given_count, is_there, row_line, rows_among};
-ghost use Rattle.lot_system.specs.Writing.{Writes};
+ghost use Rattle.lot_io.specs.Writing.{Writes};
 
-use crate::{PlayFault, System};
+use crate::System;
+use lot_io::{IoFault, Watched};
 use lot_machine::Kind;
 use lot_print::{write_currency, write_listing_line, write_thread, write_ticket};
 use lot_simulation::Manner;
-use lot_text::Watched;
 use std::io::Write;
 
 /// Writes an actor's turn that asked for a listing of the kernel as it is: how many rows there are, and a line for
@@ -25,7 +25,7 @@ pub(crate) fn write_listing<W: Write>(
     actor: u32,
     kind: Kind,
     writer: &mut Watched<W>,
-) -> Result<(), PlayFault>
+) -> Result<(), IoFault>
     requires { writer.old.failed ≡ false }
     ensures same { system.new ≡ system.old }
     ensures text { Writes W.contents writer.old writer.new result (texts.front manner ++ (decimal actor ++ (codes " " ++ texts.listing_text manner (world_of system.old).state kind))) }
@@ -78,7 +78,7 @@ fn write_rows<W: Write>(
     manner: Manner,
     kind: Kind,
     writer: &mut Watched<W>,
-) -> Result<(), PlayFault>
+) -> Result<(), IoFault>
     requires { writer.old.failed ≡ false }
     ensures same { system.new ≡ system.old }
     ensures text { Writes W.contents writer.old writer.new result (flat_map (row_line manner (world_of system.old).state kind) (range_with_len (listing.first_number kind) (given_count (world_of system.old).state kind))) }
@@ -97,7 +97,7 @@ fn write_row<W: Write>(
     kind: Kind,
     number: u32,
     writer: &mut Watched<W>,
-) -> Result<(), PlayFault>
+) -> Result<(), IoFault>
     requires { writer.old.failed ≡ false }
     ensures same { system.new ≡ system.old }
     ensures text { Writes W.contents writer.old writer.new result (row_line manner (world_of system.old).state kind number) }
@@ -115,7 +115,7 @@ fn write_ticket_row<W: Write>(
     manner: Manner,
     number: u32,
     writer: &mut Watched<W>,
-) -> Result<(), PlayFault>
+) -> Result<(), IoFault>
     requires { writer.old.failed ≡ false }
     ensures same { system.new ≡ system.old }
     ensures text { Writes W.contents writer.old writer.new result (option_map_or (texts.ticket_line manner (world_of system.old).state.limits.unit number) (rows.ticket_row (world_of system.old).state number) []) }
@@ -133,7 +133,7 @@ fn write_currency_row<W: Write>(
     manner: Manner,
     number: u32,
     writer: &mut Watched<W>,
-) -> Result<(), PlayFault>
+) -> Result<(), IoFault>
     requires { writer.old.failed ≡ false }
     ensures same { system.new ≡ system.old }
     ensures text { Writes W.contents writer.old writer.new result (option_map_or (texts.currency_line manner (world_of system.old).state.limits.unit number) (rows.currency_row (world_of system.old).state number) []) }
@@ -151,7 +151,7 @@ fn write_thread_row<W: Write>(
     manner: Manner,
     number: u32,
     writer: &mut Watched<W>,
-) -> Result<(), PlayFault>
+) -> Result<(), IoFault>
     requires { writer.old.failed ≡ false }
     ensures same { system.new ≡ system.old }
     ensures text { Writes W.contents writer.old writer.new result (option_map_or (texts.thread_line manner (world_of system.old).state.limits.unit number) (rows.thread_row (world_of system.old).state number) []) }

@@ -10,23 +10,23 @@ ghost use Rattle.lot_simulation.specs.World.{opening_world};
 ghost use Rattle.lot_system.specs.Playing.{HasPlayed, IsOpened, IsPlayed, turn_in};
 ghost use Rattle.lot_system.specs.Played.{Leaves, Plays, came_of};
 ghost use Rattle.lot_system.specs.declared.playing.Played.TheVariants.{Done, Refused};
-ghost use Rattle.lot_system.specs.Reading.{Reads};
+ghost use Rattle.lot_io.specs.Reading.{Reads};
 ghost use Rattle.lot_system.specs.Seen.{world_of};
 ghost use Rattle.lot_system.specs.Turns.{IsFresh};
-ghost use Rattle.lot_system.specs.Writing.{IsFaultOf, Puts, Writes};
+ghost use Rattle.lot_io.specs.Writing.{IsFaultOf, Puts, Writes};
 ghost use Rattle.lot_text.specs.Faults.{IsFaultOf as IsParseFaultOf};
 
 use crate::in_time::play_in_time;
 use crate::listing::write_listing;
 use crate::report::write_report;
 use crate::slices::slice_of_kept;
-use crate::writing::flush;
-use crate::{Leftovers, PlayFault, System, TimedRun, read_input};
+use crate::{Leftovers, System, TimedRun};
+use lot_io::{IoFault, Watched, flush, read_input};
 use lot_machine::{Event, Reply};
 use lot_print::{Heading, Page, write_ended, write_fault, write_reply};
 use lot_script::Slice;
 use lot_simulation::{InputFault, Manner};
-use lot_text::{ParseFault, Program, Watched, parse};
+use lot_text::{ParseFault, Program, parse};
 use std::alloc::Global;
 use std::io::{Read, Write};
 
@@ -40,12 +40,12 @@ pub enum Played {
 }
 
 /// Reads an input, makes the turns of its schedule, and writes a line for each turn and then the report; or one line,
-/// if the input is refused.
+/// if the input is refused. With a fault nothing was written, unless the writer has failed.
 pub fn play<R: Read, W: Write>(
     alloc: Global,
     reader: &mut Watched<R>,
     writer: &mut Watched<W>,
-) -> Result<Played, PlayFault>
+) -> Result<Played, IoFault>
     requires { (reader.old.failed ≡ false) × (writer.old.failed ≡ false) }
     ensures ok { OnOk result ((reader.new.failed ≡ false) × (writer.new.failed ≡ false)) }
     ensures flushed { OnOk result (writer.new.flushed ≡ true) }
@@ -55,7 +55,7 @@ pub fn play<R: Read, W: Write>(
 {
     let mut bytes = read_input(alloc, reader)?;
     let Ok(mut leftovers) = Leftovers::none(alloc) else {
-        return Err(PlayFault::Memory);
+        return Err(IoFault::Memory);
     };
     play_bytes(alloc, &mut bytes, &mut leftovers, writer)
 }
@@ -68,14 +68,14 @@ pub fn play_bytes<W: Write>(
     bytes: &mut Vec<u8>,
     leftovers: &mut Leftovers,
     writer: &mut Watched<W>,
-) -> Result<Played, PlayFault>
+) -> Result<Played, IoFault>
     requires { writer.old.failed ≡ false }
     ensures flushed { OnOk result (writer.new.flushed ≡ true) }
     ensures played { Plays W.contents writer.old writer.new result (came_of (program_in bytes.old.items)) (output bytes.old.items) }
 {
     match program_of(alloc, bytes) {
         Ok(program) => play_program(alloc, &program, leftovers, writer),
-        Err(ParseFault::Memory) => Err(PlayFault::Memory),
+        Err(ParseFault::Memory) => Err(IoFault::Memory),
         Err(ParseFault::Input(fault)) => refuse(fault, writer),
     }
 }
@@ -91,7 +91,7 @@ pub fn program_of(alloc: Global, bytes: &mut Vec<u8>) -> Result<Program, ParseFa
 }
 
 /// Writes the one line of a refused input, as `play` does.
-pub fn refuse<W: Write>(fault: InputFault, writer: &mut Watched<W>) -> Result<Played, PlayFault>
+pub fn refuse<W: Write>(fault: InputFault, writer: &mut Watched<W>) -> Result<Played, IoFault>
     requires { writer.old.failed ≡ false }
     ensures flushed { OnOk result (writer.new.flushed ≡ true) }
     ensures played { Plays W.contents writer.old writer.new result Refused (fault_line fault) }
@@ -107,7 +107,7 @@ fn play_program<W: Write>(
     program: &Program,
     leftovers: &mut Leftovers,
     writer: &mut Watched<W>,
-) -> Result<Played, PlayFault>
+) -> Result<Played, IoFault>
     requires { writer.old.failed ≡ false }
     ensures flushed { OnOk result (writer.new.flushed ≡ true) }
     ensures played { Plays W.contents writer.old writer.new result Done (played_output program.now program.now.duration) }
@@ -124,14 +124,14 @@ fn play_scheduled<W: Write>(
     program: &Program,
     leftovers: &mut Leftovers,
     writer: &mut Watched<W>,
-) -> Result<Played, PlayFault>
+) -> Result<Played, IoFault>
     requires { writer.old.failed ≡ false }
     ensures flushed { OnOk result (writer.new.flushed ≡ true) }
     ensures played { Plays W.contents writer.old writer.new result Done (scheduled_output program.now) }
 {
     let room = program.schedule().len() as u32;
     let Ok(mut system) = System::open(alloc, program, room) else {
-        return Err(PlayFault::Memory);
+        return Err(IoFault::Memory);
     };
     play_schedule(program, &mut system, leftovers, writer)?;
     leftovers.note_end(&mut system);
@@ -144,14 +144,14 @@ fn play_timed<W: Write>(
     program: &Program,
     leftovers: &mut Leftovers,
     writer: &mut Watched<W>,
-) -> Result<Played, PlayFault>
+) -> Result<Played, IoFault>
     requires timed { IsSome program.now.duration }
     requires working { writer.old.failed ≡ false }
     ensures flushed { OnOk result (writer.new.flushed ≡ true) }
     ensures played { Plays W.contents writer.old writer.new result Done (timed_output program.now) }
 {
     let Ok(run) = TimedRun::open(alloc, program) else {
-        return Err(PlayFault::Memory);
+        return Err(IoFault::Memory);
     };
     let TimedRun {
         mut system,
@@ -168,7 +168,7 @@ fn play_schedule<W: Write>(
     system: &mut System,
     leftovers: &mut Leftovers,
     writer: &mut Watched<W>,
-) -> Result<(), PlayFault>
+) -> Result<(), IoFault>
     requires opened { IsOpened program.now system.old }
     requires working { writer.old.failed ≡ false }
     ensures flushed { OnOk result (writer.new.flushed ≡ true) }
@@ -185,7 +185,7 @@ fn play_turns<W: Write>(
     system: &mut System,
     leftovers: &mut Leftovers,
     writer: &mut Watched<W>,
-) -> Result<(), PlayFault>
+) -> Result<(), IoFault>
     requires opened { IsOpened program.now system.old }
     requires working { writer.old.failed ≡ false }
     ensures played { OnOk result (HasPlayed program.now program.now.schedule system.new) }
@@ -195,7 +195,8 @@ fn play_turns<W: Write>(
     for actor in program.schedule() {
         play_turn(system, u32::from(*actor), leftovers, writer, &mut page)?;
     }
-    Ok(page.write_out(writer)?)
+    page.write_out(writer)?;
+    Ok(())
 }
 
 /// Makes one turn, with the slice of the actor's work, and puts its lines on the page.
@@ -206,7 +207,7 @@ fn play_turn<W: Write>(
     leftovers: &mut Leftovers,
     writer: &mut Watched<W>,
     page: &mut Page,
-) -> Result<(), PlayFault>
+) -> Result<(), IoFault>
     requires there { actor ≤ system.old.setting.program.limits.processors }
     requires room { length system.old.history < system.old.setting.room }
     requires working { writer.old.failed ≡ false }
@@ -214,7 +215,7 @@ fn play_turn<W: Write>(
     ensures text { Puts W.contents writer.old writer.new page.old page.new result (turn_text manners.Whole actor (turn_in system.old actor)) }
 {
     if system.is_ended(actor) {
-        return Ok(write_ended(writer, page, heading(system, Manner::Whole, actor))?);
+        return write_ended(writer, page, heading(system, Manner::Whole, actor));
     }
     let mut event = Event::Expire(actor);
     let mut reply = Reply::Idle;
@@ -245,7 +246,7 @@ pub fn put_answer<W: Write>(
     reply: &Reply,
     writer: &mut Watched<W>,
     page: &mut Page,
-) -> Result<(), PlayFault>
+) -> Result<(), IoFault>
     requires { writer.old.failed ≡ false }
     ensures same { system.new ≡ system.old }
     ensures text { Puts W.contents writer.old writer.new page.old page.new result (front manner ++ (decimal actor ++ (codes " " ++ reply_text manner (world_of system.old).state event.now reply.now))) }
@@ -255,7 +256,7 @@ pub fn put_answer<W: Write>(
             page.write_out(writer)?;
             write_listing(system, manner, actor, kind, writer)
         }
-        _ => Ok(write_reply(writer, page, heading(system, manner, actor), event, reply)?),
+        _ => write_reply(writer, page, heading(system, manner, actor), event, reply),
     }
 }
 

@@ -8,18 +8,18 @@ ghost use Rattle.lot_simulation.specs.Report.{turns_made};
 ghost use Rattle.lot_machine.specs.Rows.{thread_row};
 ghost use Rattle.lot_simulation.specs.Texts.{lines_for};
 ghost use Rattle.lot_system.specs.Seen.{world_of};
-ghost use Rattle.lot_system.specs.Writing.{Writes};
+ghost use Rattle.lot_io.specs.Writing.{Writes};
 
-use crate::{PlayFault, System};
+use crate::System;
+use lot_io::{IoFault, Watched};
 use lot_print::{
     ProcessorTotal, WholeTotal, write_processor_total, write_report_line, write_thread_total,
     write_whole_total,
 };
-use lot_text::Watched;
 use std::io::Write;
 
 /// Writes each thread's line.
-fn write_threads<W: Write>(system: &mut System, writer: &mut Watched<W>) -> Result<(), PlayFault>
+fn write_threads<W: Write>(system: &mut System, writer: &mut Watched<W>) -> Result<(), IoFault>
     requires { writer.old.failed ≡ false }
     ensures same { system.new ≡ system.old }
     ensures text { Writes W.contents writer.old writer.new result (lines_for reports.thread_total (thread_row (world_of system.old).state) (numbers (world_of system.old).state.records)) }
@@ -35,7 +35,7 @@ fn write_thread<W: Write>(
     system: &mut System,
     number: u32,
     writer: &mut Watched<W>,
-) -> Result<(), PlayFault>
+) -> Result<(), IoFault>
     requires { writer.old.failed ≡ false }
     ensures same { system.new ≡ system.old }
     ensures text { Writes W.contents writer.old writer.new result (option_map_or (reports.thread_total number) (thread_row (world_of system.old).state number) []) }
@@ -47,7 +47,7 @@ fn write_thread<W: Write>(
 }
 
 /// Writes each processor's line.
-fn write_processors<W: Write>(system: &System, writer: &mut Watched<W>) -> Result<(), PlayFault>
+fn write_processors<W: Write>(system: &System, writer: &mut Watched<W>) -> Result<(), IoFault>
     requires { writer.old.failed ≡ false }
     ensures { Writes W.contents writer.old writer.new result (flat_map (reports.processor_total (turns_made system.now.setting.program system.now.history)) (range_with_len 1 (world_of system.now).state.limits.processors)) }
 {
@@ -62,7 +62,7 @@ fn write_processor<W: Write>(
     system: &System,
     processor: u32,
     writer: &mut Watched<W>,
-) -> Result<(), PlayFault>
+) -> Result<(), IoFault>
     requires working { writer.old.failed ≡ false }
     requires there { processor ≤ system.now.setting.program.limits.processors }
     ensures { Writes W.contents writer.old writer.new result (reports.processor_total (turns_made system.now.setting.program system.now.history) processor) }
@@ -74,12 +74,11 @@ fn write_processor<W: Write>(
         idles: counts.idles,
         ticks: counts.ticks,
     };
-    write_processor_total(writer, total)?;
-    Ok(())
+    write_processor_total(writer, total)
 }
 
 /// Writes the totals of all actors.
-fn write_total<W: Write>(system: &System, writer: &mut Watched<W>) -> Result<(), PlayFault>
+fn write_total<W: Write>(system: &System, writer: &mut Watched<W>) -> Result<(), IoFault>
     requires { writer.old.failed ≡ false }
     ensures { Writes W.contents writer.old writer.new result (reports.whole_total (length (world_of system.now).history) (turns_made system.now.setting.program system.now.history)) }
 {
@@ -89,12 +88,11 @@ fn write_total<W: Write>(system: &System, writer: &mut Watched<W>) -> Result<(),
         quanta: counts.quanta,
         ticks: counts.ticks,
     };
-    write_whole_total(writer, total)?;
-    Ok(())
+    write_whole_total(writer, total)
 }
 
 /// Writes the report: a line for each thread, a line for each processor, and the totals.
-pub fn write_report<W: Write>(system: &mut System, writer: &mut Watched<W>) -> Result<(), PlayFault>
+pub fn write_report<W: Write>(system: &mut System, writer: &mut Watched<W>) -> Result<(), IoFault>
     requires { writer.old.failed ≡ false }
     ensures same { system.new ≡ system.old }
     ensures text { Writes W.contents writer.old writer.new result (reports.report system.old.setting.program system.old.history) }

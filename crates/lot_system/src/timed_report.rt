@@ -13,16 +13,17 @@ ghost use Rattle.lot_simulation.specs.TimedReport as reports;
 ghost use Rattle.lot_simulation.specs.TimedReport.{actor_turns, live_part};
 ghost use Rattle.lot_system.specs.InTime.{IsAtEnd, moment_in};
 ghost use Rattle.lot_system.specs.Seen.{world_of};
-ghost use Rattle.lot_system.specs.Writing.{Writes};
+ghost use Rattle.lot_io.specs.Writing.{Writes};
 
+use crate::System;
 use crate::following::Following;
-use crate::{PlayFault, System};
+use lot_io::{IoFault, Watched};
 use lot_machine::Status;
 use lot_print::{
     ThreadShares, TimedProcessorTotal, TimedWholeTotal, write_report_line,
     write_timed_processor_total, write_timed_thread_total, write_timed_whole_total,
 };
-use lot_text::{Program, Watched};
+use lot_text::Program;
 use std::io::Write;
 
 /// Writes the report of a system that has made all of its program's turns in the order of time: a line for each
@@ -32,7 +33,7 @@ pub fn write_timed_report<W: Write>(
     system: &mut System,
     following: &Following,
     writer: &mut Watched<W>,
-) -> Result<(), PlayFault>
+) -> Result<(), IoFault>
     requires program { system.old.setting.program ≡ program.now }
     requires end { IsAtEnd system.old following.now }
     requires working { writer.old.failed ≡ false }
@@ -63,7 +64,7 @@ fn write_threads<W: Write>(
     system: &mut System,
     following: &Following,
     writer: &mut Watched<W>,
-) -> Result<(), PlayFault>
+) -> Result<(), IoFault>
     requires end { IsAtEnd system.old following.now }
     requires working { writer.old.failed ≡ false }
     ensures same { system.new ≡ system.old }
@@ -118,7 +119,7 @@ fn write_thread<W: Write>(
     thread: u32,
     all_values: u128,
     writer: &mut Watched<W>,
-) -> Result<(), PlayFault>
+) -> Result<(), IoFault>
     requires end { IsAtEnd system.old following.now }
     requires there { IsBetween 1 system.old.setting.program.limits.threads thread }
     requires values { all_values ≡ facts.live_value (world_of system.old).state }
@@ -128,17 +129,17 @@ fn write_thread<W: Write>(
     ensures text { Writes W.contents writer.old writer.new result (option_map_or (reports.timed_thread_total (world_of system.old).state (timed_turns system.old.setting.program) (total_of ticks_in (actor_turns (timed_turns system.old.setting.program))) thread) (thread_row (world_of system.old).state thread) []) }
 {
     let live_value = live_value_of(system, thread);
-    if let Some(row) = system.thread_row(thread) {
-        let shares = ThreadShares {
-            all_ticks: system.total().ticks,
-            live_value,
-            all_values,
-            mutexes: following.mutexes.of(thread),
-            replies: following.replies.of(thread),
-        };
-        write_timed_thread_total(writer, thread, &row, shares)?;
-    }
-    Ok(())
+    let Some(row) = system.thread_row(thread) else {
+        return Ok(());
+    };
+    let shares = ThreadShares {
+        all_ticks: system.total().ticks,
+        live_value,
+        all_values,
+        mutexes: following.mutexes.of(thread),
+        replies: following.replies.of(thread),
+    };
+    write_timed_thread_total(writer, thread, &row, shares)
 }
 
 /// Writes each processor's line.
@@ -147,7 +148,7 @@ fn write_processors<W: Write>(
     following: &Following,
     end: u32,
     writer: &mut Watched<W>,
-) -> Result<(), PlayFault>
+) -> Result<(), IoFault>
     requires end { IsAtEnd system.now following.now }
     requires working { writer.old.failed ≡ false }
     ensures { Writes W.contents writer.old writer.new result (flat_map (reports.timed_processor_total (moment_in system.now following.now) end (actor_turns (timed_turns system.now.setting.program))) (range_with_len 1 (world_of system.now).state.limits.processors)) }
@@ -165,7 +166,7 @@ fn write_processor<W: Write>(
     end: u32,
     processor: u32,
     writer: &mut Watched<W>,
-) -> Result<(), PlayFault>
+) -> Result<(), IoFault>
     requires end { IsAtEnd system.now following.now }
     requires there { IsBetween 1 system.now.setting.program.limits.processors processor }
     requires working { writer.old.failed ≡ false }
@@ -179,7 +180,7 @@ fn write_processor<W: Write>(
         ticks: counts.ticks,
         unused: following.timeline.idle_until(end, processor),
     };
-    Ok(write_timed_processor_total(writer, total)?)
+    write_timed_processor_total(writer, total)
 }
 
 /// Writes the totals of all actors.
@@ -187,7 +188,7 @@ fn write_total<W: Write>(
     system: &System,
     following: &Following,
     writer: &mut Watched<W>,
-) -> Result<(), PlayFault>
+) -> Result<(), IoFault>
     requires end { IsAtEnd system.now following.now }
     requires working { writer.old.failed ≡ false }
     ensures { Writes W.contents writer.old writer.new result (reports.timed_whole_total (moment_in system.now following.now) (actor_turns (timed_turns system.now.setting.program))) }
@@ -200,5 +201,5 @@ fn write_total<W: Write>(
         refused: following.refused,
         left: system.commands_left() as u64,
     };
-    Ok(write_timed_whole_total(writer, total)?)
+    write_timed_whole_total(writer, total)
 }

@@ -7,4 +7,3 @@ pub mod ScriptLemmas
 pub mod SeedLemmas
 pub mod TokenLemmas
 pub mod WordLemmas
-pub mod WriteLemmas

@@ -2,4 +2,3 @@ pub mod Faults
 pub mod Numbers
 pub mod Programs
 pub mod Readings
-pub mod Watching

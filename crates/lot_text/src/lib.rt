@@ -1,4 +1,4 @@
-//! Inputs: what their bytes say, and readers and writers that remember whether they have failed.
+//! Inputs: what their bytes say.
 #![tactic(auto)]
 
 mod body;
@@ -12,10 +12,9 @@ mod reading;
 mod runs;
 mod script_lines;
 mod tokens;
-mod watched;
 mod words;
 
 pub use fault::ParseFault;
 pub use input::parse;
+pub use lot_io::Watched;
 pub use program::Program;
-pub use watched::Watched;

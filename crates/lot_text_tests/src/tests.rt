@@ -1,18 +1,13 @@
-ghost use Rattle.std.specs.Prelude.{◌≤◌, IfOk};
-
 mod printing;
 mod slices;
-mod watched;
 
 use crate::fault_of;
 use lot_machine::{Command, Kind, Limits, Name, Sizes};
 use lot_script::Script;
 use lot_simulation::{InputFault, InputRefusal, Line};
-use lot_text::{ParseFault, Program, Watched, parse};
+use lot_text::{ParseFault, Program, parse};
 use std::alloc::{AllocError, Global};
 use std::fmt::Debug;
-use std::io;
-use std::io::{Error, ErrorKind, Read, Write};
 use std::process::Abort;
 use std::test::Fail;
 
@@ -769,186 +764,6 @@ fn meets_limits_of_phrases(rt: HostRuntime) -> Result<(), Fail> {
         check_long(&rt, rt.alloc(), text.as_str(), wanted);
     }
     Ok(())
-}
-
-/// A reader and writer of single bytes, whose k-th call fails: with an error of this kind, or by taking nothing.
-#[derive(Drop)]
-struct Failing {
-    calls: u32,
-    fails_at: u32,
-    kind: Option<ErrorKind>,
-}
-
-impl Failing {
-    /// The count of one more call.
-    fn call(&mut self) -> io::Result<usize>
-        ensures { IfOk result (λ n. n ≤ 1) }
-    {
-        self.calls = self.calls.saturating_add(1);
-        if self.calls != self.fails_at {
-            return Ok(1);
-        }
-        match self.kind {
-            Some(kind) => Err(Error::new(kind, "as asked")),
-            None => Ok(0),
-        }
-    }
-}
-
-impl Read for Failing {
-    fn read(&mut self, buf: &mut [u8]) -> io::Result<usize> {
-        let count = self.call()?;
-        Ok(count.min(buf.len()))
-    }
-}
-
-impl Write for Failing {
-    fn write(&mut self, buf: &[u8]) -> io::Result<usize> {
-        let count = self.call()?;
-        Ok(count.min(buf.len()))
-    }
-
-    fn flush(&mut self) -> io::Result<()> {
-        self.call()?;
-        Ok(())
-    }
-}
-
-/// A watched reader or writer whose k-th call fails in this way.
-fn make_failing(kind: Option<ErrorKind>, fails_at: u32) -> Watched<Failing> {
-    Watched::new(Failing {
-        calls: 0,
-        fails_at,
-        kind,
-    })
-}
-
-/// How many calls have reached the reader or writer.
-fn calls_of(watched: Watched<Failing>) -> u32 {
-    let Failing { calls, .. } = watched.into_inner();
-    calls
-}
-
-fn check_write_all(rt: &impl Abort, writer: &mut Watched<Failing>, fails: bool) {
-    assert_eq!(rt; writer.write_all(b"abc").is_err(), fails);
-    assert_eq!(rt; writer.failed(), fails);
-}
-
-fn check_flush(rt: &impl Abort, writer: &mut Watched<Failing>, fails: bool) {
-    assert_eq!(rt; writer.flush().is_err(), fails);
-}
-
-fn check_write(rt: &impl Abort, writer: &mut Watched<Failing>) {
-    assert_eq!(rt; writer.write(b"d").is_err(), writer.failed());
-}
-
-/// How many of five calls reach a writer whose call of this number fails, the first three of which write.
-fn calls_reaching(kind: Option<ErrorKind>, fails_at: u32) -> u32 {
-    if fails_at <= 3 {
-        fails_at
-    } else if kind.is_some() {
-        4
-    } else {
-        5
-    }
-}
-
-/// Writes three bytes, flushes, and writes one more.
-fn check_writes(rt: &impl Abort, kind: Option<ErrorKind>, fails_at: u32) {
-    let mut writer = make_failing(kind, fails_at);
-    check_write_all(rt, &mut writer, fails_at <= 3);
-    check_flush(rt, &mut writer, fails_at <= 3 || kind.is_some());
-    check_write(rt, &mut writer);
-    assert_eq!(rt; calls_of(writer), calls_reaching(kind, fails_at));
-}
-
-fn check_kind_of_write(rt: &impl Abort, kind: Option<ErrorKind>) {
-    for fails_at in 1..5 {
-        check_writes(rt, kind, fails_at);
-    }
-}
-
-#[test]
-fn keeps_failures(rt: HostRuntime) {
-    for kind in [Some(ErrorKind::Other), Some(ErrorKind::Interrupted), None] {
-        check_kind_of_write(&rt, kind);
-    }
-}
-
-/// A writer that keeps whether all that it took was flushed, and whose flushes fail.
-#[derive(Drop)]
-struct Flushing {
-    is_flushed: bool,
-    fails: bool,
-}
-
-impl Write for Flushing {
-    fn write(&mut self, buf: &[u8]) -> io::Result<usize> {
-        self.is_flushed = false;
-        Ok(buf.len())
-    }
-
-    fn flush(&mut self) -> io::Result<()> {
-        if self.fails {
-            return Err(Error::new(ErrorKind::Other, "as asked"));
-        }
-        self.is_flushed = true;
-        Ok(())
-    }
-}
-
-/// Has the writer take two bytes, which are then not flushed.
-fn check_taken(rt: &impl Abort, writer: &mut Watched<Flushing>) {
-    assert!(rt; writer.flushed());
-    assert_eq!(rt; writer.write(b"ab").ok(), Some(2));
-    assert!(rt; !writer.flushed());
-}
-
-/// Flushes the writer, which fails or flushes all.
-fn check_flushed(rt: &impl Abort, writer: &mut Watched<Flushing>, fails: bool) {
-    assert_eq!(rt; writer.flush().is_err(), fails);
-    assert_eq!(rt; writer.flushed(), !fails);
-}
-
-/// Whether the flush reached the writer.
-fn is_flushed(writer: Watched<Flushing>) -> bool {
-    let Flushing { is_flushed, .. } = writer.into_inner();
-    is_flushed
-}
-
-// No clause can tell a flush that isn't handed on.
-#[test]
-fn hands_flushes_on(rt: HostRuntime) {
-    for fails in [false, true] {
-        let mut writer = Watched::new(Flushing {
-            is_flushed: true,
-            fails,
-        });
-        check_taken(&rt, &mut writer);
-        check_flushed(&rt, &mut writer, fails);
-        assert_eq!(rt; is_flushed(writer), !fails);
-    }
-}
-
-fn check_read(rt: &impl Abort, alloc: Global, reader: &mut Watched<Failing>) {
-    let mut bytes = Vec::new(alloc);
-    assert!(rt; reader.read_to_end(&mut bytes).is_err());
-    assert!(rt; reader.failed());
-}
-
-fn check_kind_of_read(rt: &impl Abort, alloc: Global, kind: ErrorKind) {
-    for fails_at in 1..4 {
-        let mut reader = make_failing(Some(kind), fails_at);
-        check_read(rt, alloc, &mut reader);
-        assert_eq!(rt; calls_of(reader), fails_at);
-    }
-}
-
-#[test]
-fn keeps_failed_reads(rt: HostRuntime) {
-    for kind in [ErrorKind::Other, ErrorKind::Interrupted] {
-        check_kind_of_read(&rt, rt.alloc(), kind);
-    }
 }
 
 fn check_text(

@@ -1,9 +1,9 @@
 //! A short run, as tables and as a picture.
 use super::SCHEDULED;
 use lot_curves::Measure;
+use lot_io::{IoFault, Watched};
 use lot_pictures::{chart, shares};
-use lot_system::{PlayFault, Played};
-use lot_text::Watched;
+use lot_system::Played;
 use std::alloc::Global;
 use std::process::Abort;
 use std::test::Fail;
@@ -25,7 +25,7 @@ fn check_shares(
     alloc: Global,
     measure: Measure,
     input: &str,
-    ended: Result<Played, PlayFault>,
+    ended: Result<Played, IoFault>,
     expected: &str,
 ) {
     let mut reader = Watched::new(input.as_bytes());

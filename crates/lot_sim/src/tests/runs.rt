@@ -3,8 +3,8 @@
 use crate::run::RunStop;
 use crate::status::status;
 use crate::tests::check_words_on;
+use lot_io::IoFault;
 use lot_processors::FreeRunFault;
-use lot_system::PlayFault;
 use std::alloc::Global;
 use std::str;
 use std::sync::Wait;
@@ -175,7 +175,7 @@ fn a_run_is_played_back(rt: HostRuntime) -> Result<(), Fail> {
 #[test]
 fn texts_of_stops(rt: HostRuntime) -> Result<(), Fail> {
     for (stop, text) in [
-        (RunStop::Play(PlayFault::Read), "the reader has failed"),
+        (RunStop::Play(IoFault::Read), "the reader has failed"),
         (RunStop::Workers(FreeRunFault::Memory), "out of memory"),
     ] {
         let shown = format!(in rt.alloc(); "{stop}")?;

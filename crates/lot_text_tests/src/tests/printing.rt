@@ -1,25 +1,25 @@
 //! What is printed for replies, listings, totals, histories and refused inputs. What is expected is written out by hand.
 ghost use Rattle.std.specs.Prelude.{◌≡◌, false};
 
+use lot_io::{IoFault, Watched};
 use lot_machine::{
     Action, CurrencyRow, Event, Kind, Limits, Name, Outcome, Refusal, Reply, Sizes, Status,
     ThreadRow, TicketRow, TrapRefusal,
 };
 use lot_print::{
     Heading, Page, ProcessorTotal, ThreadShares, TimedProcessorTotal, TimedWholeTotal, WholeTotal,
-    WriteFault, write_currency, write_ended, write_fault, write_history, write_listing_line,
+    write_currency, write_ended, write_fault, write_history, write_listing_line,
     write_processor_total, write_reply, write_report_line, write_thread, write_thread_total,
     write_ticket, write_timed_processor_total, write_timed_thread_total, write_timed_whole_total,
     write_whole_total,
 };
 use lot_simulation::{InputFault, InputRefusal, Manner, Waits};
-use lot_text::Watched;
 use std::alloc::Global;
 use std::process::Abort;
 use std::test::Fail;
 
 /// Checks the text written by a call that returned this.
-fn check(rt: &impl Abort, writer: Watched<Vec<u8>>, ended: Result<(), WriteFault>, wanted: &str) {
+fn check(rt: &impl Abort, writer: Watched<Vec<u8>>, ended: Result<(), IoFault>, wanted: &str) {
     assert!(rt; ended.is_ok(), "{wanted}");
     let written = writer.into_inner();
     assert_eq!(rt; written.as_slice(), wanted.as_bytes(), "{wanted}");
@@ -427,7 +427,7 @@ fn write_small_report(
     thread: &ThreadRow,
     processor: ProcessorTotal,
     total: WholeTotal,
-) -> Result<(), WriteFault>
+) -> Result<(), IoFault>
     requires { writer.old.failed ≡ false }
 {
     write_report_line(writer)?;

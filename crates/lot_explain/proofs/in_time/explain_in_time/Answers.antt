@@ -3,8 +3,7 @@ use Rattle.std.proofs.Common.{◌≡◌, ℕ, List, Err, rules}
 use Rattle.lot_simulation.specs.Timed.{timed_turns}
 use Rattle.lot_simulation.specs.TimedReport.{timed_report}
 use Rattle.lot_simulation.specs.World.{Program, opening_world}
-use Rattle.lot_print.proofs.WritingFacts.{begins-front, begins-after}
-use Rattle.lot_system.proofs.WritingFacts.{writes-after, writes-flushed}
+use Rattle.lot_io.proofs.WritingFacts.{begins-after, begins-front, writes-after, writes-flushed}
 use Rattle.lot_explain.specs.Explained.{explained_times}
 use Rattle.lot_explain.proofs.in_time.explain_in_time.Goals as goal
 

@@ -1,6 +1,6 @@
 use Rattle.std.proofs.Common.{◌≡◌, ◌++◌, Err, rules, sym, ◌∙◌, ap, subst}
 use Rattle.std.specs.Option.{IfSome}
-use Rattle.lot_print.specs.Writing.{Begins, IsPut}
+use Rattle.lot_io.specs.Writing.{Begins, IsPut}
 use Rattle.lot_simulation.specs.declared.manner.Manner.TheVariants.{Timed}
 use Rattle.lot_simulation.specs.World.Answer.{Answered}
 use Rattle.lot_system.specs.Playing.{turn_in}

@@ -1,6 +1,5 @@
-use Rattle.std.proofs.Common.{◌≡◌, Err, refl, rules, ◌∙◌}
+use Rattle.std.proofs.Common.{◌≡◌, Err, rules, ◌∙◌}
 use Rattle.lot_print.proofs.PageFacts.{put-all, put-begun}
-use Rattle.lot_system.specs.declared.fault.PlayFault.TheVariants.{Write}
 use Rattle.lot_system.proofs.FollowFacts.{end-then}
 use Rattle.lot_explain.proofs.TimeTexts.{times-all, times-next, times-stopped}
 use Rattle.lot_explain.proofs.in_time.explain_turns.Goals as goal
@@ -35,7 +34,7 @@ returns-in_err-write_out-clause-text g c =
     let i = c.loop.invariant in
     let made = c.in_ok-explain_next.ensures.made in
     let put = c.in_ok-explain_next.ensures.text in
-    let failed : c.from_residual-in_err-write_out.result ≡ Err Write = search rules in
+    let failed : c.from_residual-in_err-write_out.result ≡ Err c.in_err-write_out.field-0.0 = search rules in
     let told = c.in_err-write_out.ensures.text in
     let old = g.W.Write.contents c.args.writer.now.inner in
     let mid = g.W.Write.contents c.loop.writer.inner in
@@ -43,7 +42,7 @@ returns-in_err-write_out-clause-text g c =
     let new = g.W.Write.contents c.write_out.new.writer.inner in
     let page = c.explain_next.new.page in
     let texts = times-all c.args.program.now c.loop.system c.loop.following i.followed old mid then_there c.loop.page i.bytes c.explain_next.new.system c.explain_next.new.following c.in_ok-explain_next.field-0 made page put.1 c.if-branch.false in
-    rw failed (refl, told.0, put-begun old then_there new page _ texts told.1)
+    rw failed (told.0, told.1, put-begun old then_there new page _ texts told.2)
 
 pub returns-clause-end : goal.returns-clause-end
 returns-clause-end g c = end-then c.args.program.now c.loop.system c.loop.following c.loop.invariant.followed c.explain_next.new.system c.explain_next.new.following c.in_ok-explain_next.field-0 c.in_ok-explain_next.ensures.made c.if-branch.false

@@ -1,5 +1,5 @@
 use Rattle.std.proofs.Common.{◌≡◌, ◌-◌, [], false, length}
-use Rattle.lot_print.specs.Writing.{IsPut}
+use Rattle.lot_io.specs.Writing.{IsPut}
 use Rattle.lot_simulation.specs.Timed.{timed_room}
 use Rattle.lot_simulation.specs.World.{opening_world}
 use Rattle.lot_system.specs.InTime.{IsFollowed, turns_done}

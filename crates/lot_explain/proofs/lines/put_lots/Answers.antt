@@ -1,17 +1,16 @@
-use Rattle.std.proofs.Common.{◌≡◌, Some, Err, refl, rules, sym, ◌∙◌}
-use Rattle.lot_print.proofs.WritingFacts.{begins-front}
-use Rattle.lot_system.specs.declared.fault.PlayFault.TheVariants.{Write}
+use Rattle.std.proofs.Common.{◌≡◌, Some, Err, rules, sym, ◌∙◌}
+use Rattle.lot_io.proofs.WritingFacts.{begins-front}
 use Rattle.lot_system.proofs.WritingFacts.{put-written}
 use Rattle.lot_explain.specs.Lots.{won_in, won_lines}
 use Rattle.lot_explain.proofs.lines.put_lots.Goals as goal
 
 pub returns-in_err-write_out-in-Some : goal.returns-in_err-write_out-in-Some
 returns-in_err-write_out-in-Some g c =
-    let is : c.from_residual.result ≡ Err Write = search rules in
+    let is : c.from_residual.result ≡ Err c.in_err-write_out-in-Some.field-0.0 = search rules in
     let told = c.in_err-write_out-in-Some.ensures.text in
     let h = c.args.heading in
     let text = won_lines h.manner h.unit h.actor c.args.lots.now (won_in c.args.event.now c.args.reply) in
-    rw is (refl, told.0, begins-front (g.W.Write.contents c.args.writer.now.inner) (g.W.Write.contents c.write_out.new.writer.inner) c.args.page.now text told.1)
+    rw is (told.0, told.1, begins-front (g.W.Write.contents c.args.writer.now.inner) (g.W.Write.contents c.write_out.new.writer.inner) c.args.page.now text told.2)
 
 pub returns-in_ok-write_out-in-Some : goal.returns-in_ok-write_out-in-Some
 returns-in_ok-write_out-in-Some g c =

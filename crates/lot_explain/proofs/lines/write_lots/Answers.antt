@@ -1,19 +1,18 @@
-use Rattle.std.proofs.Common.{◌≡◌, Err, refl, rules}
-use Rattle.lot_system.specs.declared.fault.PlayFault.TheVariants.{Write}
+use Rattle.std.proofs.Common.{◌≡◌, Err, rules}
 use Rattle.lot_explain.proofs.LineFacts.{first-more, lines-more, lines-stop}
 use Rattle.lot_explain.proofs.lines.write_lots.Goals as goal
 
 pub returns-in_err-write_lot : goal.returns-in_err-write_lot
 returns-in_err-write_lot g c =
-    let is : c.from_residual.result ≡ Err Write = search rules in
+    let is : c.from_residual.result ≡ Err c.in_err-write_lot.field-0.0 = search rules in
     let i = c.loop-lot.invariant in
     let told = c.in_err-write_lot.ensures in
     let h = c.args.heading in
     let x = c.lot-item.result in
     rw is (
-      refl,
       told.0,
-      lines-stop h.manner h.unit h.actor c.args.won c.args.lots.now c.loop-lot.lot-index x x (search rules) c.lot-item.is c.loop-lot.first i.first (g.W.Write.contents c.args.writer.now.inner) (g.W.Write.contents c.loop-lot.writer.inner) (g.W.Write.contents c.write_lot.new.writer.inner) i.bytes told.1,
+      told.1,
+      lines-stop h.manner h.unit h.actor c.args.won c.args.lots.now c.loop-lot.lot-index x x (search rules) c.lot-item.is c.loop-lot.first i.first (g.W.Write.contents c.args.writer.now.inner) (g.W.Write.contents c.loop-lot.writer.inner) (g.W.Write.contents c.write_lot.new.writer.inner) i.bytes told.2,
     )
 
 pub loop-lot-preserved : goal.loop-lot-preserved

@@ -3,11 +3,9 @@ use Rattle.std.proofs.Common.{◌≡◌, ℕ, List, Err, rules, subst}
 use Rattle.lot_explain.specs.Explained.{explained_texts}
 use Rattle.lot_simulation.specs.Report.{report}
 use Rattle.lot_simulation.specs.World.{Program, opening_world, system_run}
-use Rattle.lot_print.specs.Writing.{Begins}
-use Rattle.lot_system.specs.Writing.{Written}
+use Rattle.lot_io.specs.Writing.{Begins, Written}
 use Rattle.lot_system.proofs.PlayingFacts.{report-is}
-use Rattle.lot_print.proofs.WritingFacts.{begins-front, begins-after}
-use Rattle.lot_system.proofs.WritingFacts.{writes-after, writes-flushed}
+use Rattle.lot_io.proofs.WritingFacts.{begins-after, begins-front, writes-after, writes-flushed}
 use Rattle.lot_explain.proofs.scheduled.explain_schedule.Goals as goal
 
 abbrev texts : Program → List ℕ

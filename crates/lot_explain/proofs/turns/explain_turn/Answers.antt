@@ -1,12 +1,10 @@
-use Rattle.std.proofs.Common.{◌≡◌, ◌++◌, Err, refl, rules, sym, ◌∙◌, subst}
+use Rattle.std.proofs.Common.{◌≡◌, sym, ◌∙◌, subst}
 use Rattle.std.specs.Option.{IfSome}
-use Rattle.lot_print.specs.Writing.{Begins}
+use Rattle.lot_io.specs.Writing.{Put}
 use Rattle.lot_simulation.specs.declared.manner.Manner.TheVariants.{Whole}
 use Rattle.lot_simulation.specs.World.Answer.{Answered, Ended}
-use Rattle.lot_system.specs.declared.fault.PlayFault.TheVariants.{Write}
 use Rattle.lot_system.specs.Playing.{turn_in}
 use Rattle.lot_system.specs.Seen.{Seen, after_turn}
-use Rattle.lot_system.specs.Writing.{Put}
 use Rattle.lot_explain.specs.Lots.{total_of, won_in}
 use Rattle.lot_explain.proofs.TurnFacts.{answered-is, ended-is}
 use Rattle.lot_explain.proofs.WonFacts.{won-total}
@@ -34,11 +32,9 @@ returns-in-Some-clause-text g c =
     let text = answered-is old actor Whole h.manner h.actor told.manner told.actor h.unit c.as_slice.result.now e r c.next_turn.new.system told.unit answer (c.as_slice.ensures ∙ c.gather.ensures.lots e r answer) now in
     subst (Put (g.W.Write.contents c.args.writer.now.inner) (g.W.Write.contents c.put_turn.new.writer.inner) c.args.page.now c.put_turn.new.page c.put_turn.new.writer.failed c.put_turn.result) text c.put_turn.ensures.text
 
-pub returns-in_err-write_ended-in-None-clause-text : goal.returns-in_err-write_ended-in-None-clause-text
-returns-in_err-write_ended-in-None-clause-text g c =
-    let is : c.from_residual.result ≡ Err Write = search rules in
-    let told = c.in_err-write_ended-in-None.ensures in
+pub returns-in-None-clause-text : goal.returns-in-None-clause-text
+returns-in-None-clause-text g c =
     let h = c.heading-heading.result in
     let ended : (turn_in c.args.system.now c.args.actor).answer ≡ Ended = subst (λ (x : Seen). (turn_in x c.args.actor).answer ≡ Ended) c.gather.ensures.same c.in-None.ensures.ended.1 in
     let text = ended-is c.args.system.now c.args.actor Whole h.manner h.actor c.heading-heading.ensures.manner c.heading-heading.ensures.actor ended in
-    rw is (refl, told.0, subst (λ t. Begins (g.W.Write.contents c.args.writer.now.inner) (g.W.Write.contents c.write_ended.new.writer.inner) (c.args.page.now ++ t)) text told.1)
+    subst (Put (g.W.Write.contents c.args.writer.now.inner) (g.W.Write.contents c.write_ended.new.writer.inner) c.args.page.now c.write_ended.new.page c.write_ended.new.writer.failed c.write_ended.result) text c.write_ended.ensures

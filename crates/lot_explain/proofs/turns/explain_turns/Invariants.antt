@@ -1,6 +1,6 @@
 use Rattle.std.proofs.Common.{◌≡◌, [], false, take}
 use Rattle.lot_simulation.specs.World.{opening_world}
-use Rattle.lot_print.specs.Writing.{IsPut}
+use Rattle.lot_io.specs.Writing.{IsPut}
 use Rattle.lot_system.specs.Playing.{HasPlayed}
 use Rattle.lot_explain.specs.Explained.{explained_texts}
 use Rattle.lot_explain.proofs.turns.explain_turns.Given as goal

@@ -16,8 +16,9 @@ returns-in_err-write_schedule_line g c =
     let some : 0 < length xs = omega (arith, eqb-false _ 0 (sym c.is_empty.ensures ∙ c.loop-rest-test.true)) in
     rw is (
       told.0,
+      told.1,
       parts-stop (g.W.Write.contents c.args.writer.now.inner) (g.W.Write.contents c.loop-rest.writer.inner) (g.W.Write.contents c.write_schedule_line.new.writer.inner) i.bytes.0 (schedule_line (take n xs)) (schedule_lines (drop n xs)) (schedule_lines xs) (schedule_lines c.args.history.now) i.bytes.1
-          (schedule_lines-first n xs (drop n xs) some c.min-len.ensures refl) i.bytes.2 told.1,
+          (schedule_lines-first n xs (drop n xs) some c.min-len.ensures refl) i.bytes.2 told.2,
     )
 
 pub loop-rest-preserved : goal.loop-rest-preserved

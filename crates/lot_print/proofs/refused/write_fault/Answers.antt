@@ -1,7 +1,7 @@
 use Rattle.std.proofs.Common.{◌≡◌, ◌++◌, codes, subst}
 use Rattle.std.specs.Fmt.{decimal}
 use Rattle.lot_simulation.specs.Texts.{fault_line, input_refusal_code, input_refusal_name, newline}
-use Rattle.lot_print.specs.Writing.{Written}
+use Rattle.lot_io.specs.Writing.{Written}
 use Rattle.lot_print.proofs.WritingFacts.{line-is}
 use Rattle.lot_print.proofs.refused.write_fault.Goals as goal
 

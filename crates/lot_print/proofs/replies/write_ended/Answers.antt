@@ -10,5 +10,6 @@ returns-in_err-make_room g c =
     let told = c.in_err-make_room.ensures.text in
     rw is (
       told.0,
-      put-stop (g.W.Write.contents c.args.writer.now.inner) (g.W.Write.contents c.make_room.new.writer.inner) c.args.page.now (front c.args.heading.manner ++ (decimal c.args.heading.actor ++ (codes " " ++ (refused 41 (codes "Ended") ++ newline)))) told.1,
+      told.1,
+      put-stop (g.W.Write.contents c.args.writer.now.inner) (g.W.Write.contents c.make_room.new.writer.inner) c.args.page.now (front c.args.heading.manner ++ (decimal c.args.heading.actor ++ (codes " " ++ (refused 41 (codes "Ended") ++ newline)))) told.2,
     )

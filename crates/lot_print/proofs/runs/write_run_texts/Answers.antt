@@ -18,9 +18,10 @@ returns-in_err-write_run g c =
     let others = drop run.count xs in
     rw is (
       told.0,
+      told.1,
       parts-stop (g.W.Write.contents c.args.writer.now.inner) (g.W.Write.contents c.loop-pair.writer.inner) (g.W.Write.contents c.write_run.new.writer.inner) i.bytes.0 (run_text run)
           (flat_map run_text (take (32 - (n + 1)) (runs_in others))) (flat_map run_text (take (32 - n) (runs_in xs))) (flat_map run_text (take 32 (runs_in c.args.history.now))) i.bytes.1
-          (run_texts-first n run (runs_in xs) (runs_in others) c.loop-pair-test.true c.in-Some.ensures.run) i.bytes.2 told.1,
+          (run_texts-first n run (runs_in xs) (runs_in others) c.loop-pair-test.true c.in-Some.ensures.run) i.bytes.2 told.2,
     )
 
 pub loop-pair-preserved : goal.loop-pair-preserved

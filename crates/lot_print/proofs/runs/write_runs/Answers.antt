@@ -17,7 +17,8 @@ returns-in_err-write_runs_line g c =
     let following = runs_lines-first xs more (runs_in-some xs some) c.after_line-others.ensures.runs in
     rw is (
       told.0,
-      parts-stop (g.W.Write.contents c.args.writer.now.inner) (g.W.Write.contents c.loop-rest.writer.inner) (g.W.Write.contents c.write_runs_line.new.writer.inner) i.bytes.0 (runs_line (take 32 (runs_in xs))) (runs_lines more) (runs_lines xs) (runs_lines c.args.history.now) i.bytes.1 following i.bytes.2 told.1,
+      told.1,
+      parts-stop (g.W.Write.contents c.args.writer.now.inner) (g.W.Write.contents c.loop-rest.writer.inner) (g.W.Write.contents c.write_runs_line.new.writer.inner) i.bytes.0 (runs_line (take 32 (runs_in xs))) (runs_lines more) (runs_lines xs) (runs_lines c.args.history.now) i.bytes.1 following i.bytes.2 told.2,
     )
 
 pub loop-rest-preserved : goal.loop-rest-preserved

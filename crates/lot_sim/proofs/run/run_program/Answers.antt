@@ -3,9 +3,9 @@ use Rattle.std.proofs.Common.{Ok, Err, sym, ap, subst}
 use Rattle.std.specs.Io.KnownBytes.{Appends}
 use Rattle.lot_simulation.specs.Output.{end_text}
 use Rattle.lot_simulation.specs.World.{Program}
-use Rattle.lot_system.specs.declared.fault.PlayFault.{PlayFault}
+use Rattle.lot_io.specs.declared.fault.IoFault.{IoFault}
 use Rattle.lot_system.specs.Seen.{Setting}
-use Rattle.lot_print.specs.Writing.{Begins}
+use Rattle.lot_io.specs.Writing.{Begins}
 use Rattle.lot_sim.specs.declared.run.RunStop.TheVariants.{Play}
 use Rattle.lot_sim.specs.Running.{EndsRun}
 use Rattle.lot_sim.proofs.run.run_program.Goals as goal
@@ -28,4 +28,4 @@ returns-clause-run g c =
     let new = g.W.Write.contents c.write_end.new.writer.inner in
     let told = c.in-Err-write_end.ensures.text in
     let its = subst (λ (p : Program). Begins old new (end_text p system.history)) (ap (λ (s : Setting). s.program) c.in-Ok.ensures.setting) told.2 in
-    subst (λ (f : PlayFault). EndsRun (Ok program) old new c.write_end.new.writer.failed (Err (Play f))) (sym told.0) (told.1, (system.history, c.in-Ok.ensures.history, its))
+    subst (λ (f : IoFault). EndsRun (Ok program) old new c.write_end.new.writer.failed (Err (Play f))) (sym told.0) (told.1, (system.history, c.in-Ok.ensures.history, its))

@@ -1,6 +1,6 @@
 -- Flushing writes nothing more.
 use Rattle.lot_simulation.specs.Output.{end_text}
-use Rattle.lot_system.proofs.WritingFacts.{writes-flushed}
+use Rattle.lot_io.proofs.WritingFacts.{writes-flushed}
 use Rattle.lot_system.proofs.ending.write_end.Goals as goal
 
 pub returns-clause-text : goal.returns-clause-text

@@ -1,11 +1,9 @@
 -- The history's lines are written after the report.
-use Rattle.std.proofs.Common.{◌≡◌, ℕ, List, Err, refl, rules, ◌∙◌, ap, subst}
-use Rattle.std.specs.Io.KnownBytes.{Appends}
+use Rattle.std.proofs.Common.{◌≡◌, ℕ, List, Err, rules, ◌∙◌, ap, subst}
 use Rattle.lot_simulation.specs.Report.{report, history_lines}
 use Rattle.lot_system.specs.Seen.{Seen}
-use Rattle.lot_system.specs.declared.fault.PlayFault.TheVariants.{Write}
-use Rattle.lot_print.specs.Writing.{Begins}
-use Rattle.lot_print.proofs.WritingFacts.{appends-both, begins-front, begins-after}
+use Rattle.lot_io.specs.Writing.{Written}
+use Rattle.lot_io.proofs.WritingFacts.{begins-front, writes-after}
 use Rattle.lot_system.proofs.ending.write_texts.Goals as goal
 
 lines-are : (s now : Seen) (unit : ℕ) (history : List ℕ) → now ≡ s → unit ≡ now.setting.program.limits.unit → history ≡ now.history → history_lines unit history ≡ history_lines s.setting.program.limits.unit s.history
@@ -24,27 +22,13 @@ returns-in_err-write_report-clause-text g c =
       begins-front (g.W.Write.contents c.args.writer.now.inner) (g.W.Write.contents c.write_report.new.writer.inner) (report s.setting.program s.history) (history_lines s.setting.program.limits.unit s.history) told.2,
     )
 
-pub returns-in_err-write_history-clause-text : goal.returns-in_err-write_history-clause-text
-returns-in_err-write_history-clause-text g c =
-    let s = c.args.system.now in
-    let is : c.from_residual-in_err-write_history.result ≡ Err Write = search rules in
-    let told = c.in_err-write_history.ensures in
-    let mid = g.W.Write.contents c.write_report.new.writer.inner in
-    let new = g.W.Write.contents c.write_history.new.writer.inner in
-    let lines = lines-are s c.write_report.new.system c.unit.result c.history.result.now c.in_ok-write_report.ensures.same c.unit.ensures.program c.history.ensures.items in
-    rw is (
-      refl,
-      told.0,
-      begins-after (g.W.Write.contents c.args.writer.now.inner) mid new (report s.setting.program s.history) (history_lines s.setting.program.limits.unit s.history) c.in_ok-write_report.ensures.text.1
-          (subst (Begins mid new) lines told.1),
-    )
-
 pub returns-clause-text : goal.returns-clause-text
 returns-clause-text g c =
     let s = c.args.system.now in
     let old = g.W.Write.contents c.args.writer.now.inner in
     let mid = g.W.Write.contents c.write_report.new.writer.inner in
     let new = g.W.Write.contents c.write_history.new.writer.inner in
-    let told = c.in_ok-write_history.ensures in
+    let failed = c.write_history.new.writer.failed in
+    let result = c.write_history.result in
     let lines = lines-are s c.write_report.new.system c.unit.result c.history.result.now c.in_ok-write_report.ensures.same c.unit.ensures.program c.history.ensures.items in
-    (told.0, appends-both old mid new (report s.setting.program s.history) (history_lines s.setting.program.limits.unit s.history) c.in_ok-write_report.ensures.text.1 (subst (Appends mid new) lines told.1))
+    writes-after old mid new failed result (report s.setting.program s.history) (history_lines s.setting.program.limits.unit s.history) c.in_ok-write_report.ensures.text.1 (subst (Written mid new failed result) lines c.write_history.ensures)

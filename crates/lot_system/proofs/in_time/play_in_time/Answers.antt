@@ -4,8 +4,7 @@ use Rattle.std.specs.List.{flat_map}
 use Rattle.lot_simulation.specs.Output.{timed_text}
 use Rattle.lot_simulation.specs.Timed.{timed_turns}
 use Rattle.lot_simulation.specs.TimedReport.{timed_report}
-use Rattle.lot_print.proofs.WritingFacts.{begins-front, begins-after}
-use Rattle.lot_system.proofs.WritingFacts.{writes-after, writes-flushed}
+use Rattle.lot_io.proofs.WritingFacts.{begins-after, begins-front, writes-after, writes-flushed}
 use Rattle.lot_system.proofs.in_time.play_in_time.Goals as goal
 
 pub returns-in_err-play_turns-clause-text : goal.returns-in_err-play_turns-clause-text

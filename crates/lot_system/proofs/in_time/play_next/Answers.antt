@@ -1,5 +1,5 @@
 use Rattle.std.proofs.Common.{◌≡◌, ◌++◌, Err, subst, rules}
-use Rattle.lot_print.specs.Writing.{Begins, IsPut}
+use Rattle.lot_io.specs.Writing.{Begins, IsPut}
 use Rattle.lot_system.proofs.FollowFacts.{text-told}
 use Rattle.lot_system.proofs.in_time.play_next.Goals as goal
 

@@ -1,6 +1,6 @@
 use Rattle.std.proofs.Common.{◌≡◌, ◌-◌, [], false, length}
 use Rattle.std.specs.List.{flat_map}
-use Rattle.lot_print.specs.Writing.{IsPut}
+use Rattle.lot_io.specs.Writing.{IsPut}
 use Rattle.lot_simulation.specs.Output.{timed_text}
 use Rattle.lot_simulation.specs.Timed.{timed_room}
 use Rattle.lot_system.specs.InTime.{IsFollowed, turns_done}

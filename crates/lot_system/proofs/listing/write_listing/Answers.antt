@@ -1,22 +1,19 @@
 -- The rows' lines are written after the first.
-use Rattle.std.proofs.Common.{◌≡◌, ◌++◌, codes, Err, refl, rules, subst}
+use Rattle.std.proofs.Common.{◌≡◌, ◌++◌, codes, Err, rules, subst}
 use Rattle.std.specs.Fmt.{decimal}
 use Rattle.std.specs.List.{flat_map, range_with_len}
 use Rattle.lot_simulation.specs.Texts.{front}
 use Rattle.lot_print.specs.Listings.{listing_line}
-use Rattle.lot_print.specs.Writing.{Begins}
-use Rattle.lot_print.proofs.WritingFacts.{begins-front}
-use Rattle.lot_system.specs.declared.fault.PlayFault.TheVariants.{Write}
+use Rattle.lot_io.specs.Writing.{Begins, Written}
+use Rattle.lot_io.proofs.WritingFacts.{begins-front, writes-after}
 use Rattle.lot_system.specs.Listing.{first_number, given_count, row_line}
 use Rattle.lot_system.specs.Seen.{world_of}
-use Rattle.lot_system.specs.Writing.{Written}
 use Rattle.lot_system.proofs.ListingFacts.{listed-after}
-use Rattle.lot_system.proofs.WritingFacts.{writes-after}
 use Rattle.lot_system.proofs.listing.write_listing.Goals as goal
 
 pub returns-in_err-write_listing_line-clause-text : goal.returns-in_err-write_listing_line-clause-text
 returns-in_err-write_listing_line-clause-text g c =
-    let is : c.from_residual.result ≡ Err Write = search rules in
+    let is : c.from_residual.result ≡ Err c.in_err-write_listing_line.field-0.0 = search rules in
     let told = c.in_err-write_listing_line.ensures in
     let s = (world_of c.args.system.now).state in
     let manner = c.args.manner in
@@ -27,7 +24,7 @@ returns-in_err-write_listing_line-clause-text g c =
     let first = front manner ++ (decimal c.args.actor ++ (codes " " ++ listing_line kind rows)) in
     let lines = flat_map (row_line manner s kind) (range_with_len (first_number kind) (given_count s kind)) in
     let following = listed-after manner s kind c.args.actor rows c.count_rows-rows.ensures.count in
-    rw is (refl, told.0, subst (Begins old new) following (begins-front old new first lines told.1))
+    rw is (told.0, told.1, subst (Begins old new) following (begins-front old new first lines told.2))
 
 pub returns-clause-text : goal.returns-clause-text
 returns-clause-text g c =

@@ -1,15 +1,13 @@
 -- A turn that goes is one turn more, and its text is that of its answer in the world after it.
-use Rattle.std.proofs.Common.{◌≡◌, ℕ, ◌++◌, codes, Err, refl, rules, sym, ◌∙◌, ap, subst}
+use Rattle.std.proofs.Common.{◌≡◌, ℕ, ◌++◌, codes, refl, rules, sym, ◌∙◌, ap, subst}
 use Rattle.std.specs.Fmt.{decimal}
 use Rattle.lot_simulation.specs.declared.manner.Manner.{Manner}
 use Rattle.lot_simulation.specs.declared.manner.Manner.TheVariants.{Whole}
 use Rattle.lot_simulation.specs.Output.{turn_text}
 use Rattle.lot_simulation.specs.Texts.{newline, front, refused, reply_text}
-use Rattle.lot_print.specs.Writing.{Begins}
-use Rattle.lot_system.specs.declared.fault.PlayFault.TheVariants.{Write}
+use Rattle.lot_io.specs.Writing.{Put}
 use Rattle.lot_system.specs.Playing.{IsPlayed, turn_in}
 use Rattle.lot_system.specs.Seen.{Seen, world_of, after_turn}
-use Rattle.lot_system.specs.Writing.{Put}
 use Rattle.lot_system.proofs.PlayingFacts.{played-after, text-after}
 use Rattle.lot_system.proofs.playing.play_turn.Goals as goal
 
@@ -36,10 +34,8 @@ headed : (m : Manner) (actor a : ℕ) → m ≡ Whole → a ≡ actor
     → front m ++ (decimal a ++ (codes " " ++ (refused 41 (codes "Ended") ++ newline))) ≡ decimal actor ++ (codes " " ++ (refused 41 (codes "Ended") ++ newline))
 headed m actor a of_manner of_actor = rw (of_manner, of_actor) refl
 
-pub returns-in_err-write_ended-clause-text : goal.returns-in_err-write_ended-clause-text
-returns-in_err-write_ended-clause-text g c =
-    let is : c.from_residual.result ≡ Err Write = search rules in
-    let told = c.in_err-write_ended.ensures in
+pub returns-then-is_ended-clause-text : goal.returns-then-is_ended-clause-text
+returns-then-is_ended-clause-text g c =
     let ended : decimal c.args.actor ++ (codes " " ++ (refused 41 (codes "Ended") ++ newline)) ≡ turn_text Whole c.args.actor (turn_in c.args.system.now c.args.actor) = search rules in
     let text = headed c.heading.result.manner c.args.actor c.heading.result.actor c.heading.ensures.manner c.heading.ensures.actor ∙ ended in
-    rw is (refl, told.0, subst (λ t. Begins (g.W.Write.contents c.args.writer.now.inner) (g.W.Write.contents c.write_ended.new.writer.inner) (c.args.page.now ++ t)) text told.1)
+    subst (Put (g.W.Write.contents c.args.writer.now.inner) (g.W.Write.contents c.write_ended.new.writer.inner) c.args.page.now c.write_ended.new.page c.write_ended.new.writer.failed c.write_ended.result) text c.write_ended.ensures

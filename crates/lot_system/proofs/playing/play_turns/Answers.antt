@@ -1,9 +1,8 @@
-use Rattle.std.proofs.Common.{◌≡◌, [], List, ℕ, ◌<◌, length, get_or, take, Err, refl, rules, ◌∙◌, ap, subst, arith}
+use Rattle.std.proofs.Common.{◌≡◌, [], List, ℕ, ◌<◌, length, get_or, take, Err, rules, ◌∙◌, ap, subst, arith}
 use Rattle.lot_simulation.specs.Output.{turn_texts}
 use Rattle.lot_simulation.specs.World.{opening_world}
-use Rattle.lot_print.specs.Writing.{IsPut}
+use Rattle.lot_io.specs.Writing.{IsPut}
 use Rattle.lot_print.proofs.PageFacts.{put-begun}
-use Rattle.lot_system.specs.declared.fault.PlayFault.TheVariants.{Write}
 use Rattle.std.proofs.lemmas.List.{take_all}
 use Rattle.lot_system.proofs.PlayingFacts.{played-next, texts-more, texts-stop}
 use Rattle.lot_system.proofs.playing.play_turns.Goals as goal
@@ -46,7 +45,7 @@ loop-actor-preserved g c =
 
 pub returns-in_err-write_out-clause-text : goal.returns-in_err-write_out-clause-text
 returns-in_err-write_out-clause-text g c =
-    let is : c.from_residual-in_err-write_out.result ≡ Err Write = search rules in
+    let is : c.from_residual-in_err-write_out.result ≡ Err c.in_err-write_out.field-0.0 = search rules in
     let program = c.args.program.now in
     let i = c.loop-actor.invariant in
     let told = c.in_err-write_out.ensures.text in
@@ -56,4 +55,4 @@ returns-in_err-write_out-clause-text g c =
     let schedule = c.schedule-actor-items.ensures.schedule in
     let all : take c.loop-actor.actor-index program.schedule ≡ program.schedule = take_all c.loop-actor.actor-index program.schedule (omega (arith, c.loop-actor-test.false, ap length schedule)) in
     let texts = subst (λ ts. IsPut old mid [] c.loop-actor.page (turn_texts program (opening_world program) ts)) all i.bytes in
-    rw is (refl, told.0, put-begun old mid new c.loop-actor.page (turn_texts program (opening_world program) program.schedule) texts told.1)
+    rw is (told.0, told.1, put-begun old mid new c.loop-actor.page (turn_texts program (opening_world program) program.schedule) texts told.2)

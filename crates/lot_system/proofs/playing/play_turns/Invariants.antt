@@ -1,7 +1,7 @@
 use Rattle.std.proofs.Common.{◌≡◌, [], false, take}
 use Rattle.lot_simulation.specs.Output.{turn_texts}
 use Rattle.lot_simulation.specs.World.{opening_world}
-use Rattle.lot_print.specs.Writing.{IsPut}
+use Rattle.lot_io.specs.Writing.{IsPut}
 use Rattle.lot_system.specs.Playing.{HasPlayed}
 use Rattle.lot_system.proofs.playing.play_turns.Given as goal
 

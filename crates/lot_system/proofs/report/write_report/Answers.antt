@@ -1,14 +1,12 @@
 -- Each part is written after those before it.
-use Rattle.std.proofs.Common.{◌≡◌, ◌++◌, ℕ, List, length, codes, Err, refl, rules}
+use Rattle.std.proofs.Common.{◌≡◌, ◌++◌, ℕ, List, length, codes, Err, rules}
 use Rattle.std.specs.List.{flat_map, range_with_len}
 use Rattle.lot_machine.specs.Numbered.{numbers}
 use Rattle.lot_simulation.specs.Report.{thread_total, processor_total, whole_total, turns_made}
 use Rattle.lot_machine.specs.Rows.{thread_row}
 use Rattle.lot_simulation.specs.Texts.{lines_for}
-use Rattle.lot_system.specs.declared.fault.PlayFault.TheVariants.{Write}
 use Rattle.lot_system.specs.Seen.{Seen, world_of}
-use Rattle.lot_print.proofs.WritingFacts.{begins-front, begins-after}
-use Rattle.lot_system.proofs.WritingFacts.{writes-after}
+use Rattle.lot_io.proofs.WritingFacts.{begins-after, begins-front, writes-after}
 use Rattle.lot_system.proofs.report.write_report.Goals as goal
 
 abbrev threads : Seen → List ℕ
@@ -23,9 +21,9 @@ totals s = whole_total (length (world_of s).history) (turns_made s.setting.progr
 pub returns-in_err-write_report_line-clause-text : goal.returns-in_err-write_report_line-clause-text
 returns-in_err-write_report_line-clause-text g c =
     let s = c.args.system.now in
-    let is : c.from_residual.result ≡ Err Write = search rules in
+    let is : c.from_residual.result ≡ Err c.in_err-write_report_line.field-0.0 = search rules in
     let told = c.in_err-write_report_line.ensures in
-    rw is (refl, told.0, begins-front (g.W.Write.contents c.args.writer.now.inner) (g.W.Write.contents c.write_report_line.new.writer.inner) (codes "report\n") (threads s ++ (processors s ++ totals s)) told.1)
+    rw is (told.0, told.1, begins-front (g.W.Write.contents c.args.writer.now.inner) (g.W.Write.contents c.write_report_line.new.writer.inner) (codes "report\n") (threads s ++ (processors s ++ totals s)) told.2)
 
 pub returns-in_err-write_threads-clause-text : goal.returns-in_err-write_threads-clause-text
 returns-in_err-write_threads-clause-text g c =

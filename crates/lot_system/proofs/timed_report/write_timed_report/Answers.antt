@@ -1,19 +1,16 @@
 -- Each part is written after those before it.
-use Rattle.std.proofs.Common.{◌≡◌, ◌++◌, ℕ, List, codes, Err, refl, rules, subst}
+use Rattle.std.proofs.Common.{◌≡◌, ◌++◌, ℕ, List, codes, Err, rules, subst}
 use Rattle.std.specs.List.{flat_map, range_with_len}
 use Rattle.lot_simulation.specs.Report.{ticks_in, total_of}
 use Rattle.lot_simulation.specs.Timed.{ended_at, last_moment, timed_turns}
 use Rattle.lot_simulation.specs.TimedReport.{actor_turns, timed_processor_total, timed_thread_lines, timed_whole_total}
 use Rattle.lot_simulation.specs.World.{Program}
-use Rattle.lot_print.proofs.WritingFacts.{begins-front, begins-after}
-use Rattle.lot_print.specs.Writing.{Begins}
-use Rattle.lot_system.specs.declared.fault.PlayFault.TheVariants.{Write}
+use Rattle.lot_io.proofs.WritingFacts.{begins-after, begins-front, writes-after}
+use Rattle.lot_io.specs.Writing.{Begins, Written}
 use Rattle.lot_system.specs.declared.following.Following.{Following}
 use Rattle.lot_system.specs.InTime.{moment_in}
 use Rattle.lot_system.specs.Seen.{Seen, world_of}
-use Rattle.lot_system.specs.Writing.{Written}
 use Rattle.lot_system.proofs.TimedReportFacts.{report-is}
-use Rattle.lot_system.proofs.WritingFacts.{writes-after}
 use Rattle.lot_system.proofs.timed_report.write_timed_report.Goals as goal
 
 -- the lines of the threads, of the processors, and the last
@@ -35,9 +32,9 @@ lines program =
 
 pub returns-in_err-write_report_line-clause-text : goal.returns-in_err-write_report_line-clause-text
 returns-in_err-write_report_line-clause-text g c =
-    let is : c.from_residual.result ≡ Err Write = search rules in
+    let is : c.from_residual.result ≡ Err c.in_err-write_report_line.field-0.0 = search rules in
     let told = c.in_err-write_report_line.ensures in
-    rw is (refl, told.0, begins-front (g.W.Write.contents c.args.writer.now.inner) (g.W.Write.contents c.write_report_line.new.writer.inner) (codes "report\n") (lines c.args.program.now) told.1)
+    rw is (told.0, told.1, begins-front (g.W.Write.contents c.args.writer.now.inner) (g.W.Write.contents c.write_report_line.new.writer.inner) (codes "report\n") (lines c.args.program.now) told.2)
 
 pub returns-in_err-write_threads-clause-text : goal.returns-in_err-write_threads-clause-text
 returns-in_err-write_threads-clause-text g c =

@@ -1,5 +1,5 @@
 use Rattle.std.proofs.Common.{◌≡◌, ◌++◌, ◌<◌, take, length, rules, sym}
-use Rattle.lot_system.proofs.input.read_piece.Goals as goal
+use Rattle.lot_io.proofs.input.read_piece.Goals as goal
 
 pub returns-clause-read : goal.returns-clause-read
 returns-clause-read g c =

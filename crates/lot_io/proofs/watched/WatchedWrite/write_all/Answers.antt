@@ -1,12 +1,12 @@
 use Rattle.std.proofs.Common.{◌+◌, arith}
 use Rattle.std.proofs.lemmas.Grind.{common_steps}
 use Rattle.std.proofs.lemmas.List.{take_rest}
-use Rattle.lot_text.proofs.WriteLemmas.{appends-more, appends-nothing, appends-none, appends-rest}
-use Rattle.lot_text.proofs.watched.WatchedWrite.write_all.Goals as goal
+use Rattle.lot_io.proofs.WritingFacts.{appends-more, appends-none, appends-rest, keeps-appends}
+use Rattle.lot_io.proofs.watched.WatchedWrite.write_all.Goals as goal
 
 pub returns-in_err-taken-clause-begun : goal.returns-in_err-taken-clause-begun
 returns-in_err-taken-clause-begun g c =
-    c.loop-rest.invariant.begun _ 0 (appends-nothing _ _ c.loop-rest.rest.now c.in_err-taken.ensures.bytes)
+    c.loop-rest.invariant.begun _ 0 (keeps-appends _ _ c.in_err-taken.ensures.bytes)
 
 pub loop-rest-preserved : goal.loop-rest-preserved
 loop-rest-preserved g c =
@@ -21,4 +21,4 @@ loop-rest-preserved g c =
     }
 
 pub returns-clause-begun : goal.returns-clause-begun
-returns-clause-begun g c = c.loop-rest.invariant.begun _ 0 (appends-none _ c.loop-rest.rest.now)
+returns-clause-begun g c = c.loop-rest.invariant.begun _ 0 (appends-none _)

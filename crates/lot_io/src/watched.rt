@@ -2,7 +2,7 @@
 ghost use Rattle.std.specs.Prelude.{◌≡◌, ◌==◌, ◌||◌, ◌&&◌, true, false, is_err, is_ok, length, IsTrue, IsErr, OnOk};
 ghost use Rattle.std.specs.Io.{ReadsAtMost, WritesAtMost};
 ghost use Rattle.std.specs.Io.KnownBytes.{Appends, Keeps, ReadConsumes, WriteAppends};
-ghost use Rattle.lot_text.specs.Watching.{AppendsBeginning, has_taken_none, is_failed_write};
+ghost use Rattle.lot_io.specs.Watching.{AppendsBeginning, has_taken_none, is_failed_write};
 
 use std::io;
 use std::io::{Error, ErrorKind, Read, Write};
@@ -18,7 +18,7 @@ pub struct Watched<T> {
 }
 
 impl<T> Model for Watched<T> {
-    ghost use Rattle.lot_text.specs.Watching.{Watch};
+    ghost use Rattle.lot_io.specs.Watching.{Watch};
 
     ghost Value = { Watch T };
 

@@ -1,6 +1,6 @@
 use Rattle.std.proofs.Common.{◌≤◌, ◌≡◌, false, vec_len}
 use Rattle.std.specs.Io.KnownBytes.{Consumes}
-use Rattle.lot_system.proofs.input.read_input.Given as goal
+use Rattle.lot_io.proofs.input.read_input.Given as goal
 
 -- no more is kept than is asked for, it is what was read, a byte at least in each round, and the reader hasn't failed
 abbrev pub invariant-loop : goal.invariant-loop

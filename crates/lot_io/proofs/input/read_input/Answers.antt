@@ -1,8 +1,8 @@
 -- What was read so far, and what is read with the next piece.
 use Rattle.std.proofs.Common.{◌≤◌, arith}
-use Rattle.lot_system.proofs.ReadingFacts.{consumes-none, consumes-more, length-more, within-room}
-use Rattle.lot_system.proofs.input.read_input.Goals as goal
-use Rattle.lot_system.proofs.input.read_input.Goals.{else-loop-test, then-loop-test+then-len-eq-MOST, then-loop-test+else-len-eq-MOST+in_ok-read_piece+then-branch-eq0}
+use Rattle.lot_io.proofs.ReadingFacts.{consumes-none, consumes-more, length-more, within-room}
+use Rattle.lot_io.proofs.input.read_input.Goals as goal
+use Rattle.lot_io.proofs.input.read_input.Goals.{else-loop-test, then-loop-test+then-len-eq-MOST, then-loop-test+else-len-eq-MOST+in_ok-read_piece+then-branch-eq0}
 
 pub loop-init : goal.loop-init
 loop-init g c =

@@ -2,7 +2,7 @@
 use Rattle.std.proofs.Common.{◌≡◌, ℕ, ◌+◌, ◌≤◌, Option, Some, None, List, [], ◌++◌, length, take, refl, ◌∙◌, ap, sym, subst, append_assoc, length-append, arith}
 use Rattle.std.specs.Io.KnownBytes.{Consumes}
 use Rattle.std.proofs.lemmas.List.{length-take}
-use Rattle.lot_system.specs.Reading.{HasTaken}
+use Rattle.lot_io.specs.Reading.{HasTaken}
 
 -- what was read after what was read
 pub consumes-both : (old mid new : Option (List ℕ)) (a b : List ℕ) → Consumes old mid a → Consumes mid new b → Consumes old new (a ++ b)

@@ -1,7 +1,9 @@
 -- What is read.
-use Rattle.std.specs.Prelude.{◌≡◌, ℕ, ◌≤◌, ◌<◌, Option, List, ◌++◌, length}
+use Rattle.std.specs.Prelude.{◌≡◌, ℕ, ◌≤◌, ◌<◌, Bool, true, false, Option, List, ◌++◌, length}
 use Rattle.std.specs.Io.KnownBytes.{Consumes, IsAtEnd}
-use Rattle.lot_text.specs.Watching.{Watch}
+use Rattle.lot_io.specs.Watching.{Watch}
+use Rattle.lot_io.specs.declared.fault.IoFault.{IoFault}
+use Rattle.lot_io.specs.declared.fault.IoFault.TheVariants.{Memory, Read, Write}
 
 -- The bytes that were read of those that were left: all of them, or one more than an input may have.
 pub record HasRead (left rest : Option (List ℕ)) (bytes : List ℕ) : Type 0 where
@@ -20,3 +22,9 @@ pub record HasTaken (left rest : Option (List ℕ)) (old now : List ℕ) (count 
   pub kept : now ≡ old ++ taken
   pub consumed : Consumes left rest taken
   pub at_end : count ≡ 0 → IsAtEnd rest
+
+-- a fault of reading: Read if the reader has failed, and out of memory if it hasn't
+abbrev pub IsReadFault : IoFault → Bool → Type 0
+IsReadFault Memory failed = failed ≡ false
+IsReadFault Read failed = failed ≡ true
+IsReadFault Write failed = ⊥

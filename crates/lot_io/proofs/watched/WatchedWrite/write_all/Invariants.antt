@@ -1,7 +1,7 @@
 use Rattle.std.proofs.Common.{◌≡◌, ◌==◌, ◌≤◌, ◌&&◌, ℕ, true, List, Option, length, take}
 use Rattle.std.specs.Io.KnownBytes.{Appends}
-use Rattle.lot_text.specs.Watching.{AppendsBeginning}
-use Rattle.lot_text.proofs.watched.WatchedWrite.write_all.Given as goal
+use Rattle.lot_io.specs.Watching.{AppendsBeginning}
+use Rattle.lot_io.proofs.watched.WatchedWrite.write_all.Given as goal
 
 abbrev pub invariant-loop-rest : goal.invariant-loop-rest
 invariant-loop-rest g l = record {

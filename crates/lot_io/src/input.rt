@@ -1,10 +1,8 @@
 //! Reading an input.
 ghost use Rattle.std.specs.Prelude.{◌≡◌, ◌<◌, ◌≤◌, false, length, IfOk, IfErr, OnOk};
-ghost use Rattle.lot_system.specs.Reading.{Reads, HasTaken};
-ghost use Rattle.lot_system.specs.Writing.{IsReadFault};
+ghost use Rattle.lot_io.specs.Reading.{HasTaken, IsReadFault, Reads};
 
-use crate::PlayFault;
-use lot_text::Watched;
+use crate::{IoFault, Watched};
 use std::alloc::Global;
 use std::io::Read;
 
@@ -15,7 +13,7 @@ const MOST: usize = 16777217;
 const PIECE: usize = 65536;
 
 /// Reads to the end of the input, or to its byte 16777217, and leaves the rest unread.
-pub fn read_input<R: Read>(alloc: Global, reader: &mut Watched<R>) -> Result<Vec<u8>, PlayFault>
+pub fn read_input<R: Read>(alloc: Global, reader: &mut Watched<R>) -> Result<Vec<u8>, IoFault>
     requires { reader.old.failed ≡ false }
     ensures read { IfOk result (λ bytes. Reads R.remaining reader.old reader.new bytes.items) }
     ensures ok { OnOk result (reader.new.failed ≡ false) }
@@ -23,7 +21,7 @@ pub fn read_input<R: Read>(alloc: Global, reader: &mut Watched<R>) -> Result<Vec
 {
     let mut bytes = Vec::new(alloc);
     let Ok(mut piece) = vec![in alloc; 0u8; PIECE] else {
-        return Err(PlayFault::Memory);
+        return Err(IoFault::Memory);
     };
     for _ in 0..MOST {
         if bytes.len() == MOST {
@@ -42,7 +40,7 @@ fn read_piece<R: Read>(
     reader: &mut Watched<R>,
     room: &mut [u8],
     bytes: &mut Vec<u8>,
-) -> Result<usize, PlayFault>
+) -> Result<usize, IoFault>
     requires working { reader.old.failed ≡ false }
     requires some { 0 < length room.old }
     ensures most { IfOk result (λ count. count ≤ length room.old) }
@@ -51,10 +49,10 @@ fn read_piece<R: Read>(
     ensures err { IfErr result (λ fault. IsReadFault fault reader.new.failed) }
 {
     let Ok(read) = reader.read(room) else {
-        return Err(PlayFault::Read);
+        return Err(IoFault::Read);
     };
     if bytes.extend_from_slice(&room[..read]).is_err() {
-        return Err(PlayFault::Memory);
+        return Err(IoFault::Memory);
     }
     Ok(read)
 }

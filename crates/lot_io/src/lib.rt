@@ -1,0 +1,16 @@
+//! Reading and writing: readers and writers that remember whether they have failed, how an input is read, and one
+//! fault for both.
+#![tactic(auto)]
+
+mod fault;
+mod input;
+mod watched;
+mod writing;
+
+pub use fault::IoFault;
+pub use input::read_input;
+pub use watched::Watched;
+pub use writing::{flush, write_bytes};
+
+#[cfg(test)]
+mod tests;
