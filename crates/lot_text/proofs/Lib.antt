@@ -6,4 +6,3 @@ pub mod RunLemmas
 pub mod ScriptLemmas
 pub mod SeedLemmas
 pub mod TokenLemmas
-pub mod WordLemmas

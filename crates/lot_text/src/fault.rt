@@ -28,7 +28,7 @@ impl From<AllocError> for ParseFault {
 }
 
 /// Why a line isn't read.
-#[derive(Debug, PartialEq, Eq, Drop)]
+#[derive(PartialEq, Eq, Drop)]
 pub(crate) enum LineFault {
     Memory,
     Refused(InputRefusal),

@@ -21,7 +21,7 @@ use std::alloc::{AllocError, Global};
 use std::marker::Model;
 
 /// A script that was closed.
-#[derive(Debug, Drop)]
+#[derive(Drop)]
 pub(crate) struct NamedScript {
     pub(crate) name: Name,
     pub(crate) script: Script,
@@ -36,7 +36,7 @@ impl Model for NamedScript {
 }
 
 /// A script that isn't closed yet: the line where it began, and its lines so far.
-#[derive(Debug, Drop)]
+#[derive(Drop)]
 pub(crate) struct OpenScript {
     pub(crate) name: Name,
     pub(crate) begins: u32,
@@ -58,7 +58,7 @@ pub(crate) const BODY: u32 = 7;
 pub(crate) const MOST_ENTRIES: usize = 1000000;
 
 /// The state after some lines of an input. The place is that of the header's last line, or the body's.
-#[derive(Debug, Drop)]
+#[derive(Drop)]
 pub(crate) struct Reading {
     pub(crate) place: u32,
     /// Whether turns come in the order of time.

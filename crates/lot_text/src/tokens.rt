@@ -7,7 +7,7 @@ use lot_simulation::InputRefusal;
 use std::marker::Model;
 
 /// The tokens of a line that are left.
-#[derive(Debug, Drop)]
+#[derive(Drop)]
 pub(crate) struct Tokens<'a> {
     rest: &'a [u8],
 }

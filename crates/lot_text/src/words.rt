@@ -1,5 +1,6 @@
 //! The words that begin lines.
-ghost use Rattle.std.specs.Prelude.{◌≡◌, take, drop};
+ghost use Rattle.std.specs.Prelude.{◌≡◌, drop};
+ghost use Rattle.std.specs.Str.{bytes_eq};
 ghost use Rattle.lot_simulation.specs.Grammar as grammar;
 ghost use Rattle.lot_simulation.specs.Words.{word_in, header_words, timed_header_words, body_words, timed_body_words, script_words, timed_script_words};
 
@@ -9,9 +10,10 @@ use lot_simulation::{BodyWord, HeaderWord, ScriptWord};
 pub(crate) fn timed_header_word(token: &[u8]) -> Option<HeaderWord>
     ensures { result ≡ word_in timed_header_words token.now }
 {
-    match token {
-        b"for" => Some(HeaderWord::For),
-        _ => header_word(token),
+    if spells(token, b"for") {
+        Some(HeaderWord::For)
+    } else {
+        header_word(token)
     }
 }
 
@@ -19,9 +21,10 @@ pub(crate) fn timed_header_word(token: &[u8]) -> Option<HeaderWord>
 pub(crate) fn timed_body_word(token: &[u8]) -> Option<BodyWord>
     ensures { result ≡ word_in timed_body_words token.now }
 {
-    match token {
-        b"at" => Some(BodyWord::At),
-        _ => body_word(token),
+    if spells(token, b"at") {
+        Some(BodyWord::At)
+    } else {
+        body_word(token)
     }
 }
 
@@ -29,9 +32,10 @@ pub(crate) fn timed_body_word(token: &[u8]) -> Option<BodyWord>
 pub(crate) fn timed_script_word(token: &[u8]) -> Option<ScriptWord>
     ensures { result ≡ word_in timed_script_words token.now }
 {
-    match token {
-        b"serve" => Some(ScriptWord::Serve),
-        _ => script_word(token),
+    if spells(token, b"serve") {
+        Some(ScriptWord::Serve)
+    } else {
+        script_word(token)
     }
 }
 
@@ -50,12 +54,12 @@ pub(crate) fn header_word(token: &[u8]) -> Option<HeaderWord>
     ensures { result ≡ word_in header_words token.now }
 {
     match token {
-        b"lottery" => Some(HeaderWord::Lottery),
-        b"processors" => Some(HeaderWord::Processors),
-        b"quantum" => Some(HeaderWord::Quantum),
-        b"turns" => Some(HeaderWord::Turns),
-        b"seed" => Some(HeaderWord::Seed),
-        b"limits" => Some(HeaderWord::Limits),
+        _ if spells(token, b"lottery") => Some(HeaderWord::Lottery),
+        _ if spells(token, b"processors") => Some(HeaderWord::Processors),
+        _ if spells(token, b"quantum") => Some(HeaderWord::Quantum),
+        _ if spells(token, b"turns") => Some(HeaderWord::Turns),
+        _ if spells(token, b"seed") => Some(HeaderWord::Seed),
+        _ if spells(token, b"limits") => Some(HeaderWord::Limits),
         _ => None,
     }
 }
@@ -64,26 +68,16 @@ pub(crate) fn header_word(token: &[u8]) -> Option<HeaderWord>
 pub(crate) fn body_word(token: &[u8]) -> Option<BodyWord>
     ensures { result ≡ word_in body_words token.now }
 {
-    match early_body_word(token) {
-        Some(word) => Some(word),
-        None => later_body_word(token),
-    }
-}
-
-/// The same, of the words up to `fund`.
-fn early_body_word(token: &[u8]) -> Option<BodyWord>
-    ensures { result ≡ word_in (take 8 body_words) token.now }
-{
     match token {
-        b"port" => Some(BodyWord::Port),
-        b"mutex" => Some(BodyWord::Mutex),
-        b"script" => Some(BodyWord::Script),
-        b"mktkt" => Some(BodyWord::MakeTicket),
-        b"rmtkt" => Some(BodyWord::RemoveTicket),
-        b"mkcur" => Some(BodyWord::MakeCurrency),
-        b"rmcur" => Some(BodyWord::RemoveCurrency),
-        b"fund" => Some(BodyWord::Fund),
-        _ => None,
+        _ if spells(token, b"port") => Some(BodyWord::Port),
+        _ if spells(token, b"mutex") => Some(BodyWord::Mutex),
+        _ if spells(token, b"script") => Some(BodyWord::Script),
+        _ if spells(token, b"mktkt") => Some(BodyWord::MakeTicket),
+        _ if spells(token, b"rmtkt") => Some(BodyWord::RemoveTicket),
+        _ if spells(token, b"mkcur") => Some(BodyWord::MakeCurrency),
+        _ if spells(token, b"rmcur") => Some(BodyWord::RemoveCurrency),
+        _ if spells(token, b"fund") => Some(BodyWord::Fund),
+        _ => later_body_word(token),
     }
 }
 
@@ -92,14 +86,14 @@ fn later_body_word(token: &[u8]) -> Option<BodyWord>
     ensures { result ≡ word_in (drop 8 body_words) token.now }
 {
     match token {
-        b"unfund" => Some(BodyWord::Unfund),
-        b"mkthr" => Some(BodyWord::MakeThread),
-        b"fundx" => Some(BodyWord::MakeFunded),
-        b"lstkt" => Some(BodyWord::ListTickets),
-        b"lscur" => Some(BodyWord::ListCurrencies),
-        b"lsthr" => Some(BodyWord::ListThreads),
-        b"schedule" => Some(BodyWord::Schedule),
-        b"runs" => Some(BodyWord::Runs),
+        _ if spells(token, b"unfund") => Some(BodyWord::Unfund),
+        _ if spells(token, b"mkthr") => Some(BodyWord::MakeThread),
+        _ if spells(token, b"fundx") => Some(BodyWord::MakeFunded),
+        _ if spells(token, b"lstkt") => Some(BodyWord::ListTickets),
+        _ if spells(token, b"lscur") => Some(BodyWord::ListCurrencies),
+        _ if spells(token, b"lsthr") => Some(BodyWord::ListThreads),
+        _ if spells(token, b"schedule") => Some(BodyWord::Schedule),
+        _ if spells(token, b"runs") => Some(BodyWord::Runs),
         _ => None,
     }
 }
@@ -109,18 +103,25 @@ pub(crate) fn script_word(token: &[u8]) -> Option<ScriptWord>
     ensures { result ≡ word_in script_words token.now }
 {
     match token {
-        b"compute" => Some(ScriptWord::Compute),
-        b"set" => Some(ScriptWord::Set),
-        b"add" => Some(ScriptWord::Add),
-        b"loop" => Some(ScriptWord::Loop),
-        b"end" => Some(ScriptWord::End),
-        b"yield" => Some(ScriptWord::Yield),
-        b"reply" => Some(ScriptWord::Reply),
-        b"call" => Some(ScriptWord::Call),
-        b"receive" => Some(ScriptWord::Receive),
-        b"lock" => Some(ScriptWord::Lock),
-        b"unlock" => Some(ScriptWord::Unlock),
-        b"endscript" => Some(ScriptWord::EndScript),
+        _ if spells(token, b"compute") => Some(ScriptWord::Compute),
+        _ if spells(token, b"set") => Some(ScriptWord::Set),
+        _ if spells(token, b"add") => Some(ScriptWord::Add),
+        _ if spells(token, b"loop") => Some(ScriptWord::Loop),
+        _ if spells(token, b"end") => Some(ScriptWord::End),
+        _ if spells(token, b"yield") => Some(ScriptWord::Yield),
+        _ if spells(token, b"reply") => Some(ScriptWord::Reply),
+        _ if spells(token, b"call") => Some(ScriptWord::Call),
+        _ if spells(token, b"receive") => Some(ScriptWord::Receive),
+        _ if spells(token, b"lock") => Some(ScriptWord::Lock),
+        _ if spells(token, b"unlock") => Some(ScriptWord::Unlock),
+        _ if spells(token, b"endscript") => Some(ScriptWord::EndScript),
         _ => None,
     }
+}
+
+/// Whether the token is spelled this way.
+fn spells(token: &[u8], spelling: &[u8]) -> bool
+    ensures { result ≡ bytes_eq spelling.now token.now }
+{
+    spelling == token
 }
