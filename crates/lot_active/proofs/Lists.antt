@@ -245,7 +245,7 @@ none-first [] e = refl
 none-first (x ∷ xs) e = cc
 
 module _ (v w : NodeLists) (list n : ℕ) (low : list < length v.lists) (front : Some n ≡ node_at v list 0)
-         (removed : (from place : ℕ) → node_at v from place ≡ Some n → w ≡ with_removed v from place) where
+    (removed : (from place : ℕ) → node_at v from place ≡ Some n → w ≡ with_removed v from place) where
   is : w ≡ with_removed v list 0
   is = removed list 0 (sym front)
 

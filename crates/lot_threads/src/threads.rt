@@ -113,8 +113,11 @@ impl Threads {
     {
         let graph = ValuedGraph::new(alloc, limits)?;
         let queue = RunQueue::new(alloc, limits)?;
-        let (threads, records, runners) =
-            opening_tables(alloc, limits.threads as usize, limits.processors as usize)?;
+        let (threads, records, runners) = opening_tables(
+            alloc,
+            limits.threads as usize,
+            limits.processors as usize,
+        )?;
         Ok(Threads {
             graph,
             queue,

@@ -1,4 +1,4 @@
-use Rattle.std.proofs.Common.{◌<◌, length, refl, subst, sym, ap, ◌∙◌, slice_set}
+use Rattle.std.proofs.Common.{refl, subst, sym, ap, ◌∙◌, slice_set}
 use Rattle.lot_active.specs.Held.{Held, SetsAwake, on_at}
 use Rattle.lot_active.proofs.Steps.{awake-switched, awake-kept}
 use Rattle.lot_active.proofs.marks.Marks.set_awake.Goals as goal
