@@ -1,5 +1,5 @@
 -- Where a node stands in the lists.
-use Rattle.std.proofs.Common.{◌≡◌, ℕ, zero, suc, ◌+◌, ◌<◌, ◌⊎◌, inl, inr, Bool, true, false, not, Option, Some, None, List, [], ◌∷◌, ◌++◌, Contains, length, slice_get, slice_set, ap, sym, ◌∙◌, refl, subst, arith, length-append, append_assoc}
+use Rattle.std.proofs.Common.{◌≡◌, ℕ, zero, suc, ◌+◌, ◌<◌, ◌⊎◌, inl, inr, All, Bool, true, false, not, Option, Some, None, List, [], ◌∷◌, ◌++◌, Contains, length, slice_get, slice_set, ap, sym, ◌∙◌, refl, subst, arith, length-append, append_assoc}
 use Rattle.std.specs.List.{remove}
 use mathlib.Core.Bool.{beq}
 use Rattle.std.specs.Option.{IfNone, is_some}
@@ -10,7 +10,7 @@ use Rattle.lot_lists.specs.NodeLists.{NodeLists, nodes_of, node_at, IsFree, IsLi
 use Rattle.lot_active.specs.declared.edge_ends.EdgePlaces.{EdgePlaces}
 use Rattle.lot_graph.specs.Graphs.{HasEachOnce}
 use Rattle.lot_active.specs.Nets.{Net, EntersAt}
-use Rattle.lot_graph.proofs.MirrorLemmas.{contains-nothing, place-in, left-before, still-left}
+use Rattle.lot_graph.proofs.MirrorLemmas.{contains-at, contains-nothing, place-in, left-before, still-left}
 use Rattle.lot_active.specs.Held.{In, Relists}
 
 -- ---- membership
@@ -204,6 +204,12 @@ same-bits false false e = refl
 same-bits true false e = cc
 same-bits false true e = cc
 
+pub other-bits : (a b : Bool) → not (beq a b) ≡ true → ¬ (a ≡ b)
+other-bits true true e same = cc
+other-bits false false e same = cc
+other-bits true false e same = cc
+other-bits false true e same = cc
+
 -- ---- one place of a list
 
 pub set-same : {A : Type 0} (xs : List A) (i : ℕ) (x : A) → i < length xs → slice_get (slice_set xs i x) i ≡ Some x
@@ -217,3 +223,41 @@ set-other (y ∷ ys) zero x zero off = absurd (off refl)
 set-other (y ∷ ys) zero x (suc k) off = refl
 set-other (y ∷ ys) (suc i) x zero off = refl
 set-other (y ∷ ys) (suc i) x (suc k) off = set-other ys i x k (λ same. off (ap suc same))
+
+-- ---- the first node of a list, taken out
+
+pub listed-first : (v : NodeLists) (list n : ℕ) → Some n ≡ node_at v list 0 → IsListed v n
+listed-first v list n front = record { list = list; contains = contains-at (nodes_of v list) 0 n (sym front) }
+
+pub first-low : (v : NodeLists) (list n : ℕ) → IsConsistent v → Some n ≡ node_at v list 0 → n < v.nodes
+first-low v list n consistent front = by (nodes_of v list) (sym front) (consistent.in_range list)
+  where
+    by : (xs : List ℕ) → slice_get xs 0 ≡ Some n → All (λ node. node < v.nodes) xs → n < v.nodes
+    by [] e all = cc
+    by (x ∷ xs) e all = let here = all 0 0 (omega arith) in let is : Some x ≡ Some n = e in let same : x ≡ n = cc in omega (arith, here, same)
+
+pub if-none : (o : Option ℕ) (P : Type 0) → P → IfNone o P
+if-none None P p = p
+if-none (Some x) P p = tt
+
+pub none-first : (xs : List ℕ) → None ≡ slice_get xs 0 → xs ≡ []
+none-first [] e = refl
+none-first (x ∷ xs) e = cc
+
+module _ (v w : NodeLists) (list n : ℕ) (low : list < length v.lists) (front : Some n ≡ node_at v list 0)
+    (removed : (from place : ℕ) → node_at v from place ≡ Some n → w ≡ with_removed v from place) where
+  is : w ≡ with_removed v list 0
+  is = removed list 0 (sym front)
+
+  pub taken-shorter : length (nodes_of w list) < length (nodes_of v list)
+  taken-shorter =
+      let here = ap (λ (x : NodeLists). nodes_of x list) is ∙ get_or-set_same v.lists list (remove (nodes_of v list) 0) [] low in
+      let shorter = by (nodes_of v list) (sym front) in
+      omega (arith, shorter, ap (length {A = ℕ}) here)
+    where
+      by : (xs : List ℕ) → slice_get xs 0 ≡ Some n → length (remove xs 0) < length xs
+      by [] e = cc
+      by (x ∷ xs) e = omega arith
+
+  pub taken-others : (other : ℕ) → ¬ (other ≡ list) → nodes_of w other ≡ nodes_of v other
+  taken-others other off = ap (λ (x : NodeLists). nodes_of x other) is ∙ get_or-set_other v.lists list other (remove (nodes_of v list) 0) [] off

@@ -213,3 +213,23 @@ opened-of v q threads records runners n m lends live limit queue weights no_thre
     idle : (t : ℕ) → competitor_at (replicate n unready) t ≡ None
     idle zero = refl
     idle (suc i) = ap option_flatten (at_number-suc (replicate n unready) i) ∙ idle-at n i
+
+-- what is settled stays the threads'
+pub settled-of : (v new : Valued) (q then : Queued) (threads : List Thread) (records : List Record) (runners : List (Option ℕ))
+    → AreOf v q threads records runners → then ≡ record q { changed = then.changed } → AreWeights then new.known → new.now ≡ v.now → new.live ≡ v.live → AreOf new then threads records runners
+settled-of v new q then threads records runners is queue weights now live = record {
+  names = is.names;
+  lends = subst (λ (w : LimitedFunding). w.funding.lends ≡ lends_in records) (sym now) is.lends;
+  live = live ∙ is.live;
+  ready = subst (λ (cs : List (Option Competitor)). AreReady records cs) (sym same) is.ready;
+  competes = subst (λ (cs : List (Option Competitor)). CompetesIn cs new) (sym same) (record {
+    places = is.competes.places ∙ ap (λ (w : LimitedFunding). w.thread_limit) (sym now);
+    there = λ t c at. subst (λ (w : LimitedFunding). IsThread w.funding t) (sym now) (is.competes.there t c at);
+  });
+  weights = weights;
+  timely = subst (λ n. All (IsTimely n) records) (sym (ap (λ (x : Queued). x.quantum) queue)) is.timely;
+  runs = is.runs;
+}
+  where
+    same : then.competitors ≡ q.competitors
+    same = ap (λ (x : Queued). x.competitors) queue

@@ -1,5 +1,5 @@
 //! The threads, and all that follows from what each is doing.
-ghost use Rattle.std.specs.Prelude.{◌≡◌, ◌+◌, ◌<◌, ◌≤◌, ◌↔◌, ◌++◌, ◌∷◌, ◌≢◌, true, false, [], Some, None, IfOk, IfSome, IfNone, IsErr, IsTrue, OnOk, OnErr, OnSome, MatchOption, length, replicate, slice_set};
+ghost use Rattle.std.specs.Prelude.{◌≡◌, ◌+◌, ◌<◌, ◌≤◌, ◌↔◌, ◌++◌, ◌∷◌, ◌≢◌, true, false, [], Some, None, IfOk, IfSome, IfNone, IsErr, IsTrue, OnOk, OnErr, OnSome, MatchOption, length, replicate, slice_set, vec_capacity};
 ghost use Rattle.std.specs.Option.{SomeIff};
 ghost use Rattle.lot_machine.specs.declared.funding.Node.{Node as ANode};
 ghost use Rattle.lot_machine.specs.declared.funding.Node.TheVariants.{Currency as CurrencyNode, Thread as ThreadNode, Mutex as MutexNode};
@@ -111,13 +111,19 @@ impl Threads {
           meter = record { ticket_reads = 0; tree_visits = 0 };
         }) }
     {
-        let threads = limits.threads as usize;
+        let graph = ValuedGraph::new(alloc, limits)?;
+        let queue = RunQueue::new(alloc, limits)?;
+        let (threads, records, runners) = opening_tables(
+            alloc,
+            limits.threads as usize,
+            limits.processors as usize,
+        )?;
         Ok(Threads {
-            graph: ValuedGraph::new(alloc, limits)?,
-            queue: RunQueue::new(alloc, limits)?,
-            threads: Vec::with_capacity(alloc, threads)?,
-            records: Vec::with_capacity(alloc, threads)?,
-            runners: vec![in alloc; None; limits.processors as usize]?,
+            graph,
+            queue,
+            threads,
+            records,
+            runners,
         })
     }
 
@@ -447,4 +453,22 @@ impl Threads {
         };
         Some(Runner { thread, used })
     }
+}
+
+/// No threads, no records, and a free processor each: with room for as many threads as there may be.
+fn opening_tables(
+    alloc: Global,
+    threads: usize,
+    processors: usize,
+) -> Result<(Vec<Thread>, Vec<Record>, Vec<Option<u32>>), AllocError>
+    ensures no_threads { IfOk result (λ made. made.0.items ≡ []) }
+    ensures thread_room { IfOk result (λ made. threads ≤ vec_capacity made.0) }
+    ensures no_records { IfOk result (λ made. made.1.items ≡ []) }
+    ensures record_room { IfOk result (λ made. threads ≤ vec_capacity made.1) }
+    ensures free { IfOk result (λ made. made.2.items ≡ replicate processors None) }
+{
+    let names = Vec::with_capacity(alloc, threads)?;
+    let records = Vec::with_capacity(alloc, threads)?;
+    let runners = vec![in alloc; None; processors]?;
+    Ok((names, records, runners))
 }

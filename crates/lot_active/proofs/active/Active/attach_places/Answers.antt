@@ -6,6 +6,19 @@ use Rattle.lot_active.proofs.Calls.{attach-spreads, attach-none, attach-may, loc
 use Rattle.lot_active.proofs.Steps.{adjust-length}
 use Rattle.lot_active.proofs.active.Active.attach_places.Goals as goal
 
+pub adjust-requires-clause-node : goal.adjust-requires-clause-node
+adjust-requires-clause-node c =
+    let (before, edge, adds, kept) = c.requires.kept in
+    let size = ap (length {A = ℕ}) c.clear.ensures.amounts ∙ ap (λ (v : Activity). length v.amounts) c.self.view_is in
+    let from = c.requires.graph.from edge c.args.places adds.here in
+    omega (arith, from, kept.amounts_length, size, adds.nodes)
+
+pub propagate-requires-clause-nodes : goal.propagate-requires-clause-nodes
+propagate-requires-clause-nodes c =
+    let (before, edge, adds, kept) = c.requires.kept in
+    let size = ap (length {A = ℕ}) c.clear.ensures.amounts ∙ ap (λ (v : Activity). length v.amounts) c.self.view_is in
+    adjust-length c.clear.new.self c.adjust.new.self c.args.places.from c.args.places.amount true c.adjust.ensures.adjusts ∙ size ∙ kept.amounts_length ∙ sym adds.nodes
+
 pub adjust-requires-clause-may : goal.adjust-requires-clause-may
 adjust-requires-clause-may c =
     let g = graph_net c.args.graph.now in

@@ -1,4 +1,5 @@
-use Rattle.std.proofs.Common.{◌≡◌, ◌∙◌, ◌≤◌, ℕ, Bool, List, Option, Some, option_map, ap, sym, subst}
+use Rattle.std.proofs.Common.{◌≡◌, ◌∙◌, ◌≤◌, ℕ, Bool, List, Option, Some, option_map, ap, sym, subst, length, arith, Contains}
+use Rattle.std.proofs.lemmas.List.{length-map}
 use Rattle.std.specs.Vec.{vec_capacity}
 use Rattle.lot_machine.specs.declared.record.Record.{Record}
 use Rattle.lot_machine.specs.declared.funding.Lend.{Lend}
@@ -24,6 +25,25 @@ use Rattle.lot_threads.proofs.threads.Threads.change.Goals as goal
 -- who runs may run there
 run-on : (v : Threaded) (t : ℕ) (s : Status) (p used : ℕ) → s ≡ Running p used → CanRun v t s → IsBetween 1 v.processors p × ((u more : ℕ) → status_of v.records u ≡ Some (Running p more) → u ≡ t)
 run-on v t s p used is run = subst (λ (x : Status). CanRun v t x) is run
+
+pub follow_status-requires-clause-thread : goal.follow_status-requires-clause-thread
+follow_status-requires-clause-thread c =
+    let i = c.self.inside in
+    let thread = subst (λ (x : Threaded). IsThreadOf x c.args.thread) (sym c.self.view_is) c.requires.there in
+    let count = ap (length {A = Lend}) c.self.invariant.together.lends ∙ length-map i.records.items (λ (r : Record). lend_of r.status) in
+    (omega (arith, thread.0), omega (arith, thread.1, count))
+
+pub set_competitor-requires-clause-thread : goal.set_competitor-requires-clause-thread
+set_competitor-requires-clause-thread c =
+    let thread = subst (λ (x : Threaded). IsThreadOf x c.args.thread) (sym c.self.view_is) c.requires.there in
+    (omega (arith, thread.0), omega (arith, thread.1, c.self.invariant.together.ready.few))
+
+pub move_runner-requires-clause-now : goal.move_runner-requires-clause-now
+move_runner-requires-clause-now c p used is =
+    subst (λ (x : Threaded). IsBetween 1 x.processors p) (sym c.self.view_is) (run-on c.args.self.now c.args.thread c.args.next.status p used is c.requires.run).0
+
+pub returns-clause-kept : goal.returns-clause-kept
+returns-clause-kept c = λ node stale. c.follow_status.ensures.kept node (subst (λ (x : Threaded). Contains x.stale node) (sym c.self.view_is) stale)
 
 pub move_runner-requires-clause-before : goal.move_runner-requires-clause-before
 move_runner-requires-clause-before c p used is =
