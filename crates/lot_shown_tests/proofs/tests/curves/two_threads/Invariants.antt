@@ -1,7 +1,7 @@
 use Rattle.std.proofs.Common.{◌≡◌, ◌≤◌, ◌^◌}
 use Rattle.std.specs.Prelude.{vec_len}
 use Rattle.lot_curves.specs.Stretches.{last_end}
-use Rattle.lot_curves.proofs.tests.two_threads.Given as goal
+use Rattle.lot_shown_tests.proofs.tests.curves.two_threads.Given as goal
 
 abbrev pub invariant-loop-name : goal.invariant-loop-name
 invariant-loop-name l = vec_len l.names ≡ l.name-index

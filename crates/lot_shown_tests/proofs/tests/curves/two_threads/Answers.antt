@@ -3,7 +3,7 @@ use Rattle.lot_machine.specs.declared.event.Event.TheVariants.{Expire}
 use Rattle.lot_curves.specs.declared.stretch.Stretch.{Stretch}
 use Rattle.lot_curves.specs.Stretches.{last_end}
 use Rattle.lot_curves.proofs.Ends.{last_end-push}
-use Rattle.lot_curves.proofs.tests.two_threads.Goals as goal
+use Rattle.lot_shown_tests.proofs.tests.curves.two_threads.Goals as goal
 
 pub loop-end-preserved : goal.loop-end-preserved
 loop-end-preserved c =

@@ -1,8 +1,8 @@
-//! Queues by hand, with the results of their calls, and a long run against plain vectors.
+//! Queues by hand, with the results of their calls.
 ghost use Rattle.std.specs.Prelude.{◌≡◌, ◌↔◌, IsTrue, ◌≤◌, vec_capacity};
 ghost use Rattle.lot_queues.specs.QueueLists.{IsThere};
 
-use super::*;
+use lot_queues::{Queues, TakenCall};
 use std::alloc::{AllocError, Global};
 use std::process::Abort;
 use std::test::Fail;

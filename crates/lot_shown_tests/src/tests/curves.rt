@@ -1,7 +1,7 @@
 //! Curves of two threads.
 ghost use Rattle.std.specs.Prelude.{◌≡◌, IfOk, length};
 
-use crate::{Curves, Measure, Stretch};
+use lot_curves::{Curves, Measure, Stretch};
 use lot_machine::{Name, Reply};
 use std::alloc::Global;
 use std::test::Fail;

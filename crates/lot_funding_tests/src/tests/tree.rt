@@ -1,4 +1,6 @@
-use super::*;
+//! Weights that are put into a tree of partial sums, and the places that draws find there.
+use lot_tree::SumTree;
+use std::alloc::{AllocError, Global};
 use std::process::Abort;
 use std::test::Fail;
 
