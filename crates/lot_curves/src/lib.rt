@@ -7,6 +7,3 @@ mod stretch;
 
 pub use curves::Curves;
 pub use stretch::{Measure, Stretch, had_at};
-
-#[cfg(test)]
-mod tests;

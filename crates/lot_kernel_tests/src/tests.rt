@@ -2,6 +2,7 @@ mod bounds;
 mod helpers;
 mod mutexes;
 mod ports;
+mod queues;
 mod reads;
 mod threads;
 mod traps;

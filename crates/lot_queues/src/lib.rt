@@ -8,7 +8,5 @@
 pub mod laws;
 mod layout;
 mod queues;
-#[cfg(test)]
-mod tests;
 
 pub use queues::{Queues, TakenCall};

@@ -1,6 +1,6 @@
-//! Tests of `lot_words`, `lot_explain`, `lot_chart` and `lot_pictures`: words about refused inputs, explanations,
-//! tables and pictures, and runs in which an allocation fails. They are in a crate of their own, so that those four
-//! aren't proved a second time for them.
+//! Tests of `lot_words`, `lot_explain`, `lot_curves`, `lot_chart` and `lot_pictures`: words about refused inputs,
+//! explanations, curves, tables and pictures, and runs in which an allocation fails. They are in a crate of their own,
+//! so that those five aren't proved a second time for them.
 #![tactic(auto)]
 
 mod endings;

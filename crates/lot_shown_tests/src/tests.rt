@@ -2,6 +2,7 @@
 //! allocation is refused, each in turn; those of the modules need all memory that they ask for.
 
 mod charts;
+mod curves;
 mod explained;
 mod pictures;
 mod words;

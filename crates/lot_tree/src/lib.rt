@@ -118,6 +118,3 @@ impl SumTree {
         base
     }
 }
-
-#[cfg(test)]
-mod tests;

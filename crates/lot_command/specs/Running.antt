@@ -1,0 +1,47 @@
+-- The output of a free run.
+use Rattle.std.specs.Prelude.{◌≡◌, ℕ, Bool, true, false, Option, Result, Ok, Err, List}
+use Rattle.std.specs.Io.KnownBytes.{Appends, Keeps}
+use Rattle.lot_simulation.specs.declared.input.InputFault.{InputFault}
+use Rattle.lot_simulation.specs.Grammar.{program_in}
+use Rattle.lot_simulation.specs.Output.{end_text}
+use Rattle.lot_simulation.specs.Texts.{fault_line}
+use Rattle.lot_simulation.specs.World.{Program}
+use Rattle.lot_io.specs.Watching.{Watch}
+use Rattle.lot_processors.specs.Workers.{IsFreeRun}
+use Rattle.lot_system.specs.declared.playing.Played.{Played}
+use Rattle.lot_system.specs.declared.playing.Played.TheVariants.{Done, Refused}
+use Rattle.lot_io.specs.declared.fault.IoFault.TheVariants.{Write}
+use Rattle.lot_io.specs.Reading.{HasRead}
+use Rattle.lot_io.specs.Writing.{Begins}
+use Rattle.lot_command.specs.declared.run.RunStop.{RunStop}
+use Rattle.lot_command.specs.declared.run.RunStop.TheVariants.{Play}
+
+-- The report of a free run of the program was written, and lines that give its history back; or why there is no
+-- program.
+abbrev pub HasRun : Result Program InputFault → Option (List ℕ) → Option (List ℕ) → Played → Type 0
+HasRun (Ok program) old new played = (played ≡ Done) × ((history : List ℕ) × IsFreeRun program history × Appends old new (end_text program history))
+HasRun (Err fault) old new played = (played ≡ Refused) × Appends old new (fault_line fault)
+
+-- A beginning of that was written.
+abbrev pub HasBegun : Result Program InputFault → Option (List ℕ) → Option (List ℕ) → Type 0
+HasBegun (Ok program) old new = (history : List ℕ) × IsFreeRun program history × Begins old new (end_text program history)
+HasBegun (Err fault) old new = Begins old new (fault_line fault)
+
+-- On Ok a free run was written; if the writer has failed, a beginning of one; and with any other fault nothing was.
+abbrev pub EndsRun : Result Program InputFault → Option (List ℕ) → Option (List ℕ) → Bool → Result Played RunStop → Type 0
+EndsRun input old new failed (Ok played) = (failed ≡ false) × HasRun input old new played
+EndsRun input old new failed (Err (Play Write)) = (failed ≡ true) × HasBegun input old new
+EndsRun input old new failed (Err other) = (failed ≡ false) × Keeps old new
+
+-- the same of a watched writer, of which `contents` says what it holds
+abbrev pub Runs : {T : Type 0} → Result Program InputFault → (T → Option (List ℕ)) → Watch T → Watch T → Result Played RunStop → Type 0
+Runs input contents old new result = EndsRun input (contents old.inner) (contents new.inner) new.failed result
+
+-- What a fault leaves: with Write a beginning of a free run of what was read was written, otherwise nothing was.
+abbrev pub HasLeft : Option (List ℕ) → Option (List ℕ) → Option (List ℕ) → Option (List ℕ) → RunStop → Type 0
+HasLeft left rest old new (Play Write) = (bytes : List ℕ) × HasRead left rest bytes × HasBegun (program_in bytes) old new
+HasLeft left rest old new other = Keeps old new
+
+-- the same of a watched reader and a watched writer
+abbrev pub RunLeaves : {S : Type 0} {T : Type 0} → (S → Option (List ℕ)) → Watch S → Watch S → (T → Option (List ℕ)) → Watch T → Watch T → RunStop → Type 0
+RunLeaves remaining reader after contents old new stop = HasLeft (remaining reader.inner) (remaining after.inner) (contents old.inner) (contents new.inner) stop

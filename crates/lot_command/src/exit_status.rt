@@ -1,0 +1,139 @@
+//! The exit status of the words, the input and the outputs.
+
+use crate::command_line::{Request, request_of};
+use crate::explain::explain;
+use crate::play::play;
+use crate::run::run;
+use crate::told::Told;
+use clap::Error;
+use clap::error::ErrorKind;
+use lot_io::Watched;
+use lot_pictures::{chart, shares};
+use lot_system::Played;
+use std::alloc::Global;
+use std::convert::AsStr;
+use std::io;
+use std::io::{BufWriter, Read, Write};
+use std::sync::Wait;
+use std::thread::Threads;
+
+/// Done, or help was asked for.
+const DONE: u8 = 0;
+/// The input was refused.
+const REFUSED: u8 = 1;
+/// The command line was refused.
+const COMMAND_LINE: u8 = 2;
+/// Out of memory, a read or a write failed, or workers stopped early.
+const FAILED: u8 = 3;
+
+/// The text for a command line that isn't UTF-8.
+const NOT_UTF8: &str = "error: invalid UTF-8 was detected in one or more arguments\n";
+
+/// How many bytes of output are written at a time.
+const BUFFER: usize = 65536;
+
+/// Runs the program with these words, of which the first is its own name, and returns its exit status:
+///
+/// - 0 if it is done, or help was asked for;
+/// - 1 if the input was refused;
+/// - 2 if the command line was refused;
+/// - 3 if memory ran out, `reader` or `output` has failed, or workers stopped early.
+///
+/// What was asked for is written to `output`, and diagnostics to `errors`, whose failure counts only for a refused
+/// command line: then the status is 3. Nothing more is written to an output after its first error. It may block.
+pub fn status<H: Threads + Wait + Sync, S: AsStr, R: Read + Drop, W: Write + Drop, E: Write + Drop>(
+    rt: &H,
+    alloc: Global,
+    words: &[S],
+    reader: R,
+    output: W,
+    errors: E,
+) -> u8 {
+    // A buffer tries a failed write again, also when dropped. What lies between it and the output lets none through.
+    let output = Watched::new(output);
+    let errors = Watched::new(errors);
+    match request_of(alloc, words) {
+        Ok(request) => request_status(rt, alloc, request, reader, output, errors),
+        Err(error) => say_error(&error, output, errors),
+    }
+}
+
+/// The exit status if the words couldn't be read. A word that isn't UTF-8 is a refused command line: 2, and a text on
+/// `errors`, or 3 if that fails. Out of memory is 3, without a text.
+pub fn unread_status<E: Write + Drop>(error: &io::Error, errors: E) -> u8 {
+    if error.kind() == io::ErrorKind::OutOfMemory {
+        return FAILED;
+    }
+    let mut errors = Watched::new(errors);
+    if errors.write_all(NOT_UTF8.as_bytes()).is_err() || errors.flush().is_err() {
+        return FAILED;
+    }
+    COMMAND_LINE
+}
+
+/// The exit status of what was asked for.
+fn request_status<H: Threads + Wait + Sync, R: Read + Drop, W: Write + Drop, E: Write + Drop>(
+    rt: &H,
+    alloc: Global,
+    request: Request<'_>,
+    reader: R,
+    output: Watched<W>,
+    mut errors: Watched<E>,
+) -> u8 {
+    let Ok(buffered) = BufWriter::with_capacity(alloc, BUFFER, output) else {
+        return FAILED;
+    };
+    let mut reader = Watched::new(reader);
+    let mut writer = Watched::new(buffered);
+    let Ok(mut told) = Told::nothing(alloc) else {
+        return FAILED;
+    };
+    let played = match request {
+        Request::Play => play(alloc, &mut told, &mut reader, &mut writer).ok(),
+        Request::Explain => explain(alloc, &mut told, &mut reader, &mut writer).ok(),
+        Request::Run => run(rt, alloc, &mut told, &mut reader, &mut writer).ok(),
+        Request::Shares(measure) => {
+            shares(alloc, measure, &mut told.input, &mut reader, &mut writer).ok()
+        }
+        Request::Chart(title) => {
+            chart(alloc, title, &mut told.input, &mut reader, &mut writer).ok()
+        }
+    };
+    match played {
+        Some(Played::Done) => {
+            told.say_leftovers(alloc, &mut errors);
+            DONE
+        }
+        Some(Played::Refused) => {
+            told.say_why(alloc, &mut errors);
+            REFUSED
+        }
+        None => FAILED,
+    }
+}
+
+/// Writes the text of a refused command line to the errors, or the help that was asked for to the output.
+fn say_error<W: Write + Drop, E: Write + Drop>(
+    error: &Error,
+    output: Watched<W>,
+    errors: Watched<E>,
+) -> u8 {
+    if error.kind() == ErrorKind::OutOfMemory {
+        return FAILED;
+    }
+    let (written, status) = if error.use_stderr() {
+        (write_text(error, errors), COMMAND_LINE)
+    } else {
+        (write_text(error, output), DONE)
+    };
+    match written {
+        Ok(()) => status,
+        Err(_) => FAILED,
+    }
+}
+
+/// Writes the text, and flushes.
+fn write_text<W: Write + Drop>(text: &Error, mut to: Watched<W>) -> io::Result<()> {
+    write!(to, "{text}")?;
+    to.flush()
+}

@@ -1,0 +1,115 @@
+//! A free run: the turns of an input's program, made by workers.
+ghost use Rattle.std.specs.Prelude.{◌≡◌, ℕ, List, false, true, IfErr, IfOk, OnOk};
+ghost use Rattle.lot_simulation.specs.Grammar.{program_in};
+ghost use Rattle.lot_io.specs.Reading.{Reads};
+ghost use Rattle.lot_system.specs.declared.playing.Played.TheVariants.{Done};
+ghost use Rattle.lot_command.specs.Running.{HasRun, RunLeaves, Runs};
+
+use crate::told::Told;
+use lot_io::{IoFault, Watched, read_input};
+use lot_processors::{FreeRunFault, OpenGate, free_run};
+use lot_system::{Leftovers, Played, System, refuse, write_end};
+use lot_text::{ParseFault, Program, parse};
+use std::alloc::Global;
+use std::io::{Read, Write};
+use std::sync::Wait;
+use std::thread::Threads;
+use thiserror::Error;
+
+/// Why a free run of an input stops early. Nothing was written unless the writer has failed.
+#[derive(Debug, Drop, Error)]
+pub enum RunStop {
+    /// Out of memory, or the reader or the writer has failed.
+    #[error("{0}")]
+    Play(IoFault),
+    /// The workers stopped early, or there was no memory for them.
+    #[error("{0}")]
+    Workers(FreeRunFault),
+}
+
+/// Reads an input, lets workers run its commands and make its processors' turns, and writes the report and the
+/// history; or one line, if the input is refused. Its schedule is ignored. Diagnostics are stored in `told`. It may
+/// block.
+pub(crate) fn run<R: Read, W: Write, H: Threads + Wait + Sync>(
+    rt: &H,
+    alloc: Global,
+    told: &mut Told,
+    reader: &mut Watched<R>,
+    writer: &mut Watched<W>,
+) -> Result<Played, RunStop>
+    requires { (reader.old.failed ≡ false) × (writer.old.failed ≡ false) }
+    ensures flushed { OnOk result (writer.new.flushed ≡ true) }
+    ensures output { IfOk result (λ played. (bytes : List ℕ) × Reads R.remaining reader.old reader.new bytes × HasRun (program_in bytes) (W.contents writer.old.inner) (W.contents writer.new.inner) played) }
+    ensures fault { IfErr result (λ stop. RunLeaves R.remaining reader.old reader.new W.contents writer.old writer.new stop) }
+{
+    match read_input(alloc, reader) {
+        Ok(bytes) => {
+            told.take_up(alloc, bytes);
+            run_bytes(
+                rt,
+                alloc,
+                told.input.as_slice(),
+                &mut told.leftovers,
+                writer,
+            )
+        }
+        Err(fault) => Err(RunStop::Play(fault)),
+    }
+}
+
+/// Lets workers run the commands of the input in `bytes` and make its processors' turns, and writes the report and the
+/// history; or one line, if the input is refused. Its schedule is ignored. The warnings of the run are stored in
+/// `leftovers`. It may block.
+///
+/// `RunStop::Play` if memory runs out before the workers start, or if the writer fails, and `RunStop::Workers` if
+/// memory runs out for them, or they stop early. Nothing was written unless the writer has failed.
+pub fn run_bytes<W: Write, H: Threads + Wait + Sync>(
+    rt: &H,
+    alloc: Global,
+    bytes: &[u8],
+    leftovers: &mut Leftovers,
+    writer: &mut Watched<W>,
+) -> Result<Played, RunStop>
+    requires { writer.old.failed ≡ false }
+    ensures flushed { OnOk result (writer.new.flushed ≡ true) }
+    ensures run { Runs (program_in bytes.now) W.contents writer.old writer.new result }
+{
+    match parse(alloc, bytes) {
+        Ok(program) => run_program(rt, alloc, &program, leftovers, writer),
+        Err(ParseFault::Memory) => Err(RunStop::Play(IoFault::Memory)),
+        Err(ParseFault::Input(fault)) => match refuse(fault, writer) {
+            Ok(played) => Ok(played),
+            Err(fault) => Err(RunStop::Play(fault)),
+        },
+    }
+}
+
+/// Runs the program in a system of its own, and writes its report and its history.
+fn run_program<W: Write, H: Threads + Wait + Sync>(
+    rt: &H,
+    alloc: Global,
+    program: &Program,
+    leftovers: &mut Leftovers,
+    writer: &mut Watched<W>,
+) -> Result<Played, RunStop>
+    requires { writer.old.failed ≡ false }
+    ensures flushed { OnOk result (writer.new.flushed ≡ true) }
+    ensures run { Runs (Ok program.now) W.contents writer.old writer.new result }
+{
+    let mut system = match free_run(rt, alloc, program, &OpenGate) {
+        Ok(system) => system,
+        Err(fault) => return Err(RunStop::Workers(fault)),
+    };
+    match write_end(&mut system, writer) {
+        Ok(()) => Ok(noted(&mut system, leftovers)),
+        Err(fault) => Err(RunStop::Play(fault)),
+    }
+}
+
+/// Notes the warnings of the run, which is done.
+fn noted(system: &mut System, leftovers: &mut Leftovers) -> Played
+    ensures { result ≡ Done }
+{
+    leftovers.note_end(system);
+    Played::Done
+}

@@ -1,0 +1,837 @@
+//! Inputs with the whole outputs that `play` writes, command lines, and readers and writers that fail.
+
+mod outputs;
+mod runs;
+mod shown;
+mod timed;
+mod told;
+
+use lot_command::{status, unread_status};
+use lot_io::{IoFault, Watched};
+use lot_system::{Played, play};
+use std::alloc::Global;
+use std::io;
+use std::io::{ErrorKind, Read, Write};
+use std::process::Abort;
+use std::sync::Wait;
+use std::test::Fail;
+use std::thread::Threads;
+
+/// Two threads that compute, with base tickets of 10 and 5.
+const SPINNERS: &str = "script spin
+compute 1000
+endscript
+mktkt 10 base
+mkthr a spin
+fund 1 a
+mktkt 5 base
+mkthr b spin
+fund 2 b
+";
+
+/// The lines of their commands.
+const SPINNERS_MADE: &str = "0 ticket 1
+0 thread 1
+0 done
+0 ticket 2
+0 thread 2
+0 done
+";
+
+/// Plays the input, and compares the exit status and what was written.
+fn check_play<H: Abort + Threads + Wait + Sync>(
+    rt: &H,
+    alloc: Global,
+    input: &str,
+    code: u8,
+    expected: &str,
+) {
+    check_words_on(rt, alloc, "play", input, code, expected);
+}
+
+/// Has the input played or run, and compares the exit status and what was written.
+fn check_words_on<H: Abort + Threads + Wait + Sync>(
+    rt: &H,
+    alloc: Global,
+    word: &str,
+    input: &str,
+    code: u8,
+    expected: &str,
+) {
+    let mut output = Vec::new(alloc);
+    let mut errors = Vec::new(alloc);
+    let words = ["lot_sim", word];
+    let ended = status(
+        rt,
+        alloc,
+        &words,
+        input.as_bytes(),
+        &mut output,
+        &mut errors,
+    );
+    assert_eq!(rt; ended, code, "{input}");
+    assert!(rt; output.as_slice() == expected.as_bytes(), "{input}");
+    assert!(rt; code == 0 || !errors.is_empty(), "{input}");
+}
+
+#[test]
+fn two_threads(rt: HostRuntime) -> Result<(), Fail> {
+    let alloc = rt.alloc();
+    let input = format!(in alloc; "lottery 1\n{SPINNERS}schedule 0 0 0 0 0 0 1 1 1 1 1 1\n")?;
+    let output = format!(in alloc;
+        "{SPINNERS_MADE}1 draw 9 of 15 thread 1
+1 thread 1 ticks 100 expire
+1 draw 4 of 15 thread 1
+1 thread 1 ticks 100 expire
+1 draw 10 of 15 thread 2
+1 thread 2 ticks 100 expire
+report
+thread 1 a quanta 2 ticks 200
+thread 2 b quanta 1 ticks 100
+processor 1 quanta 3 idle 0 ticks 300
+total turns 12 quanta 3 ticks 300
+"
+    )?;
+    check_play(&rt, alloc, input.as_str(), 0, output.as_str());
+    Ok(())
+}
+
+#[test]
+fn finer_values(rt: HostRuntime) -> Result<(), Fail> {
+    let alloc = rt.alloc();
+    let output = format!(in alloc;
+        "{SPINNERS_MADE}1 draw 2724 of 3840 thread 2
+1 thread 2 ticks 100 expire
+report
+thread 1 a quanta 0 ticks 0
+thread 2 b quanta 1 ticks 100
+processor 1 quanta 1 idle 0 ticks 100
+total turns 8 quanta 1 ticks 100
+"
+    )?;
+    for schedule in ["schedule 0 0 0 0 0 0 1 1", "runs 0 6 1 2"] {
+        let input = format!(in alloc; "lottery 2\n{SPINNERS}{schedule}\n")?;
+        check_play(&rt, alloc, input.as_str(), 0, output.as_str());
+    }
+    Ok(())
+}
+
+/// Nothing to do.
+const EMPTY_REPORT: &str = "report
+processor 1 quanta 0 idle 0 ticks 0
+total turns 0 quanta 0 ticks 0
+";
+
+/// A script that ends within its quantum, and then a draw without threads.
+const ENDING: &str = "lottery 1
+quantum 10
+script s
+compute 5
+endscript
+mkthr a s
+mktkt 7 base
+fund 1 a
+schedule 0 0 0 1 1 1
+";
+
+const ENDED: &str = "0 thread 1
+0 ticket 1
+0 done
+1 draw 6 of 7 thread 1
+1 thread 1 ticks 6 exit
+1 idle
+report
+thread 1 a quanta 1 ticks 6
+processor 1 quanta 1 idle 1 ticks 6
+total turns 6 quanta 1 ticks 6
+";
+
+/// Two processors and one thread, and one turn of the console too many, which isn't counted.
+const TWO_PROCESSORS: &str = "lottery 1
+processors 2
+script spin
+compute 150
+endscript
+fundx 10 base a spin
+schedule 0 1 2 1 2 0
+";
+
+const TWO_PROCESSORS_PLAYED: &str = "0 funded 1 1
+1 draw 4 of 10 thread 1
+2 idle
+1 thread 1 ticks 100 expire
+2 draw 3 of 10 thread 1
+0 refused 41 Ended
+report
+thread 1 a quanta 2 ticks 100
+processor 1 quanta 1 idle 0 ticks 100
+processor 2 quanta 1 idle 1 ticks 0
+total turns 5 quanta 2 ticks 100
+";
+
+/// Refused commands are turns.
+const REFUSED_COMMANDS: &str = "lottery 1
+limits 1 1 1
+mktkt 1 base
+mktkt 1 base
+mkcur Bad
+mkthr a none
+fund 9 a
+schedule 0 0 0 0 0
+";
+
+const COMMANDS_REFUSED: &str = "0 ticket 1
+0 refused 13 Full
+0 refused 1 BadName
+0 refused 14 NoScript
+0 refused 4 NoTicket
+report
+processor 1 quanta 0 idle 0 ticks 0
+total turns 5 quanta 0 ticks 0
+";
+
+/// The paper's currency graph: alice and bob share base, and hand on what they have to their tasks (4.4).
+const CURRENCY_GRAPH: &str = "lottery 1
+script spin
+compute 100
+endscript
+mkcur alice
+mkcur bob
+mkcur task1
+mkcur task2
+mkcur task3
+mktkt 1000 base
+fund 1 alice
+mktkt 2000 base
+fund 2 bob
+mktkt 100 alice
+fund 3 task1
+mktkt 200 alice
+fund 4 task2
+mktkt 100 bob
+fund 5 task3
+fundx 200 task2 thread2 spin
+fundx 300 task2 thread3 spin
+fundx 100 task3 thread4 spin
+lscur
+lstkt
+lsthr
+schedule 0 0 0 0 0 0 0 0 0 0 0 0 0 0 0 0 0 0 0 0 0
+";
+
+const CURRENCY_LISTINGS: &str = "0 currency 1
+0 currency 2
+0 currency 3
+0 currency 4
+0 currency 5
+0 ticket 1
+0 done
+0 ticket 2
+0 done
+0 ticket 3
+0 done
+0 ticket 4
+0 done
+0 ticket 5
+0 done
+0 funded 6 1
+0 funded 7 2
+0 funded 8 3
+0 lscur 6
+currency 0 base backing 0 issued 2 active 3000 value 3000
+currency 1 alice backing 1 issued 2 active 200 value 1000
+currency 2 bob backing 1 issued 1 active 100 value 2000
+currency 3 task1 backing 1 issued 0 active 0 value 0
+currency 4 task2 backing 1 issued 2 active 500 value 1000
+currency 5 task3 backing 1 issued 1 active 100 value 2000
+0 lstkt 8
+ticket 1 amount 1000 in base funds alice active value 1000
+ticket 2 amount 2000 in base funds bob active value 2000
+ticket 3 amount 100 in alice funds task1 inactive value 0
+ticket 4 amount 200 in alice funds task2 active value 1000
+ticket 5 amount 100 in bob funds task3 active value 2000
+ticket 6 amount 200 in task2 funds thread2 active value 400
+ticket 7 amount 300 in task2 funds thread3 active value 600
+ticket 8 amount 100 in task3 funds thread4 active value 2000
+0 lsthr 3
+thread 1 thread2 ready value 400 weight 400 quanta 0 ticks 0
+thread 2 thread3 ready value 600 weight 600 quanta 0 ticks 0
+thread 3 thread4 ready value 2000 weight 2000 quanta 0 ticks 0
+report
+thread 1 thread2 quanta 0 ticks 0
+thread 2 thread3 quanta 0 ticks 0
+thread 3 thread4 quanta 0 ticks 0
+processor 1 quanta 0 idle 0 ticks 0
+total turns 21 quanta 0 ticks 0
+";
+
+/// A client calls a server with 41, and the reply is 42.
+const CALL_AND_REPLY: &str = "lottery 1
+quantum 10
+port p
+script srv
+receive p
+add 1
+reply
+endscript
+script cli
+set 41
+call p
+compute 2
+endscript
+fundx 5 base s srv
+fundx 5 base c cli
+schedule 0 0 1 1 1 1 1 1 1 1 1 1
+";
+
+const CALL_AND_REPLY_PLAYED: &str = "0 funded 1 1
+0 funded 2 2
+1 draw 4 of 10 thread 1
+1 thread 1 ticks 1 receive 1 waits
+1 draw 4 of 5 thread 2
+1 thread 2 ticks 2 call 1 served by 1
+1 draw 5 of 100 thread 1 got 41
+1 thread 1 ticks 2 reply client 2
+1 thread 1 ticks 1 exit
+1 draw 5 of 25 thread 2 got 42
+1 thread 2 ticks 3 exit
+1 idle
+report
+thread 1 s quanta 2 ticks 4
+thread 2 c quanta 2 ticks 5
+processor 1 quanta 4 idle 1 ticks 9
+total turns 12 quanta 4 ticks 9
+";
+
+/// A loop of 9 ticks and the exit after it, in quanta of 9 ticks.
+const LOOP_IN_TWO: &str = "lottery 1
+quantum 9
+script s
+loop 2
+compute 3
+end
+endscript
+fundx 1 base a s
+schedule 0 1 1 1 1
+";
+
+const LOOP_IN_TWO_PLAYED: &str = "0 funded 1 1
+1 draw 0 of 1 thread 1
+1 thread 1 ticks 9 expire
+1 draw 0 of 1 thread 1
+1 thread 1 ticks 1 exit
+report
+thread 1 a quanta 2 ticks 10
+processor 1 quanta 2 idle 0 ticks 10
+total turns 5 quanta 2 ticks 10
+";
+
+/// The same in one quantum.
+const LOOP_IN_ONE: &str = "lottery 1
+quantum 10
+script s
+loop 2
+compute 3
+end
+endscript
+fundx 1 base a s
+schedule 0 1 1 1 1
+";
+
+const LOOP_IN_ONE_PLAYED: &str = "0 funded 1 1
+1 draw 0 of 1 thread 1
+1 thread 1 ticks 10 exit
+1 idle
+1 idle
+report
+thread 1 a quanta 1 ticks 10
+processor 1 quanta 1 idle 2 ticks 10
+total turns 5 quanta 1 ticks 10
+";
+
+/// A currency worth 256 units, which are one of base: a thread has 2 of them and the other 253, so that both show 0.
+const LESS_THAN_ONE: &str = "lottery 2
+script s
+compute 100
+endscript
+mkcur c
+mktkt 1 base
+fund 1 c
+fundx 10 c a s
+fundx 990 c b s
+lsthr
+schedule 0 0 0 0 0 0 1
+";
+
+const LESS_THAN_ONE_PLAYED: &str = "0 currency 1
+0 ticket 1
+0 done
+0 funded 2 1
+0 funded 3 2
+0 lsthr 2
+thread 1 a ready value 0 weight 0 quanta 0 ticks 0
+thread 2 b ready value 0 weight 0 quanta 0 ticks 0
+1 draw 54 of 255 thread 2
+report
+thread 1 a quanta 0 ticks 0
+thread 2 b quanta 1 ticks 0
+processor 1 quanta 1 idle 0 ticks 0
+total turns 7 quanta 1 ticks 0
+";
+
+/// Three threads share 100 of base at unit 256: 8533 each, listed as 33.
+const A_THIRD_EACH: &str = "lottery 2
+script s
+compute 100
+endscript
+mkcur g
+mktkt 100 base
+fund 1 g
+fundx 1 g a s
+fundx 1 g b s
+fundx 1 g c s
+lsthr
+schedule 0 0 0 0 0 0 0 1
+";
+
+const A_THIRD_EACH_PLAYED: &str = "0 currency 1
+0 ticket 1
+0 done
+0 funded 2 1
+0 funded 3 2
+0 funded 4 3
+0 lsthr 3
+thread 1 a ready value 33 weight 33 quanta 0 ticks 0
+thread 2 b ready value 33 weight 33 quanta 0 ticks 0
+thread 3 c ready value 33 weight 33 quanta 0 ticks 0
+1 draw 21489 of 25599 thread 3
+report
+thread 1 a quanta 0 ticks 0
+thread 2 b quanta 0 ticks 0
+thread 3 c quanta 1 ticks 0
+processor 1 quanta 1 idle 0 ticks 0
+total turns 8 quanta 1 ticks 0
+";
+
+/// A waiter lends to a mutex's owner, which lends to its server. With this seed the threads 3, 2 and 1 win the first
+/// draws.
+const CHAIN_OF_LENDS: &str = "lottery 1
+seed 1270
+port p
+mutex m
+script waiter
+lock m
+endscript
+script owner
+lock m
+call p
+endscript
+script server
+receive p
+endscript
+fundx 300 base w waiter
+fundx 100 base o owner
+fundx 50 base v server
+lsthr
+schedule 0 0 0 1 1 1 1 1 1 1 0
+";
+
+const CHAIN_OF_LENDS_PLAYED: &str = "0 funded 1 1
+0 funded 2 2
+0 funded 3 3
+1 draw 424 of 450 thread 3
+1 thread 3 ticks 1 receive 1 waits
+1 draw 361 of 400 thread 2
+1 thread 2 ticks 1 lock 1 taken
+1 thread 2 ticks 1 call 1 served by 3
+1 draw 215 of 15300 thread 1
+1 thread 1 ticks 1 lock 1 waits
+0 lsthr 3
+thread 1 w waiting 1 value 300 weight 30000 quanta 1 ticks 1
+thread 2 o served 3 value 400 weight 20000 quanta 1 ticks 2
+thread 3 v ready value 450 weight 45000 quanta 1 ticks 1
+report
+thread 1 w quanta 1 ticks 1
+thread 2 o quanta 1 ticks 2
+thread 3 v quanta 1 ticks 1
+processor 1 quanta 3 idle 0 ticks 4
+total turns 11 quanta 3 ticks 4
+";
+
+#[test]
+fn played(rt: HostRuntime) {
+    let rows = [
+        ("lottery 1", 0, EMPTY_REPORT),
+        ("lottery 1\n", 0, EMPTY_REPORT),
+        (ENDING, 0, ENDED),
+        (TWO_PROCESSORS, 0, TWO_PROCESSORS_PLAYED),
+        (REFUSED_COMMANDS, 0, COMMANDS_REFUSED),
+        ("lottery 1\nlstkt\n", 0, EMPTY_REPORT),
+        (CURRENCY_GRAPH, 0, CURRENCY_LISTINGS),
+        (CALL_AND_REPLY, 0, CALL_AND_REPLY_PLAYED),
+        (LOOP_IN_TWO, 0, LOOP_IN_TWO_PLAYED),
+        (LOOP_IN_ONE, 0, LOOP_IN_ONE_PLAYED),
+        (LESS_THAN_ONE, 0, LESS_THAN_ONE_PLAYED),
+        (A_THIRD_EACH, 0, A_THIRD_EACH_PLAYED),
+        (CHAIN_OF_LENDS, 0, CHAIN_OF_LENDS_PLAYED),
+    ];
+    for (input, code, output) in rows {
+        check_play(&rt, rt.alloc(), input, code, output);
+    }
+}
+
+/// The front of a call and its reply, up to the first line of the server's script.
+const CALL: &str = "lottery 1\nquantum 10\nport p\nscript srv\n";
+
+/// The front of a script, up to its first line.
+const SCRIPT: &str = "lottery 1\nscript s\n";
+
+#[test]
+fn refused_inputs(rt: HostRuntime) -> Result<(), Fail> {
+    let rows = [
+        ("", "", "1 50 BadHeader"),
+        (SCRIPT, "compute 5\n", "2 54 OpenScript"),
+        (
+            SCRIPT,
+            "loop 1\nloop 1\nloop 1\nloop 1\nloop 1\nloop 1\nloop 1\nloop 1\nloop 1\n",
+            "11 55 TooDeep",
+        ),
+        ("lottery 1\n", "schedule 0 2\n", "2 57 BadActor"),
+        (CALL, "receive p\n", "4 54 OpenScript"),
+        (CALL, "recei", "5 51 BadLine"),
+        (CALL, "receive", "5 51 BadLine"),
+        ("lottery 1\n", "mktkt 007 base\n", "2 52 BadNumber"),
+        (
+            "lottery 1\n",
+            "quantum 10\nprocessors 2\n",
+            "3 50 BadHeader",
+        ),
+        ("lottery 1\n", "schedule 0\nseed 1\n", "3 50 BadHeader"),
+        ("lottery 1\n", "seed 1 2\n", "2 51 BadLine"),
+        (SCRIPT, "call q\n", "3 53 UnknownName"),
+        ("lottery 3\n", "", "1 50 BadHeader"),
+        ("lottery 2\n", "runs 0\n", "2 51 BadLine"),
+        ("lottery 2\n", "runs 0 0\n", "2 52 BadNumber"),
+        ("lottery 2\n", "runs 2 1\n", "2 57 BadActor"),
+        ("lottery 2\n", "runs 0 1000000 0 1\n", "2 56 TooLong"),
+        ("lottery 1\n", "runs 0 1\n", "2 51 BadLine"),
+    ];
+    for (front, rest, refusal) in rows {
+        let input = format!(in rt.alloc(); "{front}{rest}")?;
+        let output = format!(in rt.alloc(); "refused line {refusal}\n")?;
+        check_play(&rt, rt.alloc(), input.as_str(), 1, output.as_str());
+    }
+    Ok(())
+}
+
+#[test]
+fn long_comment(rt: HostRuntime) -> Result<(), Fail> {
+    let mut input = String::from_str(rt.alloc(), "lottery 1\n#")?;
+    for _ in 0..4096 {
+        input.push('a')?;
+    }
+    check_play(
+        &rt,
+        rt.alloc(),
+        input.as_str(),
+        1,
+        "refused line 2 56 TooLong\n",
+    );
+    Ok(())
+}
+
+/// Checks the exit status of these words, and where a text was written.
+fn check_words<H: Abort + Threads + Wait + Sync>(
+    rt: &H,
+    alloc: Global,
+    words: &[&str],
+    code: u8,
+    on_output: bool,
+) {
+    let mut output = Vec::new(alloc);
+    let mut errors = Vec::new(alloc);
+    let ended = status(rt, alloc, words, "".as_bytes(), &mut output, &mut errors);
+    assert_eq!(rt; ended, code, "{words:?}");
+    assert_eq!(rt; output.is_empty(), !on_output, "{words:?}");
+    assert_eq!(rt; errors.is_empty(), on_output, "{words:?}");
+}
+
+#[test]
+fn command_lines(rt: HostRuntime) {
+    check_words(&rt, rt.alloc(), &["lot_sim"], 2, false);
+    check_words(&rt, rt.alloc(), &["lot_sim", "replay"], 2, false);
+    check_words(&rt, rt.alloc(), &["lot_sim", "play", "x"], 2, false);
+    check_words(&rt, rt.alloc(), &["lot_sim", "play", "--seed"], 2, false);
+    check_words(&rt, rt.alloc(), &["lot_sim", "run", "x"], 2, false);
+    check_words(&rt, rt.alloc(), &["lot_sim", "--help"], 0, true);
+}
+
+/// A word that isn't UTF-8 ends with 2, as a wrong word does, and out of memory with 3.
+#[test]
+fn unread_command_lines(rt: HostRuntime) {
+    for (kind, code, is_told) in [
+        (ErrorKind::InvalidData, 2, true),
+        (ErrorKind::OutOfMemory, 3, false),
+    ] {
+        let mut errors = Vec::new(rt.alloc());
+        let ended = unread_status(&io::Error::from(kind), &mut errors);
+        assert_eq!(rt; (ended, !errors.is_empty()), (code, is_told));
+    }
+    let failing = Failing {
+        given: false,
+        kind: ErrorKind::Other,
+    };
+    let ended = unread_status(&io::Error::from(ErrorKind::InvalidData), failing);
+    assert_eq!(rt; ended, 3);
+}
+
+/// A reader that gives some bytes and then fails, or a writer that fails at once.
+#[derive(Drop)]
+struct Failing {
+    given: bool,
+    kind: ErrorKind,
+}
+
+impl Read for Failing {
+    fn read(&mut self, buf: &mut [u8]) -> io::Result<usize> {
+        if self.given || buf.is_empty() {
+            return Err(io::Error::from(self.kind));
+        }
+        self.given = true;
+        buf[0] = b'#';
+        Ok(1)
+    }
+}
+
+impl Write for Failing {
+    fn write(&mut self, _buf: &[u8]) -> io::Result<usize> {
+        Err(io::Error::from(self.kind))
+    }
+
+    fn flush(&mut self) -> io::Result<()> {
+        Ok(())
+    }
+}
+
+#[test]
+fn failures(rt: HostRuntime) {
+    let alloc = rt.alloc();
+    for kind in [ErrorKind::Other, ErrorKind::Interrupted] {
+        let mut output = Vec::new(alloc);
+        let mut errors = Vec::new(alloc);
+        let reader = Failing { given: false, kind };
+        let ended = status(
+            &rt,
+            alloc,
+            &["lot_sim", "play"],
+            reader,
+            &mut output,
+            &mut errors,
+        );
+        assert_eq!(rt; ended, 3);
+        assert!(rt; output.is_empty() && errors.is_empty());
+    }
+    let mut errors = Vec::new(alloc);
+    let writer = Failing {
+        given: false,
+        kind: ErrorKind::Other,
+    };
+    let words = ["lot_sim", "play"];
+    let ended = status(
+        &rt,
+        alloc,
+        &words,
+        "lottery 1".as_bytes(),
+        writer,
+        &mut errors,
+    );
+    assert_eq!(rt; ended, 3);
+    assert!(rt; errors.is_empty());
+}
+
+/// A writer that keeps what it takes and whether all of that was flushed, and whose call of this number fails: with
+/// an error of this kind, or by taking nothing.
+#[derive(Drop)]
+struct FailingCall {
+    written: Vec<u8>,
+    is_flushed: bool,
+    calls: u32,
+    fails_at: u32,
+    kind: Option<ErrorKind>,
+}
+
+impl FailingCall {
+    /// Counts one more call, and fails if it is to.
+    fn call(&mut self) -> io::Result<()> {
+        self.calls = self.calls.saturating_add(1);
+        match self.kind {
+            Some(kind) if self.calls == self.fails_at => Err(io::Error::from(kind)),
+            _ => Ok(()),
+        }
+    }
+}
+
+impl Write for FailingCall {
+    fn write(&mut self, buf: &[u8]) -> io::Result<usize> {
+        self.call()?;
+        if self.calls == self.fails_at {
+            return Ok(0);
+        }
+        self.is_flushed = false;
+        self.written.write(buf)
+    }
+
+    fn flush(&mut self) -> io::Result<()> {
+        self.call()?;
+        self.is_flushed = true;
+        Ok(())
+    }
+}
+
+/// Plays the input to a writer whose call of this number fails, and returns whether it has failed: then what it took
+/// is a beginning of the whole output.
+fn writing_fails(
+    rt: &impl Abort,
+    alloc: Global,
+    (input, output): (&str, &str),
+    fails_at: u32,
+    kind: Option<ErrorKind>,
+) -> bool {
+    let mut writer = Watched::new(FailingCall {
+        written: Vec::new(alloc),
+        is_flushed: false,
+        calls: 0,
+        fails_at,
+        kind,
+    });
+    let mut reader = Watched::new(input.as_bytes());
+    let ended = play(alloc, &mut reader, &mut writer);
+    let has_failed = writer.failed();
+    let FailingCall {
+        written,
+        calls,
+        is_flushed,
+        ..
+    } = writer.into_inner();
+    let whole = output.as_bytes();
+    if has_failed {
+        assert_eq!(rt; (ended, calls), (Err(IoFault::Write), fails_at));
+        assert!(rt; whole.starts_with(written.as_slice()), "at call {fails_at}");
+    } else {
+        assert_eq!(rt; (ended, is_flushed), (Ok(Played::Done), true));
+        assert!(rt; whole == written.as_slice(), "at call {fails_at}");
+    }
+    has_failed
+}
+
+/// The number of the first write or flush whose failure doesn't come, since there are fewer.
+fn first_unmade_write(
+    rt: &impl Abort,
+    alloc: Global,
+    row: (&str, &str),
+    kind: Option<ErrorKind>,
+) -> u32 {
+    for call in 1..1000 {
+        if !writing_fails(rt, alloc, row, call, kind) {
+            return call;
+        }
+    }
+    0
+}
+
+/// The input with tables of these limits, which come after this front of it.
+fn with_limits(alloc: Global, input: &str, front: &str, limits: &str) -> Result<String, Fail> {
+    let rest = input.strip_prefix(front).ok_or("a first line")?;
+    Ok(format!(in alloc; "{front}limits {limits}\n{rest}")?)
+}
+
+#[test]
+fn failing_writers(rt: HostRuntime) -> Result<(), Fail> {
+    let alloc = rt.alloc();
+    let graph = with_limits(alloc, CURRENCY_GRAPH, "lottery 1\n", "8 5 3")?;
+    let call = with_limits(alloc, CALL_AND_REPLY, "lottery 1\nquantum 10\n", "2 1 2")?;
+    for kind in [Some(ErrorKind::Other), Some(ErrorKind::Interrupted), None] {
+        for row in [
+            (graph.as_str(), CURRENCY_LISTINGS),
+            (call.as_str(), CALL_AND_REPLY_PLAYED),
+        ] {
+            let unmade = first_unmade_write(&rt, alloc, row, kind);
+            // The page of turns, five lines of the report and, if it can fail, the flush: at least that many calls
+            // fail.
+            assert!(rt; 6 < unmade, "{unmade}");
+        }
+    }
+    Ok(())
+}
+
+/// A reader of a few bytes at a time, whose call of this number fails.
+#[derive(Drop)]
+struct FailingRead<'a> {
+    rest: &'a [u8],
+    calls: u32,
+    fails_at: u32,
+    kind: ErrorKind,
+}
+
+impl Read for FailingRead<'_> {
+    fn read(&mut self, buf: &mut [u8]) -> io::Result<usize> {
+        self.calls = self.calls.saturating_add(1);
+        if self.calls == self.fails_at {
+            return Err(io::Error::from(self.kind));
+        }
+        let few = buf.len().min(5);
+        self.rest.read(&mut buf[..few])
+    }
+}
+
+/// Plays the input from a reader whose call of this number fails, and returns whether it has failed: then nothing was
+/// written.
+fn reading_fails(
+    rt: &impl Abort,
+    alloc: Global,
+    (input, output): (&str, &str),
+    fails_at: u32,
+    kind: ErrorKind,
+) -> bool {
+    let mut reader = Watched::new(FailingRead {
+        rest: input.as_bytes(),
+        calls: 0,
+        fails_at,
+        kind,
+    });
+    let mut writer = Watched::new(Vec::new(alloc));
+    let ended = play(alloc, &mut reader, &mut writer);
+    let written = writer.into_inner();
+    if reader.failed() {
+        assert_eq!(rt; ended, Err(IoFault::Read));
+        assert!(rt; written.is_empty(), "at call {fails_at}");
+    } else {
+        assert_eq!(rt; ended, Ok(Played::Done));
+        assert!(rt;
+            output.as_bytes() == written.as_slice(),
+            "at call {fails_at}"
+        );
+    }
+    reader.failed()
+}
+
+/// The number of the first read whose failure doesn't come, since there are fewer.
+fn first_unmade_read(rt: &impl Abort, alloc: Global, row: (&str, &str), kind: ErrorKind) -> u32 {
+    for call in 1..1000 {
+        if !reading_fails(rt, alloc, row, call, kind) {
+            return call;
+        }
+    }
+    0
+}
+
+#[test]
+fn failing_readers(rt: HostRuntime) -> Result<(), Fail> {
+    let alloc = rt.alloc();
+    let call = with_limits(alloc, CALL_AND_REPLY, "lottery 1\nquantum 10\n", "2 1 2")?;
+    for kind in [ErrorKind::Other, ErrorKind::Interrupted] {
+        let unmade = first_unmade_read(&rt, alloc, (call.as_str(), CALL_AND_REPLY_PLAYED), kind);
+        assert!(rt; 30 < unmade, "{unmade}");
+    }
+    Ok(())
+}

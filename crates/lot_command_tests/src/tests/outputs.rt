@@ -1,0 +1,214 @@
+//! Outputs that fail, and that are flushed. Nothing more is written to one after its first error.
+
+use super::{EMPTY_REPORT, FailingCall};
+use lot_command::status;
+use std::alloc::Global;
+use std::io::ErrorKind;
+use std::process::Abort;
+use std::sync::Wait;
+use std::test::Fail;
+use std::thread::Threads;
+
+/// How a call fails: with an error of this kind, or by taking no byte.
+const WAYS: [Option<ErrorKind>; 3] = [Some(ErrorKind::Other), Some(ErrorKind::Interrupted), None];
+
+/// What the program is asked for, its input, and then its exit status, what it writes, and in how many calls before the
+/// flush.
+#[derive(Clone, Copy, Debug)]
+struct Asked<'a> {
+    word: &'a str,
+    input: &'a str,
+    code: u8,
+    text: &'a str,
+    writes: u32,
+}
+
+/// Inputs whose output takes a single write.
+const SHORT: [Asked<'static>; 4] = [
+    Asked {
+        word: "play",
+        input: "lottery 1\n",
+        code: 0,
+        text: EMPTY_REPORT,
+        writes: 1,
+    },
+    Asked {
+        word: "play",
+        input: "",
+        code: 1,
+        text: "refused line 1 50 BadHeader\n",
+        writes: 1,
+    },
+    Asked {
+        word: "run",
+        input: "lottery 1\n",
+        code: 0,
+        text: EMPTY_REPORT,
+        writes: 1,
+    },
+    Asked {
+        word: "run",
+        input: "lottery 1\nschedule 0 2\n",
+        code: 1,
+        text: "refused line 2 57 BadActor\n",
+        writes: 1,
+    },
+];
+
+/// An output whose call of this number fails.
+fn failing(alloc: Global, fails_at: u32, kind: Option<ErrorKind>) -> FailingCall {
+    FailingCall {
+        written: Vec::new(alloc),
+        is_flushed: false,
+        calls: 0,
+        fails_at,
+        kind,
+    }
+}
+
+/// Asks for this with an output whose call of this number fails, and returns whether the program has failed: then it
+/// made no further call, and what was written is a beginning of the text.
+fn output_fails<H: Abort + Threads + Wait + Sync>(
+    rt: &H,
+    alloc: Global,
+    asked: Asked,
+    fails_at: u32,
+    kind: Option<ErrorKind>,
+) -> bool {
+    let Asked {
+        word,
+        input,
+        code,
+        text,
+        ..
+    } = asked;
+    let mut output = failing(alloc, fails_at, kind);
+    let mut errors = Vec::new(alloc);
+    let words = ["lot_sim", word];
+    let ended = status(
+        rt,
+        alloc,
+        &words,
+        input.as_bytes(),
+        &mut output,
+        &mut errors,
+    );
+    let whole = text.as_bytes();
+    assert_eq!(rt; errors.is_empty(), ended != 1, "{input}");
+    if ended == 3 {
+        assert_eq!(rt; output.calls, fails_at, "{input}");
+        assert!(rt; whole.starts_with(output.written.as_slice()), "{input}");
+        return true;
+    }
+    assert_eq!(rt; ended, code, "{input}");
+    assert!(rt; output.is_flushed, "{input}");
+    assert!(rt; whole == output.written.as_slice(), "{input}");
+    false
+}
+
+/// Asks for this with an output that fails at each of its calls, and at none. A flush takes no bytes, so it fails
+/// with an error alone.
+fn check_output<H: Abort + Threads + Wait + Sync>(rt: &H, alloc: Global, asked: Asked) {
+    let Asked { input, writes, .. } = asked;
+    for kind in WAYS {
+        for call in 0..10 {
+            let is_write = 0 < call && call <= writes;
+            let is_failing_flush = call == writes.saturating_add(1) && kind.is_some();
+            assert_eq!(rt;
+                output_fails(rt, alloc, asked, call, kind),
+                is_write || is_failing_flush,
+                "call {call} of {input}"
+            );
+        }
+    }
+}
+
+#[test]
+fn failing_outputs(rt: HostRuntime) {
+    for asked in SHORT {
+        check_output(&rt, rt.alloc(), asked);
+    }
+}
+
+// What is longer than the buffer.
+#[test]
+fn failing_long_output(rt: HostRuntime) -> Result<(), Fail> {
+    let mut text = String::new(rt.alloc());
+    for _ in 0..10000 {
+        text.push_str("1 idle\n")?;
+    }
+    text.push_str(
+        "report
+processor 1 quanta 0 idle 10000 ticks 0
+total turns 10000 quanta 0 ticks 0
+",
+    )?;
+    let asked = Asked {
+        word: "play",
+        input: "lottery 2\nlimits 1 1 1\nruns 1 10000\n",
+        code: 0,
+        text: text.as_str(),
+        writes: 2,
+    };
+    check_output(&rt, rt.alloc(), asked);
+    Ok(())
+}
+
+/// Calls the program with these words, and returns its exit status and the one output that it wrote to, whose call of
+/// this number fails.
+fn ended_with<H: Abort + Threads + Wait + Sync>(
+    rt: &H,
+    alloc: Global,
+    words: &[&str],
+    fails_at: u32,
+    kind: Option<ErrorKind>,
+) -> (u8, FailingCall) {
+    let mut output = failing(alloc, fails_at, kind);
+    let mut errors = failing(alloc, fails_at, kind);
+    let ended = status(rt, alloc, words, "".as_bytes(), &mut output, &mut errors);
+    assert!(rt; output.calls == 0 || errors.calls == 0, "{words:?}");
+    if errors.calls == 0 {
+        (ended, output)
+    } else {
+        (ended, errors)
+    }
+}
+
+/// Calls the program with these words and an output that fails at each of its calls, and at none. The last is the
+/// flush.
+fn check_told<H: Abort + Threads + Wait + Sync>(
+    rt: &H,
+    alloc: Global,
+    words: &[&str],
+    code: u8,
+    kind: ErrorKind,
+) {
+    let (ended, whole) = ended_with(rt, alloc, words, 0, None);
+    assert_eq!(rt; (ended, whole.is_flushed), (code, true), "{words:?}");
+    for call in 1..=whole.calls {
+        let (ended, begun) = ended_with(rt, alloc, words, call, Some(kind));
+        assert_eq!(rt; (ended, begun.calls), (3, call), "{words:?}");
+        assert!(rt;
+            whole
+                .written
+                .as_slice()
+                .starts_with(begun.written.as_slice()),
+            "{words:?}"
+        );
+    }
+}
+
+// Help, and the errors of the command line.
+#[test]
+fn failing_texts(rt: HostRuntime) {
+    let alloc = rt.alloc();
+    for kind in [ErrorKind::Other, ErrorKind::Interrupted] {
+        check_told(&rt, alloc, &["lot_sim", "--help"], 0, kind);
+        check_told(&rt, alloc, &["lot_sim", "play", "--help"], 0, kind);
+        check_told(&rt, alloc, &["lot_sim"], 2, kind);
+        check_told(&rt, alloc, &["lot_sim", "replay"], 2, kind);
+    }
+    let (ended, output) = ended_with(&rt, alloc, &["lot_sim", "--help"], 1, None);
+    assert_eq!(rt; (ended, output.calls), (3, 1));
+    assert!(rt; output.written.is_empty());
+}

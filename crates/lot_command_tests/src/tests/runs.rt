@@ -1,0 +1,184 @@
+//! Free runs.
+
+use super::check_words_on;
+use lot_command::{RunStop, status};
+use lot_io::IoFault;
+use lot_processors::FreeRunFault;
+use std::alloc::Global;
+use std::str;
+use std::sync::Wait;
+use std::test::*;
+use std::thread::Threads;
+
+/// Inputs, and what running them writes whatever the order of turns is.
+const RUNS: [(&str, u8, &str); 5] = [
+    (
+        "lottery 1
+turns 3
+",
+        0,
+        "report
+processor 1 quanta 0 idle 3 ticks 0
+total turns 3 quanta 0 ticks 0
+schedule 1 1 1
+",
+    ),
+    (
+        "lottery 1
+turns 0
+",
+        0,
+        "report
+processor 1 quanta 0 idle 0 ticks 0
+total turns 0 quanta 0 ticks 0
+",
+    ),
+    (
+        "lottery 2
+turns 3
+",
+        0,
+        "report
+processor 1 quanta 0 idle 3 ticks 0
+total turns 3 quanta 0 ticks 0
+runs 1 3
+",
+    ),
+    (
+        "lottery 1
+turns 10001
+",
+        1,
+        "refused line 2 52 BadNumber
+",
+    ),
+    (
+        "lottery 1
+schedule 0 2
+",
+        1,
+        "refused line 2 57 BadActor
+",
+    ),
+];
+
+#[test]
+fn runs(rt: HostRuntime) {
+    for (input, code, expected) in RUNS {
+        check_words_on(&rt, rt.alloc(), "run", input, code, expected);
+    }
+}
+
+/// The output of playing or running the input, if it is text and all is done.
+fn written<H: Threads + Wait + Sync>(
+    rt: &H,
+    alloc: Global,
+    word: &str,
+    input: &str,
+) -> Result<String, Fail> {
+    let mut output = Vec::new(alloc);
+    let mut errors = Vec::new(alloc);
+    let words = ["lot_sim", word];
+    let ended = status(
+        rt,
+        alloc,
+        &words,
+        input.as_bytes(),
+        &mut output,
+        &mut errors,
+    );
+    if ended != 0 {
+        return Err("not done".into());
+    }
+    Ok(String::from_utf8(output)?)
+}
+
+/// Programs whose workers have turns to make, with a word of their last lines when they are run.
+const PROGRAMS: [(&str, &str); 3] = [
+    (
+        "lottery 1
+processors 2
+turns 2
+script spin
+compute 150
+endscript
+fundx 10 base a spin
+",
+        "total turns 5 ",
+    ),
+    (
+        "lottery 1
+processors 8
+quantum 10
+turns 40
+port p
+mutex m
+script server
+loop 1000
+receive p
+lock m
+compute 3
+unlock m
+reply
+end
+endscript
+script client
+loop 1000
+call p
+lock m
+compute 2
+unlock m
+end
+endscript
+fundx 5 base s server
+fundx 7 base c client
+fundx 2 base d client
+fundx 3 base e client
+",
+        "total turns 324 ",
+    ),
+    (
+        "lottery 2
+processors 64
+turns 20
+script spin
+compute 1000
+endscript
+fundx 1 base a spin
+fundx 2 base b spin
+fundx 3 base c spin
+",
+        "total turns 1283 ",
+    ),
+];
+
+// The schedule that a run prints gives `play` the report that the run printed.
+#[test]
+fn a_run_is_played_back(rt: HostRuntime) -> Result<(), Fail> {
+    let alloc = rt.alloc();
+    for (program, total) in PROGRAMS {
+        let run = written(&rt, alloc, "run", program)?;
+        assert!(rt; run.as_str().contains(total));
+        let lines = run
+            .as_str()
+            .find("\nschedule ")
+            .or(run.as_str().find("\nruns "));
+        let (report, schedule) = run.as_str().split_at(lines.ok_or("no schedule")? + 1);
+        let input = format!(in alloc; "{program}{schedule}")?;
+        let played = written(&rt, alloc, "play", input.as_str())?;
+        assert!(rt; played.as_str().ends_with(report));
+    }
+    Ok(())
+}
+
+#[test]
+fn texts_of_stops(rt: HostRuntime) -> Result<(), Fail> {
+    for (stop, text) in [
+        (RunStop::Play(IoFault::Read), "the reader has failed"),
+        (RunStop::Workers(FreeRunFault::Memory), "out of memory"),
+    ] {
+        let shown = format!(in rt.alloc(); "{stop}")?;
+        assert_eq!(rt; shown.as_str(), text);
+    }
+    Ok(())
+}

@@ -1,0 +1,115 @@
+//! Tables and pictures of what threads have run, and lotteries that are explained.
+use super::{check_words, check_words_on};
+use lot_command::status;
+use std::test::Fail;
+
+/// Thread `a` has the only ticket: it wins both draws, and runs for two quanta of 2 ticks.
+const INPUT: &str = "lottery 1
+quantum 2
+script spin
+compute 9
+endscript
+mktkt 1 base
+mkthr a spin
+fund 1 a
+mkthr b spin
+schedule 0 0 0 0 1 1 1 1
+";
+
+/// The same, with its turns in the order of time.
+const TIMED: &str = "lottery 3
+quantum 2
+for 4
+script spin
+compute 9
+endscript
+fundx 1 base a spin
+mkthr b spin
+";
+
+#[test]
+fn tables(rt: HostRuntime) {
+    let alloc = rt.alloc();
+    for input in [INPUT, TIMED] {
+        let ticks = "tick,a,b\n0,0,0\n1,1,0\n2,2,0\n3,3,0\n4,4,0\n";
+        check_words_on(&rt, alloc, "shares", input, 0, ticks);
+    }
+    check_words_on(&rt, alloc, "shares", "lottery 1\n", 0, "tick\n0\n");
+    let refused = "refused line 1 50 BadHeader\n";
+    check_words_on(&rt, alloc, "shares", "lottery 9\n", 1, refused);
+    check_words_on(&rt, alloc, "chart", "lottery 9\n", 1, refused);
+}
+
+#[test]
+fn options(rt: HostRuntime) {
+    let alloc = rt.alloc();
+    check_words(&rt, alloc, &["lot_sim", "shares", "x"], 2, false);
+    check_words(&rt, alloc, &["lot_sim", "shares", "--title", "x"], 2, false);
+    check_words(&rt, alloc, &["lot_sim", "chart", "--title"], 2, false);
+    check_words(&rt, alloc, &["lot_sim", "play", "--quanta"], 2, false);
+}
+
+#[test]
+fn draws_and_titles(rt: HostRuntime) -> Result<(), Fail> {
+    let alloc = rt.alloc();
+    let mut output = Vec::new(alloc);
+    let mut errors = Vec::new(alloc);
+    let words = ["lot_sim", "shares", "--quanta"];
+    let ended = status(
+        &rt,
+        alloc,
+        &words,
+        INPUT.as_bytes(),
+        &mut output,
+        &mut errors,
+    );
+    assert_eq!(rt; ended, 0);
+    assert!(rt; output.as_slice() == "tick,a,b\n0,1,0\n1,1,0\n2,2,0\n3,2,0\n4,2,0\n".as_bytes());
+    let mut picture = Vec::new(alloc);
+    let words = ["lot_sim", "chart", "--title", "One & none"];
+    let ended = status(
+        &rt,
+        alloc,
+        &words,
+        INPUT.as_bytes(),
+        &mut picture,
+        &mut errors,
+    );
+    assert_eq!(rt; ended, 0);
+    let text = String::from_utf8(picture).ok().ok_or("a text")?;
+    assert!(rt;
+        text.as_str()
+            .contains("<title id='title'>One &amp; none</title>\n")
+    );
+    assert!(rt; text.as_str().ends_with("</svg>\n"));
+    Ok(())
+}
+
+/// The explanation of the input.
+const EXPLAINED: &str = "0 ticket 1
+0 thread 1
+0 done
+0 thread 2
+1 lot thread 1 a weight 1 from 0 below 1 wins
+1 lot thread 2 b weight 0 from 1 below 1
+1 draw 0 of 1 thread 1
+1 thread 1 ticks 2 expire
+1 lot thread 1 a weight 1 from 0 below 1 wins
+1 lot thread 2 b weight 0 from 1 below 1
+1 draw 0 of 1 thread 1
+1 thread 1 ticks 2 expire
+report
+thread 1 a quanta 2 ticks 4
+thread 2 b quanta 0 ticks 0
+processor 1 quanta 2 idle 0 ticks 4
+total turns 8 quanta 2 ticks 4
+";
+
+#[test]
+fn explained(rt: HostRuntime) {
+    let alloc = rt.alloc();
+    check_words_on(&rt, alloc, "explain", INPUT, 0, EXPLAINED);
+    let refused = "refused line 1 50 BadHeader\n";
+    check_words_on(&rt, alloc, "explain", "lottery 9\n", 1, refused);
+    check_words(&rt, alloc, &["lot_sim", "explain", "x"], 2, false);
+}

@@ -1,0 +1,230 @@
+//! Diagnostics in words on standard error.
+
+use super::{EMPTY_REPORT, Failing};
+use lot_command::status;
+use std::alloc::Global;
+use std::io::ErrorKind;
+use std::process::Abort;
+use std::sync::Wait;
+use std::thread::Threads;
+
+/// Has the input played or run, and compares the exit status and the diagnostics.
+fn check_told<H: Abort + Threads + Wait + Sync>(
+    rt: &H,
+    alloc: Global,
+    words: [&str; 2],
+    input: &str,
+    code: u8,
+    expected: &str,
+) {
+    let mut output = Vec::new(alloc);
+    let mut errors = Vec::new(alloc);
+    let ended = status(
+        rt,
+        alloc,
+        &words,
+        input.as_bytes(),
+        &mut output,
+        &mut errors,
+    );
+    assert_eq!(rt; ended, code, "{input}");
+    let told = str::from_utf8(errors.as_slice()).unwrap_or("");
+    assert_eq!(rt; told, expected);
+}
+
+#[test]
+fn refused_inputs(rt: HostRuntime) {
+    let input = "lottery 1\nmktk 5 base\n";
+    let expected = "line 2: 'mktk' is no body line; did you mean 'mktkt'?\n";
+    check_told(&rt, rt.alloc(), ["lot_sim", "play"], input, 1, expected);
+    check_told(&rt, rt.alloc(), ["lot_sim", "run"], input, 1, expected);
+}
+
+#[test]
+fn failing_errors(rt: HostRuntime) {
+    let alloc = rt.alloc();
+    let rows = [
+        ("lottery 1\nmktk 5 base\n", 1, "refused line 2 51 BadLine\n"),
+        ("lottery 1\nmkcur a\n", 0, EMPTY_REPORT),
+    ];
+    for (input, code, expected) in rows {
+        let mut output = Vec::new(alloc);
+        let errors = Failing {
+            given: false,
+            kind: ErrorKind::Other,
+        };
+        let words = ["lot_sim", "play"];
+        let ended = status(&rt, alloc, &words, input.as_bytes(), &mut output, errors);
+        assert_eq!(rt; ended, code);
+        assert!(rt; output.as_slice() == expected.as_bytes());
+    }
+}
+
+#[test]
+fn nothing_to_tell(rt: HostRuntime) {
+    let input = "lottery 1
+script s
+compute 5
+endscript
+fundx 10 base a s
+schedule 0 1 1
+";
+    check_told(&rt, rt.alloc(), ["lot_sim", "play"], input, 0, "");
+    check_told(&rt, rt.alloc(), ["lot_sim", "run"], input, 0, "");
+}
+
+#[test]
+fn commands(rt: HostRuntime) {
+    let input = "lottery 1
+script s
+compute 5
+endscript
+# a comment and an empty line come between the commands
+
+mktkt 0 base
+script t
+yield
+endscript
+mkthr a u
+mkthr b t
+mkcur c
+schedule 0 0
+";
+    let expected = "line 7: the command was refused: an amount is a number from 1 to 4294967295
+line 11: the command was refused: no script of an earlier line has this name
+line 12: this command and those after it, 2 in all, were never made: each 0 in a schedule makes one, and lottery 3 makes those up to its end
+";
+    check_told(&rt, rt.alloc(), ["lot_sim", "play"], input, 0, expected);
+    check_told(&rt, rt.alloc(), ["lot_sim", "explain"], input, 0, expected);
+}
+
+#[test]
+fn one_command_never_made(rt: HostRuntime) {
+    let input = "lottery 1\nmkcur a\nmkcur b\nschedule 0\n";
+    check_told(
+        &rt,
+        rt.alloc(),
+        ["lot_sim", "play"],
+        input,
+        0,
+        "line 3: this command was never made: each 0 in a schedule makes one, and lottery 3 makes those up to its end\n",
+    );
+}
+
+#[test]
+fn many_refused(rt: HostRuntime) {
+    let input = "lottery 1
+rmtkt 1
+rmtkt 2
+rmtkt 3
+rmtkt 4
+rmtkt 5
+rmtkt 6
+rmtkt 7
+rmtkt 8
+rmtkt 9
+rmtkt 10
+schedule 0 0 0 0 0 0 0 0 0 0
+";
+    check_told(
+        &rt,
+        rt.alloc(),
+        ["lot_sim", "play"],
+        input,
+        0,
+        "line 2: the command was refused: no ticket has this number
+line 3: the command was refused: no ticket has this number
+line 4: the command was refused: no ticket has this number
+line 5: the command was refused: no ticket has this number
+line 6: the command was refused: no ticket has this number
+line 7: the command was refused: no ticket has this number
+line 8: the command was refused: no ticket has this number
+line 9: the command was refused: no ticket has this number
+and 2 more commands that were refused
+",
+    );
+}
+
+// A server without tickets of its own: after its reply nothing funds it, so it never takes the second call, and both
+// clients wait.
+#[test]
+fn stuck_server(rt: HostRuntime) {
+    let input = "lottery 1
+quantum 10
+port p
+script srv
+receive p
+reply
+receive p
+endscript
+script cli
+call p
+call p
+endscript
+mkthr s srv
+fundx 5 base c cli
+schedule 0 0 1 1 1 1 1 1 1 1 1
+";
+    check_told(
+        &rt,
+        rt.alloc(),
+        ["lot_sim", "play"],
+        input,
+        0,
+        "thread 's' is ready at the end and weighs nothing: it wins no draw before something funds it
+thread 'c' waits for good for a server at port 1
+",
+    );
+}
+
+// The owner of the mutex has ended, so no thread will unlock it.
+#[test]
+fn mutex_kept_by_the_dead(rt: HostRuntime) {
+    let input = "lottery 1
+quantum 10
+mutex m
+script one
+lock m
+endscript
+fundx 5 base a one
+fundx 5 base b one
+schedule 0 0 1 1 1 1 1 1 1
+";
+    check_told(
+        &rt,
+        rt.alloc(),
+        ["lot_sim", "play"],
+        input,
+        0,
+        "thread 'b' waits for good for mutex 1\n",
+    );
+}
+
+// The server has ended with a client.
+#[test]
+fn server_that_ended(rt: HostRuntime) {
+    let input = "lottery 1
+quantum 10
+port p
+script srv
+receive p
+endscript
+script cli
+call p
+endscript
+fundx 5 base s srv
+fundx 5 base c cli
+fundx 5 base d cli
+schedule 0 0 0 1 1 1 1 1 1 1 1 1 1 1
+";
+    check_told(
+        &rt,
+        rt.alloc(),
+        ["lot_sim", "play"],
+        input,
+        0,
+        "thread 'c' waits for good for a reply of thread 1
+thread 'd' waits for good for a server at port 1
+",
+    );
+}

@@ -1,0 +1,236 @@
+//! Queues by hand, with the results of their calls.
+ghost use Rattle.std.specs.Prelude.{◌≡◌, ◌↔◌, IsTrue, ◌≤◌, vec_capacity};
+ghost use Rattle.lot_queues.specs.QueueLists.{IsThere};
+
+use lot_queues::{Queues, TakenCall};
+use std::alloc::{AllocError, Global};
+use std::process::Abort;
+use std::test::Fail;
+
+const PORTS: u32 = 2;
+
+const MUTEXES: u32 = 3;
+
+const THREADS: u32 = 5;
+
+fn has_port(queues: &Queues, port: u32) -> bool
+    ensures { IsTrue result ↔ IsThere queues.now.ports port }
+{
+    0 < port && port <= queues.ports()
+}
+
+fn has_mutex(queues: &Queues, mutex: u32) -> bool
+    ensures { IsTrue result ↔ IsThere queues.now.mutexes mutex }
+{
+    0 < mutex && mutex <= queues.mutexes()
+}
+
+fn has_thread(queues: &Queues, thread: u32) -> bool
+    ensures { IsTrue result ↔ IsThere queues.now.clients thread }
+{
+    0 < thread && thread <= queues.threads()
+}
+
+/// Queues with all the threads for which there is room.
+fn full(rt: &impl Abort, alloc: Global) -> Result<Queues, AllocError> {
+    let mut queues = Queues::new(alloc, PORTS, MUTEXES, THREADS)?;
+    for _ in 0..THREADS {
+        assert!(rt; queues.threads() < queues.room());
+        queues.add_thread();
+    }
+    Ok(queues)
+}
+
+/// A queue, as `Call` at a port, with its number.
+#[derive(Clone, Copy, Debug, PartialEq, Eq)]
+enum Queue {
+    Calls(u32),
+    Receivers(u32),
+    Clients(u32),
+    Waiters(u32),
+}
+
+/// Puts a thread into a queue. A call's number is 100 times the thread's.
+fn push(rt: &impl Abort, queues: &mut Queues, queue: Queue, thread: u32) {
+    assert!(rt; has_thread(queues, thread));
+    assert!(rt; queues.is_nowhere(thread));
+    match queue {
+        Queue::Calls(port) => {
+            assert!(rt; has_port(queues, port));
+            queues.push_call(port, thread, thread.wrapping_mul(100));
+        }
+        Queue::Receivers(port) => {
+            assert!(rt; has_port(queues, port));
+            queues.push_receiver(port, thread);
+        }
+        Queue::Clients(server) => {
+            assert!(rt; has_thread(queues, server));
+            queues.push_client(server, thread);
+        }
+        Queue::Waiters(mutex) => {
+            assert!(rt; has_mutex(queues, mutex));
+            queues.push_waiter(mutex, thread);
+        }
+    }
+}
+
+/// Takes the first thread out of a queue, if there is one.
+fn take(rt: &impl Abort, queues: &mut Queues, queue: Queue) -> Option<u32> {
+    match queue {
+        Queue::Calls(port) => {
+            assert!(rt; has_port(queues, port));
+            let call = queues.take_call(port)?;
+            assert_eq!(rt; call.number, call.caller.wrapping_mul(100));
+            Some(call.caller)
+        }
+        Queue::Receivers(port) => {
+            assert!(rt; has_port(queues, port));
+            queues.take_receiver(port)
+        }
+        Queue::Clients(server) => {
+            assert!(rt; has_thread(queues, server));
+            let first = queues.first_client(server);
+            let taken = queues.take_client(server);
+            assert_eq!(rt; taken, first);
+            taken
+        }
+        Queue::Waiters(_) => None,
+    }
+}
+
+/// Checks who waits for a mutex.
+fn check_waiters(
+    rt: &impl Abort,
+    alloc: Global,
+    queues: &Queues,
+    mutex: u32,
+    expected: &[u32],
+) -> Result<(), AllocError> {
+    let mut out = Vec::with_capacity(alloc, THREADS as usize)?;
+    assert!(rt; queues.room() as usize <= out.capacity());
+    assert!(rt; has_mutex(queues, mutex));
+    queues.list_waiters(mutex, &mut out);
+    assert_eq!(rt; out.as_slice(), expected);
+    Ok(())
+}
+
+/// Takes the waiter at a place, as a lottery picks it.
+fn take_waiter_at(
+    rt: &impl Abort,
+    alloc: Global,
+    queues: &mut Queues,
+    mutex: u32,
+    place: usize,
+) -> Result<u32, AllocError> {
+    let mut out = Vec::with_capacity(alloc, THREADS as usize)?;
+    assert!(rt; queues.room() as usize <= out.capacity());
+    assert!(rt; has_mutex(queues, mutex));
+    queues.list_waiters(mutex, &mut out);
+    assert!(rt; place < out.len());
+    let thread = out[place];
+    queues.take_waiter(thread);
+    Ok(thread)
+}
+
+#[test]
+fn the_longest_waiting_is_taken_first(rt: HostRuntime) -> Result<(), Fail> {
+    let mut queues = full(&rt, rt.alloc())?;
+    for queue in [
+        Queue::Calls(1),
+        Queue::Calls(2),
+        Queue::Receivers(1),
+        Queue::Receivers(2),
+        Queue::Clients(4),
+        Queue::Clients(5),
+    ] {
+        for thread in [3, 1, 2] {
+            push(&rt, &mut queues, queue, thread);
+        }
+        for expected in [Some(3), Some(1), Some(2), None] {
+            assert_eq!(rt; take(&rt, &mut queues, queue), expected);
+        }
+    }
+    Ok(())
+}
+
+#[test]
+fn each_queue_has_its_own_threads(rt: HostRuntime) -> Result<(), Fail> {
+    let mut queues = full(&rt, rt.alloc())?;
+    for (queue, thread) in [
+        (Queue::Calls(1), 4),
+        (Queue::Receivers(2), 2),
+        (Queue::Clients(2), 5),
+        (Queue::Waiters(3), 1),
+    ] {
+        push(&rt, &mut queues, queue, thread);
+    }
+    for (thread, expected) in [(1, false), (2, false), (3, true), (4, false), (5, false)] {
+        assert!(rt; has_thread(&queues, thread));
+        assert_eq!(rt; queues.is_nowhere(thread), expected);
+    }
+    for (queue, expected) in [
+        (Queue::Calls(2), None),
+        (Queue::Receivers(1), None),
+        (Queue::Clients(1), None),
+        (Queue::Clients(5), None),
+        (Queue::Calls(1), Some(4)),
+        (Queue::Receivers(2), Some(2)),
+        (Queue::Clients(2), Some(5)),
+    ] {
+        assert_eq!(rt; take(&rt, &mut queues, queue), expected);
+    }
+    check_waiters(&rt, rt.alloc(), &queues, 2, &[])?;
+    check_waiters(&rt, rt.alloc(), &queues, 3, &[1])?;
+    Ok(())
+}
+
+#[test]
+fn a_call_has_the_number_sent_with_it(rt: HostRuntime) -> Result<(), Fail> {
+    let mut queues = full(&rt, rt.alloc())?;
+    for (caller, number) in [(2, 7), (1, 9), (2, 8)] {
+        assert!(rt; has_port(&queues, 1));
+        assert!(rt; has_thread(&queues, caller));
+        assert!(rt; queues.is_nowhere(caller));
+        queues.push_call(1, caller, number);
+        assert_eq!(rt; queues.take_call(1), Some(TakenCall { caller, number }));
+    }
+    Ok(())
+}
+
+#[test]
+fn a_waiter_is_taken_from_its_place(rt: HostRuntime) -> Result<(), Fail> {
+    let mut queues = full(&rt, rt.alloc())?;
+    for thread in [2, 5, 1, 4] {
+        push(&rt, &mut queues, Queue::Waiters(2), thread);
+    }
+    check_waiters(&rt, rt.alloc(), &queues, 2, &[2, 5, 1, 4])?;
+    for (place, expected) in [(1, 5), (2, 4), (0, 2), (0, 1)] {
+        let taken = take_waiter_at(&rt, rt.alloc(), &mut queues, 2, place)?;
+        assert_eq!(rt; taken, expected);
+    }
+    check_waiters(&rt, rt.alloc(), &queues, 2, &[])?;
+    Ok(())
+}
+
+#[test]
+fn a_mutex_has_an_owner_or_is_free(rt: HostRuntime) -> Result<(), Fail> {
+    let mut queues = full(&rt, rt.alloc())?;
+    for (owner, expected) in [
+        (Some(4), [None, Some(4), None]),
+        (Some(1), [None, Some(1), None]),
+        (None, [None, None, None]),
+    ] {
+        assert!(rt; has_mutex(&queues, 2));
+        queues.set_owner(2, owner);
+        assert_eq!(rt; queues.owners(), &expected[..]);
+        assert!(rt; has_mutex(&queues, 2));
+        assert_eq!(rt; queues.owner(2), owner);
+    }
+    Ok(())
+}
+
+#[test]
+fn more_than_a_u32_can_number(rt: HostRuntime) {
+    assert!(rt; Queues::new(rt.alloc(), u32::MAX, 0, 1).is_err());
+    assert!(rt; Queues::new(rt.alloc(), 0, u32::MAX, 1).is_err());
+}
