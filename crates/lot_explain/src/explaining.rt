@@ -68,8 +68,9 @@ fn explain_program<W: Write>(
     ensures flushed { OnOk result (writer.new.flushed ≡ true) }
     ensures played { Plays W.contents writer.old writer.new result Done (explained_program program.now program.now.duration) }
 {
-    match program.duration() {
-        Some(_) => explain_timed(alloc, program, leftovers, writer),
-        None => explain_scheduled(alloc, program, leftovers, writer),
+    if program.format().is_timed() {
+        explain_timed(alloc, program, leftovers, writer)
+    } else {
+        explain_scheduled(alloc, program, leftovers, writer)
     }
 }

@@ -13,14 +13,15 @@ use lot_system::{System, TimedRun, next_turn};
 use lot_text::Program;
 use std::alloc::{AllocError, Global};
 
-/// Makes the turns of the program in a system of its own, in the order of time if it has a duration, otherwise those
+/// Makes the turns of the program in a system of its own, in the order of time if its format says so, otherwise those
 /// of its schedule, and gathers what they were for each thread.
 pub fn gather(alloc: Global, program: &Program) -> Result<Curves, AllocError>
     ensures { IfOk result (λ curves. curves ≡ curves_of program.now) }
 {
-    match program.duration() {
-        Some(_) => gather_timed(alloc, program),
-        None => gather_scheduled(alloc, program),
+    if program.format().is_timed() {
+        gather_timed(alloc, program)
+    } else {
+        gather_scheduled(alloc, program)
     }
 }
 

@@ -1,27 +1,28 @@
 //! The lines of histories.
 ghost use Rattle.std.specs.Prelude.{◌≡◌, ◌≤◌, false, length};
+ghost use Rattle.lot_simulation.specs.Formats.{unit_of};
 ghost use Rattle.lot_simulation.specs.Report as reports;
 ghost use Rattle.lot_io.specs.Writing.{Writes};
 
 use crate::line::Line;
 use crate::runs::write_runs;
 use lot_io::{IoFault, Watched};
+use lot_simulation::Format;
 use std::io::Write;
 
-/// Writes the history of a run as lines that an input of this unit may have, which give it back: `schedule` lines if
-/// the unit is 1, and otherwise `runs` lines.
+/// Writes the history of a run as lines that an input of the format's unit may have, which give it back: `schedule`
+/// lines in `lottery 1`, and otherwise `runs` lines.
 pub fn write_history<W: Write>(
     writer: &mut Watched<W>,
-    unit: u32,
+    format: Format,
     history: &[u8],
 ) -> Result<(), IoFault>
     requires { writer.old.failed ≡ false }
-    ensures { Writes W.contents writer.old writer.new result (reports.history_lines unit history.now) }
+    ensures { Writes W.contents writer.old writer.new result (reports.history_lines (unit_of format) history.now) }
 {
-    if unit == 1 {
-        write_schedule(writer, history)
-    } else {
-        write_runs(writer, history)
+    match format {
+        Format::V1 => write_schedule(writer, history),
+        Format::V2 | Format::V3 => write_runs(writer, history),
     }
 }
 

@@ -10,6 +10,8 @@ pub mod WorkedSystems
 pub mod Lines
 -- The words that begin lines of an input.
 pub mod Words
+-- The formats of inputs.
+pub mod Formats
 -- What has been read of an input so far, and what a token is read as.
 pub mod Reading
 -- What an input says, or on which line it is refused.

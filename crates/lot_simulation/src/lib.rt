@@ -2,6 +2,7 @@
 //! build on those of the machine.
 #![tactic(auto)]
 
+mod format;
 mod input;
 pub mod laws;
 mod manner;
@@ -14,6 +15,7 @@ mod timed;
 pub mod timed_rows;
 pub mod worked;
 
+pub use format::Format;
 pub use input::{BodyWord, HeaderWord, InputFault, InputRefusal, ScriptWord};
 pub use manner::Manner;
 pub use script::{Line, ScriptTrap};

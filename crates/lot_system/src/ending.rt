@@ -28,5 +28,5 @@ fn write_texts<W: Write>(system: &mut System, writer: &mut Watched<W>) -> Result
     ensures text { Writes W.contents writer.old writer.new result (end_text system.old.setting.program system.old.history) }
 {
     write_report(system, writer)?;
-    write_history(writer, system.unit(), system.history())
+    write_history(writer, system.format(), system.history())
 }

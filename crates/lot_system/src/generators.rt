@@ -2,6 +2,7 @@
 ghost use Rattle.std.specs.Prelude.{◌≡◌, IfOk, length, unwrap_or, vec_len, if◌then◌else◌};
 ghost use Rattle.lot_machine.specs.Bounds.{IsBetween};
 ghost use Rattle.lot_machine.specs.Numbered.{at_number, set_number};
+ghost use Rattle.lot_simulation.specs.Formats.{is_timed};
 ghost use Rattle.lot_simulation.specs.World as world;
 ghost use Rattle.lot_simulation.specs.World.{number_from, seed_from};
 ghost use Rattle.lot_system.specs.Steps.{event_done};
@@ -9,6 +10,7 @@ ghost use Rattle.lot_system.specs.Steps.{event_done};
 use crate::turn::{Done, event_of, needs_number};
 use lot_draw::ParkMiller;
 use lot_machine::Event;
+use lot_simulation::Format;
 use lot_text::Program;
 use std::alloc::{AllocError, Global};
 
@@ -31,15 +33,15 @@ struct NextNumber {
     after: ParkMiller,
 }
 
-/// The processor's next number, a wide one or not, which stays its next one.
+/// The processor's next number in an input of this format, which stays its next one.
 #[inline(always)]
-fn next_number(generators: &[ParkMiller], processor: u32, is_wide: bool) -> NextNumber
+fn next_number(generators: &[ParkMiller], processor: u32, format: Format) -> NextNumber
     requires { IsBetween 1 (length generators.now) processor }
-    ensures number { result.number ≡ number_from is_wide (unwrap_or (at_number generators.now processor) 0) }
-    ensures after { result.after ≡ seed_from is_wide (unwrap_or (at_number generators.now processor) 0) }
+    ensures number { result.number ≡ number_from (is_timed format) (unwrap_or (at_number generators.now processor) 0) }
+    ensures after { result.after ≡ seed_from (is_timed format) (unwrap_or (at_number generators.now processor) 0) }
 {
     let mut after = generators[processor as usize - 1];
-    let number = if is_wide {
+    let number = if format.draws_wide_numbers() {
         after.wide_number()
     } else {
         u128::from(after.number())
@@ -53,20 +55,20 @@ fn next_number(generators: &[ParkMiller], processor: u32, is_wide: bool) -> Next
 pub(crate) fn next_event(
     generators: &mut Vec<ParkMiller>,
     processor: u32,
-    is_wide: bool,
+    format: Format,
     done: Option<Done>,
     event: &mut Event,
 )
     requires processor { IsBetween 1 (vec_len generators.old) processor }
-    ensures event { event.new ≡ event_done processor (number_from is_wide (unwrap_or (at_number generators.old.items processor) 0)) done }
-    ensures values { generators.new.items ≡ (if world.takes_number event.new then set_number generators.old.items processor (seed_from is_wide (unwrap_or (at_number generators.old.items processor) 0)) else generators.old.items) }
+    ensures event { event.new ≡ event_done processor (number_from (is_timed format) (unwrap_or (at_number generators.old.items processor) 0)) done }
+    ensures values { generators.new.items ≡ (if world.takes_number event.new then set_number generators.old.items processor (seed_from (is_timed format) (unwrap_or (at_number generators.old.items processor) 0)) else generators.old.items) }
     ensures count { vec_len generators.new ≡ vec_len generators.old }
 {
     if !needs_number(done) {
         *event = event_of(processor, done, 0);
         return;
     }
-    let next = next_number(generators, processor, is_wide);
+    let next = next_number(generators, processor, format);
     *event = event_of(processor, done, next.number);
     generators[processor as usize - 1] = next.after;
 }

@@ -112,9 +112,10 @@ fn play_program<W: Write>(
     ensures flushed { OnOk result (writer.new.flushed ≡ true) }
     ensures played { Plays W.contents writer.old writer.new result Done (played_output program.now program.now.duration) }
 {
-    match program.duration() {
-        Some(_) => play_timed(alloc, program, leftovers, writer),
-        None => play_scheduled(alloc, program, leftovers, writer),
+    if program.format().is_timed() {
+        play_timed(alloc, program, leftovers, writer)
+    } else {
+        play_scheduled(alloc, program, leftovers, writer)
     }
 }
 

@@ -4,6 +4,7 @@ ghost use Rattle.lot_machine.specs.Bounds.{IsBetween};
 ghost use Rattle.lot_machine.specs.Mutexes.{mutex_at};
 ghost use Rattle.lot_machine.specs.Rows as rows;
 ghost use Rattle.lot_machine.specs.State.{sizes_of};
+ghost use Rattle.lot_simulation.specs.Formats.{unit_of};
 ghost use Rattle.lot_simulation.specs.World.Answer.{Answered};
 ghost use Rattle.lot_simulation.specs.World.{IsLegal, system_turn};
 ghost use Rattle.lot_simulation.specs.Report.{ticks_in, total_of, turns_made, turns_of};
@@ -25,6 +26,7 @@ use lot_draw::ParkMiller;
 use lot_kernel::Kernel;
 use lot_machine::{CurrencyRow, Event, Kind, Limits, Reply, ThreadRow, TicketRow};
 use lot_script::{Place, Slice};
+use lot_simulation::Format;
 use lot_text::Program;
 use std::alloc::{AllocError, Global};
 use std::marker::Model;
@@ -40,8 +42,6 @@ pub struct System {
     spent: usize,
     /// Each processor's generator.
     generators: Vec<ParkMiller>,
-    /// Whether it gives wide numbers.
-    is_wide: bool,
     /// Where each thread is in its script.
     places: Vec<Place>,
     history: Vec<u8>,
@@ -60,7 +60,6 @@ impl Drop for System {
             program: _,
             spent: _,
             generators: _,
-            is_wide: _,
             places: _,
             history: _,
             counts: _,
@@ -71,7 +70,7 @@ impl Drop for System {
 }
 
 impl Model for System {
-    ghost use Rattle.std.specs.Prelude.{◌≡◌, ◌==◌, ◌+◌, ◌≤◌, All, count_by, is_some, length, vec_len, vec_capacity};
+    ghost use Rattle.std.specs.Prelude.{◌≡◌, ◌==◌, ◌+◌, ◌≤◌, All, count_by, length, vec_len, vec_capacity};
     ghost use Rattle.lot_simulation.specs.Report.{turns_made};
     ghost use Rattle.lot_simulation.specs.World.{IsLegal, system_run};
     ghost use Rattle.lot_text.specs.Programs.{IsProgram};
@@ -88,7 +87,6 @@ impl Model for System {
       legal : IsLegal s.program s.room s.history.items;
       held : IsHeld s.program (system_run s.program s.history.items) s.kernel.state s.places.items s.generators.items s.spent;
       generators : vec_len s.generators ≡ s.program.limits.processors;
-      wide : s.is_wide ≡ is_some s.program.duration;
       past : (system_run s.program s.history.items).history ≡ s.history.items;
       spent : s.spent ≡ count_by (λ actor. actor == 0) s.history.items;
       counts : vec_len s.counts ≡ s.program.limits.processors + 1;
@@ -111,7 +109,6 @@ impl System {
             program: program.copied(alloc)?,
             spent: 0,
             generators: generators_of(alloc, program)?,
-            is_wide: program.duration().is_some(),
             places: places_for(alloc, limits.threads)?,
             history: Vec::with_capacity(alloc, room as usize)?,
             counts: no_counts(alloc, limits.processors as usize + 1)?,
@@ -326,7 +323,13 @@ impl System {
         ensures answer { (system_turn self.old.setting.program (world_of self.old) actor).answer ≡ Answered event.new reply.new }
     {
         let done = done_in(slice);
-        next_event(&mut self.generators, actor, self.is_wide, done, event);
+        next_event(
+            &mut self.generators,
+            actor,
+            self.program.format(),
+            done,
+            event,
+        );
         *reply = self.kernel.event(event);
         follow_turn(&mut self.places, slice, *reply);
         count_turn(&mut self.counts, actor, *reply);
@@ -345,7 +348,13 @@ impl System {
     {
         let script = script_numbered(&self.program, running.script);
         let done = pass_slice(&mut self.places, script, running.thread, running.budget);
-        next_event(&mut self.generators, actor, self.is_wide, Some(done), event);
+        next_event(
+            &mut self.generators,
+            actor,
+            self.program.format(),
+            Some(done),
+            event,
+        );
         *reply = self.kernel.event(event);
         receive(&mut self.places, *reply);
         count_turn(&mut self.counts, actor, *reply);
@@ -394,6 +403,13 @@ impl System {
         ensures room { vec_capacity out.new ≡ vec_capacity out.old }
     {
         self.kernel.list_waiters(mutex, out);
+    }
+
+    /// The format of the program.
+    pub(crate) fn format(&self) -> Format
+        ensures { unit_of result ≡ self.now.setting.program.limits.unit }
+    {
+        self.program.format()
     }
 
     /// The unit of the program.

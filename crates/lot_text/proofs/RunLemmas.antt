@@ -1,7 +1,7 @@
 -- Runs of turns of one actor.
-use Rattle.std.proofs.Common.{◌≡◌, ◌≢◌, ◌≤◌, ◌%◌, ◌==◌, ◌↔◌, Bool, true, false, ℕ, Result, Ok, List, [], ◌∷◌, length, replicate, refl, sym, arith, ◌∙◌}
+use Rattle.std.proofs.Common.{◌≡◌, ◌≤◌, ◌%◌, ◌==◌, ◌↔◌, ◌||◌, Bool, true, false, not, ℕ, Result, Ok, List, [], ◌∷◌, length, replicate, refl, sym, arith, ◌∙◌}
 use Rattle.std.specs.Prelude.{All, IsTrue}
-use Rattle.std.proofs.lemmas.Bool.{ne_eqb, true≢false}
+use Rattle.std.proofs.lemmas.Bool.{not-true, true≢false}
 use Rattle.std.proofs.lemmas.List.Elements.{All-append, All-replicate, All-nil, All-head, All-tail}
 use Rattle.lot_simulation.specs.declared.input.InputRefusal.{InputRefusal}
 use Rattle.lot_simulation.specs.declared.input.BodyWord.TheVariants as body
@@ -24,15 +24,14 @@ All-actors_of p (run ∷ runs) each =
     (All-actors_of p runs (All-tail (λ (r : ActorRun). r.actor ≤ p) run runs each))
 
 -- an odd number of tokens is refused, and so is a line of runs if the unit is 1 or turns come in the order of time: else the runs are read, and then added
-pub runs_line-pairs : (n : ℕ) (before r : Reading) (tokens : List (List ℕ)) (is_empty are_pairs : Bool) → before ≡ r
-    → IsTrue is_empty ↔ (length tokens ≡ 0) → is_empty ≡ false → before.unit ≢ 1 → before.is_timed ≡ false → IsTrue are_pairs ↔ (length tokens % 2 ≡ 0) → are_pairs ≡ true
+pub runs_line-pairs : (n : ℕ) (before r : Reading) (tokens : List (List ℕ)) (is_empty has_runs are_pairs : Bool) → before ≡ r
+    → IsTrue is_empty ↔ (length tokens ≡ 0) → is_empty ≡ false → has_runs ≡ not (before.unit == 1 || before.is_timed) → has_runs ≡ true → IsTrue are_pairs ↔ (length tokens % 2 ≡ 0) → are_pairs ≡ true
     → body_after_header n r body.Runs tokens ≡ after_header (pairs_added r tokens)
-runs_line-pairs n before r [] is_empty are_pairs same empty none finer untimed pairs all = absurd (true≢false (sym (empty.1 refl) ∙ none))
-runs_line-pairs n before r (first ∷ others) is_empty are_pairs same empty none finer untimed pairs all =
-    let unit : (r.unit == 1) ≡ false = rw (← same) (ne_eqb before.unit 1 finer) in
+runs_line-pairs n before r [] is_empty has_runs are_pairs same empty none runs has pairs all = absurd (true≢false (sym (empty.1 refl) ∙ none))
+runs_line-pairs n before r (first ∷ others) is_empty has_runs are_pairs same empty none runs has pairs all =
     let even : (length (first ∷ others) % 2 == 1) ≡ false = rw (pairs.0 all) refl in
-    let timed : r.is_timed ≡ false = rw (← same) untimed in
-    rw (unit, timed, even) refl
+    let fitting : (r.unit == 1 || r.is_timed) ≡ false = rw (← same) (not-true (before.unit == 1 || before.is_timed) (sym runs ∙ has)) in
+    rw (fitting, even) refl
 
 -- runs that were read are added
 pub pairs_added-read : (before r : Reading) (tokens : List (List ℕ)) (runs : List ActorRun) → before ≡ r → each_pair (run_of before.processors) tokens ≡ Ok runs

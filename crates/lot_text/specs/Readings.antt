@@ -5,7 +5,7 @@ use Rattle.std.specs.Option.{ForSome}
 use Rattle.lot_simulation.specs.declared.input.InputRefusal.{InputRefusal}
 use Rattle.lot_simulation.specs.declared.input.InputRefusal.TheVariants.{TooLong}
 use Rattle.lot_simulation.specs.declared.script.Line.{Line}
-use Rattle.lot_machine.specs.Bounds.{IsBetween, IsUnit}
+use Rattle.lot_machine.specs.Bounds.{IsBetween}
 use Rattle.lot_simulation.specs.Grammar.{Phrase, add_runs, is_alone, is_full, run_of, with_line}
 use Rattle.lot_simulation.specs.Reading.{Reading, OpenScript, ◌>>=◌, checked, each_pair}
 use Rattle.lot_script.specs.Drafts.{loops_after}
@@ -19,7 +19,6 @@ pub record AreSeeds (processors : ℕ) (seeds : List ℕ) : Type 0 where
 -- All values read so far are within the bounds of an input. Right after the first line nothing is known that depends
 -- on the number of processors.
 pub record IsReading (r : Reading) : Type 0 where
-  pub unit : IsUnit r.unit
   pub processors : IsBetween 1 64 r.processors
   pub quantum : IsBetween 1 1000 r.quantum
   pub turns : r.turns ≤ 10000

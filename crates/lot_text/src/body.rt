@@ -238,7 +238,7 @@ fn at(reading: &mut Reading, tokens: Tokens<'_>) -> Result<(), LineFault>
 fn schedule(alloc: Global, reading: &mut Reading, tokens: Tokens<'_>) -> Result<(), LineFault>
     ensures { (n : ℕ) → Gives reading.new result (body_after_header n reading.old BodyWord.Schedule tokens.entry) }
 {
-    if tokens.has_len(0) || reading.is_timed {
+    if tokens.has_len(0) || reading.format.is_timed() {
         return Err(LineFault::Refused(InputRefusal::BadLine));
     }
     let actors = read_actors(alloc, reading.processors, tokens)?;
@@ -263,11 +263,11 @@ fn read_actors(alloc: Global, processors: u32, mut tokens: Tokens<'_>) -> Result
     Ok(actors)
 }
 
-/// `runs A1 K1 A2 K2 ..`, in an input of version 2
+/// `runs A1 K1 A2 K2 ..`, in an input of `lottery 2`
 fn runs(alloc: Global, reading: &mut Reading, tokens: Tokens<'_>) -> Result<(), LineFault>
     ensures { (n : ℕ) → Gives reading.new result (body_after_header n reading.old BodyWord.Runs tokens.entry) }
 {
-    if tokens.has_len(0) || reading.unit == 1 || reading.is_timed || !tokens.are_pairs() {
+    if tokens.has_len(0) || !reading.format.has_runs() || !tokens.are_pairs() {
         return Err(LineFault::Refused(InputRefusal::BadLine));
     }
     add_pairs(alloc, reading, tokens)

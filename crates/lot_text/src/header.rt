@@ -11,11 +11,10 @@ use crate::number::number_between;
 use crate::reading::Reading;
 use crate::tokens::Tokens;
 use lot_machine::Sizes;
-use lot_simulation::{HeaderWord, InputRefusal};
+use lot_simulation::{Format, HeaderWord, InputRefusal};
 use std::alloc::Global;
 
-/// The first line that isn't ignored: `lottery 1` means unit 1, and `lottery 2` unit 256; in `lottery 3` turns come in
-/// the order of time, with unit 256.
+/// The first line that isn't ignored, which says the format: `lottery 1`, `lottery 2` or `lottery 3`.
 pub(crate) fn first_line(
     alloc: Global,
     word: &[u8],
@@ -26,17 +25,10 @@ pub(crate) fn first_line(
     let Ok(version) = tokens.only() else {
         return Err(LineFault::Refused(InputRefusal::BadHeader));
     };
-    let is_lottery = word == b"lottery".as_slice();
-    if is_lottery && version == b"1".as_slice() {
-        return Ok(Reading::new(alloc, false, 1));
+    match Format::of_word(version) {
+        Some(format) if word == b"lottery".as_slice() => Ok(Reading::new(alloc, format)),
+        _ => Err(LineFault::Refused(InputRefusal::BadHeader)),
     }
-    if is_lottery && version == b"2".as_slice() {
-        return Ok(Reading::new(alloc, false, 256));
-    }
-    if is_lottery && version == b"3".as_slice() {
-        return Ok(Reading::new(alloc, true, 256));
-    }
-    Err(LineFault::Refused(InputRefusal::BadHeader))
 }
 
 /// Where the word's line comes in the header, `lottery` first.
@@ -116,7 +108,7 @@ fn read_duration(reading: &mut Reading, tokens: Tokens<'_>) -> Result<(), LineFa
     ensures { Gives reading.new result (header_in_order reading.old HeaderWord.For tokens.entry) }
 {
     let duration = tokens.only()?;
-    if !reading.is_timed {
+    if !reading.format.is_timed() {
         return Err(LineFault::Refused(InputRefusal::BadLine));
     }
     reading.duration = Some(number_between(1, u32::MAX, duration)?);

@@ -89,7 +89,7 @@ fn later_line(
 ) -> Result<(), LineFault>
     ensures { Gives reading.new result (later_line_read number reading.old reading.old.unclosed word.now tokens.entry) }
 {
-    if reading.is_timed && reading.unclosed.is_some() {
+    if reading.format.is_timed() && reading.unclosed.is_some() {
         return phrases_inside(reading, word, tokens);
     }
     match reading.unclosed.take() {
@@ -157,7 +157,7 @@ fn phrase_inside(
 fn header_word_in(reading: &Reading, token: &[u8]) -> Option<HeaderWord>
     ensures { result ≡ word_in (header_words_of reading.now) token.now }
 {
-    if reading.is_timed {
+    if reading.format.is_timed() {
         timed_header_word(token)
     } else {
         header_word(token)
@@ -168,7 +168,7 @@ fn header_word_in(reading: &Reading, token: &[u8]) -> Option<HeaderWord>
 fn body_word_in(reading: &Reading, token: &[u8]) -> Option<BodyWord>
     ensures { result ≡ word_in (body_words_of reading.now) token.now }
 {
-    if reading.is_timed {
+    if reading.format.is_timed() {
         timed_body_word(token)
     } else {
         body_word(token)

@@ -1,10 +1,12 @@
 //! The program that an input says.
-ghost use Rattle.std.specs.Prelude.{◌≡◌, IfOk};
+ghost use Rattle.std.specs.Prelude.{◌≡◌, is_some, IfOk};
 ghost use Rattle.lot_machine.specs.State.{sizes_of};
+ghost use Rattle.lot_simulation.specs.Formats.{is_timed, unit_of};
 ghost use Rattle.lot_text.specs.Programs.{IsProgram};
 
 use lot_machine::{Command, Limits};
 use lot_script::Script;
+use lot_simulation::Format;
 use std::alloc::{AllocError, Global};
 use std::marker::Model;
 
@@ -12,6 +14,7 @@ use std::marker::Model;
 /// or how long it runs, if its turns come in the order of time.
 #[derive(Debug, Drop)]
 pub struct Program {
+    pub(crate) format: Format,
     pub(crate) limits: Limits,
     pub(crate) seeds: Vec<u32>,
     pub(crate) turns: u32,
@@ -23,7 +26,9 @@ pub struct Program {
 }
 
 impl Model for Program {
+    ghost use Rattle.std.specs.Prelude.{◌≡◌, is_some};
     ghost use Rattle.lot_machine.specs.State.{sizes_of};
+    ghost use Rattle.lot_simulation.specs.Formats.{is_timed, unit_of};
     ghost use Rattle.lot_simulation.specs.World.{Program as ProgramRecord};
     ghost use Rattle.lot_text.specs.Programs.{IsProgram};
 
@@ -31,10 +36,24 @@ impl Model for Program {
 
     ghost view = { λ p. record { limits = sizes_of p.limits; seeds = p.seeds.items; turns = p.turns; scripts = p.scripts.items; commands = p.commands.items; schedule = p.schedule.items; duration = p.duration; times = p.times.items } };
 
-    ghost invariant = { λ p. IsProgram (record { limits = sizes_of p.limits; seeds = p.seeds.items; turns = p.turns; scripts = p.scripts.items; commands = p.commands.items; schedule = p.schedule.items; duration = p.duration; times = p.times.items }) };
+    ghost invariant = { λ p. record {
+      program : IsProgram (record { limits = sizes_of p.limits; seeds = p.seeds.items; turns = p.turns; scripts = p.scripts.items; commands = p.commands.items; schedule = p.schedule.items; duration = p.duration; times = p.times.items });
+      unit : unit_of p.format ≡ p.limits.unit;
+      timed : is_timed p.format ≡ is_some p.duration;
+    } };
 }
 
 impl Program {
+    /// The format of the input that says the program.
+    #[inline(always)]
+    pub fn format(&self) -> Format
+        ensures unit { unit_of result ≡ self.now.limits.unit }
+        ensures timed { is_timed result ≡ is_some self.now.duration }
+        ensures legal { IsProgram self.now }
+    {
+        self.format
+    }
+
     /// How much there is room for, the processors, the quantum and the unit.
     pub fn limits(&self) -> Limits
         ensures limits { sizes_of result ≡ self.now.limits }
@@ -104,6 +123,7 @@ impl Program {
         ensures { IfOk result (λ program. program ≡ self.now) }
     {
         Ok(Program {
+            format: self.format,
             limits: self.limits,
             seeds: Vec::from_slice(alloc, self.seeds())?,
             turns: self.turns,

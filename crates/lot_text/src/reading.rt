@@ -1,11 +1,12 @@
 //! The state of reading an input.
-ghost use Rattle.std.specs.Prelude.{◌≡◌, ℕ, ◌<◌, ◌≤◌, max, All, length, map, option_map, position, unwrap_or, IfErr, IfOk, IfSome, IsTrue, Ok, Some, if◌then◌else◌};
+ghost use Rattle.std.specs.Prelude.{◌≡◌, ℕ, ◌<◌, ◌≤◌, max, false, All, length, map, option_map, position, unwrap_or, IfErr, IfOk, IfSome, IsTrue, Ok, Some, if◌then◌else◌};
 ghost use Rattle.std.specs.List.{range_with_len};
 ghost use Rattle.std.specs.Option.{ForSome};
 ghost use Rattle.std.specs.Str.{bytes_eq};
-ghost use Rattle.lot_machine.specs.Bounds.{IsBetween, IsUnit};
+ghost use Rattle.lot_machine.specs.Bounds.{IsBetween};
 ghost use Rattle.lot_machine.specs.Lottery.{mixed_seed};
 ghost use Rattle.lot_simulation.specs.Grammar.{add_command as add_command_read, add_runs as add_runs_read, closed_program, lacks_duration as lacks_duration_read, limits_of, script_names, whole_program};
+ghost use Rattle.lot_simulation.specs.Formats.{is_timed, unit_of};
 ghost use Rattle.lot_simulation.specs.Reading.{number_named, opening_reading};
 ghost use Rattle.lot_machine.specs.State.{sizes_of};
 ghost use Rattle.lot_text.specs.Faults.{Gives, IsFaultOf};
@@ -16,7 +17,7 @@ use crate::runs::{ActorRun, actors_of, have_room};
 use crate::{ParseFault, Program};
 use lot_machine::{Command, Limits, Name, Sizes};
 use lot_script::{Script, ScriptBuilder};
-use lot_simulation::{InputFault, InputRefusal};
+use lot_simulation::{Format, InputFault, InputRefusal};
 use std::alloc::{AllocError, Global};
 use std::marker::Model;
 
@@ -61,9 +62,7 @@ pub(crate) const MOST_ENTRIES: usize = 1000000;
 #[derive(Drop)]
 pub(crate) struct Reading {
     pub(crate) place: u32,
-    /// Whether turns come in the order of time.
-    pub(crate) is_timed: bool,
-    pub(crate) unit: u32,
+    pub(crate) format: Format,
     pub(crate) processors: u32,
     pub(crate) quantum: u32,
     pub(crate) turns: u32,
@@ -86,26 +85,25 @@ pub(crate) struct Reading {
 
 impl Model for Reading {
     ghost use Rattle.std.specs.Prelude.{option_map};
+    ghost use Rattle.lot_simulation.specs.Formats.{is_timed, unit_of};
     ghost use Rattle.lot_simulation.specs.Reading.{Reading as ReadingRecord};
     ghost use Rattle.lot_text.specs.Readings.{IsReading};
 
     ghost Value = { ReadingRecord };
 
-    ghost view = { λ r. record { place = r.place; is_timed = r.is_timed; unit = r.unit; processors = r.processors; quantum = r.quantum; turns = r.turns; duration = r.duration; seeds = option_map (λ s. s.items) r.seeds; tickets = r.tickets; currencies = r.currencies; threads = r.threads; ports = r.ports.items; mutexes = r.mutexes.items; scripts = r.scripts.items; unclosed = r.unclosed; commands = r.commands.items; time = r.time; times = r.times.items; schedule = r.schedule.items } };
+    ghost view = { λ r. record { place = r.place; is_timed = is_timed r.format; unit = unit_of r.format; processors = r.processors; quantum = r.quantum; turns = r.turns; duration = r.duration; seeds = option_map (λ s. s.items) r.seeds; tickets = r.tickets; currencies = r.currencies; threads = r.threads; ports = r.ports.items; mutexes = r.mutexes.items; scripts = r.scripts.items; unclosed = r.unclosed; commands = r.commands.items; time = r.time; times = r.times.items; schedule = r.schedule.items } };
 
-    ghost invariant = { λ r. IsReading (record { place = r.place; is_timed = r.is_timed; unit = r.unit; processors = r.processors; quantum = r.quantum; turns = r.turns; duration = r.duration; seeds = option_map (λ s. s.items) r.seeds; tickets = r.tickets; currencies = r.currencies; threads = r.threads; ports = r.ports.items; mutexes = r.mutexes.items; scripts = r.scripts.items; unclosed = r.unclosed; commands = r.commands.items; time = r.time; times = r.times.items; schedule = r.schedule.items }) };
+    ghost invariant = { λ r. IsReading (record { place = r.place; is_timed = is_timed r.format; unit = unit_of r.format; processors = r.processors; quantum = r.quantum; turns = r.turns; duration = r.duration; seeds = option_map (λ s. s.items) r.seeds; tickets = r.tickets; currencies = r.currencies; threads = r.threads; ports = r.ports.items; mutexes = r.mutexes.items; scripts = r.scripts.items; unclosed = r.unclosed; commands = r.commands.items; time = r.time; times = r.times.items; schedule = r.schedule.items }) };
 }
 
 impl Reading {
-    /// The state after the first line, which says whether turns come in the order of time, and the unit.
-    pub(crate) fn new(alloc: Global, is_timed: bool, unit: u32) -> Self
-        requires { IsUnit unit }
-        ensures { result ≡ opening_reading is_timed unit }
+    /// The state after the first line, which says the format.
+    pub(crate) fn new(alloc: Global, format: Format) -> Self
+        ensures { result ≡ opening_reading (is_timed format) (unit_of format) }
     {
         Reading {
             place: 0,
-            is_timed,
-            unit,
+            format,
             processors: 1,
             quantum: 100,
             turns: 0,
@@ -129,7 +127,7 @@ impl Reading {
     pub(crate) fn lacks_duration(&self) -> bool
         ensures { result ≡ lacks_duration_read self.now }
     {
-        self.is_timed && self.duration.is_none()
+        self.format.is_timed() && self.duration.is_none()
     }
 
     /// One more command, which ends the header.
@@ -139,7 +137,7 @@ impl Reading {
         if 100000 <= self.commands.len() {
             return Err(LineFault::Refused(InputRefusal::TooLong));
         }
-        if self.is_timed {
+        if self.format.is_timed() {
             return self.add_timed_command(command);
         }
         self.commands.push(command)?;
@@ -197,7 +195,7 @@ impl Reading {
             processors: self.processors,
             scripts: self.scripts.len() as u32,
             quantum: self.quantum,
-            unit: self.unit,
+            unit: self.format.unit(),
         };
         Limits::new(sizes).unwrap()
     }
@@ -219,14 +217,14 @@ impl Reading {
 
     /// The program, if no script is open.
     fn into_closed(self, alloc: Global) -> Result<Program, ParseFault>
+        requires { lacks_duration_read self ≡ false }
         ensures program { IfOk result (λ program. closed_program self self.unclosed ≡ Ok program) }
         ensures fault { IfErr result (IsFaultOf (closed_program self self.unclosed)) }
     {
         let limits = self.limits();
         let Reading {
             place: _,
-            is_timed,
-            unit: _,
+            format,
             processors,
             quantum: _,
             turns,
@@ -250,9 +248,10 @@ impl Reading {
                 refusal: InputRefusal::OpenScript,
             }));
         }
-        let seeds = seeds_or_own(alloc, seeds, processors, is_timed)?;
+        let seeds = seeds_or_own(alloc, seeds, processors, format)?;
         let scripts = without_names(alloc, scripts)?;
         Ok(Program {
+            format,
             limits,
             seeds,
             turns,
@@ -279,16 +278,16 @@ fn seeds_or_own(
     alloc: Global,
     given: Option<Vec<u32>>,
     processors: u32,
-    is_timed: bool,
+    format: Format,
 ) -> Result<Vec<u32>, AllocError>
     requires given { ForSome given (λ s. AreSeeds processors s.items) }
     requires processors { IsBetween 1 64 processors }
     ensures seeds { IfOk result (λ s. AreSeeds processors s.items) }
-    ensures read { IfOk result (λ s. s.items ≡ unwrap_or (option_map (λ g. g.items) given) (if is_timed then map mixed_seed (range_with_len 1 processors) else range_with_len 1 processors)) }
+    ensures read { IfOk result (λ s. s.items ≡ unwrap_or (option_map (λ g. g.items) given) (if is_timed format then map mixed_seed (range_with_len 1 processors) else range_with_len 1 processors)) }
 {
     match given {
         Some(seeds) => Ok(seeds),
-        None if is_timed => mixed_seeds(alloc, processors),
+        None if format.is_timed() => mixed_seeds(alloc, processors),
         None => own_seeds(alloc, processors),
     }
 }

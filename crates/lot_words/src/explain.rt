@@ -2,12 +2,12 @@
 //! words it has, then each of them, and then the limit that it exceeds.
 
 use crate::forms::{BODY_WORDS, Form, SCRIPT_WORDS, form_inside, form_outside, header_place};
-use crate::input::{OpenScript, Refused, Version, words_of};
+use crate::input::{OpenScript, Refused, words_of};
 use crate::nearest::nearest_word;
 use crate::phrases::phrases_problem;
 use crate::problem::Problem;
 use crate::word::word_problem;
-use lot_simulation::InputRefusal;
+use lot_simulation::{Format, InputRefusal};
 use std::alloc::Global;
 
 /// What is wrong with a line that was refused in this way.
@@ -31,12 +31,16 @@ pub(crate) fn problem_of<'a>(
 /// last one too.
 fn is_timed_start(line: &[u8]) -> bool {
     let mut words = words_of(line);
-    words.next() == Some("lottery") && words.next() == Some("3") && words.next().is_none()
+    let is_start = words.next() == Some("lottery");
+    match Format::of_word(words.next().unwrap_or("").as_bytes()) {
+        Some(format) => is_start && format.is_timed() && words.next().is_none(),
+        None => false,
+    }
 }
 
 /// What is wrong with a line that the header makes wrong. It begins with this word.
 fn header_problem<'a>(refused: &Refused<'a>, word: &'a str) -> Problem<'a> {
-    if refused.version != Version::Timed {
+    if !refused.is_timed() {
         return Problem::LateHeader(word);
     }
     let is_late = match header_place(word) {
@@ -85,11 +89,11 @@ fn script_problem<'a>(
     script: OpenScript,
     word: &'a str,
 ) -> Option<Problem<'a>> {
-    if refused.version == Version::Timed {
+    if refused.is_timed() {
         return phrases_problem(alloc, refused, script);
     }
     let Some(form) = form_inside(word) else {
-        return Some(no_script_word(alloc, refused.version, script, word));
+        return Some(no_script_word(alloc, refused, script, word));
     };
     if word == "serve" {
         return Some(Problem::OnlyTimed(word));
@@ -111,12 +115,12 @@ pub(crate) fn loop_problem(script: OpenScript, word: &str) -> Option<Problem<'_>
 }
 
 /// What to say of a word inside a script that is none of a script's.
-pub(crate) fn no_script_word(
+pub(crate) fn no_script_word<'a>(
     alloc: Global,
-    version: Version,
+    refused: &Refused<'a>,
     script: OpenScript,
-    word: &str,
-) -> Problem<'_> {
+    word: &'a str,
+) -> Problem<'a> {
     if word == "lottery" || form_outside(word).is_some() {
         return Problem::InsideScript {
             word,
@@ -125,13 +129,13 @@ pub(crate) fn no_script_word(
     }
     Problem::NoScriptWord {
         word,
-        nearest: nearest_word(alloc, version.words_of(&SCRIPT_WORDS), word),
+        nearest: nearest_word(alloc, refused.words_among(&SCRIPT_WORDS), word),
     }
 }
 
 /// What is wrong with a line outside scripts.
 fn body_problem<'a>(alloc: Global, refused: &Refused<'a>, word: &'a str) -> Option<Problem<'a>> {
-    let problem = version_problem(refused.version, word);
+    let problem = format_problem(refused.format, word);
     if problem.is_some() {
         return problem;
     }
@@ -143,16 +147,16 @@ fn body_problem<'a>(alloc: Global, refused: &Refused<'a>, word: &'a str) -> Opti
     }
     Some(Problem::NoBodyLine {
         word,
-        nearest: nearest_word(alloc, refused.version.words_of(&BODY_WORDS), word),
+        nearest: nearest_word(alloc, refused.words_among(&BODY_WORDS), word),
     })
 }
 
-/// What is wrong with a line outside scripts that begins with this word, in an input of this version.
-fn version_problem(version: Version, word: &str) -> Option<Problem<'_>> {
-    match (version, word) {
-        (Version::First, "runs") => Some(Problem::RunsOfFirst),
-        (Version::Timed, "schedule" | "runs") => Some(Problem::ScheduleOfTimed(word)),
-        (Version::Timed, _) => None,
+/// What is wrong with a line outside scripts that begins with this word, in an input of this format.
+fn format_problem(format: Option<Format>, word: &str) -> Option<Problem<'_>> {
+    match (format, word) {
+        (Some(Format::V1), "runs") => Some(Problem::RunsOfFirst),
+        (Some(Format::V3), "schedule" | "runs") => Some(Problem::ScheduleOfTimed(word)),
+        (Some(Format::V3), _) => None,
         (_, "for" | "at") => Some(Problem::OnlyTimed(word)),
         _ => None,
     }

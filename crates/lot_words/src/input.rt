@@ -2,37 +2,9 @@
 
 use crate::forms::header_place;
 use crate::phrases::after_line;
+use lot_simulation::Format;
 use std::str;
 use std::str::SplitAsciiWhitespace;
-
-/// Which inputs there are.
-#[derive(Clone, Copy, Debug, PartialEq, Eq)]
-pub(crate) enum Version {
-    /// `lottery 1`
-    First,
-    /// `lottery 3`
-    Timed,
-    Other,
-}
-
-impl Version {
-    /// The one that this word says.
-    fn of(word: &str) -> Version {
-        match word {
-            "1" => Version::First,
-            "3" => Version::Timed,
-            _ => Version::Other,
-        }
-    }
-
-    /// Those of these words that it has: the last of them is for `lottery 3` alone.
-    pub(crate) fn words_of(self, words: &'static [&'static str]) -> &'static [&'static str] {
-        if self == Version::Timed {
-            return words;
-        }
-        &words[..words.len().saturating_sub(1)]
-    }
-}
 
 /// A script that is open.
 #[derive(Clone, Copy, Debug)]
@@ -52,8 +24,8 @@ pub(crate) struct Refused<'a> {
     pub(crate) line: &'a [u8],
     /// Whether one of the lines before it isn't ignored.
     pub(crate) has_start: bool,
-    /// What follows `lottery` on the first of these.
-    pub(crate) version: Version,
+    /// What the first of these says.
+    pub(crate) format: Option<Format>,
     /// Where the last line of the header comes in it, from 0 on.
     pub(crate) place: usize,
     /// Whether the header says how long the input runs.
@@ -71,7 +43,7 @@ impl<'a> Refused<'a> {
             before: input,
             line: &[],
             has_start: false,
-            version: Version::Other,
+            format: None,
             place: 0,
             has_duration: false,
             now: 0,
@@ -91,6 +63,22 @@ impl<'a> Refused<'a> {
             at = at.saturating_add(1);
         }
         refused
+    }
+
+    /// Whether turns come in the order of time in this input.
+    pub(crate) fn is_timed(&self) -> bool {
+        match self.format {
+            Some(format) => format.is_timed(),
+            None => false,
+        }
+    }
+
+    /// Those of these words that the input has: the last of them is only for turns in the order of time.
+    pub(crate) fn words_among(&self, words: &'static [&'static str]) -> &'static [&'static str] {
+        if self.is_timed() {
+            return words;
+        }
+        &words[..words.len().saturating_sub(1)]
     }
 
     /// Takes up what the line with this number says.
@@ -113,7 +101,7 @@ impl<'a> Refused<'a> {
     fn pass_outside(&mut self, number: u32, word: &str, next: &str) {
         self.place = header_place(word).unwrap_or(usize::MAX);
         match word {
-            "lottery" => self.version = Version::of(next),
+            "lottery" => self.format = Format::of_word(next.as_bytes()),
             "for" => self.has_duration = true,
             "at" => self.now = next.parse::<u32>().unwrap_or(0),
             "processors" => self.processors = next.parse::<u32>().unwrap_or(1),

@@ -82,7 +82,7 @@ impl Before {
             return Some(Problem::LateComment);
         }
         let Some(form) = form_inside(word) else {
-            return Some(no_script_word(alloc, refused.version, script, word));
+            return Some(no_script_word(alloc, refused, script, word));
         };
         self.script = script.after(word);
         if !form.expected.is_empty() {

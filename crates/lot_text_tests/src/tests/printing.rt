@@ -13,7 +13,7 @@ use lot_print::{
     write_ticket, write_timed_processor_total, write_timed_thread_total, write_timed_whole_total,
     write_whole_total,
 };
-use lot_simulation::{InputFault, InputRefusal, Manner, Waits};
+use lot_simulation::{Format, InputFault, InputRefusal, Manner, Waits};
 use std::alloc::Global;
 use std::process::Abort;
 use std::test::Fail;
@@ -664,18 +664,18 @@ fn prints_listing_lines(rt: HostRuntime) {
     }
 }
 
-fn check_history(rt: &impl Abort, alloc: Global, unit: u32, history: &[u8], wanted: &str) {
+fn check_history(rt: &impl Abort, alloc: Global, format: Format, history: &[u8], wanted: &str) {
     let mut writer = Watched::new(Vec::new(alloc));
-    let ended = write_history(&mut writer, unit, history);
+    let ended = write_history(&mut writer, format, history);
     check(rt, writer, ended, wanted);
 }
 
 #[test]
 fn prints_histories(rt: HostRuntime) {
-    check_history(&rt, rt.alloc(), 1, &[], "");
-    check_history(&rt, rt.alloc(), 256, &[], "");
-    check_history(&rt, rt.alloc(), 1, &[0, 1, 64], "schedule 0 1 64\n");
-    check_history(&rt, rt.alloc(), 256, &[1, 1, 1], "runs 1 3\n");
+    check_history(&rt, rt.alloc(), Format::V1, &[], "");
+    check_history(&rt, rt.alloc(), Format::V2, &[], "");
+    check_history(&rt, rt.alloc(), Format::V1, &[0, 1, 64], "schedule 0 1 64\n");
+    check_history(&rt, rt.alloc(), Format::V2, &[1, 1, 1], "runs 1 3\n");
 }
 
 /// 65 turns of processor 1, and one of the console.
@@ -692,8 +692,8 @@ const LONG_LINES: &str =
 #[test]
 fn prints_long_histories(rt: HostRuntime) {
     let history = long_history();
-    check_history(&rt, rt.alloc(), 1, &history, LONG_LINES);
-    check_history(&rt, rt.alloc(), 256, &history, "runs 1 65 0 1\n");
+    check_history(&rt, rt.alloc(), Format::V1, &history, LONG_LINES);
+    check_history(&rt, rt.alloc(), Format::V2, &history, "runs 1 65 0 1\n");
 }
 
 /// Processor 64 and the console in turn.
@@ -711,13 +711,13 @@ const MIXED_LINES: &str =
 
 #[test]
 fn prints_mixed_histories(rt: HostRuntime) {
-    check_history(&rt, rt.alloc(), 256, &mixed_history(), MIXED_LINES);
+    check_history(&rt, rt.alloc(), Format::V2, &mixed_history(), MIXED_LINES);
 }
 
 #[test]
 fn prints_runs(rt: HostRuntime) {
-    check_history(&rt, rt.alloc(), 256, &[2, 2, 2, 0, 2], "runs 2 3 0 1 2 1\n");
-    check_history(&rt, rt.alloc(), 256, &[1, 1, 0], "runs 1 2 0 1\n");
+    check_history(&rt, rt.alloc(), Format::V2, &[2, 2, 2, 0, 2], "runs 2 3 0 1 2 1\n");
+    check_history(&rt, rt.alloc(), Format::V2, &[1, 1, 0], "runs 1 2 0 1\n");
 }
 
 /// 33 runs of two turns.
@@ -737,7 +737,7 @@ const LINES_OF_PAIRS: &str =
 #[test]
 fn prints_runs_after_a_line(rt: HostRuntime) -> Result<(), Fail> {
     let history = history_of_pairs(rt.alloc())?;
-    check_history(&rt, rt.alloc(), 256, history.as_slice(), LINES_OF_PAIRS);
+    check_history(&rt, rt.alloc(), Format::V2, history.as_slice(), LINES_OF_PAIRS);
     Ok(())
 }
 

@@ -1,5 +1,6 @@
 -- The history's lines are written after the report.
 use Rattle.std.proofs.Common.{◌≡◌, ℕ, List, Err, rules, ◌∙◌, ap, subst}
+use Rattle.lot_simulation.specs.Formats.{unit_of}
 use Rattle.lot_simulation.specs.Report.{report, history_lines}
 use Rattle.lot_system.specs.Seen.{Seen}
 use Rattle.lot_io.specs.Writing.{Written}
@@ -30,5 +31,5 @@ returns-clause-text g c =
     let new = g.W.Write.contents c.write_history.new.writer.inner in
     let failed = c.write_history.new.writer.failed in
     let result = c.write_history.result in
-    let lines = lines-are s c.write_report.new.system c.unit.result c.history.result.now c.in_ok-write_report.ensures.same c.unit.ensures.program c.history.ensures.items in
+    let lines = lines-are s c.write_report.new.system (unit_of c.format.result) c.history.result.now c.in_ok-write_report.ensures.same c.format.ensures c.history.ensures.items in
     writes-after old mid new failed result (report s.setting.program s.history) (history_lines s.setting.program.limits.unit s.history) c.in_ok-write_report.ensures.text.1 (subst (Written mid new failed result) lines c.write_history.ensures)

@@ -60,7 +60,6 @@ invariant_of-self c =
       legal = legal;
       held = rw (system_run-one_more s.program s.history.items 0) held;
       generators = i.generators;
-      wide = i.wide;
       past = past-more s.program s.history.items 0 (event.Command c.copied.result) c.event-reply.result i.past answer;
       spent = omega (arith, count, i.spent);
       counts = c.count_turn.ensures.count ∙ i.counts;

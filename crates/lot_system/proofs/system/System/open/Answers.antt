@@ -1,4 +1,4 @@
-use Rattle.std.proofs.Common.{rules, ◌≡◌, ◌∙◌, ◌+◌, [], length, is_some, ap, sym, subst}
+use Rattle.std.proofs.Common.{rules, ◌≡◌, ◌∙◌, ◌+◌, [], length, ap, sym, subst}
 use Rattle.lot_machine.specs.State.{opening, sizes_of}
 use Rattle.lot_simulation.specs.Report.{turns_made}
 use Rattle.lot_system.specs.Counted.{AreCounts, IsCount}
@@ -23,7 +23,6 @@ invariant_of-result c =
       program = search (rules, copied);
       legal = search (rules, none);
       held = opening-held program history state places generators none is c.in_ok-places_for.ensures.none seeded;
-      wide = c.is_some.ensures ∙ ap is_some (c.duration.ensures.duration ∙ ap (λ p. p.duration) (sym copied));
       generators = c.in_ok-generators_of.ensures.count ∙ ap (λ p. p.limits.processors) (sym copied);
       past = search (rules, none);
       spent = search (rules, none);

@@ -35,7 +35,7 @@ receive-requires c =
     let s = c.self.inside in
     let requires = rw (← c.self.view_is) at c.requires in
     let runs = requires.runs in
-    let number = ap (λ wide. number_from wide (unwrap_or (at_number s.generators.items c.args.actor) 0)) c.self.invariant.wide in
+    let number = ap (λ wide. number_from wide (unwrap_or (at_number s.generators.items c.args.actor) 0)) c.format.ensures.timed in
     let passed = c.pass_slice-done.ensures in
     run-names s.program (system_run s.program s.history.items) s.kernel.state s.places.items s.generators.items s.spent c.self.invariant.held c.args.actor c.args.running runs.0 runs.1.1 requires.actor
     c.script_numbered-script.result.now c.script_numbered-script.ensures.lines c.pass_slice-done.result c.pass_slice-done.new.places.items passed.slice passed.places passed.accumulator _ number
@@ -53,9 +53,9 @@ invariant_of-self c =
     let i = c.self.invariant in
     let requires = rw (← c.self.view_is) at c.requires in
     let runs = requires.runs in
-    let number = ap (λ wide. number_from wide (unwrap_or (at_number s.generators.items c.args.actor) 0)) i.wide in
+    let number = ap (λ wide. number_from wide (unwrap_or (at_number s.generators.items c.args.actor) 0)) c.format.ensures.timed in
     let passed = c.pass_slice-done.ensures in
-    let numbers = c.next_event.ensures.values ∙ ap (λ wide. if takes_number c.next_event.new.event then set_number s.generators.items c.args.actor (seed_from wide (unwrap_or (at_number s.generators.items c.args.actor) 0)) else s.generators.items) i.wide in
+    let numbers = c.next_event.ensures.values ∙ ap (λ wide. if takes_number c.next_event.new.event then set_number s.generators.items c.args.actor (seed_from wide (unwrap_or (at_number s.generators.items c.args.actor) 0)) else s.generators.items) c.format.ensures.timed in
     let held =
     run-held s.program (system_run s.program s.history.items) s.kernel.state s.places.items s.generators.items s.spent i.held c.args.actor c.args.running runs.0 runs.1.1 requires.actor
     c.script_numbered-script.result.now c.script_numbered-script.ensures.lines c.pass_slice-done.result c.pass_slice-done.new.places.items passed.slice passed.places passed.accumulator _ number
@@ -72,7 +72,6 @@ invariant_of-self c =
       legal = legal;
       held = rw (system_run-one_more s.program s.history.items c.args.actor) held;
       generators = c.next_event.ensures.count ∙ i.generators;
-      wide = i.wide;
       past = past-more s.program s.history.items c.args.actor c.next_event.new.event c.event.result i.past answer;
       spent = omega (arith, count, i.spent);
       counts = c.count_turn.ensures.count ∙ i.counts;
@@ -87,7 +86,7 @@ returns-clause-answer c =
     let s = c.self.inside in
     let requires = rw (← c.self.view_is) at c.requires in
     let runs = requires.runs in
-    let number = ap (λ wide. number_from wide (unwrap_or (at_number s.generators.items c.args.actor) 0)) c.self.invariant.wide in
+    let number = ap (λ wide. number_from wide (unwrap_or (at_number s.generators.items c.args.actor) 0)) c.format.ensures.timed in
     let passed = c.pass_slice-done.ensures in
     subst (λ (x : Seen). (system_turn x.setting.program (world_of x) c.args.actor).answer ≡ Answered c.next_event.new.event c.event.result) c.self.view_is
     (run-answer s.program (system_run s.program s.history.items) s.kernel.state s.places.items s.generators.items s.spent c.self.invariant.held c.args.actor c.args.running runs.0 runs.1.1 requires.actor

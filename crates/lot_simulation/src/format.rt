@@ -1,0 +1,71 @@
+//! The formats of inputs.
+ghost use Rattle.std.specs.Prelude.{◌≡◌, ◌==◌, ◌||◌, not};
+ghost use Rattle.lot_machine.specs.Bounds.{IsUnit};
+ghost use Rattle.lot_simulation.specs.Formats as formats;
+ghost use Rattle.lot_simulation.specs.Words.{word_in};
+
+/// The format of an input, which its first line says. Whatever depends on the format asks one of its methods.
+#[derive(Clone, Copy, Debug, PartialEq, Eq)]
+pub enum Format {
+    /// `lottery 1`
+    V1,
+    /// `lottery 2`
+    V2,
+    /// `lottery 3`
+    V3,
+}
+
+impl Format {
+    /// The format that this word says after `lottery`, if it says one.
+    pub fn of_word(word: &[u8]) -> Option<Format>
+        ensures { result ≡ word_in formats.versions word.now }
+    {
+        match word {
+            b"1" => Some(Format::V1),
+            b"2" => Some(Format::V2),
+            b"3" => Some(Format::V3),
+            _ => None,
+        }
+    }
+
+    /// In how many parts to the unit values are kept, 1 or 256.
+    pub fn unit(self) -> u32
+        ensures unit { result ≡ formats.unit_of self }
+        ensures legal { IsUnit result }
+    {
+        match self {
+            Format::V1 => 1,
+            Format::V2 | Format::V3 => 256,
+        }
+    }
+
+    /// Whether turns come in the order of time; otherwise a schedule says whose they are. Such an input says how long it
+    /// runs and when its commands are made, and each line that is printed of a turn begins with its time.
+    #[inline(always)]
+    pub fn is_timed(self) -> bool
+        ensures { result ≡ formats.is_timed self }
+    {
+        match self {
+            Format::V1 | Format::V2 => false,
+            Format::V3 => true,
+        }
+    }
+
+    /// Whether the processors' generators give wide numbers: they do if turns come in the order of time.
+    #[inline(always)]
+    pub fn draws_wide_numbers(self) -> bool
+        ensures { result ≡ formats.is_timed self }
+    {
+        self.is_timed()
+    }
+
+    /// Whether its schedule may have lines of runs: not if the unit is 1, nor if turns come in the order of time.
+    pub fn has_runs(self) -> bool
+        ensures { result ≡ not (formats.unit_of self == 1 || formats.is_timed self) }
+    {
+        match self {
+            Format::V1 | Format::V3 => false,
+            Format::V2 => true,
+        }
+    }
+}
