@@ -124,6 +124,13 @@ pub fn write_timed_processor_total<W: Write>(
     requires { writer.old.failed ≡ false }
     ensures { Writes W.contents writer.old writer.new result (timed_processor_line total.processor total.quanta total.idles total.ticks total.unused) }
 {
+    processor_line(total).write_to(writer)
+}
+
+/// A processor's line.
+fn processor_line(total: TimedProcessorTotal) -> TimedLine
+    ensures { result ≡ timed_processor_line total.processor total.quanta total.idles total.ticks total.unused }
+{
     let mut line = TimedLine::new();
     line.push_field("processor ", total.processor);
     line.push_field(" quanta ", total.quanta);
@@ -131,7 +138,7 @@ pub fn write_timed_processor_total<W: Write>(
     line.push_field(" ticks ", total.ticks);
     line.push_field(" unused ", total.unused);
     line.push_text("\n");
-    line.write_to(writer)
+    line
 }
 
 /// Writes the last line.

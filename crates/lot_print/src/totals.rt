@@ -58,13 +58,20 @@ pub fn write_processor_total<W: Write>(
     requires { writer.old.failed ≡ false }
     ensures { Writes W.contents writer.old writer.new result (processor_line total.processor total.quanta total.idles total.ticks) }
 {
+    processor_text(total).write_to(writer)
+}
+
+/// A processor's line.
+fn processor_text(total: ProcessorTotal) -> RowLine
+    ensures { result ≡ processor_line total.processor total.quanta total.idles total.ticks }
+{
     let mut line = RowLine::new();
     line.push_field("processor ", total.processor);
     line.push_field(" quanta ", total.quanta);
     line.push_field(" idle ", total.idles);
     line.push_field(" ticks ", total.ticks);
     line.push_text("\n");
-    line.write_to(writer)
+    line
 }
 
 /// Writes the last line of the report.
