@@ -4,15 +4,7 @@
 //! over time, as a table and as a picture.
 #![tactic(auto)]
 
-mod command_line;
-mod explain;
-mod play;
-mod run;
-mod status;
-#[cfg(test)]
-mod tests;
-mod told;
-
+use lot_command::{status, unread_status};
 use std::process::ExitCode;
 use std::{env, io};
 
@@ -20,9 +12,9 @@ use std::{env, io};
 const NO_MEMORY: u8 = 3;
 
 fn main(rt: HostRuntime) -> ExitCode {
-    let status = match env::args(&rt) {
+    let code = match env::args(&rt) {
         Ok(args) => match args.collect::<Vec<String>>(rt.alloc()) {
-            Ok(words) => status::status(
+            Ok(words) => status(
                 &rt,
                 rt.alloc(),
                 words.as_slice(),
@@ -32,7 +24,7 @@ fn main(rt: HostRuntime) -> ExitCode {
             ),
             Err(_) => NO_MEMORY,
         },
-        Err(error) => status::unread_status(&error, rt.stderr()),
+        Err(error) => unread_status(&error, rt.stderr()),
     };
-    ExitCode::from(status)
+    ExitCode::from(code)
 }

@@ -1,6 +1,6 @@
 //! Tables and pictures of what threads have run, and lotteries that are explained.
 use super::{check_words, check_words_on};
-use crate::status::status;
+use lot_command::status;
 use std::test::Fail;
 
 /// Thread `a` has the only ticket: it wins both draws, and runs for two quanta of 2 ticks.

@@ -1,4 +1,4 @@
-//! The program as a function of its words, its input and its outputs.
+//! The exit status of the words, the input and the outputs.
 
 use crate::command_line::{Request, request_of};
 use crate::explain::explain;
@@ -32,15 +32,23 @@ const NOT_UTF8: &str = "error: invalid UTF-8 was detected in one or more argumen
 /// How many bytes of output are written at a time.
 const BUFFER: usize = 65536;
 
-/// Runs the program with these words, of which the first is its own name, and returns its exit status. Nothing more
-/// is written to an output after its first error.
-pub(crate) fn status<
-    H: Threads + Wait + Sync,
-    S: AsStr,
-    R: Read + Drop,
-    W: Write + Drop,
-    E: Write + Drop,
->(rt: &H, alloc: Global, words: &[S], reader: R, output: W, errors: E) -> u8 {
+/// Runs the program with these words, of which the first is its own name, and returns its exit status:
+///
+/// - 0 if it is done, or help was asked for;
+/// - 1 if the input was refused;
+/// - 2 if the command line was refused;
+/// - 3 if memory ran out, `reader` or `output` has failed, or workers stopped early.
+///
+/// What was asked for is written to `output`, and diagnostics to `errors`, whose failure counts only for a refused
+/// command line: then the status is 3. Nothing more is written to an output after its first error. It may block.
+pub fn status<H: Threads + Wait + Sync, S: AsStr, R: Read + Drop, W: Write + Drop, E: Write + Drop>(
+    rt: &H,
+    alloc: Global,
+    words: &[S],
+    reader: R,
+    output: W,
+    errors: E,
+) -> u8 {
     // A buffer tries a failed write again, also when dropped. What lies between it and the output lets none through.
     let output = Watched::new(output);
     let errors = Watched::new(errors);
@@ -50,9 +58,9 @@ pub(crate) fn status<
     }
 }
 
-/// The exit status if the words couldn't be read. A word that isn't UTF-8 is a refused command line; out of memory is a
-/// failure, without a text.
-pub(crate) fn unread_status<E: Write + Drop>(error: &io::Error, errors: E) -> u8 {
+/// The exit status if the words couldn't be read. A word that isn't UTF-8 is a refused command line: 2, and a text on
+/// `errors`, or 3 if that fails. Out of memory is 3, without a text.
+pub fn unread_status<E: Write + Drop>(error: &io::Error, errors: E) -> u8 {
     if error.kind() == io::ErrorKind::OutOfMemory {
         return FAILED;
     }

@@ -6,9 +6,9 @@ use Rattle.lot_simulation.specs.World.{Program}
 use Rattle.lot_io.specs.declared.fault.IoFault.{IoFault}
 use Rattle.lot_system.specs.Seen.{Setting}
 use Rattle.lot_io.specs.Writing.{Begins}
-use Rattle.lot_sim.specs.declared.run.RunStop.TheVariants.{Play}
-use Rattle.lot_sim.specs.Running.{EndsRun}
-use Rattle.lot_sim.proofs.run.run_program.Goals as goal
+use Rattle.lot_command.specs.declared.run.RunStop.TheVariants.{Play}
+use Rattle.lot_command.specs.Running.{EndsRun}
+use Rattle.lot_command.proofs.run.run_program.Goals as goal
 
 pub returns-in-Ok-write_end-clause-run : goal.returns-in-Ok-write_end-clause-run
 returns-in-Ok-write_end-clause-run g c =

@@ -1,7 +1,7 @@
 //! Outputs that fail, and that are flushed. Nothing more is written to one after its first error.
 
 use super::{EMPTY_REPORT, FailingCall};
-use crate::status::status;
+use lot_command::status;
 use std::alloc::Global;
 use std::io::ErrorKind;
 use std::process::Abort;

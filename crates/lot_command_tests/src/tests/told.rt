@@ -1,7 +1,7 @@
 //! Diagnostics in words on standard error.
 
 use super::{EMPTY_REPORT, Failing};
-use crate::status::status;
+use lot_command::status;
 use std::alloc::Global;
 use std::io::ErrorKind;
 use std::process::Abort;

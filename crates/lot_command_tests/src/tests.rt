@@ -1,10 +1,12 @@
+//! Inputs with the whole outputs that `play` writes, command lines, and readers and writers that fail.
+
 mod outputs;
 mod runs;
 mod shown;
 mod timed;
 mod told;
 
-use crate::status::{status, unread_status};
+use lot_command::{status, unread_status};
 use lot_io::{IoFault, Watched};
 use lot_system::{Played, play};
 use std::alloc::Global;

@@ -3,7 +3,7 @@ ghost use Rattle.std.specs.Prelude.{◌≡◌, ℕ, List, false, true, IfErr, If
 ghost use Rattle.lot_simulation.specs.Grammar.{program_in};
 ghost use Rattle.lot_io.specs.Reading.{Reads};
 ghost use Rattle.lot_system.specs.declared.playing.Played.TheVariants.{Done};
-ghost use Rattle.lot_sim.specs.Running.{HasRun, RunLeaves, Runs};
+ghost use Rattle.lot_command.specs.Running.{HasRun, RunLeaves, Runs};
 
 use crate::told::Told;
 use lot_io::{IoFault, Watched, read_input};
@@ -18,7 +18,7 @@ use thiserror::Error;
 
 /// Why a free run of an input stops early. Nothing was written unless the writer has failed.
 #[derive(Debug, Drop, Error)]
-pub(crate) enum RunStop {
+pub enum RunStop {
     /// Out of memory, or the reader or the writer has failed.
     #[error("{0}")]
     Play(IoFault),
@@ -57,8 +57,13 @@ pub(crate) fn run<R: Read, W: Write, H: Threads + Wait + Sync>(
     }
 }
 
-/// Runs what these bytes say, or writes why they are refused.
-fn run_bytes<W: Write, H: Threads + Wait + Sync>(
+/// Lets workers run the commands of the input in `bytes` and make its processors' turns, and writes the report and the
+/// history; or one line, if the input is refused. Its schedule is ignored. The warnings of the run are stored in
+/// `leftovers`. It may block.
+///
+/// `RunStop::Play` if memory runs out before the workers start, or if the writer fails, and `RunStop::Workers` if
+/// memory runs out for them, or they stop early. Nothing was written unless the writer has failed.
+pub fn run_bytes<W: Write, H: Threads + Wait + Sync>(
     rt: &H,
     alloc: Global,
     bytes: &[u8],

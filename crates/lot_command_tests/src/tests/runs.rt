@@ -1,8 +1,7 @@
 //! Free runs.
 
-use crate::run::RunStop;
-use crate::status::status;
-use crate::tests::check_words_on;
+use super::check_words_on;
+use lot_command::{RunStop, status};
 use lot_io::IoFault;
 use lot_processors::FreeRunFault;
 use std::alloc::Global;

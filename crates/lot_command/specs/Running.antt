@@ -13,8 +13,8 @@ use Rattle.lot_system.specs.declared.playing.Played.TheVariants.{Done, Refused}
 use Rattle.lot_io.specs.declared.fault.IoFault.TheVariants.{Write}
 use Rattle.lot_io.specs.Reading.{HasRead}
 use Rattle.lot_io.specs.Writing.{Begins}
-use Rattle.lot_sim.specs.declared.run.RunStop.{RunStop}
-use Rattle.lot_sim.specs.declared.run.RunStop.TheVariants.{Play}
+use Rattle.lot_command.specs.declared.run.RunStop.{RunStop}
+use Rattle.lot_command.specs.declared.run.RunStop.TheVariants.{Play}
 
 -- The report of a free run of the program was written, and lines that give its history back; or why there is no
 -- program.

@@ -1,0 +1,13 @@
+//! The program as a function of its words, its input and its outputs: the command line, what it asks for, diagnostics
+//! in words, and the exit status. `main` of `lot_sim` adds the terminal.
+#![tactic(auto)]
+
+mod command_line;
+mod exit_status;
+mod explain;
+mod play;
+mod run;
+mod told;
+
+pub use exit_status::{status, unread_status};
+pub use run::{RunStop, run_bytes};
