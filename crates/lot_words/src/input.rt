@@ -6,7 +6,7 @@ use std::str;
 use std::str::SplitAsciiWhitespace;
 
 /// Which inputs there are.
-#[derive(Clone, Copy, Debug, PartialEq, Eq)]
+#[derive(Clone, Copy, PartialEq, Eq)]
 pub(crate) enum Version {
     /// `lottery 1`
     First,
@@ -35,7 +35,7 @@ impl Version {
 }
 
 /// A script that is open.
-#[derive(Clone, Copy, Debug)]
+#[derive(Clone, Copy)]
 pub(crate) struct OpenScript {
     /// The line that opens it.
     pub(crate) line: u32,
@@ -44,7 +44,7 @@ pub(crate) struct OpenScript {
 }
 
 /// The refused line, and what the lines before it say.
-#[derive(Clone, Copy, Debug)]
+#[derive(Clone, Copy)]
 pub(crate) struct Refused<'a> {
     /// The lines before it.
     pub(crate) before: &'a [u8],
