@@ -18,7 +18,9 @@ pub(crate) enum Problem<'a> {
     #[error("{0}")]
     Form(FormProblem<'a>),
     #[error("{0}")]
-    Word(WordProblem<'a>),
+    Number(NumberProblem<'a>),
+    #[error("{0}")]
+    Name(NameProblem<'a>),
     #[error("{0}")]
     Limit(LimitProblem),
     #[error("this script isn't closed: 'endscript' closes it")]
@@ -91,9 +93,9 @@ pub(crate) enum FormProblem<'a> {
     OpenLoop,
 }
 
-/// What is wrong with one word of a line.
+/// What is wrong with a word that is to be a number.
 #[derive(Clone, Copy, Debug, Error)]
-pub(crate) enum WordProblem<'a> {
+pub(crate) enum NumberProblem<'a> {
     #[error("'{0}' is no number: digits, without a 0 before others, at most 18446744073709551615")]
     NoNumber(&'a str),
     #[error("'{word}' is no number from {first} to {last}")]
@@ -107,6 +109,11 @@ pub(crate) enum WordProblem<'a> {
         word: &'a str,
         processors: u32,
     },
+}
+
+/// What is wrong with a word that is to be a name.
+#[derive(Clone, Copy, Debug, Error)]
+pub(crate) enum NameProblem<'a> {
     #[error("'{word}' has {count} bytes, and a name at most 16")]
     LongName {
         word: &'a str,

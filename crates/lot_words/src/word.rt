@@ -4,7 +4,7 @@ use crate::forms::Expected;
 use crate::input::Refused;
 use crate::names::{Kind, is_declared};
 use crate::nearest::nearest_name;
-use crate::problem::{Problem, WordProblem};
+use crate::problem::{NameProblem, NumberProblem, Problem};
 use lot_machine::is_good_name;
 use std::alloc::Global;
 
@@ -15,7 +15,7 @@ pub(crate) fn word_problem<'a>(
     word: &'a str,
     expected: Expected,
 ) -> Option<Problem<'a>> {
-    let problem = match expected {
+    match expected {
         Expected::AnyNumber => number_problem(word),
         Expected::Between(first, last) => between_problem(word, first, last),
         Expected::AnyName => long_name(word),
@@ -23,8 +23,7 @@ pub(crate) fn word_problem<'a>(
         Expected::Known(kind) => known_problem(alloc, refused, word, kind),
         Expected::Actor => actor_problem(refused, word),
         Expected::Later => between_problem(word, refused.now, u32::MAX),
-    };
-    Some(Problem::Word(problem?))
+    }
 }
 
 /// The number that the word is: digits, without a 0 before others, of at most 64 bits.
@@ -36,48 +35,48 @@ fn number_of(word: &str) -> Option<u64> {
     word.parse::<u64>().ok()
 }
 
-fn number_problem(word: &str) -> Option<WordProblem<'_>> {
+fn number_problem(word: &str) -> Option<Problem<'_>> {
     match number_of(word) {
         Some(_) => None,
-        None => Some(WordProblem::NoNumber(word)),
+        None => Some(Problem::Number(NumberProblem::NoNumber(word))),
     }
 }
 
-fn between_problem(word: &str, first: u32, last: u32) -> Option<WordProblem<'_>> {
+fn between_problem(word: &str, first: u32, last: u32) -> Option<Problem<'_>> {
     match number_of(word) {
         Some(number) if u64::from(first) <= number && number <= u64::from(last) => None,
-        _ => Some(WordProblem::NotBetween { word, first, last }),
+        _ => Some(Problem::Number(NumberProblem::NotBetween { word, first, last })),
     }
 }
 
-fn actor_problem<'a>(refused: &Refused<'a>, word: &'a str) -> Option<WordProblem<'a>> {
+fn actor_problem<'a>(refused: &Refused<'a>, word: &'a str) -> Option<Problem<'a>> {
     let processors = refused.processors;
     match number_of(word) {
         Some(number) if number <= u64::from(processors) => None,
-        Some(_) => Some(WordProblem::NoActor { word, processors }),
-        None => Some(WordProblem::NoNumber(word)),
+        Some(_) => Some(Problem::Number(NumberProblem::NoActor { word, processors })),
+        None => Some(Problem::Number(NumberProblem::NoNumber(word))),
     }
 }
 
-fn long_name(word: &str) -> Option<WordProblem<'_>> {
+fn long_name(word: &str) -> Option<Problem<'_>> {
     let count = word.len();
     if 16 < count {
-        Some(WordProblem::LongName { word, count })
+        Some(Problem::Name(NameProblem::LongName { word, count }))
     } else {
         None
     }
 }
 
-fn new_problem<'a>(refused: &Refused<'a>, word: &'a str, kind: Kind) -> Option<WordProblem<'a>> {
+fn new_problem<'a>(refused: &Refused<'a>, word: &'a str, kind: Kind) -> Option<Problem<'a>> {
     let problem = long_name(word);
     if problem.is_some() {
         return problem;
     }
     if !is_good_name(word.as_bytes()) {
-        return Some(WordProblem::BadName(word));
+        return Some(Problem::Name(NameProblem::BadName(word)));
     }
     if is_declared(refused.before, kind, word) {
-        return Some(WordProblem::Taken { word, kind });
+        return Some(Problem::Name(NameProblem::Taken { word, kind }));
     }
     None
 }
@@ -87,15 +86,15 @@ fn known_problem<'a>(
     refused: &Refused<'a>,
     word: &'a str,
     kind: Kind,
-) -> Option<WordProblem<'a>> {
+) -> Option<Problem<'a>> {
     let problem = long_name(word);
     if problem.is_some() || is_declared(refused.before, kind, word) {
         return problem;
     }
     let nearest = nearest_name(alloc, refused.before, kind, word);
-    Some(WordProblem::Unknown {
+    Some(Problem::Name(NameProblem::Unknown {
         word,
         kind,
         nearest,
-    })
+    }))
 }
