@@ -5,7 +5,9 @@ use crate::forms::{BODY_WORDS, Form, SCRIPT_WORDS, form_inside, form_outside, he
 use crate::input::{OpenScript, Refused, words_of};
 use crate::nearest::nearest_word;
 use crate::phrases::phrases_problem;
-use crate::problem::Problem;
+use crate::problem::{
+    ByteProblem, FormProblem, HeaderProblem, KeywordProblem, LimitProblem, Problem,
+};
 use crate::word::word_problem;
 use lot_simulation::{Format, InputRefusal};
 use std::alloc::Global;
@@ -19,10 +21,14 @@ pub(crate) fn problem_of<'a>(
     let word = words_of(refused.line).next().unwrap_or("");
     match refusal {
         InputRefusal::OpenScript => Problem::Unclosed,
-        InputRefusal::TooDeep => Problem::DeepLoop,
-        InputRefusal::BadHeader if refused.has_start => header_problem(refused, word),
-        InputRefusal::BadHeader if is_timed_start(refused.line) => Problem::NoDuration,
-        InputRefusal::BadHeader => Problem::NoStart,
+        InputRefusal::TooDeep => Problem::Limit(LimitProblem::DeepLoop),
+        InputRefusal::BadHeader if refused.has_start => {
+            Problem::Header(header_problem(refused, word))
+        }
+        InputRefusal::BadHeader if is_timed_start(refused.line) => {
+            Problem::Header(HeaderProblem::NoDuration)
+        }
+        InputRefusal::BadHeader => Problem::Header(HeaderProblem::NoStart),
         _ => line_problem(alloc, refused, word).unwrap_or(too_many(refused, word, refusal)),
     }
 }
@@ -39,27 +45,30 @@ fn is_timed_start(line: &[u8]) -> bool {
 }
 
 /// What is wrong with a line that the header makes wrong. It begins with this word.
-fn header_problem<'a>(refused: &Refused<'a>, word: &'a str) -> Problem<'a> {
+fn header_problem<'a>(refused: &Refused<'a>, word: &'a str) -> HeaderProblem<'a> {
     if !refused.is_timed() {
-        return Problem::LateHeader(word);
+        return HeaderProblem::LateHeader(word);
     }
     let is_late = match header_place(word) {
         Some(place) => place <= refused.place,
         None => false,
     };
     if is_late || refused.has_duration {
-        return Problem::LateTimedHeader(word);
+        return HeaderProblem::LateTimedHeader(word);
     }
-    Problem::NoDuration
+    HeaderProblem::NoDuration
 }
 
-/// The first byte that is no printable character of ASCII.
-fn byte_problem(line: &[u8]) -> Option<Problem<'static>> {
+/// Too many bytes, or the first that is no printable character of ASCII.
+fn byte_problem(line: &[u8]) -> Option<ByteProblem> {
+    if 4096 < line.len() {
+        return Some(ByteProblem::LongLine(line.len()));
+    }
     let place = line.iter().position(|byte| *byte < 32 || 126 < *byte)?;
     match line[place] {
-        b'\t' => Some(Problem::Tab),
-        b'\r' => Some(Problem::CarriageReturn),
-        byte => Some(Problem::BadByte {
+        b'\t' => Some(ByteProblem::Tab),
+        b'\r' => Some(ByteProblem::CarriageReturn),
+        byte => Some(ByteProblem::BadByte {
             byte,
             column: place.saturating_add(1),
         }),
@@ -68,12 +77,8 @@ fn byte_problem(line: &[u8]) -> Option<Problem<'static>> {
 
 /// What is wrong with the line's bytes or words, if anything is. It begins with this word.
 fn line_problem<'a>(alloc: Global, refused: &Refused<'a>, word: &'a str) -> Option<Problem<'a>> {
-    if 4096 < refused.line.len() {
-        return Some(Problem::LongLine(refused.line.len()));
-    }
-    let problem = byte_problem(refused.line);
-    if problem.is_some() {
-        return problem;
+    if let Some(problem) = byte_problem(refused.line) {
+        return Some(Problem::Byte(problem));
     }
     match refused.script {
         Some(script) => script_problem(alloc, refused, script, word),
@@ -93,10 +98,11 @@ fn script_problem<'a>(
         return phrases_problem(alloc, refused, script);
     }
     let Some(form) = form_inside(word) else {
-        return Some(no_script_word(alloc, refused, script, word));
+        let problem = no_script_word(alloc, refused, script, word);
+        return Some(Problem::Keyword(problem));
     };
     if word == "serve" {
-        return Some(Problem::OnlyTimed(word));
+        return Some(Problem::Keyword(KeywordProblem::OnlyTimed(word)));
     }
     let problem = form_problem(alloc, refused, form);
     if problem.is_some() {
@@ -108,8 +114,8 @@ fn script_problem<'a>(
 /// What is wrong with the end of a loop or of the script, if the word is one.
 pub(crate) fn loop_problem(script: OpenScript, word: &str) -> Option<Problem<'_>> {
     match word {
-        "end" if script.loops == 0 => Some(Problem::NoLoop),
-        "endscript" if script.loops > 0 => Some(Problem::OpenLoop),
+        "end" if script.loops == 0 => Some(Problem::Form(FormProblem::NoLoop)),
+        "endscript" if script.loops > 0 => Some(Problem::Form(FormProblem::OpenLoop)),
         _ => None,
     }
 }
@@ -120,14 +126,14 @@ pub(crate) fn no_script_word<'a>(
     refused: &Refused<'a>,
     script: OpenScript,
     word: &'a str,
-) -> Problem<'a> {
+) -> KeywordProblem<'a> {
     if word == "lottery" || form_outside(word).is_some() {
-        return Problem::InsideScript {
+        return KeywordProblem::InsideScript {
             word,
             opened: script.line,
         };
     }
-    Problem::NoScriptWord {
+    KeywordProblem::NoScriptWord {
         word,
         nearest: nearest_word(alloc, refused.words_among(&SCRIPT_WORDS), word),
     }
@@ -135,29 +141,27 @@ pub(crate) fn no_script_word<'a>(
 
 /// What is wrong with a line outside scripts.
 fn body_problem<'a>(alloc: Global, refused: &Refused<'a>, word: &'a str) -> Option<Problem<'a>> {
-    let problem = format_problem(refused.format, word);
-    if problem.is_some() {
-        return problem;
+    if let Some(problem) = format_problem(refused.format, word) {
+        return Some(Problem::Keyword(problem));
     }
     if let Some(form) = form_outside(word) {
         return form_problem(alloc, refused, form);
     }
     if form_inside(word).is_some() {
-        return Some(Problem::OutsideScript(word));
+        return Some(Problem::Keyword(KeywordProblem::OutsideScript(word)));
     }
-    Some(Problem::NoBodyLine {
-        word,
-        nearest: nearest_word(alloc, refused.words_among(&BODY_WORDS), word),
-    })
+    let nearest = nearest_word(alloc, refused.words_among(&BODY_WORDS), word);
+    Some(Problem::Keyword(KeywordProblem::NoBodyLine { word, nearest }))
 }
 
 /// What is wrong with a line outside scripts that begins with this word, in an input of this format.
-fn format_problem(format: Option<Format>, word: &str) -> Option<Problem<'_>> {
-    match (format, word) {
-        (Some(Format::V1), "runs") => Some(Problem::RunsOfFirst),
-        (Some(Format::V3), "schedule" | "runs") => Some(Problem::ScheduleOfTimed(word)),
-        (Some(Format::V3), _) => None,
-        (_, "for" | "at") => Some(Problem::OnlyTimed(word)),
+fn format_problem(format: Option<Format>, word: &str) -> Option<KeywordProblem<'_>> {
+    match word {
+        "runs" if format == Some(Format::V1) => Some(KeywordProblem::RunsOfFirst),
+        "runs" | "schedule" if format == Some(Format::V3) => {
+            Some(KeywordProblem::ScheduleOfTimed(word))
+        }
+        "for" | "at" if format != Some(Format::V3) => Some(KeywordProblem::OnlyTimed(word)),
         _ => None,
     }
 }
@@ -167,7 +171,7 @@ fn form_problem<'a>(alloc: Global, refused: &Refused<'a>, form: Form) -> Option<
     let mut words = words_of(refused.line);
     let count = words.count().saturating_sub(1);
     if !form.has_room_for(count, refused.processors) {
-        return Some(count_problem(refused, form, count));
+        return Some(Problem::Form(count_problem(refused, form, count)));
     }
     let mut words = words_of(refused.line);
     let _ = words.next();
@@ -184,11 +188,11 @@ fn form_problem<'a>(alloc: Global, refused: &Refused<'a>, form: Form) -> Option<
 }
 
 /// What to say of a line of this form with this many words after the first.
-fn count_problem<'a>(refused: &Refused<'a>, form: Form, count: usize) -> Problem<'a> {
+fn count_problem<'a>(refused: &Refused<'a>, form: Form, count: usize) -> FormProblem<'a> {
     if words_of(refused.line).any(|word| word.starts_with('#')) {
-        return Problem::TrailingComment(form.shape);
+        return FormProblem::TrailingComment(form.shape);
     }
-    Problem::WrongCount {
+    FormProblem::WrongCount {
         shape: form.shape,
         count: count.saturating_add(1),
     }
@@ -200,13 +204,13 @@ fn too_many<'a>(refused: &Refused<'a>, word: &str, refusal: InputRefusal) -> Pro
         return Problem::Other(refusal);
     }
     if 16777216 < refused.before.len().saturating_add(refused.line.len()) {
-        return Problem::LongInput;
+        return Problem::Limit(LimitProblem::LongInput);
     }
     if refused.script.is_some() {
-        return Problem::TooMany {
+        return Problem::Limit(LimitProblem::TooMany {
             what: "word of a script",
             most: 1024,
-        };
+        });
     }
     let (what, most) = match word {
         "port" => ("port", 256),
@@ -215,5 +219,5 @@ fn too_many<'a>(refused: &Refused<'a>, word: &str, refusal: InputRefusal) -> Pro
         "schedule" | "runs" => ("turn of the schedule", 1000000),
         _ => ("command", 100000),
     };
-    Problem::TooMany { what, most }
+    Problem::Limit(LimitProblem::TooMany { what, most })
 }

@@ -3,7 +3,7 @@
 use crate::names::Kind;
 
 /// What a word after the first is to be.
-#[derive(Clone, Copy, Debug)]
+#[derive(Clone, Copy)]
 pub(crate) enum Expected {
     /// A number from the first to the last.
     Between(u32, u32),
@@ -22,7 +22,7 @@ pub(crate) enum Expected {
 }
 
 /// How often the words after the first come.
-#[derive(Clone, Copy, Debug, PartialEq, Eq)]
+#[derive(Clone, Copy, PartialEq, Eq)]
 pub(crate) enum Times {
     Once,
     /// Once for each processor.
@@ -32,7 +32,7 @@ pub(crate) enum Times {
 }
 
 /// How a line is written.
-#[derive(Clone, Copy, Debug)]
+#[derive(Clone, Copy)]
 pub(crate) struct Form {
     /// The whole line, with what stands for its words.
     pub(crate) shape: &'static str,

@@ -7,7 +7,7 @@ use std::str;
 use std::str::SplitAsciiWhitespace;
 
 /// A script that is open.
-#[derive(Clone, Copy, Debug)]
+#[derive(Clone, Copy)]
 pub(crate) struct OpenScript {
     /// The line that opens it.
     pub(crate) line: u32,
@@ -16,7 +16,7 @@ pub(crate) struct OpenScript {
 }
 
 /// The refused line, and what the lines before it say.
-#[derive(Clone, Copy, Debug)]
+#[derive(Clone, Copy)]
 pub(crate) struct Refused<'a> {
     /// The lines before it.
     pub(crate) before: &'a [u8],

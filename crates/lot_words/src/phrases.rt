@@ -3,7 +3,7 @@
 use crate::explain::{loop_problem, no_script_word};
 use crate::forms::{Form, form_inside};
 use crate::input::{OpenScript, Refused, words_of};
-use crate::problem::Problem;
+use crate::problem::{FormProblem, Problem};
 use crate::word::word_problem;
 use std::alloc::Global;
 
@@ -34,7 +34,7 @@ fn has_argument(word: &str) -> bool {
 }
 
 /// What the words before the next one of a line leave.
-#[derive(Clone, Copy, Debug)]
+#[derive(Clone, Copy)]
 struct Before {
     script: Option<OpenScript>,
     /// The last word's form, if another word belongs to it.
@@ -58,7 +58,7 @@ pub(crate) fn phrases_problem<'a>(
         }
     }
     match before.unfinished {
-        Some(form) => Some(Problem::Unfinished(form.shape)),
+        Some(form) => Some(Problem::Form(FormProblem::Unfinished(form.shape))),
         None => None,
     }
 }
@@ -76,13 +76,14 @@ impl Before {
             return word_problem(alloc, refused, word, expected);
         }
         let Some(script) = self.script else {
-            return Some(Problem::BehindEnd(word));
+            return Some(Problem::Form(FormProblem::BehindEnd(word)));
         };
         if word.starts_with('#') {
-            return Some(Problem::LateComment);
+            return Some(Problem::Form(FormProblem::LateComment));
         }
         let Some(form) = form_inside(word) else {
-            return Some(no_script_word(alloc, refused, script, word));
+            let problem = no_script_word(alloc, refused, script, word);
+            return Some(Problem::Keyword(problem));
         };
         self.script = script.after(word);
         if !form.expected.is_empty() {

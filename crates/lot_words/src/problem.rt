@@ -5,22 +5,46 @@ use crate::nearest::Nearest;
 use lot_simulation::InputRefusal;
 use thiserror::Error;
 
-/// What is wrong with a line, and what was expected.
+/// What is wrong with a line, and what was expected. Each kind of problem is an enum of its own: proving that a large
+/// enum's text is safe takes more than twice as long if it has twice the cases.
 #[derive(Clone, Copy, Debug, Error)]
 pub(crate) enum Problem<'a> {
+    #[error("{0}")]
+    Byte(ByteProblem),
+    #[error("{0}")]
+    Header(HeaderProblem<'a>),
+    #[error("{0}")]
+    Keyword(KeywordProblem<'a>),
+    #[error("{0}")]
+    Form(FormProblem<'a>),
+    #[error("{0}")]
+    Number(NumberProblem<'a>),
+    #[error("{0}")]
+    Name(NameProblem<'a>),
+    #[error("{0}")]
+    Limit(LimitProblem),
+    #[error("this script isn't closed: 'endscript' closes it")]
+    Unclosed,
+    #[error("{}", name_of(*.0))]
+    Other(InputRefusal),
+}
+
+/// What is wrong with the bytes of a line.
+#[derive(Clone, Copy, Debug, Error)]
+pub(crate) enum ByteProblem {
     #[error("{0} bytes, at most 4096")]
     LongLine(usize),
-    #[error("the input has more than 16777216 bytes")]
-    LongInput,
     #[error("a tab: put spaces between words")]
     Tab,
     #[error("a carriage return: save the file with line feeds alone as line ends")]
     CarriageReturn,
     #[error("byte {byte} in column {column}: outside comments only ASCII is read")]
-    BadByte {
-        byte: u8,
-        column: usize,
-    },
+    BadByte { byte: u8, column: usize },
+}
+
+/// What the header makes wrong with a line.
+#[derive(Clone, Copy, Debug, Error)]
+pub(crate) enum HeaderProblem<'a> {
     #[error("an input begins with 'lottery 1', 'lottery 2' or 'lottery 3'")]
     NoStart,
     #[error("'{0}' comes too late: the header has 'lottery', 'processors', 'quantum', 'turns', 'seed' and 'limits', each at most once, in this order and before all else")]
@@ -29,29 +53,30 @@ pub(crate) enum Problem<'a> {
     LateTimedHeader(&'a str),
     #[error("the header doesn't say how long the input runs: 'for TICKS' comes before 'seed', 'limits' and all else")]
     NoDuration,
+}
+
+/// What is wrong with the word that begins a line.
+#[derive(Clone, Copy, Debug, Error)]
+pub(crate) enum KeywordProblem<'a> {
     #[error("'{word}' is no body line{nearest}")]
-    NoBodyLine {
-        word: &'a str,
-        nearest: Nearest<'a>,
-    },
+    NoBodyLine { word: &'a str, nearest: Nearest<'a> },
     #[error("'{word}' is no word of a script{nearest}")]
-    NoScriptWord {
-        word: &'a str,
-        nearest: Nearest<'a>,
-    },
+    NoScriptWord { word: &'a str, nearest: Nearest<'a> },
     #[error("'{0}' is a word of a script, and no script is open: 'script NAME' opens one")]
     OutsideScript(&'a str),
     #[error("'{word}' is no word of a script, and the one that line {opened} opens isn't closed: 'endscript' closes it")]
-    InsideScript {
-        word: &'a str,
-        opened: u32,
-    },
+    InsideScript { word: &'a str, opened: u32 },
     #[error("'runs' is for 'lottery 2': in 'lottery 1' write 'schedule ACTOR ..'")]
     RunsOfFirst,
     #[error("'{0}' is not for 'lottery 3', whose turns come in the order of time: 'at TICK' says when commands are made")]
     ScheduleOfTimed(&'a str),
     #[error("'{0}' is for 'lottery 3', whose turns come in the order of time")]
     OnlyTimed(&'a str),
+}
+
+/// What is wrong with the words of a line together.
+#[derive(Clone, Copy, Debug, Error)]
+pub(crate) enum FormProblem<'a> {
     #[error("a comment has a line of its own; '{0}' has no room for one")]
     TrailingComment(&'a str),
     #[error("a comment has a line of its own")]
@@ -61,14 +86,16 @@ pub(crate) enum Problem<'a> {
     #[error("'{0}' stands behind 'endscript', which ends its line")]
     BehindEnd(&'a str),
     #[error("this line is written '{shape}', and here are {count} words")]
-    WrongCount {
-        shape: &'a str,
-        count: usize,
-    },
+    WrongCount { shape: &'a str, count: usize },
     #[error("'end' closes a loop, and none is open")]
     NoLoop,
     #[error("'endscript' stands inside a loop: 'end' closes it")]
     OpenLoop,
+}
+
+/// What is wrong with a word that is to be a number.
+#[derive(Clone, Copy, Debug, Error)]
+pub(crate) enum NumberProblem<'a> {
     #[error("'{0}' is no number: digits, without a 0 before others, at most 18446744073709551615")]
     NoNumber(&'a str),
     #[error("'{word}' is no number from {first} to {last}")]
@@ -82,6 +109,11 @@ pub(crate) enum Problem<'a> {
         word: &'a str,
         processors: u32,
     },
+}
+
+/// What is wrong with a word that is to be a name.
+#[derive(Clone, Copy, Debug, Error)]
+pub(crate) enum NameProblem<'a> {
     #[error("'{word}' has {count} bytes, and a name at most 16")]
     LongName {
         word: &'a str,
@@ -100,17 +132,17 @@ pub(crate) enum Problem<'a> {
         kind: Kind,
         nearest: Nearest<'a>,
     },
+}
+
+/// The limit that an input exceeds.
+#[derive(Clone, Copy, Debug, Error)]
+pub(crate) enum LimitProblem {
+    #[error("the input has more than 16777216 bytes")]
+    LongInput,
     #[error("a ninth loop is open here, at most 8")]
     DeepLoop,
     #[error("one {what} too many, at most {most}")]
-    TooMany {
-        what: &'static str,
-        most: u32,
-    },
-    #[error("this script isn't closed: 'endscript' closes it")]
-    Unclosed,
-    #[error("{}", name_of(*.0))]
-    Other(InputRefusal),
+    TooMany { what: &'static str, most: u32 },
 }
 
 /// The name of a refusal, for one that nothing above explains.

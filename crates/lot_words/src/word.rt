@@ -4,7 +4,7 @@ use crate::forms::Expected;
 use crate::input::Refused;
 use crate::names::{Kind, is_declared};
 use crate::nearest::nearest_name;
-use crate::problem::Problem;
+use crate::problem::{NameProblem, NumberProblem, Problem};
 use lot_machine::is_good_name;
 use std::alloc::Global;
 
@@ -38,14 +38,14 @@ fn number_of(word: &str) -> Option<u64> {
 fn number_problem(word: &str) -> Option<Problem<'_>> {
     match number_of(word) {
         Some(_) => None,
-        None => Some(Problem::NoNumber(word)),
+        None => Some(Problem::Number(NumberProblem::NoNumber(word))),
     }
 }
 
 fn between_problem(word: &str, first: u32, last: u32) -> Option<Problem<'_>> {
     match number_of(word) {
         Some(number) if u64::from(first) <= number && number <= u64::from(last) => None,
-        _ => Some(Problem::NotBetween { word, first, last }),
+        _ => Some(Problem::Number(NumberProblem::NotBetween { word, first, last })),
     }
 }
 
@@ -53,15 +53,15 @@ fn actor_problem<'a>(refused: &Refused<'a>, word: &'a str) -> Option<Problem<'a>
     let processors = refused.processors;
     match number_of(word) {
         Some(number) if number <= u64::from(processors) => None,
-        Some(_) => Some(Problem::NoActor { word, processors }),
-        None => Some(Problem::NoNumber(word)),
+        Some(_) => Some(Problem::Number(NumberProblem::NoActor { word, processors })),
+        None => Some(Problem::Number(NumberProblem::NoNumber(word))),
     }
 }
 
 fn long_name(word: &str) -> Option<Problem<'_>> {
     let count = word.len();
     if 16 < count {
-        Some(Problem::LongName { word, count })
+        Some(Problem::Name(NameProblem::LongName { word, count }))
     } else {
         None
     }
@@ -73,10 +73,10 @@ fn new_problem<'a>(refused: &Refused<'a>, word: &'a str, kind: Kind) -> Option<P
         return problem;
     }
     if !is_good_name(word.as_bytes()) {
-        return Some(Problem::BadName(word));
+        return Some(Problem::Name(NameProblem::BadName(word)));
     }
     if is_declared(refused.before, kind, word) {
-        return Some(Problem::Taken { word, kind });
+        return Some(Problem::Name(NameProblem::Taken { word, kind }));
     }
     None
 }
@@ -92,9 +92,9 @@ fn known_problem<'a>(
         return problem;
     }
     let nearest = nearest_name(alloc, refused.before, kind, word);
-    Some(Problem::Unknown {
+    Some(Problem::Name(NameProblem::Unknown {
         word,
         kind,
         nearest,
-    })
+    }))
 }
