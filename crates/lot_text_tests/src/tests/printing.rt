@@ -674,7 +674,13 @@ fn check_history(rt: &impl Abort, alloc: Global, format: Format, history: &[u8],
 fn prints_histories(rt: HostRuntime) {
     check_history(&rt, rt.alloc(), Format::V1, &[], "");
     check_history(&rt, rt.alloc(), Format::V2, &[], "");
-    check_history(&rt, rt.alloc(), Format::V1, &[0, 1, 64], "schedule 0 1 64\n");
+    check_history(
+        &rt,
+        rt.alloc(),
+        Format::V1,
+        &[0, 1, 64],
+        "schedule 0 1 64\n",
+    );
     check_history(&rt, rt.alloc(), Format::V2, &[1, 1, 1], "runs 1 3\n");
 }
 
@@ -716,7 +722,13 @@ fn prints_mixed_histories(rt: HostRuntime) {
 
 #[test]
 fn prints_runs(rt: HostRuntime) {
-    check_history(&rt, rt.alloc(), Format::V2, &[2, 2, 2, 0, 2], "runs 2 3 0 1 2 1\n");
+    check_history(
+        &rt,
+        rt.alloc(),
+        Format::V2,
+        &[2, 2, 2, 0, 2],
+        "runs 2 3 0 1 2 1\n",
+    );
     check_history(&rt, rt.alloc(), Format::V2, &[1, 1, 0], "runs 1 2 0 1\n");
 }
 
@@ -737,7 +749,13 @@ const LINES_OF_PAIRS: &str =
 #[test]
 fn prints_runs_after_a_line(rt: HostRuntime) -> Result<(), Fail> {
     let history = history_of_pairs(rt.alloc())?;
-    check_history(&rt, rt.alloc(), Format::V2, history.as_slice(), LINES_OF_PAIRS);
+    check_history(
+        &rt,
+        rt.alloc(),
+        Format::V2,
+        history.as_slice(),
+        LINES_OF_PAIRS,
+    );
     Ok(())
 }
 
