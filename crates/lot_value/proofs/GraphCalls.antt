@@ -1,5 +1,6 @@
 -- What the calls of a graph are to what is kept together.
 use Rattle.std.proofs.Common.{◌≡◌, ℕ, ◌-◌, ◌⊎◌, Bool, Option, Some, None, List, length, ap, sym, ◌∙◌, refl, subst, arith, length-set}
+use Rattle.std.specs.Prelude.{Result, Ok, Err, IsErr, OnOk, OnErr}
 use Rattle.lot_machine.specs.declared.ticket.Target.{Target}
 use Rattle.lot_machine.specs.declared.ticket.Target.TheVariants as target
 use Rattle.lot_machine.specs.declared.funding.Node.{Node}
@@ -137,3 +138,12 @@ free-same w m there none = sym (ap (λ (owners : List (Option ℕ)). with_owners
     by : (o : Option ℕ) → owner_of w.funding m ≡ o → owner_of w.funding m ≡ None
     by None is = is
     by (Some owner) is = absurd (none (edge_between (counted_amount w.funding (OfMutex m)) (Mutex m) (Thread owner)) (edge-there w.funding (OfMutex m) (Mutex m) (Thread owner) (ends-mutex w.funding m owner is)))
+
+-- what a result that is an error says
+pub on-ok-none : {A E : Type 0} (r : Result A E) (P : Type 0) → IsErr r → OnOk r P
+on-ok-none (Ok x) P is = cc
+on-ok-none (Err e) P is = tt
+
+pub on-err-all : {A E : Type 0} (r : Result A E) (P : Type 0) → P → OnErr r P
+on-err-all (Ok x) P p = tt
+on-err-all (Err e) P p = p

@@ -91,7 +91,7 @@ module _ (w mid now : LimitedFunding) (v : Activity) (c : Known) (m s t : ℕ) (
     in-t : IsNodeWithin (layout_of w) (Thread t)
     in-t = (omega (arith, thread.0), omega (arith, thread.1, together.kept.fits.lends))
 
-    layout : layout_of now ≡ layout_of w
+    pub layout : layout_of now ≡ layout_of w
     layout = is.layout ∙ sym was.layout
 
     kept : (switched adjusted : List ℕ) → IsKeptFor (record v { switched = switched; adjusted = adjusted }) now (live_of w v)
@@ -101,6 +101,10 @@ module _ (w mid now : LimitedFunding) (v : Activity) (c : Known) (m s t : ℕ) (
     changes =
         moved-changes mid w now (OfMutex m) here next was is refl refl v (live_of w v) together.kept sound fits s t refl refl in-s in-t live_s live_t (Thread t)
         (subst (λ (l : Layout). IsNodeWithin l (Thread t)) (sym layout) in-t)
+
+    -- the same threads are live
+    pub live-kept : live_of now v ≡ live_of w v
+    live-kept = sym (live-one w now v v threads-now (kept v.switched v.adjusted))
 
     -- each edge leads to a node with an equation
     have : (from to : Node) → IsEdge now.funding from to → HasEquation now.funding to
@@ -117,6 +121,9 @@ module _ (w mid now : LimitedFunding) (v : Activity) (c : Known) (m s t : ℕ) (
 
     pub within-s : IsNodeOf now (Thread s)
     within-s = within-node now (Thread s) (subst (λ (l : Layout). IsNodeWithin l (Thread s)) (sym layout) in-s)
+
+    pub within-t : IsNodeOf now (Thread t)
+    within-t = within-node now (Thread t) (subst (λ (l : Layout). IsNodeWithin l (Thread t)) (sym layout) in-t)
 
     -- the edge led to the one owner, and leads to the other
     left : IsChangedEdge w.funding now.funding (Mutex m) (Thread s)

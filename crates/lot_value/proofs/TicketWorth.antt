@@ -1,5 +1,5 @@
 -- What a ticket is worth, by the values that are kept.
-use Rattle.std.proofs.Common.{◌≡◌, ℕ, zero, suc, ◌<◌, ◌≤◌, ◌^◌, IsTrue, Bool, true, false, Option, Some, List, Contains, option_map, unwrap_or, sum_by, length, not, ◌==◌, ap, sym, ◌∙◌, refl, subst, arith}
+use Rattle.std.proofs.Common.{◌≡◌, ℕ, zero, suc, ◌<◌, ◌≤◌, ◌^◌, IsTrue, Bool, true, false, Option, Some, List, Contains, option_map, unwrap_or, sum_by, length, not, ◌==◌, if◌then◌else◌, ◌*◌, ◌/◌, ap, sym, ◌∙◌, refl, subst, arith}
 use Rattle.lot_machine.specs.declared.ticket.Ticket.{Ticket}
 use Rattle.lot_machine.specs.declared.ticket.Target.{Target}
 use Rattle.lot_machine.specs.declared.ticket.Target.TheVariants as target
@@ -7,12 +7,12 @@ use Rattle.lot_machine.specs.declared.funding.Node.{Node}
 use Rattle.lot_machine.specs.declared.funding.Node.TheVariants.{Currency}
 use Rattle.lot_machine.specs.declared.funding.Edge.{Edge}
 use Rattle.lot_machine.specs.declared.funding.Edge.TheVariants.{OfTicket}
-use Rattle.lot_machine.specs.Funding.{Funding, ticket_at, ends_of, target_node}
+use Rattle.lot_machine.specs.Funding.{Funding, ticket_at, ends_of, target_node, backing_currency, user_currency_count}
 use Rattle.lot_machine.specs.Numbered.{option_any}
 use Rattle.lot_machine.specs.Commands.{is_funding, is_unfunded}
-use Rattle.lot_machine.specs.Activity.{is_active, activates_within}
+use Rattle.lot_machine.specs.Activity.{is_active, active_amount, activates_within}
 use Rattle.lot_machine.specs.Equations.{share, ticket_share, edges_into}
-use Rattle.lot_machine.specs.Value.{ticket_value, currency_value, node_value}
+use Rattle.lot_machine.specs.Value.{ticket_value, ticket_value_within, currency_value, node_value}
 use Rattle.lot_machine.proofs.NodeBounds.{other_ticket, node-bounded}
 use Rattle.lot_machine.proofs.NodeShares.{ticket-is, values-solve}
 use Rattle.lot_machine.proofs.EdgesOnce.{into-once}
@@ -78,3 +78,16 @@ module _ (w : LimitedFunding) (live : List Bool) (c : Known) (sound : IsSound w.
         let is : share c.unit w.funding live (node_value c.unit w.funding live) (OfTicket n) ≡ ticket_value c.unit w.funding live t =
         ap (λ (o : Option Ticket). unwrap_or (option_map (ticket_share c.unit w.funding live (node_value c.unit w.funding live)) o) 0) at ∙ sym (ticket-is w.funding sound.no_cycle sound.funds_there c.unit live t) in
         omega (arith, part, is, values-solve w.funding sound.no_cycle sound.funds_there c.unit live to has, node-bounded w.funding sound.no_cycle sound.funds_there c.unit live to (has-not-base w.funding to has), small)
+
+-- a ticket that funds nothing is worth nothing
+pub unfunded-nothing : (unit : ℕ) (f : Funding) (live : List Bool) (n : ℕ) (t : Ticket) → ticket_at f n ≡ Some t → ¬ IsFunding f n → 0 ≡ ticket_value unit f live t
+unfunded-nothing unit f live n t at none = by (user_currency_count f) (off t.target refl)
+  where
+    off : (to : Target) → t.target ≡ to → is_active f live t ≡ false
+    off target.Unfunded is = ap (activates_within (length f.currencies) f live) is ∙ unfunded-off (length f.currencies) f live
+    off (target.Currency c) is = absurd (none (ap (option_any is_funding) at ∙ ap (λ x. not (is_unfunded x)) is))
+    off (target.Thread u) is = absurd (none (ap (option_any is_funding) at ∙ ap (λ x. not (is_unfunded x)) is))
+
+    by : (k : ℕ) → is_active f live t ≡ false → 0 ≡ ticket_value_within k unit f live t
+    by zero is = sym (ap (λ b. if b then (if t.issuer == 0 then t.amount * unit else 0) else 0) is)
+    by (suc k) is = sym (ap (λ b. if b then (if t.issuer == 0 then t.amount * unit else sum_by (ticket_value_within k unit f live) (backing_currency f t.issuer) * t.amount / active_amount f live t.issuer) else 0) is)

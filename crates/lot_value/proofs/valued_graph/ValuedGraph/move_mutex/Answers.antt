@@ -1,13 +1,98 @@
-use Rattle.std.proofs.Common.{◌≡◌, ◌⊎◌, inl, inr, None, Some, ap, refl, ◌∙◌}
+use Rattle.std.proofs.Common.{◌≡◌, ◌⊎◌, inl, inr, None, Some, ap, refl, subst, sym, ◌∙◌}
 use Rattle.lot_machine.specs.declared.funding.Node.{Node}
 use Rattle.lot_machine.specs.declared.funding.Node.TheVariants.{Thread}
 use Rattle.lot_machine.specs.Numbered.{set_number}
-use Rattle.lot_graph.specs.Graphs.{LimitedFunding}
+use Rattle.lot_graph.specs.Graphs.{LimitedFunding, IsMutex}
 use Rattle.lot_graph.specs.Changes.{with_owners}
 use Rattle.lot_graph.proofs.FieldLemmas.{set-twice}
-use Rattle.lot_value.proofs.Moving.{follows-move, freed-apart, have-s, have-t, within-s}
+use Rattle.lot_value.specs.Caches.{Known, IsStale}
+use Rattle.lot_value.specs.Valued.{Valued}
+use Rattle.lot_value.proofs.Moving.{follows-move, freed-mutex, freed-free, freed-thread, freed-apart, have-s, have-t, layout, live-kept, within-s, within-t}
 use Rattle.lot_value.proofs.Touches.{touched-one, touched-then}
 use Rattle.lot_value.proofs.valued_graph.ValuedGraph.move_mutex.Goals as goal
+
+pub give_up_mutex-requires : goal.give_up_mutex-requires
+give_up_mutex-requires c = record { mutex = subst (λ (x : Valued). IsMutex x.now.funding c.args.mutex) (sym c.self.view_is) c.requires.mutex }
+
+pub take_mutex-requires-clause-mutex : goal.take_mutex-requires-clause-mutex
+take_mutex-requires-clause-mutex c =
+    let i = c.self.inside in
+    let r = c.requires in
+    let there = rw (← c.self.view_is) at r.mutex in
+    let owns = rw (← c.self.view_is) at r.owner in
+    let thread = rw (← c.self.view_is) at r.next in
+    let live = rw (← c.self.view_is) at r.live in
+    freed-mutex i.graph c.give_up_mutex.new.self c.give_up_mutex.new.self i.active i.values c.args.mutex c.args.owner c.args.next c.self.invariant there owns thread r.other live.0 live.1 c.give_up_mutex.ensures.freed
+
+pub take_mutex-requires-clause-free : goal.take_mutex-requires-clause-free
+take_mutex-requires-clause-free c =
+    let i = c.self.inside in
+    let r = c.requires in
+    let there = rw (← c.self.view_is) at r.mutex in
+    let owns = rw (← c.self.view_is) at r.owner in
+    let thread = rw (← c.self.view_is) at r.next in
+    let live = rw (← c.self.view_is) at r.live in
+    freed-free i.graph c.give_up_mutex.new.self c.give_up_mutex.new.self i.active i.values c.args.mutex c.args.owner c.args.next c.self.invariant there owns thread r.other live.0 live.1 c.give_up_mutex.ensures.freed
+
+pub take_mutex-requires-clause-owner : goal.take_mutex-requires-clause-owner
+take_mutex-requires-clause-owner c =
+    let i = c.self.inside in
+    let r = c.requires in
+    let there = rw (← c.self.view_is) at r.mutex in
+    let owns = rw (← c.self.view_is) at r.owner in
+    let thread = rw (← c.self.view_is) at r.next in
+    let live = rw (← c.self.view_is) at r.live in
+    freed-thread i.graph c.give_up_mutex.new.self c.give_up_mutex.new.self i.active i.values c.args.mutex c.args.owner c.args.next c.self.invariant there owns thread r.other live.0 live.1 c.give_up_mutex.ensures.freed
+
+pub touch-requires-clause-layout : goal.touch-requires-clause-layout
+touch-requires-clause-layout c =
+    let i = c.self.inside in
+    let r = c.requires in
+    let there = rw (← c.self.view_is) at r.mutex in
+    let owns = rw (← c.self.view_is) at r.owner in
+    let thread = rw (← c.self.view_is) at r.next in
+    let live = rw (← c.self.view_is) at r.live in
+    c.self.invariant.right.layout ∙ sym (layout i.graph c.give_up_mutex.new.self c.take_mutex.new.self i.active i.values c.args.mutex c.args.owner c.args.next c.self.invariant there owns thread r.other live.0 live.1 c.give_up_mutex.ensures.freed c.take_mutex.ensures.owned c.take_mutex.ensures.sound c.take_mutex.ensures.fits)
+
+pub touch-requires-2-clause-layout : goal.touch-requires-2-clause-layout
+touch-requires-2-clause-layout c =
+    let i = c.self.inside in
+    let r = c.requires in
+    let there = rw (← c.self.view_is) at r.mutex in
+    let owns = rw (← c.self.view_is) at r.owner in
+    let thread = rw (← c.self.view_is) at r.next in
+    let live = rw (← c.self.view_is) at r.live in
+    ap (λ (k : Known). k.layout) c.touch.ensures.others ∙ c.self.invariant.right.layout ∙ sym (layout i.graph c.give_up_mutex.new.self c.take_mutex.new.self i.active i.values c.args.mutex c.args.owner c.args.next c.self.invariant there owns thread r.other live.0 live.1 c.give_up_mutex.ensures.freed c.take_mutex.ensures.owned c.take_mutex.ensures.sound c.take_mutex.ensures.fits)
+
+pub touch-requires-2-clause-node : goal.touch-requires-2-clause-node
+touch-requires-2-clause-node c =
+    let i = c.self.inside in
+    let r = c.requires in
+    let there = rw (← c.self.view_is) at r.mutex in
+    let owns = rw (← c.self.view_is) at r.owner in
+    let thread = rw (← c.self.view_is) at r.next in
+    let live = rw (← c.self.view_is) at r.live in
+    within-t i.graph c.give_up_mutex.new.self c.take_mutex.new.self i.active i.values c.args.mutex c.args.owner c.args.next c.self.invariant there owns thread r.other live.0 live.1 c.give_up_mutex.ensures.freed c.take_mutex.ensures.owned c.take_mutex.ensures.sound c.take_mutex.ensures.fits
+
+pub returns-clause-live : goal.returns-clause-live
+returns-clause-live c =
+    let i = c.self.inside in
+    let r = c.requires in
+    let there = rw (← c.self.view_is) at r.mutex in
+    let owns = rw (← c.self.view_is) at r.owner in
+    let thread = rw (← c.self.view_is) at r.next in
+    let live = rw (← c.self.view_is) at r.live in
+    live-kept i.graph c.give_up_mutex.new.self c.take_mutex.new.self i.active i.values c.args.mutex c.args.owner c.args.next c.self.invariant there owns thread r.other live.0 live.1 c.give_up_mutex.ensures.freed c.take_mutex.ensures.owned c.take_mutex.ensures.sound c.take_mutex.ensures.fits ∙ ap (λ (x : Valued). x.live) c.self.view_is
+
+pub returns-clause-known : goal.returns-clause-known
+returns-clause-known c =
+    c.touch-2.ensures.others ∙ ap (λ (k : Known). record k { stale = c.touch-2.new.self.stale }) (c.touch.ensures.others ∙ ap (λ (x : Valued). record x.known { stale = c.touch.new.self.stale }) c.self.view_is)
+
+pub returns-clause-kept : goal.returns-clause-kept
+returns-clause-kept c node is = c.touch-2.ensures.kept node (c.touch.ensures.kept node (subst (λ (x : Valued). IsStale x.known node) (sym c.self.view_is) is))
+
+pub returns-clause-owners : goal.returns-clause-owners
+returns-clause-owners c = (c.touch-2.ensures.kept (Thread c.args.owner) c.touch.ensures.marked, c.touch-2.ensures.marked)
 
 pub take_mutex-requires-clause-apart : goal.take_mutex-requires-clause-apart
 take_mutex-requires-clause-apart c =

@@ -1,13 +1,16 @@
-use Rattle.std.proofs.Common.{◌∙◌, length, ap, sym, subst, arith}
+use Rattle.std.proofs.Common.{◌∙◌, length, ap, refl, sym, subst, arith}
+use Rattle.std.proofs.lemmas.Bool.{true≢false}
 use Rattle.lot_machine.specs.declared.funding.Node.TheVariants.{Currency}
 use Rattle.lot_machine.specs.declared.funding.Edge.TheVariants.{OfTicket}
+use Rattle.lot_graph.specs.Graphs.{IsFunding}
 use Rattle.lot_graph.specs.Places.{layout_of, node_count}
 use Rattle.lot_graph.proofs.EndLemmas.{ends-ticket}
 use Rattle.lot_graph.proofs.FieldLemmas.{funding-ticket}
+use Rattle.lot_value.specs.Counts.{counted_up}
 use Rattle.lot_value.specs.Caches.{Known, IsRight}
 use Rattle.lot_value.specs.contracts.values.Values.{the_view}
 use Rattle.lot_value.proofs.Settled.{reads-right}
-use Rattle.lot_value.proofs.TicketWorth.{share-at, kept-share, ticket-small}
+use Rattle.lot_value.proofs.TicketWorth.{share-at, kept-share, ticket-small, unfunded-nothing}
 use Rattle.lot_value.proofs.values.Values.ticket_value.Goals as goal
 
 pub read_share-requires-clause-edge : goal.read_share-requires-clause-edge
@@ -36,3 +39,25 @@ returns-clause-worth c live kept right t at =
 
 pub returns-clause-right : goal.returns-clause-right
 returns-clause-right c live right = reads-right c.args.graph.now live (the_view c.self.inside) c.read_share.new.reads (subst (IsRight c.args.graph.now live) (sym c.self.view_is) right)
+
+pub returns-then-not-is_funding : goal.returns-then-not-is_funding
+returns-then-not-is_funding c =
+    let f = c.args.graph.now.funding in
+    let off : ¬ IsFunding f c.args.ticket = λ is. true≢false (sym (c.is_funding.ensures.1 is) ∙ c.if-not-is_funding.true) in
+    record {
+      worth = λ live kept right t at. unfunded-nothing c.args.self.now.unit f live c.args.ticket t at off;
+      counted = λ is. absurd (off is);
+      uncounted = λ none. refl;
+      unit = refl;
+      right = λ live right. right;
+    }
+
+pub returns-clause-counted : goal.returns-clause-counted
+returns-clause-counted c funds =
+    ap (λ reads. record (the_view c.self.inside) { reads = reads }) c.read_share.ensures.counted ∙ ap (λ (x : Known). record x { reads = counted_up x.reads 1 }) c.self.view_is
+
+pub returns-clause-uncounted : goal.returns-clause-uncounted
+returns-clause-uncounted c none = absurd (none (c.is_funding.ensures.0 c.if-not-is_funding.false))
+
+pub returns-clause-unit : goal.returns-clause-unit
+returns-clause-unit c = ap (λ (x : Known). x.unit) c.self.view_is
