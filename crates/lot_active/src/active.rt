@@ -1,5 +1,6 @@
 //! What is active, by the live threads.
-ghost use Rattle.std.specs.Prelude.{◌≡◌, ℕ, ◌<◌, ◌≤◌, ◌^◌, ◌↔◌, Bool, List, IfOk, IsTrue, Some, length, slice_set, false, true};
+ghost use Rattle.std.specs.Prelude.{◌≡◌, ℕ, ◌<◌, ◌≤◌, ◌^◌, ◌↔◌, Bool, List, IfOk, IsTrue, Some, length, slice_set};
+ghost use Rattle.std.specs.Prelude.{false, true};
 ghost use Rattle.lot_machine.specs.declared.funding.Edge.{Edge};
 ghost use Rattle.lot_machine.specs.declared.funding.Node.TheVariants.{Thread as ThreadNode};
 ghost use Rattle.lot_machine.specs.Numbered.{set_number};
@@ -37,7 +38,13 @@ impl Model for Active {
 
     ghost Value = { Activity };
 
-    ghost view = { λ s. record { layout = s.layout; awake = s.marks.awake; amounts = s.marks.amounts; switched = nodes_of s.marks.lists 1; adjusted = nodes_of s.marks.lists 2 } };
+    ghost view = { λ s. record {
+      layout = s.layout;
+      awake = s.marks.awake;
+      amounts = s.marks.amounts;
+      switched = nodes_of s.marks.lists 1;
+      adjusted = nodes_of s.marks.lists 2;
+    } };
 
     ghost invariant = { λ s. IsQuiet s.marks };
 }
@@ -45,7 +52,8 @@ impl Model for Active {
 impl Active {
     /// The activity of a graph in which no thread is live.
     pub fn new(alloc: Global, graph: &Graph) -> Result<Self, AllocError>
-        ensures kept { IfOk result (λ made. (live : List Bool) → ((t : ℕ) → ¬ IsLive live t) → IsKeptFor made graph.now live) }
+        ensures kept { IfOk result (λ made. (live : List Bool) → ((t : ℕ) → ¬ IsLive live t)
+            → IsKeptFor made graph.now live) }
     {
         let layout = graph.layout();
         let nodes = layout.node_count();
@@ -57,8 +65,10 @@ impl Active {
 
     /// Whether a ticket with this target is active, in each graph that this is kept for.
     pub fn is_active(&self, target: Target) -> bool
-        requires target { (w : LimitedFunding) × (live : List Bool) × (ticket : ℕ) × IsKeptFor self.now w live × (target_of w.funding ticket ≡ Some target) }
-        ensures active { (w : LimitedFunding) (live : List Bool) (ticket : ℕ) → IsKeptFor self.now w live → target_of w.funding ticket ≡ Some target → IsTrue result ↔ machine.IsActive w.funding live ticket }
+        requires target { (w : LimitedFunding) × (live : List Bool) × (ticket : ℕ) × IsKeptFor self.now w live
+            × (target_of w.funding ticket ≡ Some target) }
+        ensures active { (w : LimitedFunding) (live : List Bool) (ticket : ℕ) → IsKeptFor self.now w live
+            → target_of w.funding ticket ≡ Some target → IsTrue result ↔ machine.IsActive w.funding live ticket }
     {
         match funded_node(target) {
             Some(node) => self.is_on(self.layout.list_of(node)),
@@ -68,16 +78,20 @@ impl Active {
 
     /// Whether a chain of lends, perhaps empty, leads from a thread to a live one, in each graph that this is kept for.
     pub fn is_backed(&self, thread: u32) -> bool
-        requires thread { (w : LimitedFunding) × (live : List Bool) × IsKeptFor self.now w live × IsThread w.funding thread }
-        ensures backed { (w : LimitedFunding) (live : List Bool) → IsKeptFor self.now w live → IsThread w.funding thread → IsTrue result ↔ IsBacked w.funding live thread }
+        requires thread { (w : LimitedFunding) × (live : List Bool) × IsKeptFor self.now w live
+            × IsThread w.funding thread }
+        ensures backed { (w : LimitedFunding) (live : List Bool) → IsKeptFor self.now w live
+            → IsThread w.funding thread → IsTrue result ↔ IsBacked w.funding live thread }
     {
         self.is_on(self.layout.list_of(Node::Thread(thread)))
     }
 
     /// The sum of the amounts of the active tickets that a currency issues, in each graph that this is kept for.
     pub fn active_amount(&self, currency: u32) -> u64
-        requires currency { (w : LimitedFunding) × (live : List Bool) × IsKeptFor self.now w live × (currency ≤ w.currency_limit) }
-        ensures amount { (w : LimitedFunding) (live : List Bool) → IsKeptFor self.now w live → currency ≤ w.currency_limit → result ≡ machine.active_amount w.funding live currency }
+        requires currency { (w : LimitedFunding) × (live : List Bool) × IsKeptFor self.now w live
+            × (currency ≤ w.currency_limit) }
+        ensures amount { (w : LimitedFunding) (live : List Bool) → IsKeptFor self.now w live
+            → currency ≤ w.currency_limit → result ≡ machine.active_amount w.funding live currency }
     {
         self.amount(currency as usize)
     }
@@ -86,8 +100,10 @@ impl Active {
     pub fn wake(&mut self, graph: &Graph, thread: u32)
         requires thread { IsThread graph.now.funding thread }
         requires kept { (live : List Bool) × IsKeptFor self.old graph.now live }
-        ensures kept { (live : List Bool) → IsKeptFor self.old graph.now live → thread ≤ length live → IsKeptFor self.new graph.now (set_number live thread true) }
-        ensures changes { (live : List Bool) → IsKeptFor self.old graph.now live → thread ≤ length live → ChangesNodes graph.now live graph.now (set_number live thread true) (ThreadNode thread) self.new }
+        ensures kept { (live : List Bool) → IsKeptFor self.old graph.now live → thread ≤ length live
+            → IsKeptFor self.new graph.now (set_number live thread true) }
+        ensures changes { (live : List Bool) → IsKeptFor self.old graph.now live → thread ≤ length live
+            → ChangesNodes graph.now live graph.now (set_number live thread true) (ThreadNode thread) self.new }
     {
         let node = self.layout.list_of(Node::Thread(thread));
         self.wake_node(graph, node);
@@ -97,8 +113,10 @@ impl Active {
     pub fn sleep(&mut self, graph: &Graph, thread: u32)
         requires thread { IsThread graph.now.funding thread }
         requires kept { (live : List Bool) × IsKeptFor self.old graph.now live }
-        ensures kept { (live : List Bool) → IsKeptFor self.old graph.now live → thread ≤ length live → IsKeptFor self.new graph.now (set_number live thread false) }
-        ensures changes { (live : List Bool) → IsKeptFor self.old graph.now live → thread ≤ length live → ChangesNodes graph.now live graph.now (set_number live thread false) (ThreadNode thread) self.new }
+        ensures kept { (live : List Bool) → IsKeptFor self.old graph.now live → thread ≤ length live
+            → IsKeptFor self.new graph.now (set_number live thread false) }
+        ensures changes { (live : List Bool) → IsKeptFor self.old graph.now live → thread ≤ length live
+            → ChangesNodes graph.now live graph.now (set_number live thread false) (ThreadNode thread) self.new }
     {
         let node = self.layout.list_of(Node::Thread(thread));
         self.sleep_node(graph, node);
@@ -106,9 +124,13 @@ impl Active {
 
     /// Takes up an edge that was put into the graph.
     pub fn attach(&mut self, graph: &Graph, edge: Edge)
-        requires kept { (before : LimitedFunding) × (ends : EdgeEnds) × (live : List Bool) × AddsEdge before graph.now edge ends × IsKeptFor self.old before live }
-        ensures kept { (before : LimitedFunding) (ends : EdgeEnds) (live : List Bool) → AddsEdge before graph.now edge ends → IsKeptFor self.old before live → IsKeptFor self.new graph.now live }
-        ensures changes { (before : LimitedFunding) (ends : EdgeEnds) (live : List Bool) → AddsEdge before graph.now edge ends → IsKeptFor self.old before live → ChangesNodes before live graph.now live ends.from self.new }
+        requires kept { (before : LimitedFunding) × (ends : EdgeEnds) × (live : List Bool)
+            × AddsEdge before graph.now edge ends × IsKeptFor self.old before live }
+        ensures kept { (before : LimitedFunding) (ends : EdgeEnds) (live : List Bool)
+            → AddsEdge before graph.now edge ends → IsKeptFor self.old before live → IsKeptFor self.new graph.now live }
+        ensures changes { (before : LimitedFunding) (ends : EdgeEnds) (live : List Bool)
+            → AddsEdge before graph.now edge ends → IsKeptFor self.old before live
+            → ChangesNodes before live graph.now live ends.from self.new }
     {
         let Some(ends) = ends_of_edge(graph, edge) else {
             unreachable!()
@@ -120,9 +142,13 @@ impl Active {
     pub fn detach(&mut self, graph: &Graph, ends: EdgeEnds)
         requires sound { IsSound graph.now.funding }
         requires fits { FitsLimits graph.now }
-        requires kept { (before : LimitedFunding) × (edge : Edge) × (live : List Bool) × AddsEdge graph.now before edge ends × IsKeptFor self.old before live }
-        ensures kept { (before : LimitedFunding) (edge : Edge) (live : List Bool) → AddsEdge graph.now before edge ends → IsKeptFor self.old before live → IsKeptFor self.new graph.now live }
-        ensures changes { (before : LimitedFunding) (edge : Edge) (live : List Bool) → AddsEdge graph.now before edge ends → IsKeptFor self.old before live → ChangesNodes before live graph.now live ends.from self.new }
+        requires kept { (before : LimitedFunding) × (edge : Edge) × (live : List Bool)
+            × AddsEdge graph.now before edge ends × IsKeptFor self.old before live }
+        ensures kept { (before : LimitedFunding) (edge : Edge) (live : List Bool)
+            → AddsEdge graph.now before edge ends → IsKeptFor self.old before live → IsKeptFor self.new graph.now live }
+        ensures changes { (before : LimitedFunding) (edge : Edge) (live : List Bool)
+            → AddsEdge graph.now before edge ends → IsKeptFor self.old before live
+            → ChangesNodes before live graph.now live ends.from self.new }
     {
         self.detach_places(graph, ends.places(graph.layout()));
     }
@@ -130,7 +156,8 @@ impl Active {
     /// The nodes that the last call switched on or off.
     pub fn switched(&self) -> ChangedNodes<'_>
         requires kept { (w : LimitedFunding) × (live : List Bool) × IsKeptFor self.now w live }
-        ensures nodes { (w : LimitedFunding) (live : List Bool) → IsKeptFor self.now w live → result ≡ switched_nodes w self.now }
+        ensures nodes { (w : LimitedFunding) (live : List Bool) → IsKeptFor self.now w live
+            → result ≡ switched_nodes w self.now }
         ensures count { length result < 2 ^ 32 }
     {
         ChangedNodes {
@@ -142,7 +169,8 @@ impl Active {
     /// The nodes whose amount alone the last call changed.
     pub fn adjusted(&self) -> ChangedNodes<'_>
         requires kept { (w : LimitedFunding) × (live : List Bool) × IsKeptFor self.now w live }
-        ensures nodes { (w : LimitedFunding) (live : List Bool) → IsKeptFor self.now w live → result ≡ adjusted_nodes w self.now }
+        ensures nodes { (w : LimitedFunding) (live : List Bool) → IsKeptFor self.now w live
+            → result ≡ adjusted_nodes w self.now }
         ensures count { length result < 2 ^ 32 }
     {
         ChangedNodes {
@@ -203,7 +231,8 @@ impl Active {
     fn attach_places(&mut self, graph: &Graph, places: EdgePlaces)
         requires graph { IsNet (graph_net graph.now) }
         requires no_cycle { HasNoCycle (graph_net graph.now) }
-        requires kept { (before : Net) × (edge : ℕ) × Adds before (graph_net graph.now) edge places × IsKept before self.old }
+        requires kept { (before : Net) × (edge : ℕ) × Adds before (graph_net graph.now) edge places
+            × IsKept before self.old }
         ensures layout { self.new.layout ≡ self.old.layout }
         ensures awake { self.new.awake ≡ self.old.awake }
         ensures kept { IsKept (graph_net graph.now) self.new }
@@ -218,7 +247,8 @@ impl Active {
 
     fn detach_places(&mut self, graph: &Graph, places: EdgePlaces)
         requires no_cycle { HasNoCycle (graph_net graph.now) }
-        requires kept { (before : Net) × (edge : ℕ) × Adds (graph_net graph.now) before edge places × IsNet before × IsKept before self.old }
+        requires kept { (before : Net) × (edge : ℕ) × Adds (graph_net graph.now) before edge places × IsNet before
+            × IsKept before self.old }
         ensures layout { self.new.layout ≡ self.old.layout }
         ensures awake { self.new.awake ≡ self.old.awake }
         ensures kept { IsKept (graph_net graph.now) self.new }

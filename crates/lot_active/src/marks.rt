@@ -3,7 +3,8 @@ ghost use Rattle.std.specs.Prelude.{◌≡◌, ℕ, ◌<◌, IfOk, IfSome, IfNon
 ghost use Rattle.lot_lists.specs.NodeLists.{nodes_of, HasSameSize, IsConsistent, empty_lists};
 ghost use Rattle.lot_graph.specs.Places.{layout_of, node_count};
 ghost use Rattle.lot_active.specs.Fundings.{graph_net};
-ghost use Rattle.lot_active.specs.Held.{Held, IsSized, AllEmpty, Relists, NotesChange, MayMove, moved, Adjusts, SetsAwake, Settles, on_at, held_at};
+ghost use Rattle.lot_active.specs.Held.{Held, IsSized, AllEmpty, Relists, NotesChange, MayMove, moved, Adjusts};
+ghost use Rattle.lot_active.specs.Held.{SetsAwake, Settles, on_at, held_at};
 ghost use Rattle.lot_active.specs.Spread.{Spreading, Crossing};
 
 use crate::edge_ends::places_of_edge;
@@ -41,7 +42,8 @@ impl Model for Marks {
 
 impl Marks {
     pub(crate) fn new(alloc: Global, nodes: usize) -> Result<Self, AllocError>
-        ensures made { IfOk result (λ made. made ≡ record { awake = replicate nodes false; amounts = replicate nodes 0; lists = empty_lists 3 nodes }) }
+        ensures made { IfOk result (λ made. made
+            ≡ record { awake = replicate nodes false; amounts = replicate nodes 0; lists = empty_lists 3 nodes }) }
         ensures sized { IfOk result IsSized }
     {
         Ok(Marks {
@@ -138,7 +140,8 @@ impl Marks {
         requires node { node < node_count (layout_of graph.now) }
         requires sized { IsSized self.old }
         requires crossing { (seed : ℕ) × (was : Held) × Crossing (graph_net graph.now) seed on was self.old node [] }
-        ensures spreads { (seed : ℕ) (was : Held) → Crossing (graph_net graph.now) seed on was self.old node [] → Spreading (graph_net graph.now) seed on was self.new }
+        ensures spreads { (seed : ℕ) (was : Held) → Crossing (graph_net graph.now) seed on was self.old node []
+            → Spreading (graph_net graph.now) seed on was self.new }
         ensures switched { nodes_of self.new.lists 1 ≡ nodes_of self.old.lists 1 }
         ensures awake { self.new.awake ≡ self.old.awake }
         ensures size { length self.new.amounts ≡ length self.old.amounts }
@@ -159,7 +162,8 @@ impl Marks {
         requires nodes { length self.old.amounts ≡ node_count (layout_of graph.now) }
         requires sized { IsSized self.old }
         requires spreading { (seed : ℕ) × (was : Held) × Spreading (graph_net graph.now) seed on was self.old }
-        ensures spreads { (seed : ℕ) (was : Held) → Spreading (graph_net graph.now) seed on was self.old → Spreading (graph_net graph.now) seed on was self.new }
+        ensures spreads { (seed : ℕ) (was : Held) → Spreading (graph_net graph.now) seed on was self.old
+            → Spreading (graph_net graph.now) seed on was self.new }
         ensures pending { nodes_of self.new.lists 0 ≡ [] }
         ensures awake { self.new.awake ≡ self.old.awake }
         ensures size { length self.new.amounts ≡ length self.old.amounts }

@@ -59,7 +59,8 @@ fn add_links(alloc: Global, commands: &mut Vec<Command>, workload: Workload) -> 
 
 /// Adds the commands that make the workload's threads, each with a ticket.
 fn add_threads(alloc: Global, commands: &mut Vec<Command>, workload: Workload) -> Result<()>
-    ensures { OnOk result (threads_made commands.new.items ≡ threads_made commands.old.items + openings.threads_of workload) }
+    ensures { OnOk result (threads_made commands.new.items
+        ≡ threads_made commands.old.items + openings.threads_of workload) }
 {
     for place in 0..threads_of(workload) {
         add(commands, thread_command(alloc, workload, place + 1)?)?;

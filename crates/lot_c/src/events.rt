@@ -19,7 +19,8 @@ pub extern "C" fn lot_kernel_event(
     event: &PlainEvent,
     reply: &mut PlainReply,
 ) -> u32
-    ensures { Through kernel.old.kernel kernel.new.kernel ((result ≡ code NoKernel) × (reply.new ≡ reply.old)) (λ old new. IsAnswered event.now result old new reply.old reply.new) }
+    ensures { Through kernel.old.kernel kernel.new.kernel ((result ≡ code NoKernel) × (reply.new ≡ reply.old))
+        (λ old new. IsAnswered event.now result old new reply.old reply.new) }
 {
     let Some(mut held) = kernel.take(alloc) else {
         return Status::NoKernel.code();
@@ -51,8 +52,12 @@ pub extern "C" fn lot_kernel_run(
     replies: &mut [PlainReply],
     done: &mut usize,
 ) -> u32
-    ensures differ { length events.now ≢ length replies.old → (result ≡ code CountsDiffer) × (kernel.new.kernel ≡ kernel.old.kernel) × (replies.new ≡ replies.old) × (done.new ≡ done.old) }
-    ensures answers { length events.now ≡ length replies.old → Through kernel.old.kernel kernel.new.kernel ((result ≡ code NoKernel) × (replies.new ≡ replies.old) × (done.new ≡ done.old)) (λ old new. AreAnswered events.now result done.new old new replies.old replies.new) }
+    ensures differ { length events.now ≢ length replies.old
+        → (result ≡ code CountsDiffer) × (kernel.new.kernel ≡ kernel.old.kernel) × (replies.new ≡ replies.old)
+        × (done.new ≡ done.old) }
+    ensures answers { length events.now ≡ length replies.old
+        → Through kernel.old.kernel kernel.new.kernel ((result ≡ code NoKernel) × (replies.new ≡ replies.old)
+        × (done.new ≡ done.old)) (λ old new. AreAnswered events.now result done.new old new replies.old replies.new) }
 {
     if events.len() != replies.len() {
         return Status::CountsDiffer.code();

@@ -39,7 +39,8 @@ fn make(alloc: Global, sizes: &PlainSizes) -> Result<Box<Kernel>, Status>
     ensures opening { IfOk result (λ k. k.value ≡ starting (sizes_meant sizes.now)) }
     ensures sound { IfOk result (λ k. IsSound k.value.state) }
     ensures limits { IfOk result (λ k. IsWithinBounds (sizes_meant sizes.now)) }
-    ensures fault { IfErr result (λ why. ((why ≡ BadLimits) × ¬ IsWithinBounds (sizes_meant sizes.now)) ⊎ ((why ≡ NoMemory) × IsWithinBounds (sizes_meant sizes.now))) }
+    ensures fault { IfErr result (λ why. ((why ≡ BadLimits) × ¬ IsWithinBounds (sizes_meant sizes.now))
+        ⊎ ((why ≡ NoMemory) × IsWithinBounds (sizes_meant sizes.now))) }
 {
     let Some(limits) = sizes.limits() else {
         return Err(Status::BadLimits);
@@ -70,7 +71,8 @@ pub extern "C" fn lot_kernel_limits(
     kernel: &mut Handle,
     sizes: &mut PlainSizes,
 ) -> u32
-    ensures { Through kernel.old.kernel kernel.new.kernel ((result ≡ code NoKernel) × (sizes.new ≡ sizes.old)) (λ old new. (new ≡ old) × (result ≡ code Done) × (sizes.new ≡ plain_sizes old.state.limits)) }
+    ensures { Through kernel.old.kernel kernel.new.kernel ((result ≡ code NoKernel) × (sizes.new ≡ sizes.old))
+        (λ old new. (new ≡ old) × (result ≡ code Done) × (sizes.new ≡ plain_sizes old.state.limits)) }
 {
     let Some(held) = kernel.take(alloc) else {
         return Status::NoKernel.code();
@@ -87,7 +89,8 @@ pub extern "C" fn lot_kernel_meter(
     kernel: &mut Handle,
     meter: &mut PlainMeter,
 ) -> u32
-    ensures { Through kernel.old.kernel kernel.new.kernel ((result ≡ code NoKernel) × (meter.new ≡ meter.old)) (λ old new. (new ≡ old) × (result ≡ code Done) × (meter.new ≡ plain_meter old.meter)) }
+    ensures { Through kernel.old.kernel kernel.new.kernel ((result ≡ code NoKernel) × (meter.new ≡ meter.old))
+        (λ old new. (new ≡ old) × (result ≡ code Done) × (meter.new ≡ plain_meter old.meter)) }
 {
     let Some(held) = kernel.take(alloc) else {
         return Status::NoKernel.code();
@@ -104,7 +107,8 @@ pub extern "C" fn lot_kernel_ticket_count(
     kernel: &mut Handle,
     count: &mut u32,
 ) -> u32
-    ensures { Through kernel.old.kernel kernel.new.kernel ((result ≡ code NoKernel) × (count.new ≡ count.old)) (λ old new. (new ≡ old) × (result ≡ code Done) × (count.new ≡ length old.state.tickets)) }
+    ensures { Through kernel.old.kernel kernel.new.kernel ((result ≡ code NoKernel) × (count.new ≡ count.old))
+        (λ old new. (new ≡ old) × (result ≡ code Done) × (count.new ≡ length old.state.tickets)) }
 {
     let Some(held) = kernel.take(alloc) else {
         return Status::NoKernel.code();
@@ -121,7 +125,8 @@ pub extern "C" fn lot_kernel_currency_count(
     kernel: &mut Handle,
     count: &mut u32,
 ) -> u32
-    ensures { Through kernel.old.kernel kernel.new.kernel ((result ≡ code NoKernel) × (count.new ≡ count.old)) (λ old new. (new ≡ old) × (result ≡ code Done) × (count.new ≡ length old.state.currencies)) }
+    ensures { Through kernel.old.kernel kernel.new.kernel ((result ≡ code NoKernel) × (count.new ≡ count.old))
+        (λ old new. (new ≡ old) × (result ≡ code Done) × (count.new ≡ length old.state.currencies)) }
 {
     let Some(held) = kernel.take(alloc) else {
         return Status::NoKernel.code();
@@ -139,7 +144,8 @@ pub extern "C" fn lot_kernel_runner(
     processor: u32,
     runner: &mut PlainRunner,
 ) -> u32
-    ensures { Through kernel.old.kernel kernel.new.kernel ((result ≡ code NoKernel) × (runner.new ≡ runner.old)) (λ old new. (new ≡ old) × ShowsRunner processor result old runner.old runner.new) }
+    ensures { Through kernel.old.kernel kernel.new.kernel ((result ≡ code NoKernel) × (runner.new ≡ runner.old))
+        (λ old new. (new ≡ old) × ShowsRunner processor result old runner.old runner.new) }
 {
     let Some(held) = kernel.take(alloc) else {
         return Status::NoKernel.code();
@@ -170,7 +176,8 @@ pub extern "C" fn lot_kernel_script_of(
     thread: u32,
     script: &mut u32,
 ) -> u32
-    ensures { Through kernel.old.kernel kernel.new.kernel ((result ≡ code NoKernel) × (script.new ≡ script.old)) (λ old new. (new ≡ old) × ShowsScript thread result old script.old script.new) }
+    ensures { Through kernel.old.kernel kernel.new.kernel ((result ≡ code NoKernel) × (script.new ≡ script.old))
+        (λ old new. (new ≡ old) × ShowsScript thread result old script.old script.new) }
 {
     let Some(held) = kernel.take(alloc) else {
         return Status::NoKernel.code();

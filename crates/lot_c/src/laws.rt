@@ -13,7 +13,8 @@ ghost use Rattle.lot_c.specs.Wides.{plain_wide, wide_meant};
 
 /// A name that C gets means the same when C passes it back.
 pub fn names_come_back()
-    ensures { (name : List ℕ) → length name ≤ 16 → names.is_good_name name ≡ true → name_meant (plain_name name) ≡ Ok name }
+    ensures { (name : List ℕ) → length name ≤ 16 → names.is_good_name name ≡ true
+        → name_meant (plain_name name) ≡ Ok name }
 {}
 
 /// A number of 128 bits that C gets means the same when C passes it back.

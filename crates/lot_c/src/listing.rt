@@ -18,7 +18,8 @@ pub extern "C" fn lot_kernel_ticket_row(
     ticket: u32,
     row: &mut PlainTicketRow,
 ) -> u32
-    ensures { Through kernel.old.kernel kernel.new.kernel ((result ≡ code NoKernel) × (row.new ≡ row.old)) (λ old new. ShowsTicket ticket result old new row.old row.new) }
+    ensures { Through kernel.old.kernel kernel.new.kernel ((result ≡ code NoKernel) × (row.new ≡ row.old))
+        (λ old new. ShowsTicket ticket result old new row.old row.new) }
 {
     let Some(mut held) = kernel.take(alloc) else {
         return Status::NoKernel.code();
@@ -49,7 +50,8 @@ pub extern "C" fn lot_kernel_currency_row(
     currency: u32,
     row: &mut PlainCurrencyRow,
 ) -> u32
-    ensures { Through kernel.old.kernel kernel.new.kernel ((result ≡ code NoKernel) × (row.new ≡ row.old)) (λ old new. ShowsCurrency currency result old new row.old row.new) }
+    ensures { Through kernel.old.kernel kernel.new.kernel ((result ≡ code NoKernel) × (row.new ≡ row.old))
+        (λ old new. ShowsCurrency currency result old new row.old row.new) }
 {
     let Some(mut held) = kernel.take(alloc) else {
         return Status::NoKernel.code();
@@ -80,7 +82,8 @@ pub extern "C" fn lot_kernel_thread_row(
     thread: u32,
     row: &mut PlainThreadRow,
 ) -> u32
-    ensures { Through kernel.old.kernel kernel.new.kernel ((result ≡ code NoKernel) × (row.new ≡ row.old)) (λ old new. ShowsThread thread result old new row.old row.new) }
+    ensures { Through kernel.old.kernel kernel.new.kernel ((result ≡ code NoKernel) × (row.new ≡ row.old))
+        (λ old new. ShowsThread thread result old new row.old row.new) }
 {
     let Some(mut held) = kernel.take(alloc) else {
         return Status::NoKernel.code();

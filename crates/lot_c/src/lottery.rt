@@ -2,7 +2,8 @@
 ghost use Rattle.std.specs.Prelude.{◌≡◌, ◌⊎◌, ◌<◌, ◌≤◌, ◌^◌, IfErr, IfOk, IfSome, Some, length, map, sum};
 ghost use Rattle.lot_machine.specs.Bounds.{IsBetween};
 ghost use Rattle.lot_machine.specs.Lottery as lottery;
-ghost use Rattle.lot_machine.specs.Lottery.{next_seed, drawn_number, seed_after_number, wide_number, seed_after_wide_number};
+ghost use Rattle.lot_machine.specs.Lottery.{next_seed, drawn_number, seed_after_number, wide_number};
+ghost use Rattle.lot_machine.specs.Lottery.{seed_after_wide_number};
 ghost use Rattle.lot_machine.specs.declared.drawn.Drawn.{Drawn as ADrawn};
 ghost use Rattle.lot_c.specs.declared.status.Status.TheVariants.{BadSeed, Done, NoMemory, NoWinner, TooLarge};
 ghost use Rattle.lot_c.specs.Lotteries.{compensation_meant, plain_drawn};
@@ -81,9 +82,12 @@ pub extern "C" fn lot_generator_new(seed: u32, generator: &mut PlainGenerator) -
 /// Goes on to the generator's next value, and writes it.
 #[unsafe(no_mangle)]
 pub extern "C" fn lot_generator_next(generator: &mut PlainGenerator, value: &mut u32) -> u32
-    ensures good { IsBetween 1 2147483646 generator.old.value → (result ≡ code Done) × (value.new ≡ next_seed generator.old.value) × (generator.new.value ≡ next_seed generator.old.value) }
+    ensures good { IsBetween 1 2147483646 generator.old.value
+        → (result ≡ code Done) × (value.new ≡ next_seed generator.old.value)
+        × (generator.new.value ≡ next_seed generator.old.value) }
     ensures range { IsBetween 1 2147483646 generator.old.value → IsBetween 1 2147483646 value.new }
-    ensures bad { ¬ IsBetween 1 2147483646 generator.old.value → (result ≡ code BadSeed) × (value.new ≡ value.old) × (generator.new ≡ generator.old) }
+    ensures bad { ¬ IsBetween 1 2147483646 generator.old.value
+        → (result ≡ code BadSeed) × (value.new ≡ value.old) × (generator.new ≡ generator.old) }
 {
     let Some(mut there) = ParkMiller::new(generator.value) else {
         return Status::BadSeed.code();
@@ -96,8 +100,11 @@ pub extern "C" fn lot_generator_next(generator: &mut PlainGenerator, value: &mut
 /// Writes the number that is drawn from the generator's next two values, and goes on to the second.
 #[unsafe(no_mangle)]
 pub extern "C" fn lot_generator_number(generator: &mut PlainGenerator, number: &mut u64) -> u32
-    ensures good { IsBetween 1 2147483646 generator.old.value → (result ≡ code Done) × (number.new ≡ drawn_number generator.old.value) × (generator.new.value ≡ seed_after_number generator.old.value) }
-    ensures bad { ¬ IsBetween 1 2147483646 generator.old.value → (result ≡ code BadSeed) × (number.new ≡ number.old) × (generator.new ≡ generator.old) }
+    ensures good { IsBetween 1 2147483646 generator.old.value
+        → (result ≡ code Done) × (number.new ≡ drawn_number generator.old.value)
+        × (generator.new.value ≡ seed_after_number generator.old.value) }
+    ensures bad { ¬ IsBetween 1 2147483646 generator.old.value
+        → (result ≡ code BadSeed) × (number.new ≡ number.old) × (generator.new ≡ generator.old) }
 {
     let Some(mut there) = ParkMiller::new(generator.value) else {
         return Status::BadSeed.code();
@@ -115,8 +122,11 @@ pub extern "C" fn lot_generator_wide_number(
     generator: &mut PlainGenerator,
     number: &mut Wide,
 ) -> u32
-    ensures good { IsBetween 1 2147483646 generator.old.value → (result ≡ code Done) × (number.new ≡ plain_wide (wide_number generator.old.value)) × (generator.new.value ≡ seed_after_wide_number generator.old.value) }
-    ensures bad { ¬ IsBetween 1 2147483646 generator.old.value → (result ≡ code BadSeed) × (number.new ≡ number.old) × (generator.new ≡ generator.old) }
+    ensures good { IsBetween 1 2147483646 generator.old.value
+        → (result ≡ code Done) × (number.new ≡ plain_wide (wide_number generator.old.value))
+        × (generator.new.value ≡ seed_after_wide_number generator.old.value) }
+    ensures bad { ¬ IsBetween 1 2147483646 generator.old.value
+        → (result ≡ code BadSeed) × (number.new ≡ number.old) × (generator.new ≡ generator.old) }
 {
     let Some(mut there) = ParkMiller::new(generator.value) else {
         return Status::BadSeed.code();
@@ -137,10 +147,14 @@ pub extern "C" fn lot_winner(
     number: &Wide,
     drawn: &mut PlainDrawn,
 ) -> u32
-    ensures won { (d : ADrawn) → sum (map wide_meant weights.now) < 2 ^ 128 → lottery.winner (map wide_meant weights.now) (wide_meant number.now) ≡ Some d → ((result ≡ code Done) × (drawn.new ≡ plain_drawn d)) ⊎ ((result ≡ code NoMemory) × (drawn.new ≡ drawn.old)) }
+    ensures won { (d : ADrawn) → sum (map wide_meant weights.now) < 2 ^ 128
+        → lottery.winner (map wide_meant weights.now) (wide_meant number.now) ≡ Some d
+        → ((result ≡ code Done) × (drawn.new ≡ plain_drawn d)) ⊎ ((result ≡ code NoMemory) × (drawn.new ≡ drawn.old)) }
     ensures within { result ≡ code Done → drawn.new.place < length weights.now }
-    ensures nobody { sum (map wide_meant weights.now) ≡ 0 → ((result ≡ code NoWinner) ⊎ (result ≡ code NoMemory)) × (drawn.new ≡ drawn.old) }
-    ensures large { 2 ^ 128 ≤ sum (map wide_meant weights.now) → ((result ≡ code TooLarge) ⊎ (result ≡ code NoMemory)) × (drawn.new ≡ drawn.old) }
+    ensures nobody { sum (map wide_meant weights.now) ≡ 0
+        → ((result ≡ code NoWinner) ⊎ (result ≡ code NoMemory)) × (drawn.new ≡ drawn.old) }
+    ensures large { 2 ^ 128 ≤ sum (map wide_meant weights.now)
+        → ((result ≡ code TooLarge) ⊎ (result ≡ code NoMemory)) × (drawn.new ≡ drawn.old) }
 {
     let weights = match gather(alloc, weights) {
         Err(why) => return why.code(),
@@ -159,7 +173,8 @@ pub extern "C" fn lot_winner(
 fn gather(alloc: Global, weights: &[Wide]) -> Result<Vec<u128>, Status>
     ensures weights { IfOk result (λ v. v.items ≡ map wide_meant weights.now) }
     ensures small { IfOk result (λ v. sum v.items < 2 ^ 128) }
-    ensures fault { IfErr result (λ why. (why ≡ NoMemory) ⊎ ((why ≡ TooLarge) × (2 ^ 128 ≤ sum (map wide_meant weights.now)))) }
+    ensures fault { IfErr result (λ why. (why ≡ NoMemory)
+        ⊎ ((why ≡ TooLarge) × (2 ^ 128 ≤ sum (map wide_meant weights.now)))) }
 {
     let mut numbers = Vec::new(alloc);
     let mut total: u128 = 0;

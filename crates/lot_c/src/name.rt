@@ -49,8 +49,10 @@ impl PlainName {
 /// The name with these bytes.
 #[unsafe(no_mangle)]
 pub extern "C" fn lot_name_new(bytes: &[u8], name: &mut PlainName) -> u32
-    ensures good { length bytes.now ≤ 16 → names.is_good_name bytes.now ≡ true → (result ≡ code Done) × (name.new ≡ plain_name bytes.now) }
-    ensures bad { length bytes.now ≤ 16 → names.is_good_name bytes.now ≡ false → (result ≡ code BadName) × (name.new ≡ name.old) }
+    ensures good { length bytes.now ≤ 16 → names.is_good_name bytes.now ≡ true
+        → (result ≡ code Done) × (name.new ≡ plain_name bytes.now) }
+    ensures bad { length bytes.now ≤ 16 → names.is_good_name bytes.now ≡ false
+        → (result ≡ code BadName) × (name.new ≡ name.old) }
     ensures long { 16 < length bytes.now → (result ≡ code LongName) × (name.new ≡ name.old) }
 {
     let Some(text) = Name::from_bytes(bytes) else {

@@ -1,7 +1,8 @@
 //! Replies in plain fields.
 ghost use Rattle.std.specs.Prelude.{◌≡◌};
 ghost use Rattle.lot_machine.specs.declared.reply.Reply.TheVariants as reply;
-ghost use Rattle.lot_c.specs.Replies.{plain_reply, plain_outcome, plain_passed, blank_reply, list_code, refusal_code, trap_refusal_code};
+ghost use Rattle.lot_c.specs.Replies.{plain_reply, plain_outcome, plain_passed, blank_reply, list_code, refusal_code};
+ghost use Rattle.lot_c.specs.Replies.{trap_refusal_code};
 
 use crate::wide::Wide;
 use lot_machine::{Kind, Outcome, Refusal, Reply, TrapRefusal};

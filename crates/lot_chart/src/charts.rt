@@ -2,7 +2,8 @@
 ghost use Rattle.std.specs.Prelude.{◌≡◌, ◌<◌, ◌≤◌, ◌^◌, ◌++◌, codes, IfOk, OnOk, length};
 ghost use Rattle.std.specs.List.{flat_map};
 ghost use Rattle.lot_chart.specs.Charts as definitions;
-ghost use Rattle.lot_chart.specs.Charts.{axes, curve, drawn_of, head, height_mark, label, leader, name_text, picture, point, points, time_mark};
+ghost use Rattle.lot_chart.specs.Charts.{axes, curve, drawn_of, head, height_mark, label, leader, name_text, picture};
+ghost use Rattle.lot_chart.specs.Charts.{point, points, time_mark};
 ghost use Rattle.lot_chart.specs.Axes.{marks};
 
 use crate::axes::{axis_step, mark_count};
@@ -60,7 +61,8 @@ fn push_picture(
     lines: &[Line],
 ) -> Result<(), AllocError>
     requires { length others.now < 2 ^ 32 }
-    ensures { OnOk result (text.new ≡ text.old ++ picture title.now curves.now (record { shown = shown.now; others = others.now }) lines.now) }
+    ensures { OnOk result (text.new ≡ text.old
+        ++ picture title.now curves.now (record { shown = shown.now; others = others.now }) lines.now) }
 {
     let most = most_in(shown);
     push_head(text, title)?;

@@ -1,5 +1,6 @@
 //! Bounds and order of pictures and tables: laws of the definitions, with nothing to run.
-ghost use Rattle.std.specs.Prelude.{◌≡◌, ◌==◌, ◌≤◌, ◌<◌, ◌+◌, ◌-◌, ◌*◌, ◌^◌, ℕ, All, AllPairs, List, [], ◌∷◌, filter, length, map, slice_index};
+ghost use Rattle.std.specs.Prelude.{◌≡◌, ◌==◌, ◌≤◌, ◌<◌, ◌+◌, ◌-◌, ◌*◌, ◌^◌, ℕ, All, AllPairs, List, [], ◌∷◌, filter};
+ghost use Rattle.std.specs.Prelude.{length, map, slice_index};
 ghost use Rattle.lot_machine.specs.Bounds.{IsBetween};
 ghost use Rattle.lot_curves.specs.declared.stretch.Measure.{Measure as Measured};
 ghost use Rattle.lot_curves.specs.Curves as curves;
@@ -23,21 +24,27 @@ pub fn rankings_are_in_order()
 /// A picture has at most twelve lines. Their names are at least 16 units apart, and none is below the plot.
 pub fn names_do_not_overlap()
     ensures few { (curves : curves.Curves) → length (selection curves).shown ≤ 12 }
-    ensures apart { (shown : List StandingRecord) (i : ℕ) → i + 1 < length shown → slice_index (map (λ line. line.place) (lines_of shown)) i + 160 ≤ slice_index (map (λ line. line.place) (lines_of shown)) (i + 1) }
-    ensures within { (shown : List StandingRecord) → length shown ≤ 12 → All (λ line. line.place ≤ 4600) (lines_of shown) }
+    ensures apart { (shown : List StandingRecord) (i : ℕ) → i + 1 < length shown
+        → slice_index (map (λ line. line.place) (lines_of shown)) i + 160
+        ≤ slice_index (map (λ line. line.place) (lines_of shown)) (i + 1) }
+    ensures within { (shown : List StandingRecord) → length shown ≤ 12
+        → All (λ line. line.place ≤ 4600) (lines_of shown) }
 {}
 
 /// A picture of threads whose names have at most 16 bytes, as all names have, has at most 34000 bytes and ten for
 /// each of its title.
 pub fn pictures_are_short()
-    ensures { (title : List ℕ) (curves : curves.Curves) → All (λ name. length name ≤ 16) curves.names → length (chart title curves) ≤ 34000 + 10 * length title }
+    ensures { (title : List ℕ) (curves : curves.Curves) → All (λ name. length name ≤ 16) curves.names
+        → length (chart title curves) ≤ 34000 + 10 * length title }
 {}
 
 /// A table of threads whose names have at most 16 bytes, as all names have, has at most 4226 bytes, and 4238 for each
 /// thread. Any `Curves` meets the other premises too: it has fewer than 2 ^ 32 stretches, their ticks and draws are
 /// `u32`, and the last ends before 2 ^ 56.
 pub fn tables_are_short()
-    ensures { (measure : Measured) (curves : curves.Curves) → All (λ name. length name ≤ 16) curves.names → length curves.stretches < 2 ^ 32
-        → All (λ s. s.ticks < 2 ^ 32) curves.stretches → All (λ s. s.draws < 2 ^ 32) curves.stretches → last_end curves.stretches < 2 ^ 64
+    ensures { (measure : Measured) (curves : curves.Curves) → All (λ name. length name ≤ 16) curves.names
+        → length curves.stretches < 2 ^ 32
+        → All (λ s. s.ticks < 2 ^ 32) curves.stretches → All (λ s. s.draws < 2 ^ 32) curves.stretches
+        → last_end curves.stretches < 2 ^ 64
         → length (table measure curves) ≤ 4226 + 4238 * length curves.names }
 {}

@@ -43,7 +43,8 @@ fn push_rows(
     row: &mut [u64],
 ) -> Result<(), AllocError>
     requires { length row.old ≡ length curves.now.names }
-    ensures { OnOk result (text.new ≡ text.old ++ flat_map (sampled_line measure curves.now) (sample_ticks (last_end curves.now.stretches))) }
+    ensures { OnOk result (text.new ≡ text.old
+        ++ flat_map (sampled_line measure curves.now) (sample_ticks (last_end curves.now.stretches))) }
 {
     for sample in 0..curves.sample_count() + 1 {
         let tick = curves.sample_tick(sample);

@@ -22,8 +22,11 @@ pub(crate) fn play<R: Read, W: Write>(
 ) -> Result<Played, IoFault>
     requires { (reader.old.failed ≡ false) × (writer.old.failed ≡ false) }
     ensures flushed { OnOk result (writer.new.flushed ≡ true) }
-    ensures output { IfOk result (λ played. (bytes : List ℕ) × Reads R.remaining reader.old reader.new bytes × (played ≡ came_of (program_in bytes)) × Appends (W.contents writer.old.inner) (W.contents writer.new.inner) (output bytes)) }
-    ensures fault { IfErr result (λ fault. Leaves output R.remaining reader.old reader.new W.contents writer.old writer.new fault) }
+    ensures output { IfOk result (λ played. (bytes : List ℕ) × Reads R.remaining reader.old reader.new bytes
+        × (played ≡ came_of (program_in bytes))
+        × Appends (W.contents writer.old.inner) (W.contents writer.new.inner) (output bytes)) }
+    ensures fault { IfErr result
+        (λ fault. Leaves output R.remaining reader.old reader.new W.contents writer.old writer.new fault) }
 {
     let input = read_input(alloc, reader)?;
     told.take_up(alloc, input);

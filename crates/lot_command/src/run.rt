@@ -39,8 +39,10 @@ pub(crate) fn run<R: Read, W: Write, H: Threads + Wait + Sync>(
 ) -> Result<Played, RunStop>
     requires { (reader.old.failed ≡ false) × (writer.old.failed ≡ false) }
     ensures flushed { OnOk result (writer.new.flushed ≡ true) }
-    ensures output { IfOk result (λ played. (bytes : List ℕ) × Reads R.remaining reader.old reader.new bytes × HasRun (program_in bytes) (W.contents writer.old.inner) (W.contents writer.new.inner) played) }
-    ensures fault { IfErr result (λ stop. RunLeaves R.remaining reader.old reader.new W.contents writer.old writer.new stop) }
+    ensures output { IfOk result (λ played. (bytes : List ℕ) × Reads R.remaining reader.old reader.new bytes
+        × HasRun (program_in bytes) (W.contents writer.old.inner) (W.contents writer.new.inner) played) }
+    ensures fault { IfErr result
+        (λ stop. RunLeaves R.remaining reader.old reader.new W.contents writer.old writer.new stop) }
 {
     match read_input(alloc, reader) {
         Ok(bytes) => {

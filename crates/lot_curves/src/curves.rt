@@ -122,7 +122,8 @@ fn last_of(stretches: &[Stretch]) -> u64
 /// Adds to what the thread has, if the row has a place for it.
 fn add_part(row: &mut [u64], thread: u32, part: u64)
     requires { (k : ℕ) → k < length row.old → slice_index row.old k + part < 2 ^ 64 }
-    ensures { (k : ℕ) → k < length row.old → slice_index row.new k ≡ slice_index row.old k + (if thread == k + 1 then part else 0) }
+    ensures { (k : ℕ) → k < length row.old
+        → slice_index row.new k ≡ slice_index row.old k + (if thread == k + 1 then part else 0) }
 {
     if thread == 0 || thread as usize > row.len() {
         return;

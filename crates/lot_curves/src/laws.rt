@@ -15,11 +15,16 @@ pub fn samples_reach_the_last()
 
 /// At the last tick a thread's curve is the sum over all of its turns.
 pub fn curves_end_at_all()
-    ensures ticks { (curves : curves.Curves) (t : ℕ) → share_at Ticks curves (last_end curves.stretches) t ≡ sum_by (λ s. s.ticks) (stretches_of t curves.stretches) }
-    ensures draws { (curves : curves.Curves) (t : ℕ) → share_at Draws curves (last_end curves.stretches) t ≡ sum_by (λ s. s.draws) (stretches_of t curves.stretches) }
+    ensures ticks { (curves : curves.Curves) (t : ℕ)
+        → share_at Ticks curves (last_end curves.stretches) t
+        ≡ sum_by (λ s. s.ticks) (stretches_of t curves.stretches) }
+    ensures draws { (curves : curves.Curves) (t : ℕ)
+        → share_at Draws curves (last_end curves.stretches) t
+        ≡ sum_by (λ s. s.draws) (stretches_of t curves.stretches) }
 {}
 
 /// A curve never falls.
 pub fn curves_rise()
-    ensures { (measure : Measured) (earlier later : ℕ) (stretches : List StretchRecord) → earlier ≤ later → had_at measure earlier stretches ≤ had_at measure later stretches }
+    ensures { (measure : Measured) (earlier later : ℕ) (stretches : List StretchRecord) → earlier ≤ later
+        → had_at measure earlier stretches ≤ had_at measure later stretches }
 {}

@@ -1,7 +1,8 @@
 //! The generator of drawn numbers.
 ghost use Rattle.std.specs.Prelude.{◌≡◌, ◌↔◌, ◌<◌, ◌≤◌, ◌^◌, IsSome, IfSome};
 ghost use Rattle.lot_machine.specs.Bounds.{IsBetween};
-ghost use Rattle.lot_machine.specs.Lottery.{next_seed, drawn_number, seed_after_number, wide_number, seed_after_wide_number};
+ghost use Rattle.lot_machine.specs.Lottery.{next_seed, drawn_number, seed_after_number, wide_number};
+ghost use Rattle.lot_machine.specs.Lottery.{seed_after_wide_number};
 ghost use Rattle.lot_machine.specs.Lottery as lottery;
 
 use std::marker::Model;

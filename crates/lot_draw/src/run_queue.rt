@@ -1,5 +1,6 @@
 //! The threads that compete for a processor, with their weights in a tree of partial sums.
-ghost use Rattle.std.specs.Prelude.{◌≡◌, ◌⊎◌, ◌↔◌, ℕ, ◌-◌, ◌+◌, ◌<◌, ◌^◌, [], Contains, IfOk, IfSome, IsSome, MatchOption, length, replicate, slice_get, slice_set};
+ghost use Rattle.std.specs.Prelude.{◌≡◌, ◌⊎◌, ◌↔◌, ℕ, ◌-◌, ◌+◌, ◌<◌, ◌^◌, [], Contains, IfOk, IfSome, IsSome};
+ghost use Rattle.std.specs.Prelude.{MatchOption, length, replicate, slice_get, slice_set};
 ghost use Rattle.std.specs.List.{remove};
 ghost use Rattle.lot_machine.specs.declared.funding.Node.TheVariants.{Thread as ThreadNode};
 ghost use Rattle.lot_machine.specs.Numbered.{numbers, set_number};
@@ -9,7 +10,8 @@ ghost use Rattle.lot_graph.specs.Graphs.{IsThread};
 ghost use Rattle.lot_tree.specs.Visits.{CountsReads};
 ghost use Rattle.lot_value.specs.Counts.{counted_up};
 ghost use Rattle.lot_value.specs.Caches.{Known, IsStale, IsOnce, edges_into_all, value_in};
-ghost use Rattle.lot_draw.specs.Competing.{HasTicks, competitor_at, weight_with, weight_among, winner_among, drawn_among};
+ghost use Rattle.lot_draw.specs.Competing.{HasTicks, competitor_at, weight_with, weight_among, winner_among};
+ghost use Rattle.lot_draw.specs.Competing.{drawn_among};
 ghost use Rattle.lot_draw.specs.Queued.{AreWeights, CompetesIn, IsChanged, IsPlaced, IsSettled};
 
 use crate::competing::{Competitor, Winner};
@@ -43,7 +45,13 @@ impl Model for RunQueue {
 
     ghost Value = { Queued };
 
-    ghost view = { λ s. record { quantum = s.quantum; competitors = s.competitors.items; weights = s.tree; changed = nodes_of s.changed 0; visits = s.visits } };
+    ghost view = { λ s. record {
+      quantum = s.quantum;
+      competitors = s.competitors.items;
+      weights = s.tree;
+      changed = nodes_of s.changed 0;
+      visits = s.visits;
+    } };
 
     ghost invariant = { λ s. IsQueue s.tree s.changed s.competitors.items };
 }
@@ -51,7 +59,14 @@ impl Model for RunQueue {
 impl RunQueue {
     /// Nobody competes, and nothing was visited.
     pub fn new(alloc: Global, limits: &Limits) -> Result<Self, AllocError>
-        ensures queue { IfOk result (λ made. made ≡ record { quantum = limits.now.quantum; competitors = replicate limits.now.threads None; weights = replicate limits.now.threads 0; changed = []; visits = 0 }) }
+        ensures queue { IfOk result (λ made. made
+            ≡ record {
+              quantum = limits.now.quantum;
+              competitors = replicate limits.now.threads None;
+              weights = replicate limits.now.threads 0;
+              changed = [];
+              visits = 0;
+            }) }
         ensures weights { IfOk result (λ made. (c : Known) → AreWeights made c) }
     {
         let threads = limits.threads as usize;
@@ -82,8 +97,12 @@ impl RunQueue {
     pub fn set_competitor(&mut self, thread: u32, competitor: Option<Competitor>)
         requires thread { IsPlaced self.old thread }
         requires ticks { HasTicks competitor }
-        ensures set { self.new ≡ record self.old { competitors = set_number self.old.competitors thread competitor; changed = self.new.changed } }
-        ensures listed { (place : ℕ) → Contains self.new.changed place ↔ (Contains self.old.changed place ⊎ (place ≡ thread - 1)) }
+        ensures set { self.new ≡ record self.old {
+          competitors = set_number self.old.competitors thread competitor;
+          changed = self.new.changed;
+        } }
+        ensures listed { (place : ℕ)
+            → Contains self.new.changed place ↔ (Contains self.old.changed place ⊎ (place ≡ thread - 1)) }
         ensures weights { (c : Known) → AreWeights self.old c → AreWeights self.new c }
     {
         let place = thread as usize - 1;
@@ -97,14 +116,16 @@ impl RunQueue {
         requires places { length self.old.competitors ≡ graph.old.now.thread_limit }
         requires weights { AreWeights self.old graph.old.known }
         ensures queue { self.new ≡ record self.old { changed = self.new.changed } }
-        ensures listed { (place : ℕ) → Contains self.new.changed place → Contains self.old.changed place ⊎ IsStale graph.old.known (ThreadNode (place + 1)) }
+        ensures listed { (place : ℕ) → Contains self.new.changed place
+            → Contains self.old.changed place ⊎ IsStale graph.old.known (ThreadNode (place + 1)) }
         ensures weights { AreWeights self.new graph.new.known }
         ensures now { graph.new.now ≡ graph.old.now }
         ensures live { graph.new.live ≡ graph.old.live }
         ensures unit { graph.new.known.unit ≡ graph.old.known.unit }
         ensures settled { IsSettled graph.new }
         ensures once { IsOnce graph.old.known }
-        ensures counted { graph.new.known.reads ≡ counted_up graph.old.known.reads (edges_into_all graph.old.now.funding graph.old.known.stale) }
+        ensures counted { graph.new.known.reads
+            ≡ counted_up graph.old.known.reads (edges_into_all graph.old.now.funding graph.old.known.stale) }
     {
         while let Some(node) = graph.settle_next() {
             self.list_node(node);
@@ -117,17 +138,24 @@ impl RunQueue {
     pub fn draw(&mut self, graph: &mut ValuedGraph, d: u128) -> Option<Winner>
         requires competes { CompetesIn self.old.competitors graph.old }
         requires weights { AreWeights self.old graph.old.known }
-        ensures winner { result ≡ drawn_among self.old.quantum self.old.competitors (thread_value graph.old.known.unit graph.old.now.funding graph.old.live) d }
+        ensures winner { result ≡ drawn_among self.old.quantum self.old.competitors
+            (thread_value graph.old.known.unit graph.old.now.funding graph.old.live) d }
         ensures competes { IfSome result (λ w. IsSome (competitor_at self.old.competitors w.thread)) }
-        ensures queue { self.new ≡ record self.old { weights = self.new.weights; changed = []; visits = self.new.visits } }
+        ensures queue { self.new ≡ record self.old {
+          weights = self.new.weights;
+          changed = [];
+          visits = self.new.visits;
+        } }
         ensures weights { AreWeights self.new graph.new.known }
         ensures now { graph.new.now ≡ graph.old.now }
         ensures live { graph.new.live ≡ graph.old.live }
         ensures unit { graph.new.known.unit ≡ graph.old.known.unit }
         ensures settled { IsSettled graph.new }
         ensures once { IsOnce graph.old.known }
-        ensures reads { graph.new.known.reads ≡ counted_up graph.old.known.reads (edges_into_all graph.old.now.funding graph.old.known.stale) }
-        ensures visits { MatchOption result (self.new.visits ≡ self.old.visits) (λ w. CountsReads (length self.old.competitors) self.old.visits self.new.visits) }
+        ensures reads { graph.new.known.reads
+            ≡ counted_up graph.old.known.reads (edges_into_all graph.old.now.funding graph.old.known.stale) }
+        ensures visits { MatchOption result (self.new.visits ≡ self.old.visits)
+            (λ w. CountsReads (length self.old.competitors) self.old.visits self.new.visits) }
     {
         self.settle(graph);
         self.weigh_changed(graph);
@@ -150,7 +178,8 @@ impl RunQueue {
         requires place { (t : ℕ) → node ≡ ThreadNode t → IsPlaced self.old t }
         ensures others { self.new ≡ record self.old { changed = self.new.changed } }
         ensures kept { (x : ℕ) → Contains self.old.changed x → Contains self.new.changed x }
-        ensures only { (x : ℕ) → Contains self.new.changed x → Contains self.old.changed x ⊎ (node ≡ ThreadNode (x + 1)) }
+        ensures only { (x : ℕ) → Contains self.new.changed x
+            → Contains self.old.changed x ⊎ (node ≡ ThreadNode (x + 1)) }
         ensures listed { (t : ℕ) → node ≡ ThreadNode t → IsChanged self.new t }
     {
         if let Node::Thread(thread) = node {
@@ -188,7 +217,9 @@ impl RunQueue {
         requires competes { CompetesIn self.old.competitors graph.now }
         requires settled { IsSettled graph.now }
         ensures changed { self.new.changed ≡ remove self.old.changed 0 }
-        ensures weight { self.new.weights ≡ slice_set self.old.weights place (weight_among self.old.quantum self.old.competitors (λ t. value_in graph.now.known (ThreadNode t)) (place + 1)) }
+        ensures weight { self.new.weights
+            ≡ slice_set self.old.weights place (weight_among self.old.quantum self.old.competitors
+            (λ t. value_in graph.now.known (ThreadNode t)) (place + 1)) }
         ensures others { self.new ≡ record self.old { weights = self.new.weights; changed = self.new.changed } }
     {
         let weight = weight_at(graph, place, self.competitors[place], self.quantum);
@@ -200,7 +231,8 @@ impl RunQueue {
     fn hold_lottery(&mut self, d: u128) -> Option<Winner>
         ensures winner { result ≡ winner_among (numbers self.old.competitors) (lottery.winner self.old.weights d) }
         ensures queue { self.new ≡ record self.old { visits = self.new.visits } }
-        ensures visits { MatchOption result (self.new.visits ≡ self.old.visits) (λ w. CountsReads (length self.old.competitors) self.old.visits self.new.visits) }
+        ensures visits { MatchOption result (self.new.visits ≡ self.old.visits)
+            (λ w. CountsReads (length self.old.competitors) self.old.visits self.new.visits) }
     {
         let total = self.tree.total();
         if total == 0 {

@@ -28,7 +28,8 @@ pub(crate) enum Entrants {
 /// Who takes part in the lottery that the actor's next turn may hold.
 pub(crate) fn next_entrants(program: &Program, system: &System, actor: u32) -> Entrants
     requires { system.now.setting.program ≡ program.now }
-    ensures { (event : AnEvent) (reply : AReply) → (turn_in system.now actor).answer ≡ Answered event reply → result ≡ entrants_in event }
+    ensures { (event : AnEvent) (reply : AReply) → (turn_in system.now actor).answer ≡ Answered event reply
+        → result ≡ entrants_in event }
 {
     if actor == 0 {
         return Entrants::Nobody;
@@ -49,7 +50,8 @@ fn entrants_of_slice(slice: &Option<Slice<'_>>) -> Entrants
 
 /// Who takes part in the lottery of a slice that ends with this trap, or with its budget.
 fn entrants_of_trap(trap: Option<ScriptTrap>) -> Entrants
-    ensures { (processor drawn : ℕ) (done : ASlice) → done.trap ≡ trap → result ≡ entrants_in (event_of_slice processor drawn done) }
+    ensures { (processor drawn : ℕ) (done : ASlice) → done.trap ≡ trap
+        → result ≡ entrants_in (event_of_slice processor drawn done) }
 {
     match trap {
         Some(ScriptTrap::Unlock(mutex)) => Entrants::Waiters(mutex),

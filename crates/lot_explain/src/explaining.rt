@@ -27,8 +27,11 @@ pub fn explain<R: Read, W: Write>(
     ensures ok { OnOk result ((reader.new.failed ≡ false) × (writer.new.failed ≡ false)) }
     ensures flushed { OnOk result (writer.new.flushed ≡ true) }
     ensures err { IfErr result (λ fault. IsFaultOf fault reader.new.failed writer.new.failed) }
-    ensures output { IfOk result (λ played. (bytes : List ℕ) × Reads R.remaining reader.old reader.new bytes × (played ≡ came_of (program_in bytes)) × Appends (W.contents writer.old.inner) (W.contents writer.new.inner) (explained_output bytes)) }
-    ensures fault { IfErr result (λ fault. Leaves explained_output R.remaining reader.old reader.new W.contents writer.old writer.new fault) }
+    ensures output { IfOk result (λ played. (bytes : List ℕ) × Reads R.remaining reader.old reader.new bytes
+        × (played ≡ came_of (program_in bytes))
+        × Appends (W.contents writer.old.inner) (W.contents writer.new.inner) (explained_output bytes)) }
+    ensures fault { IfErr result
+        (λ fault. Leaves explained_output R.remaining reader.old reader.new W.contents writer.old writer.new fault) }
 {
     let mut bytes = read_input(alloc, reader)?;
     let Ok(mut leftovers) = Leftovers::none(alloc) else {
@@ -48,7 +51,8 @@ pub fn explain_bytes<W: Write>(
 ) -> Result<Played, IoFault>
     requires { writer.old.failed ≡ false }
     ensures flushed { OnOk result (writer.new.flushed ≡ true) }
-    ensures played { Plays W.contents writer.old writer.new result (came_of (program_in bytes.old.items)) (explained_output bytes.old.items) }
+    ensures played { Plays W.contents writer.old writer.new result (came_of (program_in bytes.old.items))
+        (explained_output bytes.old.items) }
 {
     match program_of(alloc, bytes) {
         Ok(program) => explain_program(alloc, &program, leftovers, writer),
@@ -66,7 +70,8 @@ fn explain_program<W: Write>(
 ) -> Result<Played, IoFault>
     requires { writer.old.failed ≡ false }
     ensures flushed { OnOk result (writer.new.flushed ≡ true) }
-    ensures played { Plays W.contents writer.old writer.new result Done (explained_program program.now program.now.duration) }
+    ensures played { Plays W.contents writer.old writer.new result Done
+        (explained_program program.now program.now.duration) }
 {
     if program.format().is_timed() {
         explain_timed(alloc, program, leftovers, writer)

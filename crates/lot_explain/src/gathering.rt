@@ -66,7 +66,8 @@ impl Lots {
         requires room { self.old.room ≡ program.now.limits.threads }
         ensures same { system.new ≡ system.old }
         ensures room { self.new.room ≡ self.old.room }
-        ensures lots { (event : AnEvent) (reply : AReply) → (turn_in system.old actor).answer ≡ Answered event reply → self.new.lots ≡ lots_of (world_of system.old).state event }
+        ensures lots { (event : AnEvent) (reply : AReply) → (turn_in system.old actor).answer ≡ Answered event reply
+            → self.new.lots ≡ lots_of (world_of system.old).state event }
     {
         self.lots.clear();
         match next_entrants(program, system, actor) {

@@ -91,7 +91,8 @@ fn explain_turns<W: Write>(
     requires working { writer.old.failed ≡ false }
     ensures program { OnOk result (system.new.setting.program ≡ program.now) }
     ensures end { OnOk result (IsAtEnd system.new following.new) }
-    ensures text { Writes W.contents writer.old writer.new result (explained_times (opening_world program.now) (timed_turns program.now)) }
+    ensures text { Writes W.contents writer.old writer.new result
+        (explained_times (opening_world program.now) (timed_turns program.now)) }
 {
     let mut page = Page::new();
     while explain_next(
@@ -116,7 +117,8 @@ fn explain_next<W: Write>(
     requires working { writer.old.failed ≡ false }
     ensures made { IfOk result (MadeNext program.now system.old system.new following.new) }
     ensures room { lots.new.room ≡ lots.old.room }
-    ensures text { Puts W.contents writer.old writer.new page.old page.new result (explained_times (world_of system.old) (next_turns program.now system.old)) }
+    ensures text { Puts W.contents writer.old writer.new page.old page.new result
+        (explained_times (world_of system.old) (next_turns program.now system.old)) }
 {
     let Some(due) = following.next_due(program, system) else {
         return Ok(false);

@@ -22,18 +22,24 @@ ghost use Rattle.lot_explain.specs.declared.won.Won.{Won};
 /// have 32 bits. Every input that is read meets these.
 pub fn explanations_are_short()
     ensures scheduled { (program : Program) → IsWithinBounds program.limits → All HasShortName program.commands
-        → length (explained_schedule program) ≤ length (scheduled_output program) + length program.schedule * (program.limits.threads * 139) }
-    ensures in_time { (program : Program) → IsWithinBounds program.limits → All HasShortName program.commands → end_of program < 2 ^ 32
-        → length (explained_in_time program) ≤ length (timed_output program) + length (timed_turns program) * (program.limits.threads * 139) }
+        → length (explained_schedule program)
+        ≤ length (scheduled_output program) + length program.schedule * (program.limits.threads * 139) }
+    ensures in_time { (program : Program) → IsWithinBounds program.limits → All HasShortName program.commands
+        → end_of program < 2 ^ 32
+        → length (explained_in_time program)
+        ≤ length (timed_output program) + length (timed_turns program) * (program.limits.threads * 139) }
     ensures read { (bytes : List ℕ) (program : Program) → program_in bytes ≡ Ok program
-        → length (explained_output bytes) ≤ length (output bytes) + turn_count program program.duration * (program.limits.threads * 139) }
+        → length (explained_output bytes)
+        ≤ length (output bytes) + turn_count program program.duration * (program.limits.threads * 139) }
 {}
 
 /// A lot's printed numbers begin with the total weight of the lots before it, and are as many as its own weight. The
 /// number drawn in a turn's lottery is among those of the winner, and among no other thread's.
 pub fn winners_have_the_number()
-    ensures printed { (manner : Manner) (unit actor : ℕ) (won : Won) (before after : List Lot) (lot : Lot) → lot_lines manner unit actor won 0 (before ++ lot ∷ after)
-        ≡ lot_lines manner unit actor won 0 before ++ (lot_line manner unit actor won.lottery won.winner (total_of before) lot
+    ensures printed { (manner : Manner) (unit actor : ℕ) (won : Won) (before after : List Lot) (lot : Lot)
+        → lot_lines manner unit actor won 0 (before ++ lot ∷ after)
+        ≡ lot_lines manner unit actor won 0 before
+        ++ (lot_line manner unit actor won.lottery won.winner (total_of before) lot
         ++ lot_lines manner unit actor won (total_of before + lot.weight) after) }
     ensures winner { (program : Program) (w : World) (actor : ℕ) (e : Event) (r : Reply) (won : Won) (number : ℕ)
         → (system_turn program w actor).answer ≡ Answered e r → won_in e r ≡ Some won → number_in r ≡ Some number

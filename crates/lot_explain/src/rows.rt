@@ -6,49 +6,107 @@ ghost use Rattle.lot_explain.specs.Explained.{explained_output};
 /// Two threads that compute, with shares of 2 to 1.
 #[tactic(auto, unfolding(crate::specs::OnLiterals::texts_on_literals))]
 pub fn two_spinners()
-    ensures { explained_output (text (codes "lottery 1" ∷ codes "script spin" ∷ codes "compute 1000" ∷ codes "endscript" ∷ codes "fundx 10 base a spin" ∷ codes "fundx 5 base b spin" ∷ codes "schedule 0 0 1 1 1 1 1" ∷ []))
-        ≡ text (codes "0 funded 1 1" ∷ codes "0 funded 2 2" ∷ codes "1 lot thread 1 a weight 10 from 0 below 10 wins" ∷ codes "1 lot thread 2 b weight 5 from 10 below 15" ∷ codes "1 draw 9 of 15 thread 1" ∷ codes "1 thread 1 ticks 100 expire" ∷ codes "1 lot thread 1 a weight 10 from 0 below 10 wins" ∷ codes "1 lot thread 2 b weight 5 from 10 below 15" ∷ codes "1 draw 4 of 15 thread 1" ∷ codes "1 thread 1 ticks 100 expire" ∷ codes "1 lot thread 1 a weight 10 from 0 below 10" ∷ codes "1 lot thread 2 b weight 5 from 10 below 15 wins" ∷ codes "1 draw 10 of 15 thread 2" ∷ codes "report" ∷ codes "thread 1 a quanta 2 ticks 200" ∷ codes "thread 2 b quanta 1 ticks 0" ∷ codes "processor 1 quanta 3 idle 0 ticks 200" ∷ codes "total turns 7 quanta 3 ticks 200" ∷ []) }
+    ensures { explained_output (text (codes "lottery 1" ∷ codes "script spin" ∷ codes "compute 1000"
+        ∷ codes "endscript" ∷ codes "fundx 10 base a spin" ∷ codes "fundx 5 base b spin"
+        ∷ codes "schedule 0 0 1 1 1 1 1" ∷ []))
+        ≡ text (codes "0 funded 1 1" ∷ codes "0 funded 2 2" ∷ codes "1 lot thread 1 a weight 10 from 0 below 10 wins"
+        ∷ codes "1 lot thread 2 b weight 5 from 10 below 15" ∷ codes "1 draw 9 of 15 thread 1"
+        ∷ codes "1 thread 1 ticks 100 expire" ∷ codes "1 lot thread 1 a weight 10 from 0 below 10 wins"
+        ∷ codes "1 lot thread 2 b weight 5 from 10 below 15" ∷ codes "1 draw 4 of 15 thread 1"
+        ∷ codes "1 thread 1 ticks 100 expire" ∷ codes "1 lot thread 1 a weight 10 from 0 below 10"
+        ∷ codes "1 lot thread 2 b weight 5 from 10 below 15 wins" ∷ codes "1 draw 10 of 15 thread 2" ∷ codes "report"
+        ∷ codes "thread 1 a quanta 2 ticks 200" ∷ codes "thread 2 b quanta 1 ticks 0"
+        ∷ codes "processor 1 quanta 3 idle 0 ticks 200" ∷ codes "total turns 7 quanta 3 ticks 200" ∷ []) }
 {}
 
 /// A thread that has used a third of its quantum weighs three times its value (4.5). Weights are printed as they are
 /// in listings, and the numbers as those of draws.
 #[tactic(auto, unfolding(crate::specs::OnLiterals::texts_on_literals))]
 pub fn compensated()
-    ensures { explained_output (text (codes "lottery 2" ∷ codes "quantum 9" ∷ codes "seed 3" ∷ codes "script short" ∷ codes "compute 2" ∷ codes "yield" ∷ codes "endscript" ∷ codes "script long" ∷ codes "compute 9" ∷ codes "endscript" ∷ codes "fundx 1 base a short" ∷ codes "fundx 1 base b long" ∷ codes "schedule 0 0 1 1 1" ∷ []))
-        ≡ text (codes "0 funded 1 1" ∷ codes "0 funded 2 2" ∷ codes "1 lot thread 1 a weight 1 from 0 below 256 wins" ∷ codes "1 lot thread 2 b weight 1 from 256 below 512" ∷ codes "1 draw 234 of 512 thread 1" ∷ codes "1 thread 1 ticks 3 yield" ∷ codes "1 lot thread 1 a weight 3 from 0 below 768" ∷ codes "1 lot thread 2 b weight 1 from 768 below 1024 wins" ∷ codes "1 draw 870 of 1024 thread 2" ∷ codes "report" ∷ codes "thread 1 a quanta 1 ticks 3" ∷ codes "thread 2 b quanta 1 ticks 0" ∷ codes "processor 1 quanta 2 idle 0 ticks 3" ∷ codes "total turns 5 quanta 2 ticks 3" ∷ []) }
+    ensures { explained_output (text (codes "lottery 2" ∷ codes "quantum 9" ∷ codes "seed 3" ∷ codes "script short"
+        ∷ codes "compute 2" ∷ codes "yield" ∷ codes "endscript" ∷ codes "script long" ∷ codes "compute 9"
+        ∷ codes "endscript" ∷ codes "fundx 1 base a short" ∷ codes "fundx 1 base b long"
+        ∷ codes "schedule 0 0 1 1 1" ∷ []))
+        ≡ text (codes "0 funded 1 1" ∷ codes "0 funded 2 2" ∷ codes "1 lot thread 1 a weight 1 from 0 below 256 wins"
+        ∷ codes "1 lot thread 2 b weight 1 from 256 below 512" ∷ codes "1 draw 234 of 512 thread 1"
+        ∷ codes "1 thread 1 ticks 3 yield" ∷ codes "1 lot thread 1 a weight 3 from 0 below 768"
+        ∷ codes "1 lot thread 2 b weight 1 from 768 below 1024 wins" ∷ codes "1 draw 870 of 1024 thread 2"
+        ∷ codes "report" ∷ codes "thread 1 a quanta 1 ticks 3" ∷ codes "thread 2 b quanta 1 ticks 0"
+        ∷ codes "processor 1 quanta 2 idle 0 ticks 3" ∷ codes "total turns 5 quanta 2 ticks 3" ∷ []) }
 {}
 
 /// An unlock that passes its mutex on by a lottery among two waiters (6.1). Its owner also has what they lend to it.
 #[tactic(auto, unfolding(crate::specs::OnLiterals::texts_on_literals))]
 pub fn mutex_lottery()
-    ensures { explained_output (text (codes "lottery 1" ∷ codes "quantum 10" ∷ codes "seed 132" ∷ codes "mutex m" ∷ codes "script one" ∷ codes "lock m" ∷ codes "compute 2" ∷ codes "yield" ∷ codes "unlock m" ∷ codes "endscript" ∷ codes "fundx 3 base a one" ∷ codes "fundx 2 base b one" ∷ codes "fundx 1 base c one" ∷ codes "schedule 0 0 0 1 1 1 1 1 1 1 1 1" ∷ []))
-        ≡ text (codes "0 funded 1 1" ∷ codes "0 funded 2 2" ∷ codes "0 funded 3 3" ∷ codes "1 lot thread 1 a weight 3 from 0 below 3 wins" ∷ codes "1 lot thread 2 b weight 2 from 3 below 5" ∷ codes "1 lot thread 3 c weight 1 from 5 below 6" ∷ codes "1 draw 0 of 6 thread 1" ∷ codes "1 thread 1 ticks 1 lock 1 taken" ∷ codes "1 thread 1 ticks 3 yield" ∷ codes "1 lot thread 1 a weight 7 from 0 below 7" ∷ codes "1 lot thread 2 b weight 2 from 7 below 9 wins" ∷ codes "1 lot thread 3 c weight 1 from 9 below 10" ∷ codes "1 draw 7 of 10 thread 2" ∷ codes "1 thread 2 ticks 1 lock 1 waits" ∷ codes "1 lot thread 1 a weight 12 from 0 below 12" ∷ codes "1 lot thread 3 c weight 1 from 12 below 13 wins" ∷ codes "1 draw 12 of 13 thread 3" ∷ codes "1 thread 3 ticks 1 lock 1 waits" ∷ codes "1 lot thread 1 a weight 15 from 0 below 15 wins" ∷ codes "1 draw 12 of 15 thread 1" ∷ codes "1 lot waiter 2 b value 2 from 0 below 2" ∷ codes "1 lot waiter 3 c value 1 from 2 below 3 wins" ∷ codes "1 thread 1 ticks 1 unlock 1 to 3 draw 2 of 3" ∷ codes "report" ∷ codes "thread 1 a quanta 2 ticks 5" ∷ codes "thread 2 b quanta 1 ticks 1" ∷ codes "thread 3 c quanta 1 ticks 1" ∷ codes "processor 1 quanta 4 idle 0 ticks 7" ∷ codes "total turns 12 quanta 4 ticks 7" ∷ []) }
+    ensures { explained_output (text (codes "lottery 1" ∷ codes "quantum 10" ∷ codes "seed 132" ∷ codes "mutex m"
+        ∷ codes "script one" ∷ codes "lock m" ∷ codes "compute 2" ∷ codes "yield" ∷ codes "unlock m"
+        ∷ codes "endscript" ∷ codes "fundx 3 base a one" ∷ codes "fundx 2 base b one" ∷ codes "fundx 1 base c one"
+        ∷ codes "schedule 0 0 0 1 1 1 1 1 1 1 1 1" ∷ []))
+        ≡ text (codes "0 funded 1 1" ∷ codes "0 funded 2 2" ∷ codes "0 funded 3 3"
+        ∷ codes "1 lot thread 1 a weight 3 from 0 below 3 wins" ∷ codes "1 lot thread 2 b weight 2 from 3 below 5"
+        ∷ codes "1 lot thread 3 c weight 1 from 5 below 6" ∷ codes "1 draw 0 of 6 thread 1"
+        ∷ codes "1 thread 1 ticks 1 lock 1 taken" ∷ codes "1 thread 1 ticks 3 yield"
+        ∷ codes "1 lot thread 1 a weight 7 from 0 below 7" ∷ codes "1 lot thread 2 b weight 2 from 7 below 9 wins"
+        ∷ codes "1 lot thread 3 c weight 1 from 9 below 10" ∷ codes "1 draw 7 of 10 thread 2"
+        ∷ codes "1 thread 2 ticks 1 lock 1 waits" ∷ codes "1 lot thread 1 a weight 12 from 0 below 12"
+        ∷ codes "1 lot thread 3 c weight 1 from 12 below 13 wins" ∷ codes "1 draw 12 of 13 thread 3"
+        ∷ codes "1 thread 3 ticks 1 lock 1 waits" ∷ codes "1 lot thread 1 a weight 15 from 0 below 15 wins"
+        ∷ codes "1 draw 12 of 15 thread 1" ∷ codes "1 lot waiter 2 b value 2 from 0 below 2"
+        ∷ codes "1 lot waiter 3 c value 1 from 2 below 3 wins" ∷ codes "1 thread 1 ticks 1 unlock 1 to 3 draw 2 of 3"
+        ∷ codes "report" ∷ codes "thread 1 a quanta 2 ticks 5" ∷ codes "thread 2 b quanta 1 ticks 1"
+        ∷ codes "thread 3 c quanta 1 ticks 1" ∷ codes "processor 1 quanta 4 idle 0 ticks 7"
+        ∷ codes "total turns 12 quanta 4 ticks 7" ∷ []) }
 {}
 
 /// A draw without a winner has no lots, and neither has a turn without a command.
 #[tactic(auto, unfolding(crate::specs::OnLiterals::texts_on_literals))]
 pub fn nobody_wins()
     ensures { explained_output (text (codes "lottery 1" ∷ codes "schedule 1 0" ∷ []))
-        ≡ text (codes "1 idle" ∷ codes "0 refused 41 Ended" ∷ codes "report" ∷ codes "processor 1 quanta 0 idle 1 ticks 0" ∷ codes "total turns 1 quanta 0 ticks 0" ∷ []) }
+        ≡ text (codes "1 idle" ∷ codes "0 refused 41 Ended" ∷ codes "report"
+        ∷ codes "processor 1 quanta 0 idle 1 ticks 0" ∷ codes "total turns 1 quanta 0 ticks 0" ∷ []) }
 {}
 
 /// A refused input has the one line that it has when it is played.
 #[tactic(auto, unfolding(crate::specs::OnLiterals::texts_on_literals))]
 pub fn refused_inputs()
     ensures header { explained_output (text (codes "lottery 4" ∷ [])) ≡ refused_on_line (codes "1 50 BadHeader") }
-    ensures line { explained_output (text (codes "lottery 1" ∷ codes "nonsense" ∷ [])) ≡ refused_on_line (codes "2 51 BadLine") }
+    ensures line { explained_output (text (codes "lottery 1" ∷ codes "nonsense" ∷ []))
+        ≡ refused_on_line (codes "2 51 BadLine") }
 {}
 
 /// Turns in the order of time: each line has the time in front, and numbers have what is behind the point.
 #[tactic(auto, unfolding(crate::specs::OnLiterals::texts_on_literals, lot_simulation::specs::Timed::timed_room))]
 pub fn in_time()
-    ensures { explained_output (text (codes "lottery 3" ∷ codes "quantum 9" ∷ codes "for 12" ∷ codes "seed 5" ∷ codes "script short" ∷ codes "compute 2" ∷ codes "yield" ∷ codes "endscript" ∷ codes "script long" ∷ codes "compute 9" ∷ codes "endscript" ∷ codes "fundx 1 base a short" ∷ codes "fundx 1 base b long" ∷ []))
-        ≡ text (codes "0 0 funded 1 1" ∷ codes "0 0 funded 2 2" ∷ codes "0 1 lot thread 1 a weight 1 from 0 below 1" ∷ codes "0 1 lot thread 2 b weight 1 from 1 below 2 wins" ∷ codes "0 1 draw 1.082 of 2 thread 2" ∷ codes "9 1 thread 2 ticks 9 expire" ∷ codes "9 1 lot thread 1 a weight 1 from 0 below 1 wins" ∷ codes "9 1 lot thread 2 b weight 1 from 1 below 2" ∷ codes "9 1 draw 0.82 of 2 thread 1" ∷ codes "12 1 thread 1 ticks 3 yield" ∷ codes "12 1 lot thread 1 a weight 3 from 0 below 3" ∷ codes "12 1 lot thread 2 b weight 1 from 3 below 4 wins" ∷ codes "12 1 draw 3.257 of 4 thread 2" ∷ codes "report" ∷ codes "thread 1 a quanta 1 ticks 3 share 25% value 50%" ∷ codes "thread 2 b quanta 2 ticks 9 share 75% value 50%" ∷ codes "processor 1 quanta 3 idle 0 ticks 12 unused 0" ∷ codes "total turns 7 quanta 3 ticks 12 refused 0 left 0" ∷ []) }
+    ensures { explained_output (text (codes "lottery 3" ∷ codes "quantum 9" ∷ codes "for 12" ∷ codes "seed 5"
+        ∷ codes "script short" ∷ codes "compute 2" ∷ codes "yield" ∷ codes "endscript" ∷ codes "script long"
+        ∷ codes "compute 9" ∷ codes "endscript" ∷ codes "fundx 1 base a short" ∷ codes "fundx 1 base b long" ∷ []))
+        ≡ text (codes "0 0 funded 1 1" ∷ codes "0 0 funded 2 2" ∷ codes "0 1 lot thread 1 a weight 1 from 0 below 1"
+        ∷ codes "0 1 lot thread 2 b weight 1 from 1 below 2 wins" ∷ codes "0 1 draw 1.082 of 2 thread 2"
+        ∷ codes "9 1 thread 2 ticks 9 expire" ∷ codes "9 1 lot thread 1 a weight 1 from 0 below 1 wins"
+        ∷ codes "9 1 lot thread 2 b weight 1 from 1 below 2" ∷ codes "9 1 draw 0.82 of 2 thread 1"
+        ∷ codes "12 1 thread 1 ticks 3 yield" ∷ codes "12 1 lot thread 1 a weight 3 from 0 below 3"
+        ∷ codes "12 1 lot thread 2 b weight 1 from 3 below 4 wins" ∷ codes "12 1 draw 3.257 of 4 thread 2"
+        ∷ codes "report" ∷ codes "thread 1 a quanta 1 ticks 3 share 25% value 50%"
+        ∷ codes "thread 2 b quanta 2 ticks 9 share 75% value 50%"
+        ∷ codes "processor 1 quanta 3 idle 0 ticks 12 unused 0"
+        ∷ codes "total turns 7 quanta 3 ticks 12 refused 0 left 0" ∷ []) }
 {}
 
 /// Three threads that share 100 of base: what comes after three digits is left out (4.4).
 #[tactic(auto, unfolding(crate::specs::OnLiterals::texts_on_literals, lot_simulation::specs::Timed::timed_room))]
 pub fn behind_the_point()
-    ensures { explained_output (text (codes "lottery 3" ∷ codes "for 1" ∷ codes "script s" ∷ codes "compute 5" ∷ codes "endscript" ∷ codes "mkcur g" ∷ codes "mktkt 100 base" ∷ codes "fund 1 g" ∷ codes "fundx 1 g a s" ∷ codes "fundx 1 g b s" ∷ codes "fundx 1 g c s" ∷ []))
-        ≡ text (codes "0 0 currency 1" ∷ codes "0 0 ticket 1" ∷ codes "0 0 done" ∷ codes "0 0 funded 2 1" ∷ codes "0 0 funded 3 2" ∷ codes "0 0 funded 4 3" ∷ codes "0 1 lot thread 1 a weight 33.332 from 0 below 33.332 wins" ∷ codes "0 1 lot thread 2 b weight 33.332 from 33.332 below 66.664" ∷ codes "0 1 lot thread 3 c weight 33.332 from 66.664 below 99.996" ∷ codes "0 1 draw 5.503 of 99.996 thread 1" ∷ codes "report" ∷ codes "thread 1 a quanta 1 ticks 0 share 0% value 33.333%" ∷ codes "thread 2 b quanta 0 ticks 0 share 0% value 33.333%" ∷ codes "thread 3 c quanta 0 ticks 0 share 0% value 33.333%" ∷ codes "processor 1 quanta 1 idle 0 ticks 0 unused 0" ∷ codes "total turns 7 quanta 1 ticks 0 refused 0 left 0" ∷ []) }
+    ensures { explained_output (text (codes "lottery 3" ∷ codes "for 1" ∷ codes "script s" ∷ codes "compute 5"
+        ∷ codes "endscript" ∷ codes "mkcur g" ∷ codes "mktkt 100 base" ∷ codes "fund 1 g" ∷ codes "fundx 1 g a s"
+        ∷ codes "fundx 1 g b s" ∷ codes "fundx 1 g c s" ∷ []))
+        ≡ text (codes "0 0 currency 1" ∷ codes "0 0 ticket 1" ∷ codes "0 0 done" ∷ codes "0 0 funded 2 1"
+        ∷ codes "0 0 funded 3 2" ∷ codes "0 0 funded 4 3"
+        ∷ codes "0 1 lot thread 1 a weight 33.332 from 0 below 33.332 wins"
+        ∷ codes "0 1 lot thread 2 b weight 33.332 from 33.332 below 66.664"
+        ∷ codes "0 1 lot thread 3 c weight 33.332 from 66.664 below 99.996"
+        ∷ codes "0 1 draw 5.503 of 99.996 thread 1" ∷ codes "report"
+        ∷ codes "thread 1 a quanta 1 ticks 0 share 0% value 33.333%"
+        ∷ codes "thread 2 b quanta 0 ticks 0 share 0% value 33.333%"
+        ∷ codes "thread 3 c quanta 0 ticks 0 share 0% value 33.333%"
+        ∷ codes "processor 1 quanta 1 idle 0 ticks 0 unused 0"
+        ∷ codes "total turns 7 quanta 1 ticks 0 refused 0 left 0" ∷ []) }
 {}

@@ -32,7 +32,8 @@ pub(crate) fn explain_turns<W: Write>(
     requires room { lots.old.room ≡ program.now.limits.threads }
     requires working { writer.old.failed ≡ false }
     ensures played { OnOk result (HasPlayed program.now program.now.schedule system.new) }
-    ensures text { Writes W.contents writer.old writer.new result (explained_texts program.now (opening_world program.now) program.now.schedule) }
+    ensures text { Writes W.contents writer.old writer.new result
+        (explained_texts program.now (opening_world program.now) program.now.schedule) }
 {
     let mut page = Page::new();
     for actor in program.schedule() {
@@ -67,7 +68,8 @@ fn explain_turn<W: Write>(
     requires working { writer.old.failed ≡ false }
     ensures played { IsPlayed system.old actor system.new }
     ensures room { lots.new.room ≡ lots.old.room }
-    ensures text { Puts W.contents writer.old writer.new page.old page.new result (explained_text manners.Whole actor (world_of system.old) (turn_in system.old actor)) }
+    ensures text { Puts W.contents writer.old writer.new page.old page.new result
+        (explained_text manners.Whole actor (world_of system.old) (turn_in system.old actor)) }
 {
     let heading = heading(system, Manner::Whole, actor);
     let mut event = Event::Expire(actor);
@@ -103,8 +105,10 @@ pub(crate) fn put_turn<W: Write>(
     requires unit { 0 < heading.unit }
     requires total { IfSome (won_in event.now reply) (λ won. won.total ≡ total_of lots.now) }
     ensures same { system.new ≡ system.old }
-    ensures text { Puts W.contents writer.old writer.new page.old page.new result (won_lines heading.manner heading.unit heading.actor lots.now (won_in event.now reply)
-        ++ (front heading.manner ++ (decimal heading.actor ++ (codes " " ++ reply_text heading.manner (world_of system.old).state event.now reply)))) }
+    ensures text { Puts W.contents writer.old writer.new page.old page.new result
+        (won_lines heading.manner heading.unit heading.actor lots.now (won_in event.now reply)
+        ++ (front heading.manner ++ (decimal heading.actor
+        ++ (codes " " ++ reply_text heading.manner (world_of system.old).state event.now reply)))) }
 {
     put_lots(heading, event, reply, lots, writer, page)?;
     put_answer(

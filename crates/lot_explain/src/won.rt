@@ -44,7 +44,8 @@ fn won_in_draw(reply: Reply) -> Option<Won>
 
 /// The lottery that an unlock has held, by the reply to it; none if no thread won.
 fn won_in_unlock(reply: Reply) -> Option<Won>
-    ensures { (processor ran mutex number : ℕ) → result ≡ lots.won_in (event.Trap processor ran (action.Unlock mutex number)) reply }
+    ensures { (processor ran mutex number : ℕ)
+        → result ≡ lots.won_in (event.Trap processor ran (action.Unlock mutex number)) reply }
 {
     match reply {
         Reply::Trapped {

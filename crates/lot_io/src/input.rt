@@ -44,7 +44,8 @@ fn read_piece<R: Read>(
     requires working { reader.old.failed ≡ false }
     requires some { 0 < length room.old }
     ensures most { IfOk result (λ count. count ≤ length room.old) }
-    ensures read { IfOk result (λ count. HasTaken (R.remaining reader.old.inner) (R.remaining reader.new.inner) bytes.old.items bytes.new.items count) }
+    ensures read { IfOk result (λ count. HasTaken (R.remaining reader.old.inner)
+        (R.remaining reader.new.inner) bytes.old.items bytes.new.items count) }
     ensures ok { OnOk result (reader.new.failed ≡ false) }
     ensures err { IfErr result (λ fault. IsReadFault fault reader.new.failed) }
 {

@@ -1,5 +1,6 @@
 //! The kernel and its events.
-ghost use Rattle.std.specs.Prelude.{◌≡◌, ◌<◌, ◌≤◌, All, None, Some, IfNone, IfOk, IfSome, MatchOption, length, option_map, vec_len, vec_capacity};
+ghost use Rattle.std.specs.Prelude.{◌≡◌, ◌<◌, ◌≤◌, All, None, Some, IfNone, IfOk, IfSome, MatchOption, length};
+ghost use Rattle.std.specs.Prelude.{option_map, vec_len, vec_capacity};
 ghost use Rattle.lot_machine.specs.Bounds.{IsBetween};
 ghost use Rattle.lot_machine.specs.Mutexes.{mutex_at};
 ghost use Rattle.lot_machine.specs.Numbered as numbered;
@@ -126,7 +127,8 @@ impl Kernel {
     pub fn ticket_row(&mut self, ticket: u32) -> Option<TicketRow>
         ensures row { result ≡ rows.ticket_row self.old.state ticket }
         ensures state { self.new.state ≡ self.old.state }
-        ensures settled { (t : ATicket) → ticket_in self.old.state.tickets ticket ≡ Some t → self.new ≡ record (settled self.old) { meter = with_ticket_read (settled self.old).meter t } }
+        ensures settled { (t : ATicket) → ticket_in self.old.state.tickets ticket ≡ Some t
+            → self.new ≡ record (settled self.old) { meter = with_ticket_read (settled self.old).meter t } }
         ensures once { IfSome result (λ r. HasNoneTwice self.old.stale) }
         ensures unchanged { IfNone result (self.new ≡ self.old) }
     {
@@ -159,7 +161,8 @@ impl Kernel {
 
     /// Who runs on the processor, `None` if and only if nobody does. The ticks used are below the quantum.
     pub fn runner(&self, processor: u32) -> Option<Runner>
-        ensures thread { MatchOption result (thread_on self.now.state.records processor ≡ None) (λ r. thread_on self.now.state.records processor ≡ Some r.thread) }
+        ensures thread { MatchOption result (thread_on self.now.state.records processor ≡ None)
+            (λ r. thread_on self.now.state.records processor ≡ Some r.thread) }
         ensures used { IfSome result (λ r. used_by self.now.state.records processor r.thread ≡ Some r.used) }
         ensures there { IfSome result (λ r. (0 < r.thread) × (r.thread ≤ length self.now.state.records)) }
         ensures below { IfSome result (λ r. r.used < self.now.state.limits.quantum) }

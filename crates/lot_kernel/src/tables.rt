@@ -42,10 +42,15 @@ impl Model for Tables {
 
     ghost Value = { Snapshot };
 
-    ghost view = { λ k. record { state = held (sizes_of k.limits) k.currencies.items k.threads k.queues; stale = k.threads.stale; meter = k.threads.meter } };
+    ghost view = { λ k. record {
+      state = held (sizes_of k.limits) k.currencies.items k.threads k.queues;
+      stale = k.threads.stale;
+      meter = k.threads.meter;
+    } };
 
     ghost invariant = { λ k. record {
-      threads : k.threads ≡ threads_of (held (sizes_of k.limits) k.currencies.items k.threads k.queues) k.threads.stale k.threads.meter;
+      threads : k.threads
+          ≡ threads_of (held (sizes_of k.limits) k.currencies.items k.threads k.queues) k.threads.stale k.threads.meter;
       count : length k.threads.threads ≡ length k.threads.records;
       few : length k.threads.records ≤ k.limits.threads;
       clients : length k.queues.clients ≡ length k.threads.records;

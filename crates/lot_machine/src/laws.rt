@@ -1,10 +1,15 @@
 //! Consequences of the definitions: laws of the machine, with no code to run.
-ghost use Rattle.std.specs.Prelude.{◌≡◌, ◌+◌, ◌==◌, ◌*◌, ◌/◌, sum_by, count_by, slice_get, ◌≤◌, ◌↔◌, ◌⊎◌, ◌<◌, ◌^◌, Some, ◌%◌, ◌≢◌, Contains, IsTrue, MatchOption, sum, List, Bool, ℕ, length};
+ghost use Rattle.std.specs.Prelude.{◌≡◌, ◌+◌, ◌==◌, ◌*◌, ◌/◌, sum_by, count_by, slice_get, ◌≤◌, ◌↔◌, ◌⊎◌, ◌<◌, ◌^◌};
+ghost use Rattle.std.specs.Prelude.{Some, ◌%◌, ◌≢◌, Contains, IsTrue, MatchOption, sum, List, Bool, ℕ, length};
 ghost use Rattle.lot_machine.specs.Bounds.{IsWithinBounds};
-ghost use Rattle.lot_machine.specs.Funding.{Funding, IsEdge, edge_count_into, backing_thread, WouldCycle, would_cycle, ticket_at, target_of, issuer_of, IsChain, reaches_within, backing_currency, user_currency_count};
+ghost use Rattle.lot_machine.specs.Funding.{Funding, IsEdge, edge_count_into, backing_thread, WouldCycle, would_cycle};
+ghost use Rattle.lot_machine.specs.Funding.{ticket_at, target_of, issuer_of, IsChain, reaches_within, backing_currency};
+ghost use Rattle.lot_machine.specs.Funding.{user_currency_count};
 ghost use Rattle.lot_machine.specs.Activity.{IsActive, is_active, activates_within, active_amount};
-ghost use Rattle.lot_machine.specs.Value.{ticket_value, currency_value, ticket_value_within, own_value, thread_value, waiters_for, mutex_value, node_value};
-ghost use Rattle.lot_machine.specs.Equations.{direct_lenders, owned_by, LeadsInto, HasEachOnce, edges_into, ticket_share, share, shares_into, HasEquation, Solves, Reaches};
+ghost use Rattle.lot_machine.specs.Value.{ticket_value, currency_value, ticket_value_within, own_value, thread_value};
+ghost use Rattle.lot_machine.specs.Value.{waiters_for, mutex_value, node_value};
+ghost use Rattle.lot_machine.specs.Equations.{direct_lenders, owned_by, LeadsInto, HasEachOnce, edges_into};
+ghost use Rattle.lot_machine.specs.Equations.{ticket_share, share, shares_into, HasEquation, Solves, Reaches};
 ghost use Rattle.lot_machine.specs.declared.funding.Edge.{Edge};
 ghost use Rattle.lot_machine.specs.declared.funding.Node.{Node};
 ghost use Rattle.lot_machine.specs.declared.ticket.Ticket.{Ticket};
@@ -12,17 +17,20 @@ ghost use Rattle.lot_machine.specs.declared.ticket.Target.{Target};
 ghost use Rattle.lot_machine.specs.declared.ticket.Target.TheVariants.{Currency, Thread};
 ghost use Rattle.lot_machine.specs.declared.funding.Node.TheVariants as nodes;
 ghost use Rattle.lot_machine.specs.Lottery.{winner, IsFirstAbove};
-ghost use Rattle.lot_machine.specs.Facts.{HasNoCycle, FundsThere, CountsOnce, RunsApart, IsSound, live_value, base_value, total_weight, is_won_by};
+ghost use Rattle.lot_machine.specs.Facts.{HasNoCycle, FundsThere, CountsOnce, RunsApart, IsSound, live_value};
+ghost use Rattle.lot_machine.specs.Facts.{base_value, total_weight, is_won_by};
 ghost use Rattle.std.specs.List.{range_with_len};
 ghost use Rattle.lot_machine.specs.declared.record.Status.TheVariants.{Ready};
 ghost use Rattle.lot_machine.specs.Numbered.{option_any};
 ghost use Rattle.lot_machine.specs.State.{State, funding_of, status_of, weight_of};
 ghost use Rattle.lot_machine.specs.Step.{draw};
-ghost use Rattle.lot_machine.specs.Lends.{LendsLead, LendsOnTo, IsBacked, lends_lead, lends_on_to, IsLendChain, IsLive, lends_lead_within, is_backed_within, is_backed};
+ghost use Rattle.lot_machine.specs.Lends.{LendsLead, LendsOnTo, IsBacked, lends_lead, lends_on_to, IsLendChain, IsLive};
+ghost use Rattle.lot_machine.specs.Lends.{lends_lead_within, is_backed_within, is_backed};
 
 /// The test that follows lends is true if and only if a chain of lends, no longer than it may follow, leads there.
 pub fn lends_are_followed()
-    ensures { (k : ℕ) (f : Funding) (t u : ℕ) → IsTrue (lends_lead_within k f t u) ↔ ((chain : List ℕ) × IsLendChain f t chain u × (length chain ≤ k)) }
+    ensures { (k : ℕ) (f : Funding) (t u : ℕ)
+        → IsTrue (lends_lead_within k f t u) ↔ ((chain : List ℕ) × IsLendChain f t chain u × (length chain ≤ k)) }
 {}
 
 /// The test for a backed thread is true if and only if such a chain leads to a live thread.
@@ -34,7 +42,8 @@ pub fn backing_is_followed()
 /// The test for an active ticket is true if and only if a chain of tickets that begins with it, with no more after it
 /// than the test may follow, ends at a backed thread.
 pub fn activity_is_followed()
-    ensures { (k : ℕ) (f : Funding) (live : List Bool) (n : ℕ) (target : Target) → target_of f n ≡ Some target → IsTrue (activates_within k f live target)
+    ensures { (k : ℕ) (f : Funding) (live : List Bool) (n : ℕ) (target : Target) → target_of f n ≡ Some target
+        → IsTrue (activates_within k f live target)
         ↔ ((rest : List ℕ) × (t : ℕ) × IsChain f n rest (Thread t) × IsTrue (is_backed f live t) × (length rest ≤ k)) }
 {}
 
@@ -42,7 +51,8 @@ pub fn activity_is_followed()
 /// may follow leads from one to the other.
 pub fn cycles_are_followed()
     ensures { (k : ℕ) (f : Funding) (c issuer : ℕ) → IsTrue (reaches_within k f c issuer)
-        ↔ ((c ≡ issuer) ⊎ ((first : ℕ) × (rest : List ℕ) × (issuer_of f first ≡ Some c) × IsChain f first rest (Currency issuer) × (length rest < k))) }
+        ↔ ((c ≡ issuer) ⊎ ((first : ℕ) × (rest : List ℕ) × (issuer_of f first ≡ Some c)
+        × IsChain f first rest (Currency issuer) × (length rest < k))) }
 {}
 
 /// Somebody wins if the weights sum to more than 0. The winner's number is below the sum, and its place is the first
@@ -65,12 +75,16 @@ pub fn shares_are_exact()
 /// times the unit, another active ticket its share of its currency's value, and any other ticket nothing (4.4). More
 /// depth than there are user currencies changes no value.
 pub fn values_unfold()
-    ensures user_ticket { (f : Funding) → HasNoCycle f → FundsThere f → (unit : ℕ) (live : List Bool) (t : Ticket) → IsTrue (is_active f live t) → t.issuer ≢ 0
+    ensures user_ticket { (f : Funding) → HasNoCycle f → FundsThere f → (unit : ℕ) (live : List Bool) (t : Ticket)
+        → IsTrue (is_active f live t) → t.issuer ≢ 0
         → ticket_value unit f live t ≡ currency_value unit f live t.issuer * t.amount / active_amount f live t.issuer }
-    ensures base_ticket { (f : Funding) → HasNoCycle f → FundsThere f → (unit : ℕ) (live : List Bool) (t : Ticket) → IsTrue (is_active f live t) → t.issuer ≡ 0
+    ensures base_ticket { (f : Funding) → HasNoCycle f → FundsThere f → (unit : ℕ) (live : List Bool) (t : Ticket)
+        → IsTrue (is_active f live t) → t.issuer ≡ 0
         → ticket_value unit f live t ≡ t.amount * unit }
-    ensures other_ticket { (f : Funding) → HasNoCycle f → FundsThere f → (unit : ℕ) (live : List Bool) (t : Ticket) → ¬ IsTrue (is_active f live t) → ticket_value unit f live t ≡ 0 }
-    ensures depth { (f : Funding) → HasNoCycle f → FundsThere f → (k unit : ℕ) (live : List Bool) (t : Ticket) → user_currency_count f ≤ k
+    ensures other_ticket { (f : Funding) → HasNoCycle f → FundsThere f → (unit : ℕ) (live : List Bool) (t : Ticket)
+        → ¬ IsTrue (is_active f live t) → ticket_value unit f live t ≡ 0 }
+    ensures depth { (f : Funding) → HasNoCycle f → FundsThere f → (k unit : ℕ) (live : List Bool) (t : Ticket)
+        → user_currency_count f ≤ k
         → ticket_value_within k unit f live t ≡ ticket_value unit f live t }
 {}
 
@@ -85,14 +99,17 @@ pub fn lent_counts_once()
 /// sizes are within their bounds.
 pub fn values_are_bounded()
     ensures values { (s : State) → HasNoCycle (funding_of s) → FundsThere (funding_of s) → live_value s ≤ base_value s }
-    ensures currencies { (f : Funding) → HasNoCycle f → FundsThere f → (unit : ℕ) (live : List Bool) (c : ℕ) → currency_value unit f live c ≤ active_amount f live 0 * unit }
-    ensures weights { (s : State) → HasNoCycle (funding_of s) → FundsThere (funding_of s) → IsWithinBounds s.limits → total_weight s ≤ base_value s * s.limits.quantum }
+    ensures currencies { (f : Funding) → HasNoCycle f → FundsThere f → (unit : ℕ) (live : List Bool) (c : ℕ)
+        → currency_value unit f live c ≤ active_amount f live 0 * unit }
+    ensures weights { (s : State) → HasNoCycle (funding_of s) → FundsThere (funding_of s) → IsWithinBounds s.limits
+        → total_weight s ≤ base_value s * s.limits.quantum }
 {}
 
 /// A state is sound if nothing makes a cycle, tickets fund only existing currencies, sizes are within their
 /// bounds, each processor has its own thread, and base's active tickets are worth less than 2 ^ 56.
 pub fn soundness_follows()
-    ensures { (s : State) → HasNoCycle (funding_of s) → FundsThere (funding_of s) → IsWithinBounds s.limits → RunsApart s.records → base_value s < 2 ^ 56 → IsSound s }
+    ensures { (s : State) → HasNoCycle (funding_of s) → FundsThere (funding_of s) → IsWithinBounds s.limits
+        → RunsApart s.records → base_value s < 2 ^ 56 → IsSound s }
 {}
 
 /// If lends make no cycle, the tests for chains of lends and for backed threads agree with their relations. The test
@@ -100,36 +117,46 @@ pub fn soundness_follows()
 pub fn lends_are_exact()
     ensures lead { (f : Funding) → HasNoCycle f → (t u : ℕ) → IsTrue (lends_lead f t u) ↔ LendsLead f t u }
     ensures lead_on { (f : Funding) → HasNoCycle f → (t u : ℕ) → IsTrue (lends_on_to f t u) ↔ LendsOnTo f t u }
-    ensures backed { (f : Funding) → HasNoCycle f → (live : List Bool) (t : ℕ) → IsTrue (is_backed f live t) ↔ IsBacked f live t }
+    ensures backed { (f : Funding) → HasNoCycle f → (live : List Bool) (t : ℕ)
+        → IsTrue (is_backed f live t) ↔ IsBacked f live t }
 {}
 
 /// If tickets and lends make no cycle, and tickets fund only existing currencies, the tests for active tickets
 /// and for cycles agree with their relations.
 pub fn tickets_are_exact()
-    ensures active { (f : Funding) → HasNoCycle f → FundsThere f → (live : List Bool) (n : ℕ) (t : Ticket) → ticket_at f n ≡ Some t
+    ensures active { (f : Funding) → HasNoCycle f → FundsThere f → (live : List Bool) (n : ℕ) (t : Ticket)
+        → ticket_at f n ≡ Some t
         → IsTrue (is_active f live t) ↔ IsActive f live n }
-    ensures cycle { (f : Funding) → HasNoCycle f → FundsThere f → (issuer c : ℕ) → c < length f.currencies → IsTrue (would_cycle f issuer c) ↔ WouldCycle f issuer c }
+    ensures cycle { (f : Funding) → HasNoCycle f → FundsThere f → (issuer c : ℕ) → c < length f.currencies
+        → IsTrue (would_cycle f issuer c) ↔ WouldCycle f issuer c }
 {}
 
 /// If lends make no cycle, a thread is worth its own tickets, the threads that lend to it directly, and the mutexes
 /// that it owns, each counted once.
 pub fn thread_values_add_up()
     ensures { (f : Funding) → HasNoCycle f → (unit : ℕ) (live : List Bool) (t : ℕ) → 0 < t → t ≤ length f.lends
-        → thread_value unit f live t ≡ own_value unit f live t + sum_by (thread_value unit f live) (direct_lenders f t) + sum_by (mutex_value unit f live) (owned_by f t) }
+        → thread_value unit f live t
+        ≡ own_value unit f live t + sum_by (thread_value unit f live) (direct_lenders f t)
+        + sum_by (mutex_value unit f live) (owned_by f t) }
 {}
 
 /// An active ticket's issuer has at least the ticket's amount active, so more than 0 if the ticket's amount is.
 pub fn issuers_are_active()
-    ensures amount { (f : Funding) (live : List Bool) (n : ℕ) (t : Ticket) → ticket_at f n ≡ Some t → IsTrue (is_active f live t) → t.amount ≤ active_amount f live t.issuer }
-    ensures some { (f : Funding) (live : List Bool) (n : ℕ) (t : Ticket) → ticket_at f n ≡ Some t → IsTrue (is_active f live t) → 0 < t.amount → 0 < active_amount f live t.issuer }
+    ensures amount { (f : Funding) (live : List Bool) (n : ℕ) (t : Ticket) → ticket_at f n ≡ Some t
+        → IsTrue (is_active f live t) → t.amount ≤ active_amount f live t.issuer }
+    ensures some { (f : Funding) (live : List Bool) (n : ℕ) (t : Ticket) → ticket_at f n ≡ Some t
+        → IsTrue (is_active f live t) → 0 < t.amount → 0 < active_amount f live t.issuer }
 {}
 
 /// If nothing makes a cycle, and tickets fund only existing currencies, no thread, no mutex and no user currency
 /// is worth more than base's active tickets.
 pub fn node_values_are_bounded()
-    ensures thread { (f : Funding) → HasNoCycle f → FundsThere f → (unit : ℕ) (live : List Bool) (t : ℕ) → thread_value unit f live t ≤ active_amount f live 0 * unit }
-    ensures mutex { (f : Funding) → HasNoCycle f → FundsThere f → (unit : ℕ) (live : List Bool) (m : ℕ) → mutex_value unit f live m ≤ active_amount f live 0 * unit }
-    ensures node { (f : Funding) → HasNoCycle f → FundsThere f → (unit : ℕ) (live : List Bool) (node : Node) → node ≢ nodes.Currency 0 → node_value unit f live node ≤ active_amount f live 0 * unit }
+    ensures thread { (f : Funding) → HasNoCycle f → FundsThere f → (unit : ℕ) (live : List Bool) (t : ℕ)
+        → thread_value unit f live t ≤ active_amount f live 0 * unit }
+    ensures mutex { (f : Funding) → HasNoCycle f → FundsThere f → (unit : ℕ) (live : List Bool) (m : ℕ)
+        → mutex_value unit f live m ≤ active_amount f live 0 * unit }
+    ensures node { (f : Funding) → HasNoCycle f → FundsThere f → (unit : ℕ) (live : List Bool) (node : Node)
+        → node ≢ nodes.Currency 0 → node_value unit f live node ≤ active_amount f live 0 * unit }
 {}
 
 /// The edges into a node are exactly those that lead into it, each once, and as many as are counted. Any list of
@@ -137,16 +164,21 @@ pub fn node_values_are_bounded()
 pub fn edges_into_are_exact()
     ensures edges { (f : Funding) (node : Node) → HasEachOnce (edges_into f node) (LeadsInto f node) }
     ensures count { (f : Funding) (node : Node) → length (edges_into f node) ≡ edge_count_into f node }
-    ensures sums { (f : Funding) (node : Node) (counted : Edge → ℕ) (edges : List Edge) → HasEachOnce edges (LeadsInto f node) → sum_by counted edges ≡ sum_by counted (edges_into f node) }
+    ensures sums { (f : Funding) (node : Node) (counted : Edge → ℕ) (edges : List Edge)
+        → HasEachOnce edges (LeadsInto f node) → sum_by counted edges ≡ sum_by counted (edges_into f node) }
 {}
 
 /// The edges into a node together pass on a sum over the tickets that fund it, over the threads that lend to
 /// it, and over the mutexes that it owns.
 pub fn shares_are_sums()
     ensures currency { (f : Funding) (unit : ℕ) (live : List Bool) (worth : Node → ℕ) (c : ℕ)
-        → shares_into unit f live worth (nodes.Currency c) ≡ sum_by (ticket_share unit f live worth) (backing_currency f c) }
-    ensures thread { (f : Funding) (unit : ℕ) (live : List Bool) (worth : Node → ℕ) (t : ℕ) → shares_into unit f live worth (nodes.Thread t)
-        ≡ sum_by (ticket_share unit f live worth) (backing_thread f t) + sum_by (λ s. worth (nodes.Thread s)) (direct_lenders f t) + sum_by (λ m. worth (nodes.Mutex m)) (owned_by f t) }
+        → shares_into unit f live worth (nodes.Currency c)
+        ≡ sum_by (ticket_share unit f live worth) (backing_currency f c) }
+    ensures thread { (f : Funding) (unit : ℕ) (live : List Bool) (worth : Node → ℕ) (t : ℕ)
+        → shares_into unit f live worth (nodes.Thread t)
+        ≡ sum_by (ticket_share unit f live worth) (backing_thread f t)
+        + sum_by (λ s. worth (nodes.Thread s)) (direct_lenders f t)
+        + sum_by (λ m. worth (nodes.Mutex m)) (owned_by f t) }
     ensures mutex { (f : Funding) (unit : ℕ) (live : List Bool) (worth : Node → ℕ) (m : ℕ)
         → shares_into unit f live worth (nodes.Mutex m) ≡ sum_by (λ s. worth (nodes.Thread s)) (waiters_for f m) }
 {}
@@ -154,7 +186,8 @@ pub fn shares_are_sums()
 /// If nothing makes a cycle, and tickets fund only existing currencies, the nodes' values solve the equation of
 /// each node: its value is the sum that the edges into it pass on.
 pub fn node_values_solve()
-    ensures { (f : Funding) → HasNoCycle f → FundsThere f → (unit : ℕ) (live : List Bool) (node : Node) → HasEquation f node → Solves unit f live (node_value unit f live) node }
+    ensures { (f : Funding) → HasNoCycle f → FundsThere f → (unit : ℕ) (live : List Bool) (node : Node)
+        → HasEquation f node → Solves unit f live (node_value unit f live) node }
 {}
 
 /// The solution is unique then: values that solve each equation are the nodes' values, whatever base is given. The same
@@ -163,8 +196,10 @@ pub fn solutions_are_node_values()
     ensures all { (f : Funding) → HasNoCycle f → FundsThere f → (unit : ℕ) (live : List Bool) (worth : Node → ℕ)
         → ((node : Node) → HasEquation f node → Solves unit f live worth node)
         → (node : Node) → HasEquation f node → worth node ≡ node_value unit f live node }
-    ensures known { (f : Funding) → HasNoCycle f → FundsThere f → (unit : ℕ) (live : List Bool) (worth : Node → ℕ) (unknown : List Node)
-        → ((from to : Node) → IsEdge f from to → ¬ Contains unknown to → from ≢ nodes.Currency 0 → ¬ Contains unknown from)
+    ensures known { (f : Funding) → HasNoCycle f → FundsThere f
+        → (unit : ℕ) (live : List Bool) (worth : Node → ℕ) (unknown : List Node)
+        → ((from to : Node) → IsEdge f from to → ¬ Contains unknown to → from ≢ nodes.Currency 0
+        → ¬ Contains unknown from)
         → ((node : Node) → ¬ Contains unknown node → HasEquation f node → Solves unit f live worth node)
         → (node : Node) → ¬ Contains unknown node → HasEquation f node → worth node ≡ node_value unit f live node }
 {}
@@ -184,10 +219,12 @@ pub fn equations_are_local()
 /// If nothing makes a cycle, and tickets fund only existing currencies, no way over edges of any kind leads back
 /// to where an edge came from.
 pub fn no_way_leads_back()
-    ensures { (f : Funding) → HasNoCycle f → FundsThere f → (from next : Node) → IsEdge f from next → ¬ Reaches f next from }
+    ensures { (f : Funding) → HasNoCycle f → FundsThere f → (from next : Node) → IsEdge f from next
+        → ¬ Reaches f next from }
 {}
 
 /// If nothing makes a cycle, and tickets fund only existing currencies, nodes have ranks that rise along edges.
 pub fn ranks_rise()
-    ensures { (f : Funding) → HasNoCycle f → FundsThere f → (rank : Node → ℕ) × ((from to : Node) → IsEdge f from to → rank from < rank to) }
+    ensures { (f : Funding) → HasNoCycle f → FundsThere f
+        → (rank : Node → ℕ) × ((from to : Node) → IsEdge f from to → rank from < rank to) }
 {}

@@ -13,5 +13,15 @@ pub struct Limits {
     pub scripts: u32,
     pub quantum: u32,
     pub unit: u32,
-    ghost within_bounds: { IsWithinBounds (record { tickets = tickets; currencies = currencies; threads = threads; ports = ports; mutexes = mutexes; processors = processors; scripts = scripts; quantum = quantum; unit = unit }) },
+    ghost within_bounds: { IsWithinBounds (record {
+      tickets = tickets;
+      currencies = currencies;
+      threads = threads;
+      ports = ports;
+      mutexes = mutexes;
+      processors = processors;
+      scripts = scripts;
+      quantum = quantum;
+      unit = unit;
+    }) },
 }

@@ -1,5 +1,6 @@
 //! The lottery over the values of the waiters for a mutex (6.1).
-ghost use Rattle.std.specs.Prelude.{◌≡◌, ◌≢◌, ◌<◌, ◌≤◌, ◌^◌, ◌↔◌, [], All, IfOk, IfSome, IsTrue, length, map, option_map, slice_index, unwrap_or, vec_capacity};
+ghost use Rattle.std.specs.Prelude.{◌≡◌, ◌≢◌, ◌<◌, ◌≤◌, ◌^◌, ◌↔◌, [], All, IfOk, IfSome, IsTrue, length, map};
+ghost use Rattle.std.specs.Prelude.{option_map, slice_index, unwrap_or, vec_capacity};
 ghost use Rattle.lot_machine.specs.declared.record.Status.TheVariants as status;
 ghost use Rattle.lot_machine.specs.Lottery as lottery;
 ghost use Rattle.lot_machine.specs.Mutexes.{mutex_at};

@@ -1,5 +1,6 @@
 //! Locks and unlocks (6.1).
-ghost use Rattle.std.specs.Prelude.{◌≡◌, ◌≢◌, ◌<◌, ◌^◌, ℕ, [], IfSome, Option, Some, length, option_map, remove, slice_get};
+ghost use Rattle.std.specs.Prelude.{◌≡◌, ◌≢◌, ◌<◌, ◌^◌, ℕ, [], IfSome, Option, Some, length, option_map, remove};
+ghost use Rattle.std.specs.Prelude.{slice_get};
 ghost use Rattle.lot_machine.specs.declared.funding.Node.{Node as ANode};
 ghost use Rattle.lot_machine.specs.declared.funding.Node.TheVariants.{Thread as ThreadNode};
 ghost use Rattle.lot_machine.specs.declared.record.Status.TheVariants as status;
@@ -28,8 +29,12 @@ pub fn lock(threads: &mut Threads, queues: &mut Queues, thread: u32, mutex: u32)
     requires owners { owners_of queues.old.mutexes ≡ threads.old.owners }
     ensures outcome { result.outcome ≡ (machine.lock threads.old.records queues.old.mutexes thread mutex).outcome }
     ensures after { result.after ≡ (machine.lock threads.old.records queues.old.mutexes thread mutex).after }
-    ensures threads { threads.new ≡ with_mutexes threads.old (machine.lock threads.old.records queues.old.mutexes thread mutex) threads.new.stale }
-    ensures queues { queues.new ≡ record queues.old { mutexes = (machine.lock threads.old.records queues.old.mutexes thread mutex).mutexes } }
+    ensures threads { threads.new ≡ with_mutexes threads.old
+        (machine.lock threads.old.records queues.old.mutexes thread mutex) threads.new.stale }
+    ensures queues { queues.new ≡ record queues.old {
+      mutexes =
+          (machine.lock threads.old.records queues.old.mutexes thread mutex).mutexes;
+    } }
     ensures kept { (node : ANode) → IsStaleIn threads.old node → IsStaleIn threads.new node }
     ensures stale { MakesStaleIn threads.old threads.new }
 {
@@ -66,16 +71,26 @@ pub fn unlock(
     requires same { length threads.old.records ≡ length queues.old.clients }
     requires owners { owners_of queues.old.mutexes ≡ threads.old.owners }
     requires room { queues.old.room ≡ lottery.old.room }
-    ensures outcome { result.outcome ≡ (machine.unlock threads.old.records queues.old.mutexes (worth_in threads.old) mutex d).outcome }
-    ensures after { result.after ≡ (machine.unlock threads.old.records queues.old.mutexes (worth_in threads.old) mutex d).after }
-    ensures threads { threads.new ≡ record (with_mutexes threads.old (machine.unlock threads.old.records queues.old.mutexes (worth_in threads.old) mutex d) threads.new.stale) { meter = threads.new.meter } }
-    ensures queues { queues.new ≡ record queues.old { mutexes = (machine.unlock threads.old.records queues.old.mutexes (worth_in threads.old) mutex d).mutexes } }
+    ensures outcome { result.outcome
+        ≡ (machine.unlock threads.old.records queues.old.mutexes (worth_in threads.old) mutex d).outcome }
+    ensures after { result.after ≡ (machine.unlock threads.old.records queues.old.mutexes
+        (worth_in threads.old) mutex d).after }
+    ensures threads { threads.new ≡ record (with_mutexes threads.old
+        (machine.unlock threads.old.records queues.old.mutexes
+        (worth_in threads.old) mutex d) threads.new.stale) { meter = threads.new.meter } }
+    ensures queues { queues.new ≡ record queues.old {
+      mutexes =
+          (machine.unlock threads.old.records queues.old.mutexes (worth_in threads.old) mutex d).mutexes;
+    } }
     ensures stale { MakesStaleIn threads.old threads.new }
-    ensures kept { (mutex_at queues.old.mutexes mutex).waiters ≡ [] → (node : ANode) → IsStaleIn threads.old node → IsStaleIn threads.new node }
+    ensures kept { (mutex_at queues.old.mutexes mutex).waiters ≡ [] → (node : ANode) → IsStaleIn threads.old node
+        → IsStaleIn threads.new node }
     ensures uncounted { (mutex_at queues.old.mutexes mutex).waiters ≡ [] → threads.new.meter ≡ threads.old.meter }
-    ensures counted { (mutex_at queues.old.mutexes mutex).waiters ≢ [] → threads.new.meter ≡ (settled_in threads.old).meter }
+    ensures counted { (mutex_at queues.old.mutexes mutex).waiters ≢ []
+        → threads.new.meter ≡ (settled_in threads.old).meter }
     ensures once { (mutex_at queues.old.mutexes mutex).waiters ≢ [] → HasNoneTwice threads.old.stale }
-    ensures owners { (next : ℕ) (draw : Option (ℕ × ℕ)) → result.outcome ≡ Passed next draw → IsStaleIn threads.new (ThreadNode owner) × IsStaleIn threads.new (ThreadNode next) }
+    ensures owners { (next : ℕ) (draw : Option (ℕ × ℕ)) → result.outcome ≡ Passed next draw
+        → IsStaleIn threads.new (ThreadNode owner) × IsStaleIn threads.new (ThreadNode next) }
     ensures room { lottery.new.room ≡ lottery.old.room }
 {
     lottery.list(queues, mutex);
@@ -101,7 +116,9 @@ fn free(threads: &mut Threads, queues: &mut Queues, mutex: u32) -> Effect
     requires nobody { (mutex_at queues.old.mutexes mutex).waiters ≡ [] }
     requires owners { owners_of queues.old.mutexes ≡ threads.old.owners }
     ensures freed { result.outcome ≡ Freed }
-    ensures frees { (value : ℕ → ℕ) (d : ℕ) → IsMutexTrap threads.old queues.old (machine.unlock threads.old.records queues.old.mutexes value mutex d) result threads.new queues.new }
+    ensures frees { (value : ℕ → ℕ) (d : ℕ)
+        → IsMutexTrap threads.old queues.old
+        (machine.unlock threads.old.records queues.old.mutexes value mutex d) result threads.new queues.new }
     ensures kept { (node : ANode) → IsStaleIn threads.old node → IsStaleIn threads.new node }
     ensures stale { MakesStaleIn threads.old threads.new }
 {
@@ -131,9 +148,14 @@ fn pass(threads: &mut Threads, queues: &mut Queues, owner: u32, mutex: u32, next
     requires waiter { IsWaiter queues.old.mutexes next }
     requires same { length threads.old.records ≡ length queues.old.clients }
     requires owners { owners_of queues.old.mutexes ≡ threads.old.owners }
-    ensures threads { threads.new ≡ record (with_records threads.old (change_record (λ r. record r { status = status.Ready }) threads.old.records next) threads.new.stale) { owners = set_number threads.old.owners mutex (Some next) } }
+    ensures threads { threads.new ≡ record (with_records threads.old
+        (change_record
+        (λ r. record r { status = status.Ready }) threads.old.records next) threads.new.stale) { owners = set_number threads.old.owners mutex (Some next) } }
     ensures queues { (place : ℕ) → slice_get (mutex_at queues.old.mutexes mutex).waiters place ≡ Some next
-        → queues.new ≡ record queues.old { mutexes = set_number queues.old.mutexes mutex (record { owner = Some next; waiters = remove (mutex_at queues.old.mutexes mutex).waiters place }) } }
+        → queues.new ≡ record queues.old {
+          mutexes = set_number queues.old.mutexes mutex
+              (record { owner = Some next; waiters = remove (mutex_at queues.old.mutexes mutex).waiters place });
+        } }
     ensures kept { (node : ANode) → IsStaleIn threads.old node → IsStaleIn threads.new node }
     ensures stale { MakesStaleIn threads.old threads.new }
     ensures owners { IsStaleIn threads.new (ThreadNode owner) × IsStaleIn threads.new (ThreadNode next) }

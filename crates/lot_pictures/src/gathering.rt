@@ -2,7 +2,8 @@
 ghost use Rattle.std.specs.Prelude.{◌≡◌, ◌+◌, ◌*◌, ◌^◌, ◌<◌, ◌≤◌, [], IfOk, IsSome, OnOk, length, max, vec_len};
 ghost use Rattle.lot_machine.specs.Bounds.{IsBetween};
 ghost use Rattle.lot_simulation.specs.Timed.{timed_schedule};
-ghost use Rattle.lot_curves.specs.Curves.{curves_of, name_in, names_in, scheduled_curves, stretches_made, timed_curves, timed_stretches};
+ghost use Rattle.lot_curves.specs.Curves.{curves_of, name_in, names_in, scheduled_curves, stretches_made, timed_curves};
+ghost use Rattle.lot_curves.specs.Curves.{timed_stretches};
 ghost use Rattle.lot_curves.specs.Stretches.{last_end};
 ghost use Rattle.lot_system.specs.Playing.{HasPlayed, IsOpened, IsPlayed};
 ghost use Rattle.lot_system.specs.Seen.{world_of};
@@ -104,7 +105,8 @@ fn note_turn(
     ensures played { IsPlayed system.old actor system.new }
     ensures noted { OnOk result (stretches.new.items ≡ stretches_made program.now system.new.history) }
     ensures few { OnOk result (vec_len stretches.new ≤ vec_len stretches.old + 1) }
-    ensures early { OnOk result (last_end stretches.new.items ≤ max (last_end stretches.old.items) (length system.new.history * 2 ^ 32)) }
+    ensures early { OnOk result (last_end stretches.new.items
+        ≤ max (last_end stretches.old.items) (length system.new.history * 2 ^ 32)) }
 {
     let mut event = Event::Expire(actor);
     let Some(reply) = next_turn(program, system, actor, &mut event) else {

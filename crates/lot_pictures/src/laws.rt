@@ -12,13 +12,16 @@ ghost use Rattle.lot_curves.specs.Stretches.{had_at, last_end, stretches_of};
 /// A thread's curve ends at the ticks that the report of a legal history has of it, in a system with room for less than
 /// 2 ^ 32 turns.
 pub fn curves_end_at_the_report()
-    ensures { (program : Program) (room : ℕ) (history : List ℕ) (t : ℕ) (row : ThreadRow) → IsWithinBounds program.limits → IsLegal program room history → room < 2 ^ 32
+    ensures { (program : Program) (room : ℕ) (history : List ℕ) (t : ℕ) (row : ThreadRow)
+        → IsWithinBounds program.limits → IsLegal program room history → room < 2 ^ 32
         → thread_row (system_run program history).state t ≡ Some row
-        → had_at Ticks (last_end (stretches_made program history)) (stretches_of t (stretches_made program history)) ≡ row.ticks }
+        → had_at Ticks (last_end (stretches_made program history)) (stretches_of t (stretches_made program history))
+        ≡ row.ticks }
 {}
 
 /// The same of turns in the order of time: a thread's curve ends at the ticks that the report has of it.
 pub fn timed_curves_end_at_the_report()
-    ensures { (program : Program) (t : ℕ) (row : ThreadRow) → IsWithinBounds program.limits → thread_row (last_moment program).world.state t ≡ Some row
+    ensures { (program : Program) (t : ℕ) (row : ThreadRow) → IsWithinBounds program.limits
+        → thread_row (last_moment program).world.state t ≡ Some row
         → had_at Ticks (last_end (timed_stretches program)) (stretches_of t (timed_stretches program)) ≡ row.ticks }
 {}

@@ -29,8 +29,12 @@ pub fn shares<R: Read, W: Write>(
     requires { (reader.old.failed ≡ false) × (writer.old.failed ≡ false) }
     ensures flushed { OnOk result (writer.new.flushed ≡ true) }
     ensures err { IfErr result (λ fault. IsFaultOf fault reader.new.failed writer.new.failed) }
-    ensures output { IfOk result (λ played. (bytes : List ℕ) × Reads R.remaining reader.old reader.new bytes × (played ≡ came_of (program_in bytes)) × Appends (W.contents writer.old.inner) (W.contents writer.new.inner) (shares_output measure bytes)) }
-    ensures fault { IfErr result (λ fault. Leaves (shares_output measure) R.remaining reader.old reader.new W.contents writer.old writer.new fault) }
+    ensures output { IfOk result (λ played. (bytes : List ℕ) × Reads R.remaining reader.old reader.new bytes
+        × (played ≡ came_of (program_in bytes))
+        × Appends (W.contents writer.old.inner) (W.contents writer.new.inner) (shares_output measure bytes)) }
+    ensures fault { IfErr result
+        (λ fault. Leaves
+        (shares_output measure) R.remaining reader.old reader.new W.contents writer.old writer.new fault) }
 {
     *refused = read_input(alloc, reader)?;
     write_shares(alloc, measure, refused, writer)
@@ -45,7 +49,8 @@ fn write_shares<W: Write>(
 ) -> Result<Played, IoFault>
     requires { writer.old.failed ≡ false }
     ensures flushed { OnOk result (writer.new.flushed ≡ true) }
-    ensures shown { Plays W.contents writer.old writer.new result (came_of (program_in bytes.old.items)) (shares_output measure bytes.old.items) }
+    ensures shown { Plays W.contents writer.old writer.new result (came_of (program_in bytes.old.items))
+        (shares_output measure bytes.old.items) }
 {
     match curves_in(alloc, bytes) {
         Ok(curves) => write_text(table(alloc, &curves, measure), writer),
@@ -66,8 +71,12 @@ pub fn chart<R: Read, W: Write>(
     requires { (reader.old.failed ≡ false) × (writer.old.failed ≡ false) }
     ensures flushed { OnOk result (writer.new.flushed ≡ true) }
     ensures err { IfErr result (λ fault. IsFaultOf fault reader.new.failed writer.new.failed) }
-    ensures output { IfOk result (λ played. (bytes : List ℕ) × Reads R.remaining reader.old reader.new bytes × (played ≡ came_of (program_in bytes)) × Appends (W.contents writer.old.inner) (W.contents writer.new.inner) (chart_output title.now bytes)) }
-    ensures fault { IfErr result (λ fault. Leaves (chart_output title.now) R.remaining reader.old reader.new W.contents writer.old writer.new fault) }
+    ensures output { IfOk result (λ played. (bytes : List ℕ) × Reads R.remaining reader.old reader.new bytes
+        × (played ≡ came_of (program_in bytes))
+        × Appends (W.contents writer.old.inner) (W.contents writer.new.inner) (chart_output title.now bytes)) }
+    ensures fault { IfErr result
+        (λ fault. Leaves
+        (chart_output title.now) R.remaining reader.old reader.new W.contents writer.old writer.new fault) }
 {
     *refused = read_input(alloc, reader)?;
     write_chart(alloc, title, refused, writer)
@@ -82,7 +91,8 @@ fn write_chart<W: Write>(
 ) -> Result<Played, IoFault>
     requires { writer.old.failed ≡ false }
     ensures flushed { OnOk result (writer.new.flushed ≡ true) }
-    ensures shown { Plays W.contents writer.old writer.new result (came_of (program_in bytes.old.items)) (chart_output title.now bytes.old.items) }
+    ensures shown { Plays W.contents writer.old writer.new result (came_of (program_in bytes.old.items))
+        (chart_output title.now bytes.old.items) }
 {
     match curves_in(alloc, bytes) {
         Ok(curves) => write_text(lot_chart::chart(alloc, &curves, title), writer),

@@ -24,10 +24,15 @@ pub fn call(
     requires caller { IsThere queues.old.clients caller }
     requires nowhere { IsNowhere queues.old caller }
     requires same { length threads.old.records ≡ length queues.old.clients }
-    ensures outcome { result.outcome ≡ (machine.call threads.old.records queues.old.clients queues.old.ports caller port number).outcome }
-    ensures after { result.after ≡ (machine.call threads.old.records queues.old.clients queues.old.ports caller port number).after }
-    ensures threads { threads.new ≡ with_records threads.old (machine.call threads.old.records queues.old.clients queues.old.ports caller port number).records threads.new.stale }
-    ensures queues { queues.new ≡ with_ports queues.old (machine.call threads.old.records queues.old.clients queues.old.ports caller port number) }
+    ensures outcome { result.outcome
+        ≡ (machine.call threads.old.records queues.old.clients queues.old.ports caller port number).outcome }
+    ensures after { result.after
+        ≡ (machine.call threads.old.records queues.old.clients queues.old.ports caller port number).after }
+    ensures threads { threads.new ≡ with_records threads.old
+        (machine.call threads.old.records queues.old.clients queues.old.ports caller port number).records threads.new.stale }
+    ensures queues { queues.new
+        ≡ with_ports queues.old
+        (machine.call threads.old.records queues.old.clients queues.old.ports caller port number) }
     ensures kept { (node : ANode) → IsStaleIn threads.old node → IsStaleIn threads.new node }
     ensures stale { MakesStaleIn threads.old threads.new }
 {
@@ -52,10 +57,14 @@ pub fn receive(threads: &mut Threads, queues: &mut Queues, server: u32, port: u3
     requires server { IsLiveIn threads.old server }
     requires nowhere { IsNowhere queues.old server }
     requires same { length threads.old.records ≡ length queues.old.clients }
-    ensures outcome { result.outcome ≡ (machine.receive threads.old.records queues.old.clients queues.old.ports server port).outcome }
-    ensures after { result.after ≡ (machine.receive threads.old.records queues.old.clients queues.old.ports server port).after }
-    ensures threads { threads.new ≡ with_records threads.old (machine.receive threads.old.records queues.old.clients queues.old.ports server port).records threads.new.stale }
-    ensures queues { queues.new ≡ with_ports queues.old (machine.receive threads.old.records queues.old.clients queues.old.ports server port) }
+    ensures outcome { result.outcome
+        ≡ (machine.receive threads.old.records queues.old.clients queues.old.ports server port).outcome }
+    ensures after { result.after
+        ≡ (machine.receive threads.old.records queues.old.clients queues.old.ports server port).after }
+    ensures threads { threads.new ≡ with_records threads.old
+        (machine.receive threads.old.records queues.old.clients queues.old.ports server port).records threads.new.stale }
+    ensures queues { queues.new
+        ≡ with_ports queues.old (machine.receive threads.old.records queues.old.clients queues.old.ports server port) }
     ensures kept { (node : ANode) → IsStaleIn threads.old node → IsStaleIn threads.new node }
     ensures stale { MakesStaleIn threads.old threads.new }
 {
@@ -88,10 +97,14 @@ pub fn reply(
     requires server { IsThere queues.old.clients server }
     requires client { first_client queues.old.clients server ≡ Some client }
     requires same { length threads.old.records ≡ length queues.old.clients }
-    ensures outcome { result.outcome ≡ (machine.reply threads.old.records queues.old.clients queues.old.ports server number).outcome }
-    ensures after { result.after ≡ (machine.reply threads.old.records queues.old.clients queues.old.ports server number).after }
-    ensures threads { threads.new ≡ with_records threads.old (machine.reply threads.old.records queues.old.clients queues.old.ports server number).records threads.new.stale }
-    ensures queues { queues.new ≡ with_ports queues.old (machine.reply threads.old.records queues.old.clients queues.old.ports server number) }
+    ensures outcome { result.outcome
+        ≡ (machine.reply threads.old.records queues.old.clients queues.old.ports server number).outcome }
+    ensures after { result.after
+        ≡ (machine.reply threads.old.records queues.old.clients queues.old.ports server number).after }
+    ensures threads { threads.new ≡ with_records threads.old
+        (machine.reply threads.old.records queues.old.clients queues.old.ports server number).records threads.new.stale }
+    ensures queues { queues.new
+        ≡ with_ports queues.old (machine.reply threads.old.records queues.old.clients queues.old.ports server number) }
     ensures nowhere { IsNowhere queues.new client }
     ensures kept { (node : ANode) → IsStaleIn threads.old node → IsStaleIn threads.new node }
     ensures stale { MakesStaleIn threads.old threads.new }
@@ -118,10 +131,15 @@ pub fn serve(
     requires nowhere { IsNowhere queues.old server }
     requires client { first_client queues.old.clients server ≡ Some client }
     requires same { length threads.old.records ≡ length queues.old.clients }
-    ensures outcome { result.outcome ≡ (machine.serve threads.old.records queues.old.clients queues.old.ports server port number).outcome }
-    ensures after { result.after ≡ (machine.serve threads.old.records queues.old.clients queues.old.ports server port number).after }
-    ensures threads { threads.new ≡ with_records threads.old (machine.serve threads.old.records queues.old.clients queues.old.ports server port number).records threads.new.stale }
-    ensures queues { queues.new ≡ with_ports queues.old (machine.serve threads.old.records queues.old.clients queues.old.ports server port number) }
+    ensures outcome { result.outcome
+        ≡ (machine.serve threads.old.records queues.old.clients queues.old.ports server port number).outcome }
+    ensures after { result.after
+        ≡ (machine.serve threads.old.records queues.old.clients queues.old.ports server port number).after }
+    ensures threads { threads.new ≡ with_records threads.old
+        (machine.serve threads.old.records queues.old.clients queues.old.ports server port number).records threads.new.stale }
+    ensures queues { queues.new
+        ≡ with_ports queues.old
+        (machine.serve threads.old.records queues.old.clients queues.old.ports server port number) }
     ensures kept { (node : ANode) → IsStaleIn threads.old node → IsStaleIn threads.new node }
     ensures stale { MakesStaleIn threads.old threads.new }
 {

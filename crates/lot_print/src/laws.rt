@@ -7,5 +7,6 @@ ghost use Rattle.lot_print.specs.Readback.{HasRoom, IsReadAs};
 /// The lines that are printed for a history, `schedule` lines or `runs` lines as the input's version has them, are read
 /// as that history, wherever a body line may stand.
 pub fn histories_are_read_back()
-    ensures { (n start : ℕ) (r : Reading) (history : List ℕ) → HasRoom r start history (history_lines r.unit history) → IsReadAs n start r (history_lines r.unit history) history }
+    ensures { (n start : ℕ) (r : Reading) (history : List ℕ) → HasRoom r start history (history_lines r.unit history)
+        → IsReadAs n start r (history_lines r.unit history) history }
 {}

@@ -42,7 +42,8 @@ pub fn write_lot<W: Write>(
     requires working { writer.old.failed ≡ false }
     requires unit { 0 < heading.unit }
     requires fits { first + lot.now.weight < 2 ^ 128 }
-    ensures { Writes W.contents writer.old writer.new result (lot_line heading.manner heading.unit heading.actor lottery winner first lot.now) }
+    ensures { Writes W.contents writer.old writer.new result
+        (lot_line heading.manner heading.unit heading.actor lottery winner first lot.now) }
 {
     lot_text(heading, lottery, winner, first, lot).write_to(writer)
 }
@@ -66,7 +67,8 @@ fn lot_text(heading: Heading, lottery: Lottery, winner: u32, first: u128, lot: &
 /// Puts who takes part.
 fn push_part(line: &mut RowLine, lottery: Lottery, lot: &Lot)
     requires { length line.old ≤ 21 }
-    ensures text { line.new ≡ line.old ++ (part_word lottery ++ (decimal lot.now.thread ++ (codes " " ++ lot.now.name))) }
+    ensures text { line.new ≡ line.old
+        ++ (part_word lottery ++ (decimal lot.now.thread ++ (codes " " ++ lot.now.name))) }
     ensures len { length line.new ≤ length line.old + 39 }
 {
     let word = match lottery {
@@ -96,7 +98,9 @@ fn push_weight(line: &mut RowLine, heading: Heading, lottery: Lottery, weight: u
 fn push_numbers(line: &mut RowLine, heading: Heading, first: u128, below: u128)
     requires room { length line.old ≤ 111 }
     requires unit { 0 < heading.unit }
-    ensures text { line.new ≡ line.old ++ (codes " from " ++ (drawn_value heading.manner heading.unit first ++ (codes " below " ++ drawn_value heading.manner heading.unit below))) }
+    ensures text { line.new ≡ line.old
+        ++ (codes " from " ++ (drawn_value heading.manner heading.unit first
+        ++ (codes " below " ++ drawn_value heading.manner heading.unit below))) }
     ensures len { length line.new ≤ length line.old + 99 }
 {
     line.push_drawn(" from ", heading.manner, heading.unit, first);

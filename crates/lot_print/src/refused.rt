@@ -1,7 +1,10 @@
 //! The text of refusals.
 ghost use Rattle.std.specs.Prelude.{◌≡◌, ◌≤◌, ◌+◌, ◌++◌, codes, false, length};
 ghost use Rattle.std.specs.Fmt.{decimal};
-ghost use Rattle.lot_simulation.specs.Texts.{newline, refused, refusal_code as code_of, refusal_name as name_of, trap_refusal_code as trap_code_of, trap_refusal_name as trap_name_of, input_refusal_code as input_code_of, input_refusal_name as input_name_of, fault_line};
+ghost use Rattle.lot_simulation.specs.Texts.{newline, refused, refusal_code as code_of, refusal_name as name_of};
+ghost use Rattle.lot_simulation.specs.Texts.{trap_refusal_code as trap_code_of, trap_refusal_name as trap_name_of};
+ghost use Rattle.lot_simulation.specs.Texts.{input_refusal_code as input_code_of, input_refusal_name as input_name_of};
+ghost use Rattle.lot_simulation.specs.Texts.{fault_line};
 ghost use Rattle.lot_io.specs.Writing.{Writes};
 
 use crate::line::{Line, RowLine};
@@ -24,7 +27,8 @@ pub fn write_fault<W: Write>(writer: &mut Watched<W>, fault: InputFault) -> Resu
 /// Puts why an input is refused, and the line's end.
 fn push_reason(line: &mut RowLine, refusal: InputRefusal)
     requires { length line.old ≤ 46 }
-    ensures { line.new ≡ line.old ++ (codes " " ++ (decimal (input_code_of refusal) ++ (codes " " ++ (input_name_of refusal ++ newline)))) }
+    ensures { line.new ≡ line.old ++ (codes " "
+        ++ (decimal (input_code_of refusal) ++ (codes " " ++ (input_name_of refusal ++ newline)))) }
 {
     push_code(
         line,

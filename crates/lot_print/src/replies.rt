@@ -2,7 +2,8 @@
 ghost use Rattle.std.specs.Prelude.{◌≡◌, ◌<◌, ◌≤◌, ◌+◌, ◌++◌, codes, false, length};
 ghost use Rattle.std.specs.Fmt.{decimal};
 ghost use Rattle.lot_simulation.specs.Texts as texts;
-ghost use Rattle.lot_simulation.specs.Texts.{delivered_text, drawn_text, drawn_value, ends_text, front, newline, plain_text, received_text, refused, replied_text, trap_text, trap_text_of};
+ghost use Rattle.lot_simulation.specs.Texts.{delivered_text, drawn_text, drawn_value, ends_text, front, newline};
+ghost use Rattle.lot_simulation.specs.Texts.{plain_text, received_text, refused, replied_text, trap_text, trap_text_of};
 ghost use Rattle.lot_io.specs.Writing.{Puts};
 
 use crate::line::Line;
@@ -38,7 +39,9 @@ pub fn write_reply<W: Write>(
 ) -> Result<(), IoFault>
     requires working { writer.old.failed ≡ false }
     requires unit { 0 < heading.unit }
-    ensures { Puts W.contents writer.old writer.new page.old page.new result (front heading.manner ++ (decimal heading.actor ++ (codes " " ++ plain_text heading.manner heading.unit event.now reply.now))) }
+    ensures { Puts W.contents writer.old writer.new page.old page.new result
+        (front heading.manner ++ (decimal heading.actor
+        ++ (codes " " ++ plain_text heading.manner heading.unit event.now reply.now))) }
 {
     page.make_room(writer)?;
     push_turn(&mut page.lines, heading, event, reply);
@@ -52,7 +55,8 @@ pub fn write_ended<W: Write>(
     heading: Heading,
 ) -> Result<(), IoFault>
     requires { writer.old.failed ≡ false }
-    ensures { Puts W.contents writer.old writer.new page.old page.new result (front heading.manner ++ (decimal heading.actor ++ (codes " " ++ (refused 41 (codes "Ended") ++ newline)))) }
+    ensures { Puts W.contents writer.old writer.new page.old page.new result
+        (front heading.manner ++ (decimal heading.actor ++ (codes " " ++ (refused 41 (codes "Ended") ++ newline)))) }
 {
     page.make_room(writer)?;
     push_ended(&mut page.lines, heading);
@@ -64,7 +68,8 @@ pub fn write_ended<W: Write>(
 fn push_turn<const N: usize>(line: &mut Line<N>, heading: Heading, event: &Event, reply: &Reply)
     requires room { length line.old + 192 ≤ N }
     requires unit { 0 < heading.unit }
-    ensures { line.new ≡ line.old ++ (front heading.manner ++ (decimal heading.actor ++ (codes " " ++ plain_text heading.manner heading.unit event.now reply.now))) }
+    ensures { line.new ≡ line.old ++ (front heading.manner
+        ++ (decimal heading.actor ++ (codes " " ++ plain_text heading.manner heading.unit event.now reply.now))) }
 {
     push_heading(line, heading);
     push_reply(line, heading, event, reply);
@@ -73,7 +78,8 @@ fn push_turn<const N: usize>(line: &mut Line<N>, heading: Heading, event: &Event
 /// Puts the line of a turn of the console without a command.
 fn push_ended<const N: usize>(line: &mut Line<N>, heading: Heading)
     requires { length line.old + 192 ≤ N }
-    ensures { line.new ≡ line.old ++ (front heading.manner ++ (decimal heading.actor ++ (codes " " ++ (refused 41 (codes "Ended") ++ newline)))) }
+    ensures { line.new ≡ line.old ++ (front heading.manner
+        ++ (decimal heading.actor ++ (codes " " ++ (refused 41 (codes "Ended") ++ newline)))) }
 {
     push_heading(line, heading);
     push_refused(line, 41, "Ended");
@@ -161,7 +167,10 @@ fn push_winner<const N: usize>(
 )
     requires room { length line.old + 170 ≤ N }
     requires unit { 0 < heading.unit }
-    ensures { line.new ≡ line.old ++ (codes "draw " ++ (drawn_value heading.manner heading.unit drawn.0 ++ (codes " of " ++ (drawn_value heading.manner heading.unit drawn.1 ++ (codes " thread " ++ (decimal thread ++ (delivered_text delivered ++ newline))))))) }
+    ensures { line.new ≡ line.old ++ (codes "draw "
+        ++ (drawn_value heading.manner heading.unit drawn.0
+        ++ (codes " of " ++ (drawn_value heading.manner heading.unit drawn.1
+        ++ (codes " thread " ++ (decimal thread ++ (delivered_text delivered ++ newline))))))) }
 {
     let (number, total) = drawn;
     line.push_drawn("draw ", heading.manner, heading.unit, number);
@@ -194,7 +203,8 @@ fn push_trap_of<const N: usize>(
 )
     requires room { length line.old + 136 ≤ N }
     requires unit { 0 < heading.unit }
-    ensures { line.new ≡ line.old ++ (codes " " ++ (trap_text_of heading.manner heading.unit event.now outcome ++ (ends_text ends ++ newline))) }
+    ensures { line.new ≡ line.old ++ (codes " "
+        ++ (trap_text_of heading.manner heading.unit event.now outcome ++ (ends_text ends ++ newline))) }
 {
     line.push_text(" ");
     if let Event::Trap(_, _, action) = event {

@@ -1,7 +1,8 @@
 //! The text of listings.
 ghost use Rattle.std.specs.Prelude.{◌≡◌, ◌≤◌, ◌+◌, ◌++◌, codes, false, length};
 ghost use Rattle.std.specs.Fmt.{decimal};
-ghost use Rattle.lot_simulation.specs.Texts.{activity_text, currency_line, currency_value, front, status_text, thread_line, ticket_line};
+ghost use Rattle.lot_simulation.specs.Texts.{activity_text, currency_line, currency_value, front, status_text};
+ghost use Rattle.lot_simulation.specs.Texts.{thread_line, ticket_line};
 ghost use Rattle.lot_print.specs.Listings.{listing_line, target_text, used_text};
 ghost use Rattle.lot_io.specs.Writing.{Writes};
 
@@ -20,7 +21,8 @@ pub fn write_listing_line<W: Write>(
     rows: u32,
 ) -> Result<(), IoFault>
     requires { writer.old.failed ≡ false }
-    ensures { Writes W.contents writer.old writer.new result (front manner ++ (decimal actor ++ (codes " " ++ listing_line kind rows))) }
+    ensures { Writes W.contents writer.old writer.new result
+        (front manner ++ (decimal actor ++ (codes " " ++ listing_line kind rows))) }
 {
     let mut line = RowLine::new();
     line.push_front(manner);

@@ -86,7 +86,8 @@ fn after_run(history: &[u8]) -> &[u8]
 
 /// The actor of the first turn, and how many turns in a row it has there; `None` if there is no turn.
 pub(crate) fn first_run(history: &[u8]) -> Option<(u8, usize)>
-    ensures run { MatchOption result (history.now ≡ []) (λ run. runs_in history.now ≡ record { actor = run.0; count = run.1 } ∷ runs_in (drop run.1 history.now)) }
+    ensures run { MatchOption result (history.now ≡ []) (λ run. runs_in history.now
+        ≡ record { actor = run.0; count = run.1 } ∷ runs_in (drop run.1 history.now)) }
     ensures within { IfSome result (λ run. (0 < run.1) × (run.1 ≤ length history.now)) }
 {
     let (actor, others) = history.split_first()?;

@@ -59,7 +59,8 @@ pub fn write_timed_thread_total<W: Write>(
 ) -> Result<(), IoFault>
     requires working { writer.old.failed ≡ false }
     requires values { shares.all_values < 2 ^ 96 }
-    ensures { Writes W.contents writer.old writer.new result (timed_thread_line number row.now shares.all_ticks shares.live_value shares.all_values shares.mutexes shares.replies) }
+    ensures { Writes W.contents writer.old writer.new result
+        (timed_thread_line number row.now shares.all_ticks shares.live_value shares.all_values shares.mutexes shares.replies) }
 {
     thread_line(number, row, shares).write_to(writer)
 }
@@ -67,7 +68,8 @@ pub fn write_timed_thread_total<W: Write>(
 /// A thread's line.
 fn thread_line(number: u32, row: &ThreadRow, shares: ThreadShares) -> TimedLine
     requires { shares.all_values < 2 ^ 96 }
-    ensures { result ≡ timed_thread_line number row.now shares.all_ticks shares.live_value shares.all_values shares.mutexes shares.replies }
+    ensures { result
+        ≡ timed_thread_line number row.now shares.all_ticks shares.live_value shares.all_values shares.mutexes shares.replies }
 {
     let mut line = TimedLine::new();
     push_named(&mut line, "thread ", number, &row.name);
@@ -122,7 +124,8 @@ pub fn write_timed_processor_total<W: Write>(
     total: TimedProcessorTotal,
 ) -> Result<(), IoFault>
     requires { writer.old.failed ≡ false }
-    ensures { Writes W.contents writer.old writer.new result (timed_processor_line total.processor total.quanta total.idles total.ticks total.unused) }
+    ensures { Writes W.contents writer.old writer.new result
+        (timed_processor_line total.processor total.quanta total.idles total.ticks total.unused) }
 {
     processor_line(total).write_to(writer)
 }
@@ -147,7 +150,8 @@ pub fn write_timed_whole_total<W: Write>(
     total: TimedWholeTotal,
 ) -> Result<(), IoFault>
     requires { writer.old.failed ≡ false }
-    ensures { Writes W.contents writer.old writer.new result (timed_total_line total.turns total.quanta total.ticks total.refused total.left) }
+    ensures { Writes W.contents writer.old writer.new result
+        (timed_total_line total.turns total.quanta total.ticks total.refused total.left) }
 {
     total_line(total).write_to(writer)
 }

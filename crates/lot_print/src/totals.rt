@@ -56,7 +56,8 @@ pub fn write_processor_total<W: Write>(
     total: ProcessorTotal,
 ) -> Result<(), IoFault>
     requires { writer.old.failed ≡ false }
-    ensures { Writes W.contents writer.old writer.new result (processor_line total.processor total.quanta total.idles total.ticks) }
+    ensures { Writes W.contents writer.old writer.new result
+        (processor_line total.processor total.quanta total.idles total.ticks) }
 {
     processor_text(total).write_to(writer)
 }

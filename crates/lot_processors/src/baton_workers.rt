@@ -85,7 +85,8 @@ fn actor_turns(
     requires { seat.old.station ≡ station.now.id }
     ensures kept { seat.new.stopped ≡ seat.old.stopped }
     ensures ok { OnOk result (HasMade (turns_for program.now seat.old.actor) seat.old seat.new) }
-    ensures err { IfErr result (λ fault. HasStopped program.now (turns_for program.now seat.old.actor) fault seat.old seat.new) }
+    ensures err { IfErr result (λ fault. HasStopped program.now
+        (turns_for program.now seat.old.actor) fault seat.old seat.new) }
 {
     if seat.actor() == 0 {
         command_turns(rt, station, program, seat)

@@ -84,7 +84,8 @@ fn run_system<
     requires empty { system.history ≡ [] }
     requires setting { system.setting ≡ free_setting program.now }
     requires turns { (turns.name ≡ T.name) × (turns.parts ≡ T.parts) × (T.parts ≡ program.now.limits.processors + 1) }
-    requires quanta { (quanta.name ≡ Q.name) × (quanta.parts ≡ Q.parts) × (Q.parts ≡ program.now.limits.processors + 1) }
+    requires quanta { (quanta.name ≡ Q.name) × (quanta.parts ≡ Q.parts)
+        × (Q.parts ≡ program.now.limits.processors + 1) }
     requires ticks { (ticks.name ≡ K.name) × (ticks.parts ≡ K.parts) × (K.parts ≡ program.now.limits.processors + 1) }
     requires ledger { T.setting ≡ system.setting }
     ensures setting { IfOk result (λ closed. closed.setting ≡ system.setting) }

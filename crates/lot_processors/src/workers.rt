@@ -1,6 +1,7 @@
 //! One worker for each seat.
 ghost use Rattle.std.specs.Prelude.{◌≡◌, All, IfErr, IfSome, OnOk, None, length};
-ghost use Rattle.lot_processors.specs.Workers.{AllMade, FirstStops, HasMade, HasStopped, HasWorked, IsFirstFault, fault_in, turns_for};
+ghost use Rattle.lot_processors.specs.Workers.{AllMade, FirstStops, HasMade, HasStopped, HasWorked, IsFirstFault};
+ghost use Rattle.lot_processors.specs.Workers.{fault_in, turns_for};
 
 use crate::{Gate, RunFault};
 use lot_station::{Seat, Station, TurnLedger};
@@ -86,7 +87,8 @@ fn actor_turns<T: TurnLedger, Q: Ledger, K: Ledger>(
 ) -> Result<(), TurnFault>
     ensures kept { seat.new.stopped ≡ seat.old.stopped }
     ensures ok { OnOk result (HasMade station.now (turns_for program.now seat.old.actor) seat.old seat.new) }
-    ensures err { IfErr result (λ fault. HasStopped station.now program.now (turns_for program.now seat.old.actor) fault seat.old seat.new) }
+    ensures err { IfErr result (λ fault. HasStopped station.now program.now
+        (turns_for program.now seat.old.actor) fault seat.old seat.new) }
 {
     if seat.actor() == 0 {
         command_turns(rt, station, program, seat)
@@ -105,7 +107,8 @@ fn command_turns<T: TurnLedger, Q: Ledger, K: Ledger>(
     requires { seat.old.actor ≡ 0 }
     ensures kept { seat.new.stopped ≡ seat.old.stopped }
     ensures ok { OnOk result (HasMade station.now (length program.now.commands) seat.old seat.new) }
-    ensures err { IfErr result (λ fault. HasStopped station.now program.now (length program.now.commands) fault seat.old seat.new) }
+    ensures err { IfErr result (λ fault. HasStopped station.now program.now
+        (length program.now.commands) fault seat.old seat.new) }
 {
     let commands = program.commands().len();
     for _turn in 0..commands {

@@ -8,6 +8,7 @@ ghost use Rattle.lot_queues.specs.QueueLists.{QueueLists, IsNowhere};
 
 /// If each thread in a queue has that queue's status, a thread that is Ready, runs or has ended stands in none.
 pub fn others_stand_nowhere()
-    ensures { (records : List Record) (q : QueueLists) (t : ℕ) (status : Status) → HasQueues records q.clients q.ports q.mutexes
+    ensures { (records : List Record) (q : QueueLists) (t : ℕ) (status : Status)
+        → HasQueues records q.clients q.ports q.mutexes
         → status_of records t ≡ Some status → IsTrue (is_live_status status || is_dead status) → IsNowhere q t }
 {}

@@ -1,11 +1,13 @@
 //! The queues.
-ghost use Rattle.std.specs.Prelude.{◌≡◌, ◌↔◌, ◌+◌, ◌<◌, ◌≤◌, ◌^◌, ◌++◌, ◌∷◌, [], ℕ, IfNone, IfOk, IfSome, IsTrue, drop, length, map, remove, option_map, slice_get, vec_len, vec_capacity};
+ghost use Rattle.std.specs.Prelude.{◌≡◌, ◌↔◌, ◌+◌, ◌<◌, ◌≤◌, ◌^◌, ◌++◌, ◌∷◌, [], ℕ, IfNone, IfOk, IfSome, IsTrue, drop};
+ghost use Rattle.std.specs.Prelude.{length, map, remove, option_map, slice_get, vec_len, vec_capacity};
 ghost use Rattle.lot_machine.specs.Numbered.{set_number};
 ghost use Rattle.lot_machine.specs.Ports as machine;
 ghost use Rattle.lot_machine.specs.Ports.{port_at, clients_of, with_client};
 ghost use Rattle.lot_machine.specs.Mutexes.{mutex_at};
 ghost use Rattle.lot_lists.specs.NodeLists.{nodes_of, node_at, IsFree, IsConsistent};
-ghost use Rattle.lot_queues.specs.QueueLists.{IsThere, IsNowhere, IsWaiter, empty_queues, with_calls, with_receivers, with_waiters, with_owner};
+ghost use Rattle.lot_queues.specs.QueueLists.{IsThere, IsNowhere, IsWaiter, empty_queues, with_calls, with_receivers};
+ghost use Rattle.lot_queues.specs.QueueLists.{with_waiters, with_owner};
 ghost use Rattle.lot_queues.specs.Calls.{queued_call};
 ghost use Rattle.lot_queues.specs.Fields.{relisted, threads_in, call_of};
 
@@ -39,9 +41,21 @@ impl Model for Queues {
 
     ghost use Rattle.lot_queues.specs.Fields.{seen, IsLaidOut};
 
-    ghost view = { λ s. seen (record { lists = s.lists; sent = s.sent.items; owners = s.owners.items; threads = s.threads; layout = s.layout }) };
+    ghost view = { λ s. seen (record {
+      lists = s.lists;
+      sent = s.sent.items;
+      owners = s.owners.items;
+      threads = s.threads;
+      layout = s.layout;
+    }) };
 
-    ghost invariant = { λ s. IsLaidOut (record { lists = s.lists; sent = s.sent.items; owners = s.owners.items; threads = s.threads; layout = s.layout }) };
+    ghost invariant = { λ s. IsLaidOut (record {
+      lists = s.lists;
+      sent = s.sent.items;
+      owners = s.owners.items;
+      threads = s.threads;
+      layout = s.layout;
+    }) };
 }
 
 impl Queues {
@@ -114,7 +128,10 @@ impl Queues {
         requires port_there { IsThere self.old.ports port }
         requires thread_there { IsThere self.old.clients caller }
         requires nowhere { IsNowhere self.old caller }
-        ensures { self.new ≡ record self.old { ports = with_calls self.old.ports port ((port_at self.old.ports port).calls ++ record { caller = caller; number = number } ∷ []) } }
+        ensures { self.new ≡ record self.old {
+          ports = with_calls self.old.ports port
+              ((port_at self.old.ports port).calls ++ record { caller = caller; number = number } ∷ []);
+        } }
     {
         let node = node_of(caller);
         self.lists.push_back(self.layout.calls(port), node);
@@ -125,7 +142,10 @@ impl Queues {
     pub fn take_call(&mut self, port: u32) -> Option<TakenCall>
         requires port_there { IsThere self.old.ports port }
         ensures first { option_map queued_call result ≡ slice_get (port_at self.old.ports port).calls 0 }
-        ensures rest { self.new ≡ record self.old { ports = with_calls self.old.ports port (drop 1 (port_at self.old.ports port).calls) } }
+        ensures rest { self.new ≡ record self.old {
+          ports = with_calls self.old.ports port
+              (drop 1 (port_at self.old.ports port).calls);
+        } }
         ensures unchanged { IfNone result (self.new ≡ self.old) }
         ensures there { IfSome result (λ call. IsThere self.new.clients call.caller) }
         ensures nowhere { IfSome result (λ call. IsNowhere self.new call.caller) }
@@ -140,7 +160,10 @@ impl Queues {
         requires port_there { IsThere self.old.ports port }
         requires thread_there { IsThere self.old.clients thread }
         requires nowhere { IsNowhere self.old thread }
-        ensures { self.new ≡ record self.old { ports = with_receivers self.old.ports port ((port_at self.old.ports port).receivers ++ thread ∷ []) } }
+        ensures { self.new ≡ record self.old {
+          ports = with_receivers self.old.ports port
+              ((port_at self.old.ports port).receivers ++ thread ∷ []);
+        } }
     {
         self.lists
             .push_back(self.layout.receivers(port), node_of(thread));
@@ -150,7 +173,10 @@ impl Queues {
     pub fn take_receiver(&mut self, port: u32) -> Option<u32>
         requires port_there { IsThere self.old.ports port }
         ensures first { result ≡ slice_get (port_at self.old.ports port).receivers 0 }
-        ensures rest { self.new ≡ record self.old { ports = with_receivers self.old.ports port (drop 1 (port_at self.old.ports port).receivers) } }
+        ensures rest { self.new ≡ record self.old {
+          ports = with_receivers self.old.ports port
+              (drop 1 (port_at self.old.ports port).receivers);
+        } }
         ensures unchanged { IfNone result (self.new ≡ self.old) }
         ensures there { IfSome result (IsThere self.new.clients) }
         ensures nowhere { IfSome result (IsNowhere self.new) }
@@ -182,7 +208,10 @@ impl Queues {
     pub fn take_client(&mut self, server: u32) -> Option<u32>
         requires server_there { IsThere self.old.clients server }
         ensures first { result ≡ machine.first_client self.old.clients server }
-        ensures rest { self.new ≡ record self.old { clients = set_number self.old.clients server (drop 1 (clients_of self.old.clients server)) } }
+        ensures rest { self.new ≡ record self.old {
+          clients = set_number self.old.clients server
+              (drop 1 (clients_of self.old.clients server));
+        } }
         ensures unchanged { IfNone result (self.new ≡ self.old) }
         ensures there { IfSome result (IsThere self.new.clients) }
         ensures nowhere { IfSome result (IsNowhere self.new) }
@@ -220,7 +249,10 @@ impl Queues {
         requires mutex_there { IsThere self.old.mutexes mutex }
         requires thread_there { IsThere self.old.clients thread }
         requires nowhere { IsNowhere self.old thread }
-        ensures { self.new ≡ record self.old { mutexes = with_waiters self.old.mutexes mutex ((mutex_at self.old.mutexes mutex).waiters ++ thread ∷ []) } }
+        ensures { self.new ≡ record self.old {
+          mutexes = with_waiters self.old.mutexes mutex
+              ((mutex_at self.old.mutexes mutex).waiters ++ thread ∷ []);
+        } }
     {
         self.lists
             .push_back(self.layout.waiters(mutex), node_of(thread));
@@ -230,7 +262,10 @@ impl Queues {
     pub fn take_waiter(&mut self, thread: u32)
         requires waits { IsWaiter self.old.mutexes thread }
         ensures taken { (m place : ℕ) → slice_get (mutex_at self.old.mutexes m).waiters place ≡ Some thread
-            → self.new ≡ record self.old { mutexes = with_waiters self.old.mutexes m (remove (mutex_at self.old.mutexes m).waiters place) } }
+            → self.new ≡ record self.old {
+              mutexes = with_waiters self.old.mutexes m
+                  (remove (mutex_at self.old.mutexes m).waiters place);
+            } }
         ensures there { IsThere self.new.clients thread }
         ensures nowhere { IsNowhere self.new thread }
         ensures others { (t : ℕ) → IsNowhere self.old t → IsNowhere self.new t }

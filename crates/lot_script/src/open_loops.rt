@@ -44,7 +44,8 @@ impl Model for OpenLoops {
 
     ghost inverse = { λ loops. record { stack = record { items = reverse loops } } };
 
-    ghost inverse_ok = { λ l h. ap (λ loops. record { stack = record { items = loops } }) (reverse-reverse l.stack.items) };
+    ghost inverse_ok = { λ l h. ap (λ loops. record { stack = record { items = loops } })
+        (reverse-reverse l.stack.items) };
 
     ghost invariant = { λ l. length l.stack.items ≤ 8 };
 }

@@ -26,7 +26,12 @@ impl Model for Place {
 
     ghost view = { λ c. record { line = c.line; done = c.done; loops = c.loops; accumulator = c.accumulator } };
 
-    ghost inverse = { λ place. record { line = place.line; done = place.done; loops = place.loops; accumulator = place.accumulator } };
+    ghost inverse = { λ place. record {
+      line = place.line;
+      done = place.done;
+      loops = place.loops;
+      accumulator = place.accumulator;
+    } };
 }
 
 impl Place {
@@ -109,7 +114,11 @@ impl Place {
     /// Adds this number to the accumulator, modulo 2^32.
     pub(crate) fn add(&mut self, number: u32)
         requires { self.old.line < 1024 }
-        ensures { self.new ≡ record self.old { line = self.old.line + 1; done = 0; accumulator = (self.old.accumulator + number) % 4294967296 } }
+        ensures { self.new ≡ record self.old {
+          line = self.old.line + 1;
+          done = 0;
+          accumulator = (self.old.accumulator + number) % 4294967296;
+        } }
     {
         self.accumulator = self.accumulator.wrapping_add(number);
         self.leave_line();
@@ -120,7 +129,11 @@ impl Place {
         requires line { self.old.line < 1024 }
         requires times { IsBetween 1 65535 times }
         requires room { length self.old.loops < 8 }
-        ensures { self.new ≡ record self.old { line = self.old.line + 1; done = 0; loops = record { body = self.old.line + 1; left = times - 1 } ∷ self.old.loops } }
+        ensures { self.new ≡ record self.old {
+          line = self.old.line + 1;
+          done = 0;
+          loops = record { body = self.old.line + 1; left = times - 1 } ∷ self.old.loops;
+        } }
     {
         self.leave_line();
         self.loops.push(OpenLoop {
@@ -133,8 +146,10 @@ impl Place {
     pub(crate) fn end_copy(&mut self)
         requires line { self.old.line < 1024 }
         requires open { 0 < length self.old.loops }
-        ensures again { (o : OpenLoopRecord) (outer : List OpenLoopRecord) → self.old.loops ≡ o ∷ outer → 0 < o.left → self.new ≡ record self.old { line = o.body; done = 0; loops = record o { left = o.left - 1 } ∷ outer } }
-        ensures following { (o : OpenLoopRecord) (outer : List OpenLoopRecord) → self.old.loops ≡ o ∷ outer → o.left ≡ 0 → self.new ≡ record self.old { line = self.old.line + 1; done = 0; loops = outer } }
+        ensures again { (o : OpenLoopRecord) (outer : List OpenLoopRecord) → self.old.loops ≡ o ∷ outer → 0 < o.left
+            → self.new ≡ record self.old { line = o.body; done = 0; loops = record o { left = o.left - 1 } ∷ outer } }
+        ensures following { (o : OpenLoopRecord) (outer : List OpenLoopRecord) → self.old.loops ≡ o ∷ outer
+            → o.left ≡ 0 → self.new ≡ record self.old { line = self.old.line + 1; done = 0; loops = outer } }
     {
         let innermost = self.loops.pop();
         if innermost.left == 0 {

@@ -25,9 +25,23 @@ impl<'a> Model for Slice<'a> {
 
     ghost Value = { Parts };
 
-    ghost view = { λ s. record { lines = s.script.now; start = s.start; budget = s.budget; ticks = s.ticks; trap = s.trap; end = s.end } };
+    ghost view = { λ s. record {
+      lines = s.script.now;
+      start = s.start;
+      budget = s.budget;
+      ticks = s.ticks;
+      trap = s.trap;
+      end = s.end;
+    } };
 
-    ghost invariant = { λ s. IsSlice (record { lines = s.script.now; start = s.start; budget = s.budget; ticks = s.ticks; trap = s.trap; end = s.end }) };
+    ghost invariant = { λ s. IsSlice (record {
+      lines = s.script.now;
+      start = s.start;
+      budget = s.budget;
+      ticks = s.ticks;
+      trap = s.trap;
+      end = s.end;
+    }) };
 }
 
 impl<'a> Slice<'a> {
@@ -104,7 +118,14 @@ impl Script {
     pub fn pass_slice(&self, place: &mut Place, budget: u32) -> SliceDone
         requires fits { Fits self.now place.old }
         requires budget { IsBetween 1 1000 budget }
-        ensures { IsSlice (record { lines = self.now; start = place.old; budget = budget; ticks = result.ticks; trap = result.trap; end = place.new }) }
+        ensures { IsSlice (record {
+          lines = self.now;
+          start = place.old;
+          budget = budget;
+          ticks = result.ticks;
+          trap = result.trap;
+          end = place.new;
+        }) }
     {
         let mut ticks = 0;
         while ticks < budget {

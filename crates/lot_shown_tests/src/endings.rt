@@ -8,7 +8,8 @@ use lot_system::Played;
 
 /// Whether a run was played to its end and has written something, or lacked memory and has written nothing.
 pub fn has_written_or_lacked_memory(ended: Result<Played, IoFault>, written: usize) -> bool
-    ensures { IsTrue result ↔ (((ended ≡ Ok came.Done) × (0 < written)) ⊎ ((ended ≡ Err faults.Memory) × (written ≡ 0))) }
+    ensures { IsTrue result ↔ (((ended ≡ Ok came.Done) × (0 < written))
+        ⊎ ((ended ≡ Err faults.Memory) × (written ≡ 0))) }
 {
     match ended {
         Ok(Played::Done) => written > 0,

@@ -39,8 +39,8 @@ impl Format {
         }
     }
 
-    /// Whether turns come in the order of time; otherwise a schedule says whose they are. Such an input says how long it
-    /// runs and when its commands are made, and each line that is printed of a turn begins with its time.
+    /// Whether turns come in the order of time; otherwise a schedule says whose they are. Such an input says how long
+    /// it runs and when its commands are made, and each line that is printed of a turn begins with its time.
     #[inline(always)]
     pub fn is_timed(self) -> bool
         ensures { result ≡ formats.is_timed self }

@@ -13,15 +13,19 @@ ghost use Rattle.lot_simulation.specs.TimedReport.{actor_turns, clock_at, idle_u
 /// turns.
 pub fn actors_add_up()
     ensures turns { (program : Program) (room : ℕ) (history : List ℕ) → IsLegal program room history
-        → sum_by (λ actor. length (turns_of actor (turns_made program history))) (range_with_len 0 (program.limits.processors + 1)) ≡ length history }
-    ensures counts { (count : Reply → ℕ) (program : Program) (room : ℕ) (history : List ℕ) → IsLegal program room history
-        → sum_by (λ actor. total_of count (turns_of actor (turns_made program history))) (range_with_len 0 (program.limits.processors + 1)) ≡ total_of count (turns_made program history) }
+        → sum_by (λ actor. length (turns_of actor (turns_made program history)))
+        (range_with_len 0 (program.limits.processors + 1)) ≡ length history }
+    ensures counts { (count : Reply → ℕ) (program : Program) (room : ℕ) (history : List ℕ)
+        → IsLegal program room history
+        → sum_by (λ actor. total_of count (turns_of actor (turns_made program history)))
+        (range_with_len 0 (program.limits.processors + 1)) ≡ total_of count (turns_made program history) }
 {}
 
 /// In the order of time no turn comes before the one before it, if sizes are within their bounds and no command is made
 /// before the one before it.
 pub fn times_never_fall()
-    ensures { (program : Program) → IsWithinBounds program.limits → IsNonDecreasing program.times → IsNonDecreasing (map (λ done. done.time) (timed_turns program)) }
+    ensures { (program : Program) → IsWithinBounds program.limits → IsNonDecreasing program.times
+        → IsNonDecreasing (map (λ done. done.time) (timed_turns program)) }
 {}
 
 /// Turns in the order of time are a run of the system. If each command has its time, their actors are a legal history.
@@ -29,7 +33,8 @@ pub fn times_never_fall()
 pub fn timed_turns_are_a_run()
     ensures legal { (program : Program) → length program.times ≡ length program.commands
         → IsLegal program timed_room (timed_schedule program) }
-    ensures turns { (program : Program) → actor_turns (timed_turns program) ≡ turns_made program (timed_schedule program) }
+    ensures turns { (program : Program)
+        → actor_turns (timed_turns program) ≡ turns_made program (timed_schedule program) }
     ensures world { (program : Program) → (last_moment program).world ≡ system_run program (timed_schedule program) }
 {}
 
@@ -61,12 +66,15 @@ pub fn timed_threads_add_up()
 /// In the same report the processors' quanta, idle draws and ticks add up to its totals, if each command has its time.
 pub fn timed_processors_add_up()
     ensures quanta { (program : Program) → length program.times ≡ length program.commands
-        → sum_by (λ p. total_of quanta_in (turns_of p (actor_turns (timed_turns program)))) (range_with_len 1 program.limits.processors)
+        → sum_by (λ p. total_of quanta_in (turns_of p (actor_turns (timed_turns program))))
+        (range_with_len 1 program.limits.processors)
         ≡ total_of quanta_in (actor_turns (timed_turns program)) }
     ensures idles { (program : Program) → length program.times ≡ length program.commands
-        → sum_by (λ p. total_of idles_in (turns_of p (actor_turns (timed_turns program)))) (range_with_len 1 program.limits.processors)
+        → sum_by (λ p. total_of idles_in (turns_of p (actor_turns (timed_turns program))))
+        (range_with_len 1 program.limits.processors)
         ≡ total_of idles_in (actor_turns (timed_turns program)) }
     ensures ticks { (program : Program) → length program.times ≡ length program.commands
-        → sum_by (λ p. total_of ticks_in (turns_of p (actor_turns (timed_turns program)))) (range_with_len 1 program.limits.processors)
+        → sum_by (λ p. total_of ticks_in (turns_of p (actor_turns (timed_turns program))))
+        (range_with_len 1 program.limits.processors)
         ≡ total_of ticks_in (actor_turns (timed_turns program)) }
 {}

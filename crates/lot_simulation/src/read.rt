@@ -18,13 +18,15 @@ pub fn lines_and_tokens()
 /// Lines that are ignored, and bytes that no line may have.
 #[tactic(auto, unfolding(crate::specs::OnLiterals::texts_on_literals))]
 pub fn lines()
-    ensures spaces { output (text (codes "  lottery  1  " ∷ codes "   " ∷ codes " # any" ∷ (35 ∷ 9 ∷ 200 ∷ []) ∷ [])) ≡ empty_report }
+    ensures spaces { output (text (codes "  lottery  1  " ∷ codes "   " ∷ codes " # any" ∷ (35 ∷ 9 ∷ 200 ∷ []) ∷ []))
+        ≡ empty_report }
     ensures tab { output (text ((9 ∷ []) ∷ [])) ≡ refused_on_line (codes "1 51 BadLine") }
     ensures carriage { output (text ((codes "lottery 1" ++ 13 ∷ []) ∷ [])) ≡ refused_on_line (codes "1 51 BadLine") }
     ensures one_empty { output (10 ∷ []) ≡ refused_on_line (codes "1 50 BadHeader") }
     ensures two_empty { output (10 ∷ 10 ∷ []) ≡ refused_on_line (codes "2 50 BadHeader") }
     ensures comment { output (text (second_line (codes "mktkt 1 base # x"))) ≡ refused_on_line (codes "2 51 BadLine") }
-    ensures earlier { output (text (codes "lottery 1" ∷ codes "script s" ∷ codes "yield" ∷ codes "port p" ∷ [])) ≡ refused_on_line (codes "4 51 BadLine") }
+    ensures earlier { output (text (codes "lottery 1" ∷ codes "script s" ∷ codes "yield" ∷ codes "port p" ∷ []))
+        ≡ refused_on_line (codes "4 51 BadLine") }
 {}
 
 /// The header's order.
@@ -35,12 +37,16 @@ pub fn header()
     ensures alone { output (codes "lottery") ≡ refused_on_line (codes "1 50 BadHeader") }
     ensures other { output (codes "quantum 5") ≡ refused_on_line (codes "1 50 BadHeader") }
     ensures again { output (text (second_line (codes "lottery 1"))) ≡ refused_on_line (codes "2 50 BadHeader") }
-    ensures repeated { output (text (codes "lottery 1" ∷ codes "quantum 5" ∷ codes "quantum x y" ∷ [])) ≡ refused_on_line (codes "3 50 BadHeader") }
+    ensures repeated { output (text (codes "lottery 1" ∷ codes "quantum 5" ∷ codes "quantum x y" ∷ []))
+        ≡ refused_on_line (codes "3 50 BadHeader") }
     ensures inside { output (text (script_of (codes "quantum 5" ∷ []))) ≡ refused_on_line (codes "3 51 BadLine") }
-    ensures following { output (text (script_of [] ++ codes "turns 5" ∷ [])) ≡ refused_on_line (codes "4 50 BadHeader") }
+    ensures following { output (text (script_of [] ++ codes "turns 5" ∷ []))
+        ≡ refused_on_line (codes "4 50 BadHeader") }
     ensures wrong { output (text (second_line (codes "quantum 1001"))) ≡ refused_on_line (codes "2 52 BadNumber") }
-    ensures seeds { output (text (codes "lottery 1" ∷ codes "processors 2" ∷ codes "seed x" ∷ [])) ≡ refused_on_line (codes "3 51 BadLine") }
-    ensures seed { output (text (codes "lottery 1" ∷ codes "processors 2" ∷ codes "seed 1 2147483647" ∷ [])) ≡ refused_on_line (codes "3 52 BadNumber") }
+    ensures seeds { output (text (codes "lottery 1" ∷ codes "processors 2" ∷ codes "seed x" ∷ []))
+        ≡ refused_on_line (codes "3 51 BadLine") }
+    ensures seed { output (text (codes "lottery 1" ∷ codes "processors 2" ∷ codes "seed 1 2147483647" ∷ []))
+        ≡ refused_on_line (codes "3 52 BadNumber") }
 {}
 
 /// Tokens are judged from left to right.
@@ -50,14 +56,21 @@ pub fn tokens()
     ensures listing { output (text (second_line (codes "lstkt 1"))) ≡ refused_on_line (codes "2 51 BadLine") }
     ensures number { output (text (second_line (codes "schedule 007 99"))) ≡ refused_on_line (codes "2 52 BadNumber") }
     ensures actor { output (text (second_line (codes "schedule 99 007"))) ≡ refused_on_line (codes "2 57 BadActor") }
-    ensures above { output (text (second_line (codes "schedule 18446744073709551616"))) ≡ refused_on_line (codes "2 52 BadNumber") }
-    ensures greatest { output (text (second_line (codes "schedule 18446744073709551615"))) ≡ refused_on_line (codes "2 57 BadActor") }
-    ensures long_name { output (text (second_line (codes "mkcur abcdefghijklmnopq"))) ≡ refused_on_line (codes "2 56 TooLong") }
-    ensures long_word { output (text (second_line (codes "abcdefghijklmnopq 1"))) ≡ refused_on_line (codes "2 51 BadLine") }
-    ensures long_port { output (text (second_line (codes "port ABCDEFGHIJKLMNOPQ"))) ≡ refused_on_line (codes "2 56 TooLong") }
-    ensures long_call { output (text (script_of (codes "call abcdefghijklmnopq" ∷ []))) ≡ refused_on_line (codes "3 56 TooLong") }
+    ensures above { output (text (second_line (codes "schedule 18446744073709551616")))
+        ≡ refused_on_line (codes "2 52 BadNumber") }
+    ensures greatest { output (text (second_line (codes "schedule 18446744073709551615")))
+        ≡ refused_on_line (codes "2 57 BadActor") }
+    ensures long_name { output (text (second_line (codes "mkcur abcdefghijklmnopq")))
+        ≡ refused_on_line (codes "2 56 TooLong") }
+    ensures long_word { output (text (second_line (codes "abcdefghijklmnopq 1")))
+        ≡ refused_on_line (codes "2 51 BadLine") }
+    ensures long_port { output (text (second_line (codes "port ABCDEFGHIJKLMNOPQ")))
+        ≡ refused_on_line (codes "2 56 TooLong") }
+    ensures long_call { output (text (script_of (codes "call abcdefghijklmnopq" ∷ [])))
+        ≡ refused_on_line (codes "3 56 TooLong") }
     ensures bad_port { output (text (second_line (codes "port P"))) ≡ refused_on_line (codes "2 51 BadLine") }
-    ensures same_port { output (text (codes "lottery 1" ∷ codes "port p" ∷ codes "mutex p" ∷ codes "port p" ∷ [])) ≡ refused_on_line (codes "4 51 BadLine") }
+    ensures same_port { output (text (codes "lottery 1" ∷ codes "port p" ∷ codes "mutex p" ∷ codes "port p" ∷ []))
+        ≡ refused_on_line (codes "4 51 BadLine") }
 {}
 
 /// Scripts.
@@ -70,7 +83,10 @@ pub fn scripts()
     ensures within { output (text (script_of (codes "script t" ∷ []))) ≡ refused_on_line (codes "3 51 BadLine") }
     ensures outside { output (text (second_line (codes "yield"))) ≡ refused_on_line (codes "2 51 BadLine") }
     ensures no_ticks { output (text (script_of (codes "compute 0" ∷ []))) ≡ refused_on_line (codes "3 52 BadNumber") }
-    ensures eight { output (text (script_of (replicate 8 (codes "loop 1") ++ replicate 8 (codes "end")))) ≡ empty_report }
-    ensures later { output (text (codes "lottery 1" ∷ codes "mkthr a s" ∷ codes "script s" ∷ codes "endscript" ∷ codes "schedule 0" ∷ []))
-        ≡ text (codes "0 refused 14 NoScript" ∷ codes "report" ∷ codes "processor 1 quanta 0 idle 0 ticks 0" ∷ codes "total turns 1 quanta 0 ticks 0" ∷ []) }
+    ensures eight { output (text (script_of (replicate 8 (codes "loop 1") ++ replicate 8 (codes "end"))))
+        ≡ empty_report }
+    ensures later { output (text (codes "lottery 1" ∷ codes "mkthr a s" ∷ codes "script s" ∷ codes "endscript"
+        ∷ codes "schedule 0" ∷ []))
+        ≡ text (codes "0 refused 14 NoScript" ∷ codes "report" ∷ codes "processor 1 quanta 0 idle 0 ticks 0"
+        ∷ codes "total turns 1 quanta 0 ticks 0" ∷ []) }
 {}

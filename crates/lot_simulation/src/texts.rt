@@ -99,8 +99,20 @@ pub fn statuses()
 /// Tickets in a listing: one that funds nothing, and one that funds a currency.
 #[tactic(auto, unfolding(crate::specs::OnLiterals::texts_on_literals))]
 pub fn tickets()
-    ensures without_target { ticket_line Whole 1 2 (record { amount = 30; issuer = codes "base"; target = None; is_active = false; value = 0 })
+    ensures without_target { ticket_line Whole 1 2 (record {
+      amount = 30;
+      issuer = codes "base";
+      target = None;
+      is_active = false;
+      value = 0;
+    })
         ≡ text (codes "ticket 2 amount 30 in base funds - inactive value 0" ∷ []) }
-    ensures with_target { ticket_line Whole 1 3 (record { amount = 40; issuer = codes "base"; target = Some (codes "g"); is_active = true; value = 40 })
+    ensures with_target { ticket_line Whole 1 3 (record {
+      amount = 40;
+      issuer = codes "base";
+      target = Some (codes "g");
+      is_active = true;
+      value = 40;
+    })
         ≡ text (codes "ticket 3 amount 40 in base funds g active value 40" ∷ []) }
 {}

@@ -8,101 +8,222 @@ ghost use Rattle.lot_simulation.specs.Samples.{text, refused_on_line};
 #[tactic(auto, unfolding(crate::specs::OnLiterals::texts_on_literals, crate::specs::Timed::timed_room))]
 pub fn nothing_to_do()
     ensures { output (text (codes "lottery 3" ∷ codes "for 10" ∷ []))
-        ≡ text (codes "0 1 idle" ∷ codes "report" ∷ codes "processor 1 quanta 0 idle 1 ticks 0 unused 10" ∷ codes "total turns 1 quanta 0 ticks 0 refused 0 left 0" ∷ []) }
+        ≡ text (codes "0 1 idle" ∷ codes "report" ∷ codes "processor 1 quanta 0 idle 1 ticks 0 unused 10"
+        ∷ codes "total turns 1 quanta 0 ticks 0 refused 0 left 0" ∷ []) }
 {}
 
 /// Two threads that compute, with shares of 2 to 1. A turn at the end is still made.
 #[tactic(auto, unfolding(crate::specs::OnLiterals::texts_on_literals, crate::specs::Timed::timed_room))]
 pub fn two_spinners()
-    ensures { output (text (codes "lottery 3" ∷ codes "for 300" ∷ codes "script spin" ∷ codes "compute 1000" ∷ codes "endscript" ∷ codes "fundx 10 base a spin" ∷ codes "fundx 5 base b spin" ∷ []))
-        ≡ text (codes "0 0 funded 1 1" ∷ codes "0 0 funded 2 2" ∷ codes "0 1 draw 12.992 of 15 thread 2" ∷ codes "100 1 thread 2 ticks 100 expire" ∷ codes "100 1 draw 13.281 of 15 thread 2" ∷ codes "200 1 thread 2 ticks 100 expire" ∷ codes "200 1 draw 13.921 of 15 thread 2" ∷ codes "300 1 thread 2 ticks 100 expire" ∷ codes "300 1 draw 1.363 of 15 thread 1" ∷ codes "report" ∷ codes "thread 1 a quanta 1 ticks 0 share 0% value 66.666%" ∷ codes "thread 2 b quanta 3 ticks 300 share 100% value 33.333%" ∷ codes "processor 1 quanta 4 idle 0 ticks 300 unused 0" ∷ codes "total turns 9 quanta 4 ticks 300 refused 0 left 0" ∷ []) }
+    ensures { output (text (codes "lottery 3" ∷ codes "for 300" ∷ codes "script spin" ∷ codes "compute 1000"
+        ∷ codes "endscript" ∷ codes "fundx 10 base a spin" ∷ codes "fundx 5 base b spin" ∷ []))
+        ≡ text (codes "0 0 funded 1 1" ∷ codes "0 0 funded 2 2" ∷ codes "0 1 draw 12.992 of 15 thread 2"
+        ∷ codes "100 1 thread 2 ticks 100 expire" ∷ codes "100 1 draw 13.281 of 15 thread 2"
+        ∷ codes "200 1 thread 2 ticks 100 expire" ∷ codes "200 1 draw 13.921 of 15 thread 2"
+        ∷ codes "300 1 thread 2 ticks 100 expire" ∷ codes "300 1 draw 1.363 of 15 thread 1" ∷ codes "report"
+        ∷ codes "thread 1 a quanta 1 ticks 0 share 0% value 66.666%"
+        ∷ codes "thread 2 b quanta 3 ticks 300 share 100% value 33.333%"
+        ∷ codes "processor 1 quanta 4 idle 0 ticks 300 unused 0"
+        ∷ codes "total turns 9 quanta 4 ticks 300 refused 0 left 0" ∷ []) }
 {}
 
 /// A command in the middle of a quantum, which the next draw sees, and one after the end, which is never made.
 #[tactic(auto, unfolding(crate::specs::OnLiterals::texts_on_literals, crate::specs::Timed::timed_room))]
 pub fn commands_in_time()
-    ensures { output (text (codes "lottery 3" ∷ codes "for 250" ∷ codes "script spin" ∷ codes "compute 1000" ∷ codes "endscript" ∷ codes "fundx 10 base a spin" ∷ codes "at 150" ∷ codes "fundx 30 base b spin" ∷ codes "at 251" ∷ codes "unfund 1" ∷ []))
-        ≡ text (codes "0 0 funded 1 1" ∷ codes "0 1 draw 7.992 of 10 thread 1" ∷ codes "100 1 thread 1 ticks 100 expire" ∷ codes "100 1 draw 3.281 of 10 thread 1" ∷ codes "150 0 funded 2 2" ∷ codes "200 1 thread 1 ticks 100 expire" ∷ codes "200 1 draw 23.921 of 40 thread 2" ∷ codes "report" ∷ codes "thread 1 a quanta 2 ticks 200 share 100% value 25%" ∷ codes "thread 2 b quanta 1 ticks 0 share 0% value 75%" ∷ codes "processor 1 quanta 3 idle 0 ticks 200 unused 0" ∷ codes "total turns 7 quanta 3 ticks 200 refused 0 left 1" ∷ []) }
+    ensures { output (text (codes "lottery 3" ∷ codes "for 250" ∷ codes "script spin" ∷ codes "compute 1000"
+        ∷ codes "endscript" ∷ codes "fundx 10 base a spin" ∷ codes "at 150" ∷ codes "fundx 30 base b spin"
+        ∷ codes "at 251" ∷ codes "unfund 1" ∷ []))
+        ≡ text (codes "0 0 funded 1 1" ∷ codes "0 1 draw 7.992 of 10 thread 1"
+        ∷ codes "100 1 thread 1 ticks 100 expire" ∷ codes "100 1 draw 3.281 of 10 thread 1" ∷ codes "150 0 funded 2 2"
+        ∷ codes "200 1 thread 1 ticks 100 expire" ∷ codes "200 1 draw 23.921 of 40 thread 2" ∷ codes "report"
+        ∷ codes "thread 1 a quanta 2 ticks 200 share 100% value 25%"
+        ∷ codes "thread 2 b quanta 1 ticks 0 share 0% value 75%"
+        ∷ codes "processor 1 quanta 3 idle 0 ticks 200 unused 0"
+        ∷ codes "total turns 7 quanta 3 ticks 200 refused 0 left 1" ∷ []) }
 {}
 
 /// A command comes before an expiry of the same time.
 #[tactic(auto, unfolding(crate::specs::OnLiterals::texts_on_literals, crate::specs::Timed::timed_room))]
 pub fn console_first()
-    ensures { output (text (codes "lottery 3" ∷ codes "for 100" ∷ codes "seed 1" ∷ codes "script spin" ∷ codes "compute 1000" ∷ codes "endscript" ∷ codes "fundx 10 base a spin" ∷ codes "at 100" ∷ codes "lsthr" ∷ []))
-        ≡ text (codes "0 0 funded 1 1" ∷ codes "0 1 draw 9.035 of 10 thread 1" ∷ codes "100 0 lsthr 1" ∷ codes "100 thread 1 a running 1 used 0 value 10 weight 10 quanta 1 ticks 0" ∷ codes "100 1 thread 1 ticks 100 expire" ∷ codes "100 1 draw 1.386 of 10 thread 1" ∷ codes "report" ∷ codes "thread 1 a quanta 2 ticks 100 share 100% value 100%" ∷ codes "processor 1 quanta 2 idle 0 ticks 100 unused 0" ∷ codes "total turns 5 quanta 2 ticks 100 refused 0 left 0" ∷ []) }
+    ensures { output (text (codes "lottery 3" ∷ codes "for 100" ∷ codes "seed 1" ∷ codes "script spin"
+        ∷ codes "compute 1000" ∷ codes "endscript" ∷ codes "fundx 10 base a spin" ∷ codes "at 100"
+        ∷ codes "lsthr" ∷ []))
+        ≡ text (codes "0 0 funded 1 1" ∷ codes "0 1 draw 9.035 of 10 thread 1" ∷ codes "100 0 lsthr 1"
+        ∷ codes "100 thread 1 a running 1 used 0 value 10 weight 10 quanta 1 ticks 0"
+        ∷ codes "100 1 thread 1 ticks 100 expire" ∷ codes "100 1 draw 1.386 of 10 thread 1" ∷ codes "report"
+        ∷ codes "thread 1 a quanta 2 ticks 100 share 100% value 100%"
+        ∷ codes "processor 1 quanta 2 idle 0 ticks 100 unused 0"
+        ∷ codes "total turns 5 quanta 2 ticks 100 refused 0 left 0" ∷ []) }
 {}
 
 /// Two processors and one thread. The one that finds nobody waits until a turn is made that isn't an idle draw.
 #[tactic(auto, unfolding(crate::specs::OnLiterals::texts_on_literals, crate::specs::Timed::timed_room))]
 pub fn one_time()
-    ensures { output (text (codes "lottery 3" ∷ codes "processors 2" ∷ codes "quantum 10" ∷ codes "for 25" ∷ codes "script spin" ∷ codes "compute 12" ∷ codes "endscript" ∷ codes "fundx 10 base a spin" ∷ []))
-        ≡ text (codes "0 0 funded 1 1" ∷ codes "0 1 draw 7.992 of 10 thread 1" ∷ codes "0 2 idle" ∷ codes "10 1 thread 1 ticks 10 expire" ∷ codes "10 1 draw 3.281 of 10 thread 1" ∷ codes "10 2 idle" ∷ codes "13 1 thread 1 ticks 3 exit" ∷ codes "13 1 idle" ∷ codes "13 2 idle" ∷ codes "report" ∷ codes "thread 1 a quanta 2 ticks 13 share 100% value 0%" ∷ codes "processor 1 quanta 2 idle 1 ticks 13 unused 12" ∷ codes "processor 2 quanta 0 idle 3 ticks 0 unused 25" ∷ codes "total turns 9 quanta 2 ticks 13 refused 0 left 0" ∷ []) }
+    ensures { output (text (codes "lottery 3" ∷ codes "processors 2" ∷ codes "quantum 10" ∷ codes "for 25"
+        ∷ codes "script spin" ∷ codes "compute 12" ∷ codes "endscript" ∷ codes "fundx 10 base a spin" ∷ []))
+        ≡ text (codes "0 0 funded 1 1" ∷ codes "0 1 draw 7.992 of 10 thread 1" ∷ codes "0 2 idle"
+        ∷ codes "10 1 thread 1 ticks 10 expire" ∷ codes "10 1 draw 3.281 of 10 thread 1" ∷ codes "10 2 idle"
+        ∷ codes "13 1 thread 1 ticks 3 exit" ∷ codes "13 1 idle" ∷ codes "13 2 idle" ∷ codes "report"
+        ∷ codes "thread 1 a quanta 2 ticks 13 share 100% value 0%"
+        ∷ codes "processor 1 quanta 2 idle 1 ticks 13 unused 12"
+        ∷ codes "processor 2 quanta 0 idle 3 ticks 0 unused 25"
+        ∷ codes "total turns 9 quanta 2 ticks 13 refused 0 left 0" ∷ []) }
 {}
 
 /// A call and its reply, and how long the client has waited (4.6).
 #[tactic(auto, unfolding(crate::specs::OnLiterals::texts_on_literals, crate::specs::Timed::timed_room))]
 pub fn waits_for_replies()
-    ensures { output (text (codes "lottery 3" ∷ codes "quantum 10" ∷ codes "for 40" ∷ codes "port p" ∷ codes "script srv" ∷ codes "receive p" ∷ codes "compute 3" ∷ codes "reply" ∷ codes "endscript" ∷ codes "script cli" ∷ codes "set 41" ∷ codes "call p" ∷ codes "endscript" ∷ codes "fundx 5 base s srv" ∷ codes "fundx 3 base c cli" ∷ []))
-        ≡ text (codes "0 0 funded 1 1" ∷ codes "0 0 funded 2 2" ∷ codes "0 1 draw 5.992 of 8 thread 2" ∷ codes "2 1 thread 2 ticks 2 call 1 queued" ∷ codes "2 1 draw 3.281 of 5 thread 1" ∷ codes "3 1 thread 1 ticks 1 receive 1 client 2 got 41" ∷ codes "7 1 thread 1 ticks 4 reply client 2" ∷ codes "8 1 thread 1 ticks 1 exit" ∷ codes "8 1 draw 13.921 of 15 thread 2 got 41" ∷ codes "9 1 thread 2 ticks 1 exit" ∷ codes "9 1 idle" ∷ codes "report" ∷ codes "thread 1 s quanta 1 ticks 6 share 66.666% value 0%" ∷ codes "thread 2 c quanta 2 ticks 3 share 33.333% value 0% reply waits 1 mean 5 longest 5" ∷ codes "processor 1 quanta 3 idle 1 ticks 9 unused 31" ∷ codes "total turns 11 quanta 3 ticks 9 refused 0 left 0" ∷ []) }
+    ensures { output (text (codes "lottery 3" ∷ codes "quantum 10" ∷ codes "for 40" ∷ codes "port p"
+        ∷ codes "script srv" ∷ codes "receive p" ∷ codes "compute 3" ∷ codes "reply" ∷ codes "endscript"
+        ∷ codes "script cli" ∷ codes "set 41" ∷ codes "call p" ∷ codes "endscript" ∷ codes "fundx 5 base s srv"
+        ∷ codes "fundx 3 base c cli" ∷ []))
+        ≡ text (codes "0 0 funded 1 1" ∷ codes "0 0 funded 2 2" ∷ codes "0 1 draw 5.992 of 8 thread 2"
+        ∷ codes "2 1 thread 2 ticks 2 call 1 queued" ∷ codes "2 1 draw 3.281 of 5 thread 1"
+        ∷ codes "3 1 thread 1 ticks 1 receive 1 client 2 got 41" ∷ codes "7 1 thread 1 ticks 4 reply client 2"
+        ∷ codes "8 1 thread 1 ticks 1 exit" ∷ codes "8 1 draw 13.921 of 15 thread 2 got 41"
+        ∷ codes "9 1 thread 2 ticks 1 exit" ∷ codes "9 1 idle" ∷ codes "report"
+        ∷ codes "thread 1 s quanta 1 ticks 6 share 66.666% value 0%"
+        ∷ codes "thread 2 c quanta 2 ticks 3 share 33.333% value 0% reply waits 1 mean 5 longest 5"
+        ∷ codes "processor 1 quanta 3 idle 1 ticks 9 unused 31"
+        ∷ codes "total turns 11 quanta 3 ticks 9 refused 0 left 0" ∷ []) }
 {}
 
 /// A server without tickets that replies and receives in one trap: it is never Ready between two clients.
 #[tactic(auto, unfolding(crate::specs::OnLiterals::texts_on_literals, crate::specs::Timed::timed_room))]
 pub fn serving()
-    ensures { output (text (codes "lottery 3" ∷ codes "quantum 10" ∷ codes "for 60" ∷ codes "port p" ∷ codes "script srv" ∷ codes "receive p" ∷ codes "loop 2" ∷ codes "serve p" ∷ codes "end" ∷ codes "endscript" ∷ codes "script cli" ∷ codes "call p" ∷ codes "endscript" ∷ codes "fundx 1 base s srv" ∷ codes "at 2" ∷ codes "unfund 1" ∷ codes "fundx 3 base a cli" ∷ codes "fundx 2 base b cli" ∷ []))
-        ≡ text (codes "0 0 funded 1 1" ∷ codes "0 1 draw 0.992 of 1 thread 1" ∷ codes "1 1 thread 1 ticks 1 receive 1 waits" ∷ codes "1 1 idle" ∷ codes "2 0 done" ∷ codes "2 0 funded 2 2" ∷ codes "2 0 funded 3 3" ∷ codes "2 1 draw 3.921 of 5 thread 3" ∷ codes "3 1 thread 3 ticks 1 call 1 served by 1" ∷ codes "3 1 draw 4.363 of 23 thread 1 got 0" ∷ codes "5 1 thread 1 ticks 2 reply client 3 receive 1 waits" ∷ codes "5 1 draw 18.738 of 23 thread 3 got 0" ∷ codes "6 1 thread 3 ticks 1 exit" ∷ codes "6 1 draw 1.058 of 3 thread 2" ∷ codes "7 1 thread 2 ticks 1 call 1 served by 1" ∷ codes "7 1 draw 1.828 of 15 thread 1 got 0" ∷ codes "9 1 thread 1 ticks 2 reply client 2 receive 1 waits" ∷ codes "9 1 draw 22.316 of 30 thread 2 got 0" ∷ codes "10 1 thread 2 ticks 1 exit" ∷ codes "10 1 idle" ∷ codes "report" ∷ codes "thread 1 s quanta 3 ticks 5 share 55.555% value 0%" ∷ codes "thread 2 a quanta 2 ticks 2 share 22.222% value 0% reply waits 1 mean 2 longest 2" ∷ codes "thread 3 b quanta 2 ticks 2 share 22.222% value 0% reply waits 1 mean 2 longest 2" ∷ codes "processor 1 quanta 7 idle 2 ticks 9 unused 51" ∷ codes "total turns 20 quanta 7 ticks 9 refused 0 left 0" ∷ []) }
+    ensures { output (text (codes "lottery 3" ∷ codes "quantum 10" ∷ codes "for 60" ∷ codes "port p"
+        ∷ codes "script srv" ∷ codes "receive p" ∷ codes "loop 2" ∷ codes "serve p" ∷ codes "end" ∷ codes "endscript"
+        ∷ codes "script cli" ∷ codes "call p" ∷ codes "endscript" ∷ codes "fundx 1 base s srv" ∷ codes "at 2"
+        ∷ codes "unfund 1" ∷ codes "fundx 3 base a cli" ∷ codes "fundx 2 base b cli" ∷ []))
+        ≡ text (codes "0 0 funded 1 1" ∷ codes "0 1 draw 0.992 of 1 thread 1"
+        ∷ codes "1 1 thread 1 ticks 1 receive 1 waits" ∷ codes "1 1 idle" ∷ codes "2 0 done" ∷ codes "2 0 funded 2 2"
+        ∷ codes "2 0 funded 3 3" ∷ codes "2 1 draw 3.921 of 5 thread 3"
+        ∷ codes "3 1 thread 3 ticks 1 call 1 served by 1" ∷ codes "3 1 draw 4.363 of 23 thread 1 got 0"
+        ∷ codes "5 1 thread 1 ticks 2 reply client 3 receive 1 waits" ∷ codes "5 1 draw 18.738 of 23 thread 3 got 0"
+        ∷ codes "6 1 thread 3 ticks 1 exit" ∷ codes "6 1 draw 1.058 of 3 thread 2"
+        ∷ codes "7 1 thread 2 ticks 1 call 1 served by 1" ∷ codes "7 1 draw 1.828 of 15 thread 1 got 0"
+        ∷ codes "9 1 thread 1 ticks 2 reply client 2 receive 1 waits" ∷ codes "9 1 draw 22.316 of 30 thread 2 got 0"
+        ∷ codes "10 1 thread 2 ticks 1 exit" ∷ codes "10 1 idle" ∷ codes "report"
+        ∷ codes "thread 1 s quanta 3 ticks 5 share 55.555% value 0%"
+        ∷ codes "thread 2 a quanta 2 ticks 2 share 22.222% value 0% reply waits 1 mean 2 longest 2"
+        ∷ codes "thread 3 b quanta 2 ticks 2 share 22.222% value 0% reply waits 1 mean 2 longest 2"
+        ∷ codes "processor 1 quanta 7 idle 2 ticks 9 unused 51"
+        ∷ codes "total turns 20 quanta 7 ticks 9 refused 0 left 0" ∷ []) }
 {}
 
 /// A mutex and its lottery, and how long a thread has waited (6.1).
 #[tactic(auto, unfolding(crate::specs::OnLiterals::texts_on_literals, crate::specs::Timed::timed_room))]
 pub fn waits_for_mutexes()
-    ensures { output (text (codes "lottery 3" ∷ codes "quantum 10" ∷ codes "for 60" ∷ codes "mutex m" ∷ codes "script one" ∷ codes "lock m" ∷ codes "compute 2" ∷ codes "yield" ∷ codes "unlock m" ∷ codes "endscript" ∷ codes "fundx 3 base a one" ∷ codes "fundx 2 base b one" ∷ codes "fundx 1 base c one" ∷ []))
-        ≡ text (codes "0 0 funded 1 1" ∷ codes "0 0 funded 2 2" ∷ codes "0 0 funded 3 3" ∷ codes "0 1 draw 3.992 of 6 thread 2" ∷ codes "1 1 thread 2 ticks 1 lock 1 taken" ∷ codes "4 1 thread 2 ticks 3 yield" ∷ codes "4 1 draw 1.281 of 9 thread 1" ∷ codes "5 1 thread 1 ticks 1 lock 1 waits" ∷ codes "5 1 draw 6.421 of 13.5 thread 2" ∷ codes "6 1 thread 2 ticks 1 unlock 1 to 1 draw 1.363 of 3" ∷ codes "6 1 draw 32.738 of 51 thread 2" ∷ codes "7 1 thread 2 ticks 1 exit" ∷ codes "7 1 draw 22.058 of 31 thread 1" ∷ codes "10 1 thread 1 ticks 3 yield" ∷ codes "10 1 draw 9.828 of 11 thread 1" ∷ codes "11 1 thread 1 ticks 1 unlock 1 free" ∷ codes "12 1 thread 1 ticks 1 exit" ∷ codes "12 1 draw 0.273 of 1 thread 3" ∷ codes "13 1 thread 3 ticks 1 lock 1 taken" ∷ codes "16 1 thread 3 ticks 3 yield" ∷ codes "16 1 draw 2.316 of 2.5 thread 3" ∷ codes "17 1 thread 3 ticks 1 unlock 1 free" ∷ codes "18 1 thread 3 ticks 1 exit" ∷ codes "18 1 idle" ∷ codes "report" ∷ codes "thread 1 a quanta 3 ticks 6 share 33.333% value 0% mutex waits 1 mean 1 longest 1" ∷ codes "thread 2 b quanta 3 ticks 6 share 33.333% value 0%" ∷ codes "thread 3 c quanta 2 ticks 6 share 33.333% value 0%" ∷ codes "processor 1 quanta 8 idle 1 ticks 18 unused 42" ∷ codes "total turns 24 quanta 8 ticks 18 refused 0 left 0" ∷ []) }
+    ensures { output (text (codes "lottery 3" ∷ codes "quantum 10" ∷ codes "for 60" ∷ codes "mutex m"
+        ∷ codes "script one" ∷ codes "lock m" ∷ codes "compute 2" ∷ codes "yield" ∷ codes "unlock m"
+        ∷ codes "endscript" ∷ codes "fundx 3 base a one" ∷ codes "fundx 2 base b one"
+        ∷ codes "fundx 1 base c one" ∷ []))
+        ≡ text (codes "0 0 funded 1 1" ∷ codes "0 0 funded 2 2" ∷ codes "0 0 funded 3 3"
+        ∷ codes "0 1 draw 3.992 of 6 thread 2" ∷ codes "1 1 thread 2 ticks 1 lock 1 taken"
+        ∷ codes "4 1 thread 2 ticks 3 yield" ∷ codes "4 1 draw 1.281 of 9 thread 1"
+        ∷ codes "5 1 thread 1 ticks 1 lock 1 waits" ∷ codes "5 1 draw 6.421 of 13.5 thread 2"
+        ∷ codes "6 1 thread 2 ticks 1 unlock 1 to 1 draw 1.363 of 3" ∷ codes "6 1 draw 32.738 of 51 thread 2"
+        ∷ codes "7 1 thread 2 ticks 1 exit" ∷ codes "7 1 draw 22.058 of 31 thread 1"
+        ∷ codes "10 1 thread 1 ticks 3 yield" ∷ codes "10 1 draw 9.828 of 11 thread 1"
+        ∷ codes "11 1 thread 1 ticks 1 unlock 1 free" ∷ codes "12 1 thread 1 ticks 1 exit"
+        ∷ codes "12 1 draw 0.273 of 1 thread 3" ∷ codes "13 1 thread 3 ticks 1 lock 1 taken"
+        ∷ codes "16 1 thread 3 ticks 3 yield" ∷ codes "16 1 draw 2.316 of 2.5 thread 3"
+        ∷ codes "17 1 thread 3 ticks 1 unlock 1 free" ∷ codes "18 1 thread 3 ticks 1 exit" ∷ codes "18 1 idle"
+        ∷ codes "report" ∷ codes "thread 1 a quanta 3 ticks 6 share 33.333% value 0% mutex waits 1 mean 1 longest 1"
+        ∷ codes "thread 2 b quanta 3 ticks 6 share 33.333% value 0%"
+        ∷ codes "thread 3 c quanta 2 ticks 6 share 33.333% value 0%"
+        ∷ codes "processor 1 quanta 8 idle 1 ticks 18 unused 42"
+        ∷ codes "total turns 24 quanta 8 ticks 18 refused 0 left 0" ∷ []) }
 {}
 
 /// Three threads that share 100 of base: values have at most three digits after the point (4.4).
 #[tactic(auto, unfolding(crate::specs::OnLiterals::texts_on_literals, crate::specs::Timed::timed_room))]
 pub fn behind_the_point()
-    ensures { output (text (codes "lottery 3" ∷ codes "for 1" ∷ codes "script s" ∷ codes "compute 5" ∷ codes "endscript" ∷ codes "mkcur g" ∷ codes "mktkt 100 base" ∷ codes "fund 1 g" ∷ codes "fundx 1 g a s" ∷ codes "fundx 1 g b s" ∷ codes "fundx 1 g c s" ∷ codes "lscur" ∷ codes "lsthr" ∷ []))
-        ≡ text (codes "0 0 currency 1" ∷ codes "0 0 ticket 1" ∷ codes "0 0 done" ∷ codes "0 0 funded 2 1" ∷ codes "0 0 funded 3 2" ∷ codes "0 0 funded 4 3" ∷ codes "0 0 lscur 2" ∷ codes "0 currency 0 base backing 0 issued 1 active 100 value 100" ∷ codes "0 currency 1 g backing 1 issued 3 active 3 value 100" ∷ codes "0 0 lsthr 3" ∷ codes "0 thread 1 a ready value 33.332 weight 33.332 quanta 0 ticks 0" ∷ codes "0 thread 2 b ready value 33.332 weight 33.332 quanta 0 ticks 0" ∷ codes "0 thread 3 c ready value 33.332 weight 33.332 quanta 0 ticks 0" ∷ codes "0 1 draw 5.503 of 99.996 thread 1" ∷ codes "report" ∷ codes "thread 1 a quanta 1 ticks 0 share 0% value 33.333%" ∷ codes "thread 2 b quanta 0 ticks 0 share 0% value 33.333%" ∷ codes "thread 3 c quanta 0 ticks 0 share 0% value 33.333%" ∷ codes "processor 1 quanta 1 idle 0 ticks 0 unused 0" ∷ codes "total turns 9 quanta 1 ticks 0 refused 0 left 0" ∷ []) }
+    ensures { output (text (codes "lottery 3" ∷ codes "for 1" ∷ codes "script s" ∷ codes "compute 5"
+        ∷ codes "endscript" ∷ codes "mkcur g" ∷ codes "mktkt 100 base" ∷ codes "fund 1 g" ∷ codes "fundx 1 g a s"
+        ∷ codes "fundx 1 g b s" ∷ codes "fundx 1 g c s" ∷ codes "lscur" ∷ codes "lsthr" ∷ []))
+        ≡ text (codes "0 0 currency 1" ∷ codes "0 0 ticket 1" ∷ codes "0 0 done" ∷ codes "0 0 funded 2 1"
+        ∷ codes "0 0 funded 3 2" ∷ codes "0 0 funded 4 3" ∷ codes "0 0 lscur 2"
+        ∷ codes "0 currency 0 base backing 0 issued 1 active 100 value 100"
+        ∷ codes "0 currency 1 g backing 1 issued 3 active 3 value 100" ∷ codes "0 0 lsthr 3"
+        ∷ codes "0 thread 1 a ready value 33.332 weight 33.332 quanta 0 ticks 0"
+        ∷ codes "0 thread 2 b ready value 33.332 weight 33.332 quanta 0 ticks 0"
+        ∷ codes "0 thread 3 c ready value 33.332 weight 33.332 quanta 0 ticks 0"
+        ∷ codes "0 1 draw 5.503 of 99.996 thread 1" ∷ codes "report"
+        ∷ codes "thread 1 a quanta 1 ticks 0 share 0% value 33.333%"
+        ∷ codes "thread 2 b quanta 0 ticks 0 share 0% value 33.333%"
+        ∷ codes "thread 3 c quanta 0 ticks 0 share 0% value 33.333%"
+        ∷ codes "processor 1 quanta 1 idle 0 ticks 0 unused 0"
+        ∷ codes "total turns 9 quanta 1 ticks 0 refused 0 left 0" ∷ []) }
 {}
 
 /// Commands that are refused are counted.
 #[tactic(auto, unfolding(crate::specs::OnLiterals::texts_on_literals, crate::specs::Timed::timed_room))]
 pub fn refused_commands()
-    ensures { output (text (codes "lottery 3" ∷ codes "for 1" ∷ codes "mktkt 0 base" ∷ codes "mkthr a none" ∷ codes "fund 9 a" ∷ []))
-        ≡ text (codes "0 0 refused 6 BadAmount" ∷ codes "0 0 refused 14 NoScript" ∷ codes "0 0 refused 4 NoTicket" ∷ codes "0 1 idle" ∷ codes "report" ∷ codes "processor 1 quanta 0 idle 1 ticks 0 unused 1" ∷ codes "total turns 4 quanta 0 ticks 0 refused 3 left 0" ∷ []) }
+    ensures { output (text (codes "lottery 3" ∷ codes "for 1" ∷ codes "mktkt 0 base" ∷ codes "mkthr a none"
+        ∷ codes "fund 9 a" ∷ []))
+        ≡ text (codes "0 0 refused 6 BadAmount" ∷ codes "0 0 refused 14 NoScript" ∷ codes "0 0 refused 4 NoTicket"
+        ∷ codes "0 1 idle" ∷ codes "report" ∷ codes "processor 1 quanta 0 idle 1 ticks 0 unused 1"
+        ∷ codes "total turns 4 quanta 0 ticks 0 refused 3 left 0" ∷ []) }
 {}
 
 /// A thread that waits for good: nothing is due any more, and the processor waits to the end.
 #[tactic(auto, unfolding(crate::specs::OnLiterals::texts_on_literals, crate::specs::Timed::timed_room))]
 pub fn waits_for_good()
-    ensures { output (text (codes "lottery 3" ∷ codes "quantum 10" ∷ codes "for 50" ∷ codes "port p" ∷ codes "script cli" ∷ codes "call p" ∷ codes "endscript" ∷ codes "fundx 1 base c cli" ∷ []))
-        ≡ text (codes "0 0 funded 1 1" ∷ codes "0 1 draw 0.992 of 1 thread 1" ∷ codes "1 1 thread 1 ticks 1 call 1 queued" ∷ codes "1 1 idle" ∷ codes "report" ∷ codes "thread 1 c quanta 1 ticks 1 share 100% value 0%" ∷ codes "processor 1 quanta 1 idle 1 ticks 1 unused 49" ∷ codes "total turns 4 quanta 1 ticks 1 refused 0 left 0" ∷ []) }
+    ensures { output (text (codes "lottery 3" ∷ codes "quantum 10" ∷ codes "for 50" ∷ codes "port p"
+        ∷ codes "script cli" ∷ codes "call p" ∷ codes "endscript" ∷ codes "fundx 1 base c cli" ∷ []))
+        ≡ text (codes "0 0 funded 1 1" ∷ codes "0 1 draw 0.992 of 1 thread 1"
+        ∷ codes "1 1 thread 1 ticks 1 call 1 queued" ∷ codes "1 1 idle" ∷ codes "report"
+        ∷ codes "thread 1 c quanta 1 ticks 1 share 100% value 0%"
+        ∷ codes "processor 1 quanta 1 idle 1 ticks 1 unused 49"
+        ∷ codes "total turns 4 quanta 1 ticks 1 refused 0 left 0" ∷ []) }
 {}
 
 /// A thread that has used a third of its quantum weighs three times its value (4.5).
 #[tactic(auto, unfolding(crate::specs::OnLiterals::texts_on_literals, crate::specs::Timed::timed_room))]
 pub fn compensation()
-    ensures { output (text (codes "lottery 3" ∷ codes "quantum 9" ∷ codes "for 12" ∷ codes "seed 5" ∷ codes "script short" ∷ codes "compute 2" ∷ codes "yield" ∷ codes "endscript" ∷ codes "script long" ∷ codes "compute 9" ∷ codes "endscript" ∷ codes "fundx 1 base a short" ∷ codes "fundx 1 base b long" ∷ codes "at 12" ∷ codes "lsthr" ∷ []))
-        ≡ text (codes "0 0 funded 1 1" ∷ codes "0 0 funded 2 2" ∷ codes "0 1 draw 1.082 of 2 thread 2" ∷ codes "9 1 thread 2 ticks 9 expire" ∷ codes "9 1 draw 0.82 of 2 thread 1" ∷ codes "12 0 lsthr 2" ∷ codes "12 thread 1 a running 1 used 0 value 1 weight 1 quanta 1 ticks 0" ∷ codes "12 thread 2 b ready value 1 weight 1 quanta 1 ticks 9" ∷ codes "12 1 thread 1 ticks 3 yield" ∷ codes "12 1 draw 3.257 of 4 thread 2" ∷ codes "report" ∷ codes "thread 1 a quanta 1 ticks 3 share 25% value 50%" ∷ codes "thread 2 b quanta 2 ticks 9 share 75% value 50%" ∷ codes "processor 1 quanta 3 idle 0 ticks 12 unused 0" ∷ codes "total turns 8 quanta 3 ticks 12 refused 0 left 0" ∷ []) }
+    ensures { output (text (codes "lottery 3" ∷ codes "quantum 9" ∷ codes "for 12" ∷ codes "seed 5"
+        ∷ codes "script short" ∷ codes "compute 2" ∷ codes "yield" ∷ codes "endscript" ∷ codes "script long"
+        ∷ codes "compute 9" ∷ codes "endscript" ∷ codes "fundx 1 base a short" ∷ codes "fundx 1 base b long"
+        ∷ codes "at 12" ∷ codes "lsthr" ∷ []))
+        ≡ text (codes "0 0 funded 1 1" ∷ codes "0 0 funded 2 2" ∷ codes "0 1 draw 1.082 of 2 thread 2"
+        ∷ codes "9 1 thread 2 ticks 9 expire" ∷ codes "9 1 draw 0.82 of 2 thread 1" ∷ codes "12 0 lsthr 2"
+        ∷ codes "12 thread 1 a running 1 used 0 value 1 weight 1 quanta 1 ticks 0"
+        ∷ codes "12 thread 2 b ready value 1 weight 1 quanta 1 ticks 9" ∷ codes "12 1 thread 1 ticks 3 yield"
+        ∷ codes "12 1 draw 3.257 of 4 thread 2" ∷ codes "report"
+        ∷ codes "thread 1 a quanta 1 ticks 3 share 25% value 50%"
+        ∷ codes "thread 2 b quanta 2 ticks 9 share 75% value 50%"
+        ∷ codes "processor 1 quanta 3 idle 0 ticks 12 unused 0"
+        ∷ codes "total turns 8 quanta 3 ticks 12 refused 0 left 0" ∷ []) }
 {}
 
 /// Refusals of such inputs; other inputs refuse their words.
 #[tactic(auto, unfolding(crate::specs::OnLiterals::texts_on_literals, crate::specs::Timed::timed_room))]
 pub fn refused_inputs()
-    ensures lacks_body { output (text (codes "lottery 3" ∷ codes "mkcur a" ∷ [])) ≡ refused_on_line (codes "2 50 BadHeader") }
-    ensures lacks_alone { output (text (codes "lottery 3" ∷ codes "quantum 5" ∷ [])) ≡ refused_on_line (codes "2 50 BadHeader") }
-    ensures no_ticks { output (text (codes "lottery 3" ∷ codes "for 0" ∷ [])) ≡ refused_on_line (codes "2 52 BadNumber") }
-    ensures late { output (text (codes "lottery 3" ∷ codes "for 5" ∷ codes "mkcur a" ∷ codes "for 6" ∷ [])) ≡ refused_on_line (codes "4 50 BadHeader") }
-    ensures scheduled { output (text (codes "lottery 3" ∷ codes "for 5" ∷ codes "schedule 0" ∷ [])) ≡ refused_on_line (codes "3 51 BadLine") }
-    ensures runs { output (text (codes "lottery 3" ∷ codes "for 5" ∷ codes "runs 0 1" ∷ [])) ≡ refused_on_line (codes "3 51 BadLine") }
-    ensures falls { output (text (codes "lottery 3" ∷ codes "for 5" ∷ codes "at 3" ∷ codes "at 2" ∷ [])) ≡ refused_on_line (codes "4 52 BadNumber") }
-    ensures alone { output (text (codes "lottery 3" ∷ codes "for 5" ∷ codes "at" ∷ [])) ≡ refused_on_line (codes "3 51 BadLine") }
-    ensures served_nowhere { output (text (codes "lottery 3" ∷ codes "for 5" ∷ codes "script s" ∷ codes "serve p" ∷ [])) ≡ refused_on_line (codes "4 53 UnknownName") }
-    ensures for_in_second { output (text (codes "lottery 2" ∷ codes "for 5" ∷ [])) ≡ refused_on_line (codes "2 51 BadLine") }
-    ensures at_in_first { output (text (codes "lottery 1" ∷ codes "at 5" ∷ [])) ≡ refused_on_line (codes "2 51 BadLine") }
-    ensures serve_in_first { output (text (codes "lottery 1" ∷ codes "port p" ∷ codes "script s" ∷ codes "serve p" ∷ [])) ≡ refused_on_line (codes "4 51 BadLine") }
+    ensures lacks_body { output (text (codes "lottery 3" ∷ codes "mkcur a" ∷ []))
+        ≡ refused_on_line (codes "2 50 BadHeader") }
+    ensures lacks_alone { output (text (codes "lottery 3" ∷ codes "quantum 5" ∷ []))
+        ≡ refused_on_line (codes "2 50 BadHeader") }
+    ensures no_ticks { output (text (codes "lottery 3" ∷ codes "for 0" ∷ []))
+        ≡ refused_on_line (codes "2 52 BadNumber") }
+    ensures late { output (text (codes "lottery 3" ∷ codes "for 5" ∷ codes "mkcur a" ∷ codes "for 6" ∷ []))
+        ≡ refused_on_line (codes "4 50 BadHeader") }
+    ensures scheduled { output (text (codes "lottery 3" ∷ codes "for 5" ∷ codes "schedule 0" ∷ []))
+        ≡ refused_on_line (codes "3 51 BadLine") }
+    ensures runs { output (text (codes "lottery 3" ∷ codes "for 5" ∷ codes "runs 0 1" ∷ []))
+        ≡ refused_on_line (codes "3 51 BadLine") }
+    ensures falls { output (text (codes "lottery 3" ∷ codes "for 5" ∷ codes "at 3" ∷ codes "at 2" ∷ []))
+        ≡ refused_on_line (codes "4 52 BadNumber") }
+    ensures alone { output (text (codes "lottery 3" ∷ codes "for 5" ∷ codes "at" ∷ []))
+        ≡ refused_on_line (codes "3 51 BadLine") }
+    ensures served_nowhere { output (text (codes "lottery 3" ∷ codes "for 5" ∷ codes "script s" ∷ codes "serve p"
+        ∷ [])) ≡ refused_on_line (codes "4 53 UnknownName") }
+    ensures for_in_second { output (text (codes "lottery 2" ∷ codes "for 5" ∷ []))
+        ≡ refused_on_line (codes "2 51 BadLine") }
+    ensures at_in_first { output (text (codes "lottery 1" ∷ codes "at 5" ∷ []))
+        ≡ refused_on_line (codes "2 51 BadLine") }
+    ensures serve_in_first { output (text (codes "lottery 1" ∷ codes "port p" ∷ codes "script s" ∷ codes "serve p"
+        ∷ [])) ≡ refused_on_line (codes "4 51 BadLine") }
     ensures other { output (text (codes "lottery 4" ∷ [])) ≡ refused_on_line (codes "1 50 BadHeader") }
 {}
 
@@ -110,13 +231,23 @@ pub fn refused_inputs()
 /// name of a word, and nothing stands behind `endscript`.
 #[tactic(auto, unfolding(crate::specs::OnLiterals::texts_on_literals, crate::specs::Timed::timed_room))]
 pub fn several_words()
-    ensures same { program_in (text (codes "lottery 3" ∷ codes "for 9" ∷ codes "port end" ∷ codes "script s" ∷ codes "receive end loop 2 compute 5 serve end end yield" ∷ codes "set 7 endscript" ∷ []))
-        ≡ program_in (text (codes "lottery 3" ∷ codes "for 9" ∷ codes "port end" ∷ codes "script s" ∷ codes "receive end" ∷ codes "loop 2" ∷ codes "compute 5" ∷ codes "serve end" ∷ codes "end" ∷ codes "yield" ∷ codes "set 7" ∷ codes "endscript" ∷ [])) }
-    ensures accepted { output (text (codes "lottery 3" ∷ codes "for 1" ∷ codes "script s" ∷ codes "loop 2 compute 5 end endscript" ∷ []))
-        ≡ text (codes "0 1 idle" ∷ codes "report" ∷ codes "processor 1 quanta 0 idle 1 ticks 0 unused 1" ∷ codes "total turns 1 quanta 0 ticks 0 refused 0 left 0" ∷ []) }
-    ensures behind { output (text (codes "lottery 3" ∷ codes "for 9" ∷ codes "script s" ∷ codes "endscript yield" ∷ [])) ≡ refused_on_line (codes "4 51 BadLine") }
-    ensures missing { output (text (codes "lottery 3" ∷ codes "for 9" ∷ codes "script s" ∷ codes "yield compute" ∷ [])) ≡ refused_on_line (codes "4 51 BadLine") }
-    ensures no_word { output (text (codes "lottery 3" ∷ codes "for 9" ∷ codes "script s" ∷ codes "compute 5 7" ∷ [])) ≡ refused_on_line (codes "4 51 BadLine") }
-    ensures first_fault { output (text (codes "lottery 3" ∷ codes "for 9" ∷ codes "script s" ∷ codes "compute 0 nonsense" ∷ [])) ≡ refused_on_line (codes "4 52 BadNumber") }
-    ensures others { output (text (codes "lottery 2" ∷ codes "script s" ∷ codes "yield yield" ∷ [])) ≡ refused_on_line (codes "3 51 BadLine") }
+    ensures same { program_in (text (codes "lottery 3" ∷ codes "for 9" ∷ codes "port end" ∷ codes "script s"
+        ∷ codes "receive end loop 2 compute 5 serve end end yield" ∷ codes "set 7 endscript" ∷ []))
+        ≡ program_in (text (codes "lottery 3" ∷ codes "for 9" ∷ codes "port end" ∷ codes "script s"
+        ∷ codes "receive end" ∷ codes "loop 2" ∷ codes "compute 5" ∷ codes "serve end" ∷ codes "end" ∷ codes "yield"
+        ∷ codes "set 7" ∷ codes "endscript" ∷ [])) }
+    ensures accepted { output (text (codes "lottery 3" ∷ codes "for 1" ∷ codes "script s"
+        ∷ codes "loop 2 compute 5 end endscript" ∷ []))
+        ≡ text (codes "0 1 idle" ∷ codes "report" ∷ codes "processor 1 quanta 0 idle 1 ticks 0 unused 1"
+        ∷ codes "total turns 1 quanta 0 ticks 0 refused 0 left 0" ∷ []) }
+    ensures behind { output (text (codes "lottery 3" ∷ codes "for 9" ∷ codes "script s" ∷ codes "endscript yield"
+        ∷ [])) ≡ refused_on_line (codes "4 51 BadLine") }
+    ensures missing { output (text (codes "lottery 3" ∷ codes "for 9" ∷ codes "script s" ∷ codes "yield compute"
+        ∷ [])) ≡ refused_on_line (codes "4 51 BadLine") }
+    ensures no_word { output (text (codes "lottery 3" ∷ codes "for 9" ∷ codes "script s" ∷ codes "compute 5 7" ∷ []))
+        ≡ refused_on_line (codes "4 51 BadLine") }
+    ensures first_fault { output (text (codes "lottery 3" ∷ codes "for 9" ∷ codes "script s"
+        ∷ codes "compute 0 nonsense" ∷ [])) ≡ refused_on_line (codes "4 52 BadNumber") }
+    ensures others { output (text (codes "lottery 2" ∷ codes "script s" ∷ codes "yield yield" ∷ []))
+        ≡ refused_on_line (codes "3 51 BadLine") }
 {}

@@ -23,7 +23,8 @@ impl<T: TurnLedger, Q: Ledger, K: Ledger> Station<T, Q, K> {
     ) -> Result<Answer, TurnFault>
         ensures ok { IfOk result (λ answer. seat.new ≡ with_turn seat.old answer.reply) }
         ensures err { OnErr result (seat.new ≡ seat.old) }
-        ensures answer { IfOk result (λ answer. AtSome self.now (λ x. Goes x seat.old.actor slice.entry × Answers x seat.old.actor answer)) }
+        ensures answer { IfOk result (λ answer. AtSome self.now
+            (λ x. Goes x seat.old.actor slice.entry × Answers x seat.old.actor answer)) }
         ensures next { IfOk result (λ answer. AtSome self.now (λ x. IsWorkOf x seat.old.actor answer.next)) }
         ensures fault { IfErr result (λ fault. AtSome self.now (λ x. Faults x seat.old.actor slice.entry fault)) }
     {

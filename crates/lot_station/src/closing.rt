@@ -17,13 +17,17 @@ impl<T: TurnLedger, Q: Ledger, K: Ledger> Station<T, Q, K> {
     /// It fails if and only if one of these is so: the seats aren't one for each actor, in order (`SeatMissing`); or
     /// they are, but a share of turns isn't its actor's count in the history (`CountsDiffer`).
     pub fn close(self, seats: Vec<Seat<T, Q, K>>) -> Result<System, CloseFault<T, Q, K>>
-        requires { (T.parts ≡ self.program.limits.processors + 1) × (Q.parts ≡ self.program.limits.processors + 1) × (K.parts ≡ self.program.limits.processors + 1) }
+        requires { (T.parts ≡ self.program.limits.processors + 1) × (Q.parts ≡ self.program.limits.processors + 1)
+            × (K.parts ≡ self.program.limits.processors + 1) }
         ensures setting { IfOk result (λ x. x.setting ≡ self) }
         ensures legal { IfOk result IsLegalIn }
         ensures order { IfOk result (λ x. InOrder self.program.limits.processors seats.items) }
         ensures counts { IfOk result (λ x. CountsAgree x seats.items) }
         ensures sums { IfOk result (λ x. AddUp x seats.items) }
-        ensures err { IfErr result (λ f. ((f ≡ SeatMissing self seats) × (¬ InOrder self.program.limits.processors seats.items)) ⊎ ((x : Seen) × (f ≡ CountsDiffer x seats) × (x.setting ≡ self) × IsLegalIn x × InOrder self.program.limits.processors seats.items × (¬ CountsAgree x seats.items))) }
+        ensures err { IfErr result (λ f. ((f ≡ SeatMissing self seats)
+            × (¬ InOrder self.program.limits.processors seats.items))
+            ⊎ ((x : Seen) × (f ≡ CountsDiffer x seats) × (x.setting ≡ self) × IsLegalIn x
+            × InOrder self.program.limits.processors seats.items × (¬ CountsAgree x seats.items))) }
     {
         if !in_order(self.processors, seats.as_slice()) {
             return Err(CloseFault::SeatMissing(self, seats));
@@ -93,8 +97,11 @@ fn merged<T: TurnLedger, Q: Ledger, K: Ledger>(
     mut seats: Vec<Seat<T, Q, K>>,
 ) -> (Share<T>, Share<Q>, Share<K>)
     requires { 0 < length seats.items }
-    ensures parts { (result.0.parts ≡ length seats.items) × (result.1.parts ≡ length seats.items) × (result.2.parts ≡ length seats.items) }
-    ensures amounts { (result.0.amount ≡ sum_by (λ s. s.turns) seats.items) × (result.1.amount ≡ sum_by (λ s. s.quanta) seats.items) × (result.2.amount ≡ sum_by (λ s. s.ticks) seats.items) }
+    ensures parts { (result.0.parts ≡ length seats.items) × (result.1.parts ≡ length seats.items)
+        × (result.2.parts ≡ length seats.items) }
+    ensures amounts { (result.0.amount ≡ sum_by (λ s. s.turns) seats.items)
+        × (result.1.amount ≡ sum_by (λ s. s.quanta) seats.items)
+        × (result.2.amount ≡ sum_by (λ s. s.ticks) seats.items) }
 {
     let Seat {
         actor: _,

@@ -46,7 +46,8 @@ impl<T: TurnLedger, Q: Ledger, K: Ledger> Desk<T, Q, K> {
     ) -> Result<Answer, TurnFault>
         ensures ok { IfOk result (λ answer. seat.new ≡ with_turn seat.old answer.reply) }
         ensures err { OnErr result (seat.new ≡ seat.old) }
-        ensures answer { IfOk result (λ answer. AtSome T.setting (λ x. Goes x seat.old.actor slice.entry × Answers x seat.old.actor answer)) }
+        ensures answer { IfOk result (λ answer. AtSome T.setting
+            (λ x. Goes x seat.old.actor slice.entry × Answers x seat.old.actor answer)) }
         ensures next { IfOk result (λ answer. AtSome T.setting (λ x. IsWorkOf x seat.old.actor answer.next)) }
         ensures fault { IfErr result (λ fault. AtSome T.setting (λ x. Faults x seat.old.actor slice.entry fault)) }
     {

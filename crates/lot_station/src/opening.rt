@@ -25,9 +25,12 @@ impl<T: TurnLedger, Q: Ledger, K: Ledger> Station<T, Q, K> {
         ticks: Blank,
     ) -> Result<(Station<T, Q, K>, Vec<Seat<T, Q, K>>), AllocError>
         requires setting { system.setting ≡ T.setting }
-        requires turns { (turns.name ≡ T.name) × (turns.parts ≡ T.parts) × (T.parts ≡ system.setting.program.limits.processors + 1) }
-        requires quanta { (quanta.name ≡ Q.name) × (quanta.parts ≡ Q.parts) × (Q.parts ≡ system.setting.program.limits.processors + 1) }
-        requires ticks { (ticks.name ≡ K.name) × (ticks.parts ≡ K.parts) × (K.parts ≡ system.setting.program.limits.processors + 1) }
+        requires turns { (turns.name ≡ T.name) × (turns.parts ≡ T.parts)
+            × (T.parts ≡ system.setting.program.limits.processors + 1) }
+        requires quanta { (quanta.name ≡ Q.name) × (quanta.parts ≡ Q.parts)
+            × (Q.parts ≡ system.setting.program.limits.processors + 1) }
+        requires ticks { (ticks.name ≡ K.name) × (ticks.parts ≡ K.parts)
+            × (K.parts ≡ system.setting.program.limits.processors + 1) }
         ensures station { IfOk result (λ r. r.0 ≡ system.setting) }
         ensures seats { IfOk result (λ r. AreDealt system r.1.items) }
     {
@@ -57,9 +60,12 @@ fn deal<T: TurnLedger, Q: Ledger, K: Ledger>(
 ) -> Result<Vec<Seat<T, Q, K>>, AllocError>
     requires setting { system.now.setting ≡ T.setting }
     requires legal { IsLegal system.now.setting.program system.now.setting.room system.now.history }
-    requires turns { (turns.parts ≡ system.now.setting.program.limits.processors + 1) × (turns.amount ≡ length system.now.history) }
-    requires quanta { (quanta.parts ≡ system.now.setting.program.limits.processors + 1) × (quanta.amount ≡ total_of quanta_in (turns_in system.now)) }
-    requires ticks { (ticks.parts ≡ system.now.setting.program.limits.processors + 1) × (ticks.amount ≡ total_of ticks_in (turns_in system.now)) }
+    requires turns { (turns.parts ≡ system.now.setting.program.limits.processors + 1)
+        × (turns.amount ≡ length system.now.history) }
+    requires quanta { (quanta.parts ≡ system.now.setting.program.limits.processors + 1)
+        × (quanta.amount ≡ total_of quanta_in (turns_in system.now)) }
+    requires ticks { (ticks.parts ≡ system.now.setting.program.limits.processors + 1)
+        × (ticks.amount ≡ total_of ticks_in (turns_in system.now)) }
     ensures { IfOk result (λ seats. AreDealt system.now seats.items) }
 {
     let count = system.processors() as usize + 1;

@@ -24,7 +24,13 @@ impl<T: TurnLedger, Q: Ledger, K: Ledger> Model for Seat<T, Q, K> {
 
     ghost Value = { Holder };
 
-    ghost view = { λ s. record { actor = s.actor; turns = s.turns; quanta = s.quanta; ticks = s.ticks; stopped = s.stopped } };
+    ghost view = { λ s. record {
+      actor = s.actor;
+      turns = s.turns;
+      quanta = s.quanta;
+      ticks = s.ticks;
+      stopped = s.stopped;
+    } };
 
     ghost invariant = { λ s. s.actor ≤ T.setting.program.limits.processors };
 }

@@ -25,7 +25,8 @@ pub fn make_turn<R: Wait>(
 
 /// What the seat has.
 pub fn baton_shares_of(seat: &BatonSeat) -> Shares
-    ensures { (result.0 ≡ (seat_counts seat.now).turns) × (result.1 ≡ (seat_counts seat.now).quanta) × (result.2 ≡ (seat_counts seat.now).ticks) }
+    ensures { (result.0 ≡ (seat_counts seat.now).turns) × (result.1 ≡ (seat_counts seat.now).quanta)
+        × (result.2 ≡ (seat_counts seat.now).ticks) }
 {
     (seat.turns(), seat.quanta(), seat.ticks())
 }

@@ -72,7 +72,8 @@ pub(crate) fn no_counts(alloc: Global, actors: usize) -> Result<Vec<Counts>, All
 pub(crate) fn count_turn(counts: &mut Vec<Counts>, actor: u32, reply: Reply)
     requires there { actor < vec_len counts.old }
     requires bounded { (turns : List ActorTurn) × (n : ℕ) × (n < 4294967295) × AreCounts turns n counts.old.items }
-    ensures exact { (turns : List ActorTurn) (n : ℕ) (e : EventRecord) → AreCounts turns n counts.old.items → AreCounts (turns ++ record { actor = actor; answer = Answered e reply } ∷ []) (n + 1) counts.new.items }
+    ensures exact { (turns : List ActorTurn) (n : ℕ) (e : EventRecord) → AreCounts turns n counts.old.items
+        → AreCounts (turns ++ record { actor = actor; answer = Answered e reply } ∷ []) (n + 1) counts.new.items }
     ensures count { vec_len counts.new ≡ vec_len counts.old }
 {
     let place = actor as usize;

@@ -15,7 +15,8 @@ pub fn write_end<W: Write>(system: &mut System, writer: &mut Watched<W>) -> Resu
     requires { writer.old.failed ≡ false }
     ensures same { system.new ≡ system.old }
     ensures flushed { OnOk result (writer.new.flushed ≡ true) }
-    ensures text { Writes W.contents writer.old writer.new result (end_text system.old.setting.program system.old.history) }
+    ensures text { Writes W.contents writer.old writer.new result
+        (end_text system.old.setting.program system.old.history) }
 {
     write_texts(system, writer)?;
     flush(writer)
@@ -25,7 +26,8 @@ pub fn write_end<W: Write>(system: &mut System, writer: &mut Watched<W>) -> Resu
 fn write_texts<W: Write>(system: &mut System, writer: &mut Watched<W>) -> Result<(), IoFault>
     requires { writer.old.failed ≡ false }
     ensures same { system.new ≡ system.old }
-    ensures text { Writes W.contents writer.old writer.new result (end_text system.old.setting.program system.old.history) }
+    ensures text { Writes W.contents writer.old writer.new result
+        (end_text system.old.setting.program system.old.history) }
 {
     write_report(system, writer)?;
     write_history(writer, system.format(), system.history())

@@ -1,5 +1,6 @@
 //! Making a program's turns in the order of time, and tracking what the report needs in addition to the system.
-ghost use Rattle.std.specs.Prelude.{◌≡◌, ℕ, ◌<◌, ◌≤◌, ◌+◌, ◌^◌, ◌++◌, List, [], ◌∷◌, Some, false, replicate, vec_len, IfNone, IfOk, IfSome};
+ghost use Rattle.std.specs.Prelude.{◌≡◌, ℕ, ◌<◌, ◌≤◌, ◌+◌, ◌^◌, ◌++◌, List, [], ◌∷◌, Some, false, replicate, vec_len};
+ghost use Rattle.std.specs.Prelude.{IfNone, IfOk, IfSome};
 ghost use Rattle.lot_simulation.specs.TimedReport as reports;
 ghost use Rattle.lot_simulation.specs.Timed.{TimedTurn, clocks_after, is_idle_draw};
 ghost use Rattle.lot_simulation.specs.World.{Program as ProgramRecord};
@@ -37,7 +38,8 @@ impl Following {
     /// Before the first turn.
     pub(crate) fn open(alloc: Global, program: &Program) -> Result<Following, AllocError>
         ensures time { IfOk result (λ following. following.timeline.time ≡ 0) }
-        ensures clocks { IfOk result (λ following. following.timeline.clocks.items ≡ replicate program.now.limits.processors (record { time = 0; waits = false; idle = 0 })) }
+        ensures clocks { IfOk result (λ following. following.timeline.clocks.items
+            ≡ replicate program.now.limits.processors (record { time = 0; waits = false; idle = 0 })) }
         ensures room { IfOk result (HasRoomFor program.now) }
         ensures followed { IfOk result (HasFollowed [] 0) }
         ensures legal { IsProgram program.now }
@@ -68,8 +70,12 @@ impl Following {
         requires there { actor ≤ vec_len self.old.timeline.clocks }
         requires followed { (done : List TimedTurn) × (n : ℕ) × (n < 2 ^ 31) × HasFollowed done n self.old }
         ensures time { self.new.timeline.time ≡ time }
-        ensures clocks { self.new.timeline.clocks.items ≡ clocks_after self.old.timeline.clocks.items (record { time = time; actor = actor }) (is_idle_draw (Answered event.now reply)) }
-        ensures followed { (done : List TimedTurn) (n : ℕ) (turn : TimedTurn) → turn.time ≡ time → turn.turn.answer ≡ Answered event.now reply → HasFollowed done n self.old → HasFollowed (done ++ turn ∷ []) (n + 1) self.new }
+        ensures clocks { self.new.timeline.clocks.items
+            ≡ clocks_after self.old.timeline.clocks.items (record { time = time; actor = actor })
+            (is_idle_draw (Answered event.now reply)) }
+        ensures followed { (done : List TimedTurn) (n : ℕ) (turn : TimedTurn) → turn.time ≡ time
+            → turn.turn.answer ≡ Answered event.now reply → HasFollowed done n self.old
+            → HasFollowed (done ++ turn ∷ []) (n + 1) self.new }
         ensures room { (program : ProgramRecord) → HasRoomFor program self.old → HasRoomFor program self.new }
     {
         self.timeline.follow(time, actor, reply);

@@ -60,8 +60,12 @@ pub(crate) fn next_event(
     event: &mut Event,
 )
     requires processor { IsBetween 1 (vec_len generators.old) processor }
-    ensures event { event.new ≡ event_done processor (number_from (is_timed format) (unwrap_or (at_number generators.old.items processor) 0)) done }
-    ensures values { generators.new.items ≡ (if world.takes_number event.new then set_number generators.old.items processor (seed_from (is_timed format) (unwrap_or (at_number generators.old.items processor) 0)) else generators.old.items) }
+    ensures event { event.new ≡ event_done processor (number_from (is_timed format)
+        (unwrap_or (at_number generators.old.items processor) 0)) done }
+    ensures values { generators.new.items
+        ≡ (if world.takes_number event.new
+        then set_number generators.old.items processor (seed_from (is_timed format)
+        (unwrap_or (at_number generators.old.items processor) 0)) else generators.old.items) }
     ensures count { vec_len generators.new ≡ vec_len generators.old }
 {
     if !needs_number(done) {

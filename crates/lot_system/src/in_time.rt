@@ -70,7 +70,8 @@ fn play_next<W: Write>(
     requires followed { IsFollowed program.now system.old following.old }
     requires working { writer.old.failed ≡ false }
     ensures made { IfOk result (MadeNext program.now system.old system.new following.new) }
-    ensures text { Puts W.contents writer.old writer.new page.old page.new result (flat_map timed_text (next_turns program.now system.old)) }
+    ensures text { Puts W.contents writer.old writer.new page.old page.new result
+        (flat_map timed_text (next_turns program.now system.old)) }
 {
     let mut event = Event::Expire(0);
     let Some(told) = make_next(program, system, following, &mut event) else {

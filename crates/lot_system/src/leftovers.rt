@@ -43,7 +43,8 @@ pub struct Leftovers {
 impl Leftovers {
     /// No warnings. It allocates all the memory that noting will ever use.
     pub fn none(alloc: Global) -> Result<Self, AllocError>
-        ensures { IfOk result (λ leftovers. leftovers ≡ record { made = 0; refused = none_kept; unmade = 0; weightless = none_kept; waiting = none_kept }) }
+        ensures { IfOk result (λ leftovers. leftovers
+            ≡ record { made = 0; refused = none_kept; unmade = 0; weightless = none_kept; waiting = none_kept }) }
     {
         Ok(Leftovers {
             made: 0,
@@ -92,7 +93,8 @@ impl Leftovers {
 
     /// Records a thread as it is at the end; `is_over` says whether no thread can run any more.
     fn note_thread(&mut self, system: &mut System, row: ThreadRow, is_over: bool)
-        ensures kept { (self.new.made ≡ self.old.made) × (self.new.refused ≡ self.old.refused) × (self.new.unmade ≡ self.old.unmade) }
+        ensures kept { (self.new.made ≡ self.old.made) × (self.new.refused ≡ self.old.refused)
+            × (self.new.unmade ≡ self.old.unmade) }
         ensures same { system.new ≡ system.old }
     {
         let ThreadRow {

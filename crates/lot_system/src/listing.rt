@@ -28,7 +28,9 @@ pub(crate) fn write_listing<W: Write>(
 ) -> Result<(), IoFault>
     requires { writer.old.failed ≡ false }
     ensures same { system.new ≡ system.old }
-    ensures text { Writes W.contents writer.old writer.new result (texts.front manner ++ (decimal actor ++ (codes " " ++ texts.listing_text manner (world_of system.old).state kind))) }
+    ensures text { Writes W.contents writer.old writer.new result
+        (texts.front manner ++ (decimal actor
+        ++ (codes " " ++ texts.listing_text manner (world_of system.old).state kind))) }
 {
     let rows = count_rows(system, kind);
     write_listing_line(writer, manner, actor, kind, rows)?;
@@ -38,7 +40,8 @@ pub(crate) fn write_listing<W: Write>(
 /// How many rows the listing has.
 fn count_rows(system: &mut System, kind: Kind) -> u32
     ensures same { system.new ≡ system.old }
-    ensures count { result ≡ rows_among (world_of system.old).state kind (given_count (world_of system.old).state kind) }
+    ensures count { result ≡ rows_among (world_of system.old).state kind
+        (given_count (world_of system.old).state kind) }
 {
     let first = first_number(kind);
     let mut rows: u32 = 0;
@@ -81,7 +84,9 @@ fn write_rows<W: Write>(
 ) -> Result<(), IoFault>
     requires { writer.old.failed ≡ false }
     ensures same { system.new ≡ system.old }
-    ensures text { Writes W.contents writer.old writer.new result (flat_map (row_line manner (world_of system.old).state kind) (range_with_len (listing.first_number kind) (given_count (world_of system.old).state kind))) }
+    ensures text { Writes W.contents writer.old writer.new result
+        (flat_map (row_line manner (world_of system.old).state kind)
+        (range_with_len (listing.first_number kind) (given_count (world_of system.old).state kind))) }
 {
     let first = first_number(kind);
     for place in 0..system.given_count(kind) {
@@ -100,7 +105,8 @@ fn write_row<W: Write>(
 ) -> Result<(), IoFault>
     requires { writer.old.failed ≡ false }
     ensures same { system.new ≡ system.old }
-    ensures text { Writes W.contents writer.old writer.new result (row_line manner (world_of system.old).state kind number) }
+    ensures text { Writes W.contents writer.old writer.new result
+        (row_line manner (world_of system.old).state kind number) }
 {
     match kind {
         Kind::Tickets => write_ticket_row(system, manner, number, writer),
@@ -118,7 +124,9 @@ fn write_ticket_row<W: Write>(
 ) -> Result<(), IoFault>
     requires { writer.old.failed ≡ false }
     ensures same { system.new ≡ system.old }
-    ensures text { Writes W.contents writer.old writer.new result (option_map_or (texts.ticket_line manner (world_of system.old).state.limits.unit number) (rows.ticket_row (world_of system.old).state number) []) }
+    ensures text { Writes W.contents writer.old writer.new result
+        (option_map_or (texts.ticket_line manner (world_of system.old).state.limits.unit number)
+        (rows.ticket_row (world_of system.old).state number) []) }
 {
     let limits = system.limits();
     if let Some(row) = system.ticket_row(number) {
@@ -136,7 +144,9 @@ fn write_currency_row<W: Write>(
 ) -> Result<(), IoFault>
     requires { writer.old.failed ≡ false }
     ensures same { system.new ≡ system.old }
-    ensures text { Writes W.contents writer.old writer.new result (option_map_or (texts.currency_line manner (world_of system.old).state.limits.unit number) (rows.currency_row (world_of system.old).state number) []) }
+    ensures text { Writes W.contents writer.old writer.new result
+        (option_map_or (texts.currency_line manner (world_of system.old).state.limits.unit number)
+        (rows.currency_row (world_of system.old).state number) []) }
 {
     let limits = system.limits();
     if let Some(row) = system.currency_row(number) {
@@ -154,7 +164,9 @@ fn write_thread_row<W: Write>(
 ) -> Result<(), IoFault>
     requires { writer.old.failed ≡ false }
     ensures same { system.new ≡ system.old }
-    ensures text { Writes W.contents writer.old writer.new result (option_map_or (texts.thread_line manner (world_of system.old).state.limits.unit number) (rows.thread_row (world_of system.old).state number) []) }
+    ensures text { Writes W.contents writer.old writer.new result
+        (option_map_or (texts.thread_line manner (world_of system.old).state.limits.unit number)
+        (rows.thread_row (world_of system.old).state number) []) }
 {
     let limits = system.limits();
     if let Some(row) = system.thread_row(number) {

@@ -10,7 +10,8 @@ ghost use Rattle.lot_machine.specs.State.{State};
 ghost use Rattle.lot_simulation.specs.World.{new_contexts, number_delivered as number_delivered_in};
 ghost use Rattle.lot_system.specs.Held.{AreAt, IsAt, script_lines};
 ghost use Rattle.lot_system.specs.Steps as steps;
-ghost use Rattle.lot_system.specs.Steps.{MakesThread, OfDraw, OfRun, OfGiven, delivered_to_place, place_of, places_after, places_received, slice_between};
+ghost use Rattle.lot_system.specs.Steps.{MakesThread, OfDraw, OfRun, OfGiven, delivered_to_place, place_of};
+ghost use Rattle.lot_system.specs.Steps.{places_after, places_received, slice_between};
 
 use crate::turn::Done;
 use lot_kernel::Kernel;
@@ -34,9 +35,13 @@ pub(crate) fn follow_command(
     kernel: &Kernel,
     reply: Reply,
 )
-    requires made { (s : State) × (before : List Context) × MakesThread s kernel.now.state reply × AreAt program.now s.threads places.old.items before × (s.limits.scripts ≡ length program.now.scripts) }
+    requires made { (s : State) × (before : List Context) × MakesThread s kernel.now.state reply
+        × AreAt program.now s.threads places.old.items before × (s.limits.scripts ≡ length program.now.scripts) }
     requires room { kernel.now.state.limits.threads ≤ vec_capacity places.old }
-    ensures at { (s : State) (before : List Context) → MakesThread s kernel.now.state reply → AreAt program.now s.threads places.old.items before → AreAt program.now kernel.now.state.threads places.new.items (before ++ new_contexts program.now s kernel.now.state) }
+    ensures at { (s : State) (before : List Context) → MakesThread s kernel.now.state reply
+        → AreAt program.now s.threads places.old.items before
+        → AreAt program.now kernel.now.state.threads places.new.items
+        (before ++ new_contexts program.now s kernel.now.state) }
     ensures room { vec_capacity places.new ≡ vec_capacity places.old }
 {
     if let Some(thread) = made_thread(reply) {
@@ -122,7 +127,8 @@ pub(crate) fn pass_slice(places: &mut Vec<Place>, script: &Script, thread: u32, 
     requires there { IsBetween 1 (length places.old.items) thread }
     requires fits { Fits script.now (place_of places.old.items thread) }
     requires budget { IsBetween 1 1000 budget }
-    ensures slice { IsSlice (slice_between script.now (place_of places.old.items thread) budget result (place_of places.new.items thread)) }
+    ensures slice { IsSlice (slice_between script.now (place_of places.old.items thread) budget result
+        (place_of places.new.items thread)) }
     ensures places { places.new.items ≡ set_number places.old.items thread (place_of places.new.items thread) }
     ensures accumulator { result.accumulator ≡ (place_of places.new.items thread).accumulator }
     ensures room { vec_capacity places.new ≡ vec_capacity places.old }
@@ -169,7 +175,8 @@ fn number_delivered(outcome: Outcome) -> Option<u32>
 #[inline(always)]
 fn deliver(places: &mut Vec<Place>, thread: u32, number: Option<u32>)
     requires { IsBetween 1 (length places.old.items) thread }
-    ensures delivered { places.new.items ≡ set_number places.old.items thread (delivered_to_place number (place_of places.old.items thread)) }
+    ensures delivered { places.new.items
+        ≡ set_number places.old.items thread (delivered_to_place number (place_of places.old.items thread)) }
     ensures room { vec_capacity places.new ≡ vec_capacity places.old }
 {
     if let Some(number) = number {

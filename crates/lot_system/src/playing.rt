@@ -1,9 +1,11 @@
 //! Playing a schedule.
-ghost use Rattle.std.specs.Prelude.{◌≡◌, ℕ, ◌<◌, ◌≤◌, List, ◌++◌, codes, false, true, length, IfErr, IfOk, IsSome, OnOk};
+ghost use Rattle.std.specs.Prelude.{◌≡◌, ℕ, ◌<◌, ◌≤◌, List, ◌++◌, codes, false, true, length, IfErr, IfOk, IsSome};
+ghost use Rattle.std.specs.Prelude.{OnOk};
 ghost use Rattle.std.specs.Fmt.{decimal};
 ghost use Rattle.std.specs.Io.KnownBytes.{Appends};
 ghost use Rattle.lot_simulation.specs.Grammar.{program_in};
-ghost use Rattle.lot_simulation.specs.Output.{output, played_output, scheduled_output, timed_output, turn_text, turn_texts};
+ghost use Rattle.lot_simulation.specs.Output.{output, played_output, scheduled_output, timed_output, turn_text};
+ghost use Rattle.lot_simulation.specs.Output.{turn_texts};
 ghost use Rattle.lot_simulation.specs.Texts.{fault_line, front, reply_text};
 ghost use Rattle.lot_simulation.specs.declared.manner.Manner.TheVariants as manners;
 ghost use Rattle.lot_simulation.specs.World.{opening_world};
@@ -50,8 +52,11 @@ pub fn play<R: Read, W: Write>(
     ensures ok { OnOk result ((reader.new.failed ≡ false) × (writer.new.failed ≡ false)) }
     ensures flushed { OnOk result (writer.new.flushed ≡ true) }
     ensures err { IfErr result (λ fault. IsFaultOf fault reader.new.failed writer.new.failed) }
-    ensures output { IfOk result (λ played. (bytes : List ℕ) × Reads R.remaining reader.old reader.new bytes × (played ≡ came_of (program_in bytes)) × Appends (W.contents writer.old.inner) (W.contents writer.new.inner) (output bytes)) }
-    ensures fault { IfErr result (λ fault. Leaves output R.remaining reader.old reader.new W.contents writer.old writer.new fault) }
+    ensures output { IfOk result (λ played. (bytes : List ℕ) × Reads R.remaining reader.old reader.new bytes
+        × (played ≡ came_of (program_in bytes))
+        × Appends (W.contents writer.old.inner) (W.contents writer.new.inner) (output bytes)) }
+    ensures fault { IfErr result
+        (λ fault. Leaves output R.remaining reader.old reader.new W.contents writer.old writer.new fault) }
 {
     let mut bytes = read_input(alloc, reader)?;
     let Ok(mut leftovers) = Leftovers::none(alloc) else {
@@ -71,7 +76,8 @@ pub fn play_bytes<W: Write>(
 ) -> Result<Played, IoFault>
     requires { writer.old.failed ≡ false }
     ensures flushed { OnOk result (writer.new.flushed ≡ true) }
-    ensures played { Plays W.contents writer.old writer.new result (came_of (program_in bytes.old.items)) (output bytes.old.items) }
+    ensures played { Plays W.contents writer.old writer.new result (came_of (program_in bytes.old.items))
+        (output bytes.old.items) }
 {
     match program_of(alloc, bytes) {
         Ok(program) => play_program(alloc, &program, leftovers, writer),
@@ -110,7 +116,8 @@ fn play_program<W: Write>(
 ) -> Result<Played, IoFault>
     requires { writer.old.failed ≡ false }
     ensures flushed { OnOk result (writer.new.flushed ≡ true) }
-    ensures played { Plays W.contents writer.old writer.new result Done (played_output program.now program.now.duration) }
+    ensures played { Plays W.contents writer.old writer.new result Done
+        (played_output program.now program.now.duration) }
 {
     if program.format().is_timed() {
         play_timed(alloc, program, leftovers, writer)
@@ -190,7 +197,8 @@ fn play_turns<W: Write>(
     requires opened { IsOpened program.now system.old }
     requires working { writer.old.failed ≡ false }
     ensures played { OnOk result (HasPlayed program.now program.now.schedule system.new) }
-    ensures text { Writes W.contents writer.old writer.new result (turn_texts program.now (opening_world program.now) program.now.schedule) }
+    ensures text { Writes W.contents writer.old writer.new result
+        (turn_texts program.now (opening_world program.now) program.now.schedule) }
 {
     let mut page = Page::new();
     for actor in program.schedule() {
@@ -213,7 +221,8 @@ fn play_turn<W: Write>(
     requires room { length system.old.history < system.old.setting.room }
     requires working { writer.old.failed ≡ false }
     ensures played { IsPlayed system.old actor system.new }
-    ensures text { Puts W.contents writer.old writer.new page.old page.new result (turn_text manners.Whole actor (turn_in system.old actor)) }
+    ensures text { Puts W.contents writer.old writer.new page.old page.new result
+        (turn_text manners.Whole actor (turn_in system.old actor)) }
 {
     if system.is_ended(actor) {
         return write_ended(writer, page, heading(system, Manner::Whole, actor));
@@ -250,7 +259,9 @@ pub fn put_answer<W: Write>(
 ) -> Result<(), IoFault>
     requires { writer.old.failed ≡ false }
     ensures same { system.new ≡ system.old }
-    ensures text { Puts W.contents writer.old writer.new page.old page.new result (front manner ++ (decimal actor ++ (codes " " ++ reply_text manner (world_of system.old).state event.now reply.now))) }
+    ensures text { Puts W.contents writer.old writer.new page.old page.new result
+        (front manner ++ (decimal actor
+        ++ (codes " " ++ reply_text manner (world_of system.old).state event.now reply.now))) }
 {
     match *reply {
         Reply::List(kind) => {

@@ -22,7 +22,9 @@ use std::io::Write;
 fn write_threads<W: Write>(system: &mut System, writer: &mut Watched<W>) -> Result<(), IoFault>
     requires { writer.old.failed ≡ false }
     ensures same { system.new ≡ system.old }
-    ensures text { Writes W.contents writer.old writer.new result (lines_for reports.thread_total (thread_row (world_of system.old).state) (numbers (world_of system.old).state.records)) }
+    ensures text { Writes W.contents writer.old writer.new result
+        (lines_for reports.thread_total (thread_row (world_of system.old).state)
+        (numbers (world_of system.old).state.records)) }
 {
     for place in 0..system.thread_count() {
         write_thread(system, place + 1, writer)?;
@@ -38,7 +40,8 @@ fn write_thread<W: Write>(
 ) -> Result<(), IoFault>
     requires { writer.old.failed ≡ false }
     ensures same { system.new ≡ system.old }
-    ensures text { Writes W.contents writer.old writer.new result (option_map_or (reports.thread_total number) (thread_row (world_of system.old).state number) []) }
+    ensures text { Writes W.contents writer.old writer.new result
+        (option_map_or (reports.thread_total number) (thread_row (world_of system.old).state number) []) }
 {
     if let Some(row) = system.thread_row(number) {
         write_thread_total(writer, number, &row)?;
@@ -49,7 +52,9 @@ fn write_thread<W: Write>(
 /// Writes each processor's line.
 fn write_processors<W: Write>(system: &System, writer: &mut Watched<W>) -> Result<(), IoFault>
     requires { writer.old.failed ≡ false }
-    ensures { Writes W.contents writer.old writer.new result (flat_map (reports.processor_total (turns_made system.now.setting.program system.now.history)) (range_with_len 1 (world_of system.now).state.limits.processors)) }
+    ensures { Writes W.contents writer.old writer.new result
+        (flat_map (reports.processor_total (turns_made system.now.setting.program system.now.history))
+        (range_with_len 1 (world_of system.now).state.limits.processors)) }
 {
     for place in 0..system.processors() {
         write_processor(system, place + 1, writer)?;
@@ -65,7 +70,8 @@ fn write_processor<W: Write>(
 ) -> Result<(), IoFault>
     requires working { writer.old.failed ≡ false }
     requires there { processor ≤ system.now.setting.program.limits.processors }
-    ensures { Writes W.contents writer.old writer.new result (reports.processor_total (turns_made system.now.setting.program system.now.history) processor) }
+    ensures { Writes W.contents writer.old writer.new result
+        (reports.processor_total (turns_made system.now.setting.program system.now.history) processor) }
 {
     let counts = system.counts(processor);
     let total = ProcessorTotal {
@@ -80,7 +86,9 @@ fn write_processor<W: Write>(
 /// Writes the totals of all actors.
 fn write_total<W: Write>(system: &System, writer: &mut Watched<W>) -> Result<(), IoFault>
     requires { writer.old.failed ≡ false }
-    ensures { Writes W.contents writer.old writer.new result (reports.whole_total (length (world_of system.now).history) (turns_made system.now.setting.program system.now.history)) }
+    ensures { Writes W.contents writer.old writer.new result
+        (reports.whole_total (length (world_of system.now).history)
+        (turns_made system.now.setting.program system.now.history)) }
 {
     let counts = system.total();
     let total = WholeTotal {
@@ -95,7 +103,8 @@ fn write_total<W: Write>(system: &System, writer: &mut Watched<W>) -> Result<(),
 pub fn write_report<W: Write>(system: &mut System, writer: &mut Watched<W>) -> Result<(), IoFault>
     requires { writer.old.failed ≡ false }
     ensures same { system.new ≡ system.old }
-    ensures text { Writes W.contents writer.old writer.new result (reports.report system.old.setting.program system.old.history) }
+    ensures text { Writes W.contents writer.old writer.new result
+        (reports.report system.old.setting.program system.old.history) }
 {
     write_report_line(writer)?;
     write_threads(system, writer)?;

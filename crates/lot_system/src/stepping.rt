@@ -20,7 +20,8 @@ pub fn next_turn(
     requires program { system.old.setting.program ≡ program.now }
     requires room { length system.old.history < system.old.setting.room }
     ensures played { IsPlayed system.old actor system.new }
-    ensures made { IfSome result (λ reply. (system.new ≡ after_turn system.old actor) × ((turn_in system.old actor).answer ≡ Answered event.new reply)) }
+    ensures made { IfSome result (λ reply. (system.new ≡ after_turn system.old actor)
+        × ((turn_in system.old actor).answer ≡ Answered event.new reply)) }
     ensures ended { IfNone result ((system.new ≡ system.old) × ((turn_in system.old actor).answer ≡ Ended)) }
 {
     let _ = program;

@@ -1,5 +1,6 @@
 //! The system.
-ghost use Rattle.std.specs.Prelude.{◌≡◌, ◌↔◌, ◌<◌, ◌≤◌, ◌*◌, ◌^◌, [], ◌∷◌, ◌++◌, All, IfOk, IfErr, IfNone, IfSome, IsTrue, Some, length, vec_len, vec_capacity};
+ghost use Rattle.std.specs.Prelude.{◌≡◌, ◌↔◌, ◌<◌, ◌≤◌, ◌*◌, ◌^◌, [], ◌∷◌, ◌++◌, All, IfOk, IfErr, IfNone, IfSome};
+ghost use Rattle.std.specs.Prelude.{IsTrue, Some, length, vec_len, vec_capacity};
 ghost use Rattle.lot_machine.specs.Bounds.{IsBetween};
 ghost use Rattle.lot_machine.specs.Mutexes.{mutex_at};
 ghost use Rattle.lot_machine.specs.Rows as rows;
@@ -85,7 +86,8 @@ impl Model for System {
     ghost invariant = { λ s. record {
       program : IsProgram s.program;
       legal : IsLegal s.program s.room s.history.items;
-      held : IsHeld s.program (system_run s.program s.history.items) s.kernel.state s.places.items s.generators.items s.spent;
+      held : IsHeld s.program
+          (system_run s.program s.history.items) s.kernel.state s.places.items s.generators.items s.spent;
       generators : vec_len s.generators ≡ s.program.limits.processors;
       past : (system_run s.program s.history.items).history ≡ s.history.items;
       spent : s.spent ≡ count_by (λ actor. actor == 0) s.history.items;
@@ -101,7 +103,8 @@ impl System {
     /// A system of this program with room for this many turns. It allocates all the memory that the system will ever
     /// use, and fails only if out of memory.
     pub fn open(alloc: Global, program: &Program, room: u32) -> Result<System, AllocError>
-        ensures { IfOk result (λ s. s ≡ record { setting = record { program = program.now; room = room }; history = [] }) }
+        ensures { IfOk result (λ s. s
+            ≡ record { setting = record { program = program.now; room = room }; history = [] }) }
     {
         let limits = program.limits();
         Ok(System {
@@ -169,7 +172,8 @@ impl System {
     #[inline(always)]
     pub fn turn(&mut self, actor: u32, slice: Option<Slice>) -> Result<Answer, TurnFault>
         requires { actor ≤ self.old.setting.program.limits.processors }
-        ensures ok { IfOk result (λ answer. Goes self.old actor slice.entry × (self.new ≡ after_turn self.old actor) × Answers self.old actor answer) }
+        ensures ok { IfOk result (λ answer. Goes self.old actor slice.entry × (self.new ≡ after_turn self.old actor)
+            × Answers self.old actor answer) }
         ensures err { IfErr result (λ fault. Faults self.old actor slice.entry fault × (self.new ≡ self.old)) }
         ensures stale { IfErr result (λ fault. IfStale fault (¬ IsFresh self.old actor slice.entry)) }
         ensures legal { IsLegal self.new.setting.program self.new.setting.room self.new.history }
@@ -197,7 +201,8 @@ impl System {
         event: &mut Event,
     ) -> Result<Reply, Unmade>
         requires { actor ≤ self.old.setting.program.limits.processors }
-        ensures ok { IfOk result (λ reply. Goes self.old actor slice.now × (self.new ≡ after_turn self.old actor) × ((system_turn self.old.setting.program (world_of self.old) actor).answer ≡ Answered event.new reply)) }
+        ensures ok { IfOk result (λ reply. Goes self.old actor slice.now × (self.new ≡ after_turn self.old actor)
+            × ((system_turn self.old.setting.program (world_of self.old) actor).answer ≡ Answered event.new reply)) }
         ensures err { IfErr result (λ why. Prevents self.old actor slice.now why × (self.new ≡ self.old)) }
         ensures legal { IsLegal self.new.setting.program self.new.setting.room self.new.history }
     {
@@ -222,7 +227,8 @@ impl System {
     pub(crate) fn fresh_turn(&mut self, actor: u32, event: &mut Event) -> Option<Reply>
         requires there { actor ≤ self.old.setting.program.limits.processors }
         requires room { length self.old.history < self.old.setting.room }
-        ensures made { IfSome result (λ reply. (self.new ≡ after_turn self.old actor) × ((system_turn self.old.setting.program (world_of self.old) actor).answer ≡ Answered event.new reply)) }
+        ensures made { IfSome result (λ reply. (self.new ≡ after_turn self.old actor)
+            × ((system_turn self.old.setting.program (world_of self.old) actor).answer ≡ Answered event.new reply)) }
         ensures ended { IfNone result (IsEnded self.old actor × (self.new ≡ self.old)) }
         ensures played { IsPlayed self.old actor self.new }
     {
@@ -258,7 +264,8 @@ impl System {
         requires left { ¬ IsEnded self.old actor }
         requires room { length self.old.history < self.old.setting.room }
         ensures seen { self.new ≡ after_turn self.old actor }
-        ensures answer { (system_turn self.old.setting.program (world_of self.old) actor).answer ≡ Answered event.new reply.new }
+        ensures answer { (system_turn self.old.setting.program (world_of self.old) actor).answer
+            ≡ Answered event.new reply.new }
     {
         match self.kept_work(actor) {
             None => self.make_turn(actor, &None, event, reply),
@@ -281,7 +288,8 @@ impl System {
         requires actor { actor ≤ self.old.setting.program.limits.processors }
         requires goes { Goes self.old actor slice.now }
         ensures seen { self.new ≡ after_turn self.old actor }
-        ensures answer { (system_turn self.old.setting.program (world_of self.old) actor).answer ≡ Answered event.new reply.new }
+        ensures answer { (system_turn self.old.setting.program (world_of self.old) actor).answer
+            ≡ Answered event.new reply.new }
     {
         if actor == 0 {
             *reply = self.console_turn(event);
@@ -295,7 +303,8 @@ impl System {
         requires left { ¬ IsEnded self.old 0 }
         requires room { length self.old.history < self.old.setting.room }
         ensures seen { self.new ≡ after_turn self.old 0 }
-        ensures answer { (system_turn self.old.setting.program (world_of self.old) 0).answer ≡ Answered event.new result }
+        ensures answer { (system_turn self.old.setting.program (world_of self.old) 0).answer
+            ≡ Answered event.new result }
     {
         *event = Event::Command(self.program.commands()[self.spent].copied());
         let reply = self.kernel.event(event);
@@ -320,7 +329,8 @@ impl System {
         requires fresh { IsFresh self.old actor slice.now }
         requires room { length self.old.history < self.old.setting.room }
         ensures seen { self.new ≡ after_turn self.old actor }
-        ensures answer { (system_turn self.old.setting.program (world_of self.old) actor).answer ≡ Answered event.new reply.new }
+        ensures answer { (system_turn self.old.setting.program (world_of self.old) actor).answer
+            ≡ Answered event.new reply.new }
     {
         let done = done_in(slice);
         next_event(
@@ -344,7 +354,8 @@ impl System {
         requires runs { (place : PlaceRecord) × IsWorkOf self.old actor (Some (work_at running place)) }
         requires room { length self.old.history < self.old.setting.room }
         ensures seen { self.new ≡ after_turn self.old actor }
-        ensures answer { (system_turn self.old.setting.program (world_of self.old) actor).answer ≡ Answered event.new reply.new }
+        ensures answer { (system_turn self.old.setting.program (world_of self.old) actor).answer
+            ≡ Answered event.new reply.new }
     {
         let script = script_numbered(&self.program, running.script);
         let done = pass_slice(&mut self.places, script, running.thread, running.budget);
@@ -473,7 +484,8 @@ impl System {
     /// The actor's own time: the ticks of its turns so far.
     pub fn clock(&self, actor: u32) -> u64
         requires { actor ≤ self.now.setting.program.limits.processors }
-        ensures ticks { result ≡ total_of ticks_in (turns_of actor (turns_made self.now.setting.program self.now.history)) }
+        ensures ticks { result ≡ total_of ticks_in (turns_of actor
+            (turns_made self.now.setting.program self.now.history)) }
         ensures small { result ≤ length self.now.history * 2 ^ 32 }
     {
         self.counts[actor as usize].ticks

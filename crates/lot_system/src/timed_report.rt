@@ -68,7 +68,9 @@ fn write_threads<W: Write>(
     requires end { IsAtEnd system.old following.now }
     requires working { writer.old.failed ≡ false }
     ensures same { system.new ≡ system.old }
-    ensures text { Writes W.contents writer.old writer.new result (reports.timed_thread_lines (world_of system.old).state (timed_turns system.old.setting.program) (total_of ticks_in (actor_turns (timed_turns system.old.setting.program)))) }
+    ensures text { Writes W.contents writer.old writer.new result
+        (reports.timed_thread_lines (world_of system.old).state (timed_turns system.old.setting.program)
+        (total_of ticks_in (actor_turns (timed_turns system.old.setting.program)))) }
 {
     let all_values = live_value(system);
     for place in 0..system.thread_count() {
@@ -92,7 +94,8 @@ fn live_value(system: &mut System) -> u128
 
 /// The thread's value if it is live, otherwise 0.
 fn live_value_of(system: &mut System, thread: u32) -> u64
-    ensures value { result ≡ live_part (world_of system.old).state thread (value_of (world_of system.old).state thread) }
+    ensures value { result ≡ live_part (world_of system.old).state thread
+        (value_of (world_of system.old).state thread) }
     ensures same { system.new ≡ system.old }
 {
     match system.thread_row(thread) {
@@ -126,7 +129,11 @@ fn write_thread<W: Write>(
     requires small { all_values < 2 ^ 96 }
     requires working { writer.old.failed ≡ false }
     ensures same { system.new ≡ system.old }
-    ensures text { Writes W.contents writer.old writer.new result (option_map_or (reports.timed_thread_total (world_of system.old).state (timed_turns system.old.setting.program) (total_of ticks_in (actor_turns (timed_turns system.old.setting.program))) thread) (thread_row (world_of system.old).state thread) []) }
+    ensures text { Writes W.contents writer.old writer.new result
+        (option_map_or (reports.timed_thread_total (world_of system.old).state
+        (timed_turns system.old.setting.program) (total_of ticks_in
+        (actor_turns (timed_turns system.old.setting.program))) thread)
+        (thread_row (world_of system.old).state thread) []) }
 {
     let live_value = live_value_of(system, thread);
     let Some(row) = system.thread_row(thread) else {
@@ -151,7 +158,10 @@ fn write_processors<W: Write>(
 ) -> Result<(), IoFault>
     requires end { IsAtEnd system.now following.now }
     requires working { writer.old.failed ≡ false }
-    ensures { Writes W.contents writer.old writer.new result (flat_map (reports.timed_processor_total (moment_in system.now following.now) end (actor_turns (timed_turns system.now.setting.program))) (range_with_len 1 (world_of system.now).state.limits.processors)) }
+    ensures { Writes W.contents writer.old writer.new result
+        (flat_map (reports.timed_processor_total (moment_in system.now following.now) end
+        (actor_turns (timed_turns system.now.setting.program)))
+        (range_with_len 1 (world_of system.now).state.limits.processors)) }
 {
     for place in 0..system.processors() {
         write_processor(system, following, end, place + 1, writer)?;
@@ -170,7 +180,9 @@ fn write_processor<W: Write>(
     requires end { IsAtEnd system.now following.now }
     requires there { IsBetween 1 system.now.setting.program.limits.processors processor }
     requires working { writer.old.failed ≡ false }
-    ensures { Writes W.contents writer.old writer.new result (reports.timed_processor_total (moment_in system.now following.now) end (actor_turns (timed_turns system.now.setting.program)) processor) }
+    ensures { Writes W.contents writer.old writer.new result
+        (reports.timed_processor_total (moment_in system.now following.now) end
+        (actor_turns (timed_turns system.now.setting.program)) processor) }
 {
     let counts = system.counts(processor);
     let total = TimedProcessorTotal {
@@ -191,7 +203,9 @@ fn write_total<W: Write>(
 ) -> Result<(), IoFault>
     requires end { IsAtEnd system.now following.now }
     requires working { writer.old.failed ≡ false }
-    ensures { Writes W.contents writer.old writer.new result (reports.timed_whole_total (moment_in system.now following.now) (actor_turns (timed_turns system.now.setting.program))) }
+    ensures { Writes W.contents writer.old writer.new result
+        (reports.timed_whole_total (moment_in system.now following.now)
+        (actor_turns (timed_turns system.now.setting.program))) }
 {
     let counts = system.total();
     let total = TimedWholeTotal {

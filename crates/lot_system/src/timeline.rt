@@ -32,7 +32,8 @@ pub struct Timeline {
 impl Timeline {
     /// At the start it is 0 everywhere.
     pub(crate) fn open(alloc: Global, processors: u32) -> Result<Timeline, AllocError>
-        ensures clocks { IfOk result (λ t. t.clocks.items ≡ replicate processors (record { time = 0; waits = false; idle = 0 })) }
+        ensures clocks { IfOk result (λ t. t.clocks.items
+            ≡ replicate processors (record { time = 0; waits = false; idle = 0 })) }
         ensures time { IfOk result (λ t. t.time ≡ 0) }
     {
         let clock = Clock {
@@ -64,7 +65,8 @@ impl Timeline {
     fn earliest(&self, program: &Program, system: &System) -> Option<Due>
         requires program { system.now.setting.program ≡ program.now }
         requires clocks { vec_len self.now.clocks ≡ program.now.limits.processors }
-        ensures { result ≡ timed.earliest (all_due program.now (moment_of system.now self.now.time self.now.clocks.items)) }
+        ensures { result ≡ timed.earliest (all_due program.now
+            (moment_of system.now self.now.time self.now.clocks.items)) }
     {
         let mut first = console_due(program, system);
         for place in 0..program.limits().processors {
@@ -78,7 +80,8 @@ impl Timeline {
     fn processor_due(&self, program: &Program, system: &System, processor: u32) -> Option<Due>
         requires program { system.now.setting.program ≡ program.now }
         requires there { IsBetween 1 (vec_len self.now.clocks) processor }
-        ensures { result ≡ timed.earliest (timed.processor_due (moment_of system.now self.now.time self.now.clocks.items) processor) }
+        ensures { result ≡ timed.earliest (timed.processor_due
+            (moment_of system.now self.now.time self.now.clocks.items) processor) }
     {
         let clock = self.clock(processor);
         if clock.waits {
@@ -100,8 +103,11 @@ impl Timeline {
         requires there { actor ≤ vec_len self.old.clocks }
         requires idled { (turns : ℕ) × (turns < 2 ^ 31) × HaveIdled turns self.old.clocks.items }
         ensures time { self.new.time ≡ time }
-        ensures clocks { (e : EventRecord) → self.new.clocks.items ≡ clocks_after self.old.clocks.items (record { time = time; actor = actor }) (is_idle_draw (Answered e reply)) }
-        ensures idled { (turns : ℕ) → HaveIdled turns self.old.clocks.items → HaveIdled (turns + 1) self.new.clocks.items }
+        ensures clocks { (e : EventRecord)
+            → self.new.clocks.items ≡ clocks_after self.old.clocks.items (record { time = time; actor = actor })
+            (is_idle_draw (Answered e reply)) }
+        ensures idled { (turns : ℕ) → HaveIdled turns self.old.clocks.items
+            → HaveIdled (turns + 1) self.new.clocks.items }
         ensures count { vec_len self.new.clocks ≡ vec_len self.old.clocks }
     {
         self.time = time;
@@ -122,7 +128,8 @@ impl Timeline {
         requires idled { (turns : ℕ) × (turns < 2 ^ 31) × HaveIdled turns self.old.clocks.items }
         ensures time { self.new.time ≡ self.old.time }
         ensures clocks { self.new.clocks.items ≡ map (timed.woken time) self.old.clocks.items }
-        ensures idled { (turns : ℕ) → HaveIdled turns self.old.clocks.items → HaveIdled (turns + 1) self.new.clocks.items }
+        ensures idled { (turns : ℕ) → HaveIdled turns self.old.clocks.items
+            → HaveIdled (turns + 1) self.new.clocks.items }
         ensures count { vec_len self.new.clocks ≡ vec_len self.old.clocks }
     {
         for place in 0..self.clocks.len() {
@@ -143,7 +150,8 @@ impl Timeline {
 /// The console's turn, if a command is left.
 fn console_due(program: &Program, system: &System) -> Option<Due>
     requires { system.now.setting.program ≡ program.now }
-    ensures { (now : ℕ) (clocks : List ClockRecord) → result ≡ timed.earliest (timed.console_due (moment_of system.now now clocks)) }
+    ensures { (now : ℕ) (clocks : List ClockRecord)
+        → result ≡ timed.earliest (timed.console_due (moment_of system.now now clocks)) }
 {
     let time = program.times().get(system.commands_made())?;
     Some(Due {

@@ -34,7 +34,8 @@ pub struct WaitTable {
 impl WaitTable {
     /// None of so many threads has waited.
     pub(crate) fn open(alloc: Global, threads: u32) -> Result<WaitTable, AllocError>
-        ensures none { (kind : WorldAnswer → WaitChangeRecord) → IfOk result (λ table. AreWaits kind [] 0 table.threads.items) }
+        ensures none { (kind : WorldAnswer → WaitChangeRecord)
+            → IfOk result (λ table. AreWaits kind [] 0 table.threads.items) }
         ensures count { IfOk result (λ table. vec_len table.threads ≡ threads) }
     {
         Ok(WaitTable {
@@ -45,15 +46,19 @@ impl WaitTable {
     /// How the thread with this number has waited.
     pub(crate) fn of(&self, thread: u32) -> Waits
         requires { IsBetween 1 (vec_len self.now.threads) thread }
-        ensures { (kind : WorldAnswer → WaitChangeRecord) (done : List TimedTurn) (n : ℕ) → AreWaits kind done n self.now.threads.items → result ≡ timed.waits_in kind done thread }
+        ensures { (kind : WorldAnswer → WaitChangeRecord) (done : List TimedTurn) (n : ℕ)
+            → AreWaits kind done n self.now.threads.items → result ≡ timed.waits_in kind done thread }
     {
         self.threads[thread as usize - 1]
     }
 
     /// Records the change that a turn made at this time. It ignores a thread that doesn't exist.
     pub(crate) fn follow(&mut self, time: u32, change: WaitChange)
-        requires bounded { (kind : WorldAnswer → WaitChangeRecord) × (done : List TimedTurn) × (n : ℕ) × (n < 2 ^ 31) × AreWaits kind done n self.old.threads.items }
-        ensures exact { (kind : WorldAnswer → WaitChangeRecord) (done : List TimedTurn) (n : ℕ) (turn : TimedTurn) → turn.time ≡ time → kind turn.turn.answer ≡ change → AreWaits kind done n self.old.threads.items → AreWaits kind (done ++ turn ∷ []) (n + 1) self.new.threads.items }
+        requires bounded { (kind : WorldAnswer → WaitChangeRecord) × (done : List TimedTurn) × (n : ℕ) × (n < 2 ^ 31)
+            × AreWaits kind done n self.old.threads.items }
+        ensures exact { (kind : WorldAnswer → WaitChangeRecord) (done : List TimedTurn) (n : ℕ) (turn : TimedTurn)
+            → turn.time ≡ time → kind turn.turn.answer ≡ change → AreWaits kind done n self.old.threads.items
+            → AreWaits kind (done ++ turn ∷ []) (n + 1) self.new.threads.items }
         ensures count { vec_len self.new.threads ≡ vec_len self.old.threads }
     {
         match change {

@@ -15,7 +15,9 @@ pub fn make_turn(system: &mut System, program: &Program, actor: u32) -> Result<(
     requires { actor ≤ system.old.setting.program.limits.processors }
     ensures made { IfOk result (λ _. system.new ≡ after_turn system.old actor) }
     ensures unmade { IfErr result (λ _. system.new ≡ system.old) }
-    ensures fault { IfErr result (λ fault. (work : Option WorkRecord) × IsWorkOf system.old actor work × (IsStale program.now work fault ⊎ ((given : Option Parts) × Matches program.now work given × Faults system.old actor given fault))) }
+    ensures fault { IfErr result (λ fault. (work : Option WorkRecord) × IsWorkOf system.old actor work
+        × (IsStale program.now work fault
+        ⊎ ((given : Option Parts) × Matches program.now work given × Faults system.old actor given fault))) }
 {
     let slice = slice_for(program, system.work(actor))?;
     system.turn(actor, slice)?;

@@ -17,7 +17,8 @@ pub fn may_read(event: &Event) -> bool
 
 /// Whether there is a currency, and it is worth nothing and has nothing active.
 pub fn is_worth_nothing(row: Option<CurrencyRow>) -> bool
-    ensures { IsTrue result ↔ ((shown : CurrencyRecord) × (row ≡ Some shown) × (shown.active_amount ≡ 0) × (shown.value ≡ 0)) }
+    ensures { IsTrue result ↔ ((shown : CurrencyRecord) × (row ≡ Some shown) × (shown.active_amount ≡ 0)
+        × (shown.value ≡ 0)) }
 {
     match row {
         Some(row) => row.active_amount == 0 && row.value == 0,

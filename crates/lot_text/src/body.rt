@@ -132,7 +132,8 @@ fn make_currency(reading: &mut Reading, tokens: Tokens<'_>) -> Result<(), LineFa
 
 /// `rmcur CURRENCY`
 fn remove_currency(reading: &mut Reading, tokens: Tokens<'_>) -> Result<(), LineFault>
-    ensures { (n : ℕ) → Gives reading.new result (body_after_header n reading.old BodyWord.RemoveCurrency tokens.entry) }
+    ensures { (n : ℕ)
+        → Gives reading.new result (body_after_header n reading.old BodyWord.RemoveCurrency tokens.entry) }
 {
     let currency = tokens.only()?;
     let currency = any_name(currency)?;
@@ -200,7 +201,8 @@ fn list_tickets(reading: &mut Reading, tokens: Tokens<'_>) -> Result<(), LineFau
 
 /// `lscur`
 fn list_currencies(reading: &mut Reading, tokens: Tokens<'_>) -> Result<(), LineFault>
-    ensures { (n : ℕ) → Gives reading.new result (body_after_header n reading.old BodyWord.ListCurrencies tokens.entry) }
+    ensures { (n : ℕ)
+        → Gives reading.new result (body_after_header n reading.old BodyWord.ListCurrencies tokens.entry) }
 {
     tokens.none()?;
     reading.add_command(Command::List(Kind::Currencies))
@@ -254,7 +256,8 @@ fn schedule(alloc: Global, reading: &mut Reading, tokens: Tokens<'_>) -> Result<
 fn read_actors(alloc: Global, processors: u32, mut tokens: Tokens<'_>) -> Result<Vec<u8>, LineFault>
     requires { processors ≤ 64 }
     ensures actors { IfOk result (λ actors. All (λ actor. actor ≤ processors) actors.items) }
-    ensures read { MatchResult result (λ actors. each (actor_read processors) tokens.entry ≡ Ok actors.items) (λ fault. Fails fault (each (actor_read processors) tokens.entry)) }
+    ensures read { MatchResult result (λ actors. each (actor_read processors) tokens.entry ≡ Ok actors.items)
+        (λ fault. Fails fault (each (actor_read processors) tokens.entry)) }
 {
     let mut actors = Vec::new(alloc);
     while let Some(token) = tokens.next_token() {

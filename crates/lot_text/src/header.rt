@@ -20,7 +20,8 @@ pub(crate) fn first_line(
     word: &[u8],
     tokens: Tokens<'_>,
 ) -> Result<Reading, LineFault>
-    ensures { MatchResult result (λ reading. first_line_read (word.now ∷ tokens.entry) ≡ Ok reading) (λ fault. Fails fault (first_line_read (word.now ∷ tokens.entry))) }
+    ensures { MatchResult result (λ reading. first_line_read (word.now ∷ tokens.entry) ≡ Ok reading)
+        (λ fault. Fails fault (first_line_read (word.now ∷ tokens.entry))) }
 {
     let Ok(version) = tokens.only() else {
         return Err(LineFault::Refused(InputRefusal::BadHeader));
@@ -132,7 +133,8 @@ fn read_seed(alloc: Global, reading: &mut Reading, tokens: Tokens<'_>) -> Result
 /// Each token as a seed, from left to right.
 fn read_seeds(alloc: Global, mut tokens: Tokens<'_>) -> Result<Vec<u32>, LineFault>
     ensures seeds { IfOk result (λ seeds. AreSeeds (length tokens.entry) seeds.items) }
-    ensures read { MatchResult result (λ seeds. each (number_read 1 2147483646) tokens.entry ≡ Ok seeds.items) (λ fault. Fails fault (each (number_read 1 2147483646) tokens.entry)) }
+    ensures read { MatchResult result (λ seeds. each (number_read 1 2147483646) tokens.entry ≡ Ok seeds.items)
+        (λ fault. Fails fault (each (number_read 1 2147483646) tokens.entry)) }
 {
     let mut seeds = Vec::new(alloc);
     while let Some(token) = tokens.next_token() {

@@ -1,6 +1,9 @@
 //! Reading an input from its bytes.
 ghost use Rattle.std.specs.Prelude.{◌≡◌, ◌<◌, ◌≤◌, ◌∷◌, drop, length, OnOk, IfErr, IfOk, Ok};
-ghost use Rattle.lot_simulation.specs.Grammar.{program_in, header_words_of, body_words_of, phrases_of, later_line as later_line_read, line_inside as line_inside_read, line_outside as line_outside_read, phrase_inside as phrase_inside_read, phrases_inside as phrases_inside_read, read_line as read_line_read};
+ghost use Rattle.lot_simulation.specs.Grammar.{program_in, header_words_of, body_words_of, phrases_of};
+ghost use Rattle.lot_simulation.specs.Grammar.{later_line as later_line_read, line_inside as line_inside_read};
+ghost use Rattle.lot_simulation.specs.Grammar.{line_outside as line_outside_read, phrase_inside as phrase_inside_read};
+ghost use Rattle.lot_simulation.specs.Grammar.{phrases_inside as phrases_inside_read, read_line as read_line_read};
 ghost use Rattle.lot_simulation.specs.Words.{word_in, script_words};
 ghost use Rattle.lot_text.specs.Faults.{Gives, IsFaultOf};
 ghost use Rattle.lot_text.specs.Readings.{argument_count, phrase_at, within_script};
@@ -106,7 +109,8 @@ fn line_inside(
     tokens: Tokens<'_>,
 ) -> Result<(), LineFault>
     requires { length reading.old.scripts < 256 }
-    ensures { Gives reading.new result (line_inside_read (within_script reading.old script) script (word_in script_words word.now) tokens.entry) }
+    ensures { Gives reading.new result (line_inside_read (within_script reading.old script) script
+        (word_in script_words word.now) tokens.entry) }
 {
     match script_word(word) {
         Some(word) => script_line(reading, script, word, tokens),
@@ -138,7 +142,8 @@ fn phrase_inside(
     word: &[u8],
     tokens: &mut Tokens<'_>,
 ) -> Result<(), LineFault>
-    ensures read { Gives reading.new result (phrase_inside_read reading.old reading.old.unclosed (phrase_at word.now tokens.old)) }
+    ensures read { Gives reading.new result (phrase_inside_read reading.old reading.old.unclosed
+        (phrase_at word.now tokens.old)) }
     ensures left { OnOk result (tokens.new ≡ drop (argument_count word.now) tokens.old) }
 {
     let Some(script) = reading.unclosed.take() else {
@@ -183,7 +188,8 @@ fn line_outside(
     word: &[u8],
     tokens: Tokens<'_>,
 ) -> Result<(), LineFault>
-    ensures { Gives reading.new result (line_outside_read number reading.old (word_in (header_words_of reading.old) word.now) (word_in (body_words_of reading.old) word.now) tokens.entry) }
+    ensures { Gives reading.new result (line_outside_read number reading.old
+        (word_in (header_words_of reading.old) word.now) (word_in (body_words_of reading.old) word.now) tokens.entry) }
 {
     if let Some(word) = header_word_in(reading, word) {
         return header_line(alloc, reading, word, tokens);

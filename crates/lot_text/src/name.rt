@@ -1,7 +1,8 @@
 //! Names.
 ghost use Rattle.std.specs.Prelude.{◌≡◌, ◌<◌, ◌≤◌, length, position, IfSome};
 ghost use Rattle.std.specs.Str.{bytes_eq};
-ghost use Rattle.lot_simulation.specs.Reading.{any_name as any_name_read, new_name as new_name_read, known_name as known_name_read, number_named as number_named_read};
+ghost use Rattle.lot_simulation.specs.Reading.{any_name as any_name_read, new_name as new_name_read};
+ghost use Rattle.lot_simulation.specs.Reading.{known_name as known_name_read, number_named as number_named_read};
 
 use lot_machine::{Name, is_good_name};
 use lot_simulation::InputRefusal;

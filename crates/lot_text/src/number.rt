@@ -5,7 +5,8 @@ ghost use Rattle.std.specs.List.{list_all};
 ghost use Rattle.lot_machine.specs.Bounds.{IsBetween};
 ghost use Rattle.std.specs.Str.Parse.{digits_value};
 ghost use Rattle.lot_simulation.specs.Lines.{is_numeral as is_numeral_token, number_of};
-ghost use Rattle.lot_simulation.specs.Reading.{number_between as number_read, any_number as any_number_read, actor_below as actor_read};
+ghost use Rattle.lot_simulation.specs.Reading.{number_between as number_read, any_number as any_number_read};
+ghost use Rattle.lot_simulation.specs.Reading.{actor_below as actor_read};
 ghost use Rattle.lot_text.specs.Numbers.{within_64_bits};
 
 use lot_simulation::InputRefusal;

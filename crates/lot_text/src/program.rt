@@ -34,10 +34,28 @@ impl Model for Program {
 
     ghost Value = { ProgramRecord };
 
-    ghost view = { λ p. record { limits = sizes_of p.limits; seeds = p.seeds.items; turns = p.turns; scripts = p.scripts.items; commands = p.commands.items; schedule = p.schedule.items; duration = p.duration; times = p.times.items } };
+    ghost view = { λ p. record {
+      limits = sizes_of p.limits;
+      seeds = p.seeds.items;
+      turns = p.turns;
+      scripts = p.scripts.items;
+      commands = p.commands.items;
+      schedule = p.schedule.items;
+      duration = p.duration;
+      times = p.times.items;
+    } };
 
     ghost invariant = { λ p. record {
-      program : IsProgram (record { limits = sizes_of p.limits; seeds = p.seeds.items; turns = p.turns; scripts = p.scripts.items; commands = p.commands.items; schedule = p.schedule.items; duration = p.duration; times = p.times.items });
+      program : IsProgram (record {
+        limits = sizes_of p.limits;
+        seeds = p.seeds.items;
+        turns = p.turns;
+        scripts = p.scripts.items;
+        commands = p.commands.items;
+        schedule = p.schedule.items;
+        duration = p.duration;
+        times = p.times.items;
+      });
       unit : unit_of p.format ≡ p.limits.unit;
       timed : is_timed p.format ≡ is_some p.duration;
     } };

@@ -1,11 +1,14 @@
 //! The state of reading an input.
-ghost use Rattle.std.specs.Prelude.{◌≡◌, ℕ, ◌<◌, ◌≤◌, max, false, All, length, map, option_map, position, unwrap_or, IfErr, IfOk, IfSome, IsTrue, Ok, Some, if◌then◌else◌};
+ghost use Rattle.std.specs.Prelude.{◌≡◌, ℕ, ◌<◌, ◌≤◌, max, false, All, length, map, option_map, position, unwrap_or};
+ghost use Rattle.std.specs.Prelude.{IfErr, IfOk, IfSome, IsTrue, Ok, Some, if◌then◌else◌};
 ghost use Rattle.std.specs.List.{range_with_len};
 ghost use Rattle.std.specs.Option.{ForSome};
 ghost use Rattle.std.specs.Str.{bytes_eq};
 ghost use Rattle.lot_machine.specs.Bounds.{IsBetween};
 ghost use Rattle.lot_machine.specs.Lottery.{mixed_seed};
-ghost use Rattle.lot_simulation.specs.Grammar.{add_command as add_command_read, add_runs as add_runs_read, closed_program, lacks_duration as lacks_duration_read, limits_of, script_names, whole_program};
+ghost use Rattle.lot_simulation.specs.Grammar.{add_command as add_command_read, add_runs as add_runs_read};
+ghost use Rattle.lot_simulation.specs.Grammar.{closed_program, lacks_duration as lacks_duration_read, limits_of};
+ghost use Rattle.lot_simulation.specs.Grammar.{script_names, whole_program};
 ghost use Rattle.lot_simulation.specs.Formats.{is_timed, unit_of};
 ghost use Rattle.lot_simulation.specs.Reading.{number_named, opening_reading};
 ghost use Rattle.lot_machine.specs.State.{sizes_of};
@@ -91,9 +94,49 @@ impl Model for Reading {
 
     ghost Value = { ReadingRecord };
 
-    ghost view = { λ r. record { place = r.place; is_timed = is_timed r.format; unit = unit_of r.format; processors = r.processors; quantum = r.quantum; turns = r.turns; duration = r.duration; seeds = option_map (λ s. s.items) r.seeds; tickets = r.tickets; currencies = r.currencies; threads = r.threads; ports = r.ports.items; mutexes = r.mutexes.items; scripts = r.scripts.items; unclosed = r.unclosed; commands = r.commands.items; time = r.time; times = r.times.items; schedule = r.schedule.items } };
+    ghost view = { λ r. record {
+      place = r.place;
+      is_timed = is_timed r.format;
+      unit = unit_of r.format;
+      processors = r.processors;
+      quantum = r.quantum;
+      turns = r.turns;
+      duration = r.duration;
+      seeds = option_map (λ s. s.items) r.seeds;
+      tickets = r.tickets;
+      currencies = r.currencies;
+      threads = r.threads;
+      ports = r.ports.items;
+      mutexes = r.mutexes.items;
+      scripts = r.scripts.items;
+      unclosed = r.unclosed;
+      commands = r.commands.items;
+      time = r.time;
+      times = r.times.items;
+      schedule = r.schedule.items;
+    } };
 
-    ghost invariant = { λ r. IsReading (record { place = r.place; is_timed = is_timed r.format; unit = unit_of r.format; processors = r.processors; quantum = r.quantum; turns = r.turns; duration = r.duration; seeds = option_map (λ s. s.items) r.seeds; tickets = r.tickets; currencies = r.currencies; threads = r.threads; ports = r.ports.items; mutexes = r.mutexes.items; scripts = r.scripts.items; unclosed = r.unclosed; commands = r.commands.items; time = r.time; times = r.times.items; schedule = r.schedule.items }) };
+    ghost invariant = { λ r. IsReading (record {
+      place = r.place;
+      is_timed = is_timed r.format;
+      unit = unit_of r.format;
+      processors = r.processors;
+      quantum = r.quantum;
+      turns = r.turns;
+      duration = r.duration;
+      seeds = option_map (λ s. s.items) r.seeds;
+      tickets = r.tickets;
+      currencies = r.currencies;
+      threads = r.threads;
+      ports = r.ports.items;
+      mutexes = r.mutexes.items;
+      scripts = r.scripts.items;
+      unclosed = r.unclosed;
+      commands = r.commands.items;
+      time = r.time;
+      times = r.times.items;
+      schedule = r.schedule.items;
+    }) };
 }
 
 impl Reading {
@@ -203,7 +246,8 @@ impl Reading {
     /// The program, if no script is open, and the header says how long the input runs if it must. The last line has
     /// this number.
     pub(crate) fn into_program(self, alloc: Global, last: u32) -> Result<Program, ParseFault>
-        ensures program { (count : ℕ) → last ≡ max 1 count → IfOk result (λ program. whole_program count (Some self) ≡ Ok program) }
+        ensures program { (count : ℕ) → last ≡ max 1 count
+            → IfOk result (λ program. whole_program count (Some self) ≡ Ok program) }
         ensures fault { (count : ℕ) → last ≡ max 1 count → IfErr result (IsFaultOf (whole_program count (Some self))) }
     {
         if self.lacks_duration() {
@@ -283,7 +327,9 @@ fn seeds_or_own(
     requires given { ForSome given (λ s. AreSeeds processors s.items) }
     requires processors { IsBetween 1 64 processors }
     ensures seeds { IfOk result (λ s. AreSeeds processors s.items) }
-    ensures read { IfOk result (λ s. s.items ≡ unwrap_or (option_map (λ g. g.items) given) (if is_timed format then map mixed_seed (range_with_len 1 processors) else range_with_len 1 processors)) }
+    ensures read { IfOk result (λ s. s.items
+        ≡ unwrap_or (option_map (λ g. g.items) given) (if is_timed format
+        then map mixed_seed (range_with_len 1 processors) else range_with_len 1 processors)) }
 {
     match given {
         Some(seeds) => Ok(seeds),

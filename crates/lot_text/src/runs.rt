@@ -36,7 +36,8 @@ pub(crate) fn read_runs(
 ) -> Result<Vec<ActorRun>, LineFault>
     requires { processors ≤ 64 }
     ensures actors { IfOk result (λ runs. All (λ run. run.actor ≤ processors) runs.items) }
-    ensures read { MatchResult result (λ runs. each_pair (run_read processors) tokens.entry ≡ Ok runs.items) (λ fault. Fails fault (each_pair (run_read processors) tokens.entry)) }
+    ensures read { MatchResult result (λ runs. each_pair (run_read processors) tokens.entry ≡ Ok runs.items)
+        (λ fault. Fails fault (each_pair (run_read processors) tokens.entry)) }
 {
     let mut runs = Vec::new(alloc);
     while let Some((actor, count)) = tokens.next_pair() {
@@ -76,7 +77,8 @@ pub(crate) fn actors_of(alloc: Global, runs: &[ActorRun]) -> Result<Vec<u8>, All
     requires { sum_by (λ run. run.count) runs.now ≤ 1000000 }
     ensures actors { IfOk result (λ actors. actors.items ≡ actors_of_runs runs.now) }
     ensures count { IfOk result (λ actors. length actors.items ≡ sum_by (λ run. run.count) runs.now) }
-    ensures below { (p : ℕ) → All (λ run. run.actor ≤ p) runs.now → IfOk result (λ actors. All (λ actor. actor ≤ p) actors.items) }
+    ensures below { (p : ℕ) → All (λ run. run.actor ≤ p) runs.now
+        → IfOk result (λ actors. All (λ actor. actor ≤ p) actors.items) }
 {
     let mut actors = Vec::new(alloc);
     for run in runs {

@@ -43,7 +43,8 @@ pub(crate) fn script_line(
 /// `compute N`
 fn compute(reading: &mut Reading, script: OpenScript, tokens: Tokens<'_>) -> Result<(), LineFault>
     requires { length reading.old.scripts < 256 }
-    ensures { Gives reading.new result (script_line_read (within_script reading.old script) script ScriptWord.Compute tokens.entry) }
+    ensures { Gives reading.new result
+        (script_line_read (within_script reading.old script) script ScriptWord.Compute tokens.entry) }
 {
     let ticks = tokens.only()?;
     let ticks = number_between(1, 4294967295, ticks)?;
@@ -53,7 +54,8 @@ fn compute(reading: &mut Reading, script: OpenScript, tokens: Tokens<'_>) -> Res
 /// `set N`
 fn set(reading: &mut Reading, script: OpenScript, tokens: Tokens<'_>) -> Result<(), LineFault>
     requires { length reading.old.scripts < 256 }
-    ensures { Gives reading.new result (script_line_read (within_script reading.old script) script ScriptWord.Set tokens.entry) }
+    ensures { Gives reading.new result
+        (script_line_read (within_script reading.old script) script ScriptWord.Set tokens.entry) }
 {
     let number = tokens.only()?;
     let number = number_between(0, 4294967295, number)?;
@@ -63,7 +65,8 @@ fn set(reading: &mut Reading, script: OpenScript, tokens: Tokens<'_>) -> Result<
 /// `add N`
 fn add(reading: &mut Reading, script: OpenScript, tokens: Tokens<'_>) -> Result<(), LineFault>
     requires { length reading.old.scripts < 256 }
-    ensures { Gives reading.new result (script_line_read (within_script reading.old script) script ScriptWord.Add tokens.entry) }
+    ensures { Gives reading.new result
+        (script_line_read (within_script reading.old script) script ScriptWord.Add tokens.entry) }
 {
     let number = tokens.only()?;
     let number = number_between(0, 4294967295, number)?;
@@ -77,7 +80,8 @@ fn begin_loop(
     tokens: Tokens<'_>,
 ) -> Result<(), LineFault>
     requires { length reading.old.scripts < 256 }
-    ensures { Gives reading.new result (script_line_read (within_script reading.old script) script ScriptWord.Loop tokens.entry) }
+    ensures { Gives reading.new result
+        (script_line_read (within_script reading.old script) script ScriptWord.Loop tokens.entry) }
 {
     let times = tokens.only()?;
     let times = number_between(1, 65535, times)?;
@@ -90,7 +94,8 @@ fn begin_loop(
 /// `end`
 fn end_loop(reading: &mut Reading, script: OpenScript, tokens: Tokens<'_>) -> Result<(), LineFault>
     requires { length reading.old.scripts < 256 }
-    ensures { Gives reading.new result (script_line_read (within_script reading.old script) script ScriptWord.End tokens.entry) }
+    ensures { Gives reading.new result
+        (script_line_read (within_script reading.old script) script ScriptWord.End tokens.entry) }
 {
     tokens.none()?;
     if script.builder.open_loops() == 0 {
@@ -102,7 +107,8 @@ fn end_loop(reading: &mut Reading, script: OpenScript, tokens: Tokens<'_>) -> Re
 /// `yield`
 fn give_way(reading: &mut Reading, script: OpenScript, tokens: Tokens<'_>) -> Result<(), LineFault>
     requires { length reading.old.scripts < 256 }
-    ensures { Gives reading.new result (script_line_read (within_script reading.old script) script ScriptWord.Yield tokens.entry) }
+    ensures { Gives reading.new result
+        (script_line_read (within_script reading.old script) script ScriptWord.Yield tokens.entry) }
 {
     tokens.none()?;
     add_line(reading, script, Line::Yield)
@@ -111,7 +117,8 @@ fn give_way(reading: &mut Reading, script: OpenScript, tokens: Tokens<'_>) -> Re
 /// `reply`
 fn reply(reading: &mut Reading, script: OpenScript, tokens: Tokens<'_>) -> Result<(), LineFault>
     requires { length reading.old.scripts < 256 }
-    ensures { Gives reading.new result (script_line_read (within_script reading.old script) script ScriptWord.Reply tokens.entry) }
+    ensures { Gives reading.new result
+        (script_line_read (within_script reading.old script) script ScriptWord.Reply tokens.entry) }
 {
     tokens.none()?;
     add_line(reading, script, Line::Reply)
@@ -120,7 +127,8 @@ fn reply(reading: &mut Reading, script: OpenScript, tokens: Tokens<'_>) -> Resul
 /// `serve PORT`
 fn serve(reading: &mut Reading, script: OpenScript, tokens: Tokens<'_>) -> Result<(), LineFault>
     requires { length reading.old.scripts < 256 }
-    ensures { Gives reading.new result (script_line_read (within_script reading.old script) script ScriptWord.Serve tokens.entry) }
+    ensures { Gives reading.new result
+        (script_line_read (within_script reading.old script) script ScriptWord.Serve tokens.entry) }
 {
     let port = tokens.only()?;
     let port = known_name(reading.ports.as_slice(), port)?;
@@ -130,7 +138,8 @@ fn serve(reading: &mut Reading, script: OpenScript, tokens: Tokens<'_>) -> Resul
 /// `call PORT`
 fn call(reading: &mut Reading, script: OpenScript, tokens: Tokens<'_>) -> Result<(), LineFault>
     requires { length reading.old.scripts < 256 }
-    ensures { Gives reading.new result (script_line_read (within_script reading.old script) script ScriptWord.Call tokens.entry) }
+    ensures { Gives reading.new result
+        (script_line_read (within_script reading.old script) script ScriptWord.Call tokens.entry) }
 {
     let port = tokens.only()?;
     let port = known_name(reading.ports.as_slice(), port)?;
@@ -140,7 +149,8 @@ fn call(reading: &mut Reading, script: OpenScript, tokens: Tokens<'_>) -> Result
 /// `receive PORT`
 fn receive(reading: &mut Reading, script: OpenScript, tokens: Tokens<'_>) -> Result<(), LineFault>
     requires { length reading.old.scripts < 256 }
-    ensures { Gives reading.new result (script_line_read (within_script reading.old script) script ScriptWord.Receive tokens.entry) }
+    ensures { Gives reading.new result
+        (script_line_read (within_script reading.old script) script ScriptWord.Receive tokens.entry) }
 {
     let port = tokens.only()?;
     let port = known_name(reading.ports.as_slice(), port)?;
@@ -150,7 +160,8 @@ fn receive(reading: &mut Reading, script: OpenScript, tokens: Tokens<'_>) -> Res
 /// `lock MUTEX`
 fn lock(reading: &mut Reading, script: OpenScript, tokens: Tokens<'_>) -> Result<(), LineFault>
     requires { length reading.old.scripts < 256 }
-    ensures { Gives reading.new result (script_line_read (within_script reading.old script) script ScriptWord.Lock tokens.entry) }
+    ensures { Gives reading.new result
+        (script_line_read (within_script reading.old script) script ScriptWord.Lock tokens.entry) }
 {
     let mutex = tokens.only()?;
     let mutex = known_name(reading.mutexes.as_slice(), mutex)?;
@@ -160,7 +171,8 @@ fn lock(reading: &mut Reading, script: OpenScript, tokens: Tokens<'_>) -> Result
 /// `unlock MUTEX`
 fn unlock(reading: &mut Reading, script: OpenScript, tokens: Tokens<'_>) -> Result<(), LineFault>
     requires { length reading.old.scripts < 256 }
-    ensures { Gives reading.new result (script_line_read (within_script reading.old script) script ScriptWord.Unlock tokens.entry) }
+    ensures { Gives reading.new result
+        (script_line_read (within_script reading.old script) script ScriptWord.Unlock tokens.entry) }
 {
     let mutex = tokens.only()?;
     let mutex = known_name(reading.mutexes.as_slice(), mutex)?;
@@ -174,7 +186,8 @@ fn end_script(
     tokens: Tokens<'_>,
 ) -> Result<(), LineFault>
     requires { length reading.old.scripts < 256 }
-    ensures { Gives reading.new result (script_line_read (within_script reading.old script) script ScriptWord.EndScript tokens.entry) }
+    ensures { Gives reading.new result
+        (script_line_read (within_script reading.old script) script ScriptWord.EndScript tokens.entry) }
 {
     tokens.none()?;
     if 0 < script.builder.open_loops() {

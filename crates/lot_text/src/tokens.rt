@@ -1,5 +1,6 @@
 //! The tokens of a line.
-ghost use Rattle.std.specs.Prelude.{◌≡◌, ◌≢◌, ◌==◌, ◌≤◌, ◌%◌, not, drop, length, take, [], ◌∷◌, ◌↔◌, IsTrue, IfSome, MatchOption, MatchResult};
+ghost use Rattle.std.specs.Prelude.{◌≡◌, ◌≢◌, ◌==◌, ◌≤◌, ◌%◌, not, drop, length, take, [], ◌∷◌, ◌↔◌, IsTrue, IfSome};
+ghost use Rattle.std.specs.Prelude.{MatchOption, MatchResult};
 ghost use Rattle.std.specs.List.{prefix_len};
 ghost use Rattle.lot_simulation.specs.Lines.{tokens_of, is_comment, is_printable as is_printable_line};
 
@@ -31,7 +32,8 @@ impl<'a> Tokens<'a> {
 
     /// The next token, or `None` at the end.
     pub(crate) fn next_token(&mut self) -> Option<&'a [u8]>
-        ensures next { MatchOption result ((self.old ≡ []) × (self.new ≡ [])) (λ token. self.old ≡ token.now ∷ self.new) }
+        ensures next { MatchOption result ((self.old ≡ []) × (self.new ≡ []))
+            (λ token. self.old ≡ token.now ∷ self.new) }
         ensures alone { IfSome result (λ token. tokens_of token.now ≡ token.now ∷ []) }
     {
         let word = &self.rest[spaces_in_front(self.rest)..];
@@ -56,14 +58,16 @@ impl<'a> Tokens<'a> {
 
     /// The next token. There has to be one.
     pub(crate) fn expected(&mut self) -> Result<&'a [u8], InputRefusal>
-        ensures { MatchResult result (λ token. self.old ≡ token.now ∷ self.new) (λ e. (e ≡ InputRefusal.BadLine) × (self.old ≡ [])) }
+        ensures { MatchResult result (λ token. self.old ≡ token.now ∷ self.new)
+            (λ e. (e ≡ InputRefusal.BadLine) × (self.old ≡ [])) }
     {
         self.next_token().ok_or(InputRefusal::BadLine)
     }
 
     /// The last token. There has to be one and no other.
     pub(crate) fn only(mut self) -> Result<&'a [u8], InputRefusal>
-        ensures { MatchResult result (λ token. self.entry ≡ token.now ∷ []) (λ e. (e ≡ InputRefusal.BadLine) × (length self.entry ≢ 1)) }
+        ensures { MatchResult result (λ token. self.entry ≡ token.now ∷ [])
+            (λ e. (e ≡ InputRefusal.BadLine) × (length self.entry ≢ 1)) }
     {
         let token = self.expected()?;
         self.none()?;
@@ -72,7 +76,8 @@ impl<'a> Tokens<'a> {
 
     /// The end. There has to be no token.
     pub(crate) fn none(mut self) -> Result<(), InputRefusal>
-        ensures { MatchResult result (λ _. self.entry ≡ []) (λ e. (e ≡ InputRefusal.BadLine) × (length self.entry ≢ 0)) }
+        ensures { MatchResult result (λ _. self.entry ≡ []) (λ e. (e ≡ InputRefusal.BadLine)
+            × (length self.entry ≢ 0)) }
     {
         match self.next_token() {
             Some(_) => Err(InputRefusal::BadLine),

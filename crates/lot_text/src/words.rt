@@ -2,7 +2,8 @@
 ghost use Rattle.std.specs.Prelude.{◌≡◌, drop};
 ghost use Rattle.std.specs.Str.{bytes_eq};
 ghost use Rattle.lot_simulation.specs.Grammar as grammar;
-ghost use Rattle.lot_simulation.specs.Words.{word_in, header_words, timed_header_words, body_words, timed_body_words, script_words, timed_script_words};
+ghost use Rattle.lot_simulation.specs.Words.{word_in, header_words, timed_header_words, body_words, timed_body_words};
+ghost use Rattle.lot_simulation.specs.Words.{script_words, timed_script_words};
 
 use lot_simulation::{BodyWord, HeaderWord, ScriptWord};
 

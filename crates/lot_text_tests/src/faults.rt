@@ -9,7 +9,8 @@ use std::alloc::{AllocError, Global};
 
 /// The fault of an input that is refused, or `None` if it is read. An error if memory runs out.
 pub fn fault_of(alloc: Global, bytes: &[u8]) -> Result<Option<InputFault>, AllocError>
-    ensures { IfOk result (λ fault. MatchOption fault ((program : ProgramRecord) × (program_in bytes.now ≡ Ok program)) (λ f. program_in bytes.now ≡ Err f)) }
+    ensures { IfOk result (λ fault. MatchOption fault ((program : ProgramRecord)
+        × (program_in bytes.now ≡ Ok program)) (λ f. program_in bytes.now ≡ Err f)) }
 {
     match parse(alloc, bytes) {
         Ok(_) => Ok(None),

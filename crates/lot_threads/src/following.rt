@@ -43,7 +43,8 @@ pub(crate) fn follow_status(graph: &mut ValuedGraph, thread: u32, before: Status
     requires lend { CanLend graph.old.now.funding thread (states.lend_of now) }
     requires lent { at_number graph.old.now.funding.lends thread ≡ Some (states.lend_of before) }
     requires lived { at_number graph.old.live thread ≡ Some (states.is_live_status before) }
-    ensures now { graph.new.now ≡ with_lends graph.old.now (set_number graph.old.now.funding.lends thread (states.lend_of now)) }
+    ensures now { graph.new.now ≡ with_lends graph.old.now (set_number graph.old.now.funding.lends thread
+        (states.lend_of now)) }
     ensures live { graph.new.live ≡ set_number graph.old.live thread (states.is_live_status now) }
     ensures known { graph.new.known ≡ record graph.old.known { stale = graph.new.known.stale } }
     ensures kept { (node : ANode) → IsStale graph.old.known node → IsStale graph.new.known node }

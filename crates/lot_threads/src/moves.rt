@@ -8,7 +8,8 @@ ghost use Rattle.lot_machine.specs.State as states;
 ghost use Rattle.lot_machine.specs.State.{change_record, thread_on};
 ghost use Rattle.lot_machine.specs.Step.{started};
 ghost use Rattle.lot_machine.specs.Traps.{with_ticks};
-ghost use Rattle.lot_threads.specs.Threaded.{IsThreadOf, IsStaleIn, CanLend, CanRun, MakesStaleIn, funding_in, with_records};
+ghost use Rattle.lot_threads.specs.Threaded.{IsThreadOf, IsStaleIn, CanLend, CanRun, MakesStaleIn, funding_in};
+ghost use Rattle.lot_threads.specs.Threaded.{with_records};
 ghost use Rattle.lot_threads.specs.Timely.{IsBelowQuantum};
 
 use crate::Threads;
@@ -23,7 +24,8 @@ impl Threads {
         requires free { thread_on self.old.records processor ≡ None }
         requires quantum { 0 < self.old.quantum }
         ensures delivered { result ≡ option_and_then (λ r. r.delivered) (at_number self.old.records thread) }
-        ensures started { self.new ≡ with_records self.old (change_record (started processor) self.old.records thread) self.new.stale }
+        ensures started { self.new ≡ with_records self.old (change_record
+            (started processor) self.old.records thread) self.new.stale }
         ensures kept { (node : ANode) → IsStaleIn self.old node → IsStaleIn self.new node }
         ensures stale { MakesStaleIn self.old self.new }
     {
@@ -44,7 +46,11 @@ impl Threads {
     /// A thread's quantum ends after these further ticks: it is Ready without compensation (4.2).
     pub fn expire(&mut self, thread: u32, ticks: u32)
         requires thread { IsThreadOf self.old thread }
-        ensures expired { self.new ≡ with_records self.old (change_record (λ r. with_ticks ticks (record r { status = status.Ready; compensation = None })) self.old.records thread) self.new.stale }
+        ensures expired { self.new ≡ with_records self.old (change_record
+            (λ r. with_ticks ticks (record r {
+              status = status.Ready;
+              compensation = None;
+            })) self.old.records thread) self.new.stale }
         ensures kept { (node : ANode) → IsStaleIn self.old node → IsStaleIn self.new node }
         ensures stale { MakesStaleIn self.old self.new }
     {
@@ -66,7 +72,8 @@ impl Threads {
         requires below { IsBelowQuantum self.old.quantum status }
         requires lend { CanLend (funding_in self.old) thread (states.lend_of status) }
         requires run { CanRun self.old thread status }
-        ensures set { self.new ≡ with_records self.old (change_record (λ r. record r { status = status }) self.old.records thread) self.new.stale }
+        ensures set { self.new ≡ with_records self.old (change_record
+            (λ r. record r { status = status }) self.old.records thread) self.new.stale }
         ensures kept { (node : ANode) → IsStaleIn self.old node → IsStaleIn self.new node }
         ensures stale { MakesStaleIn self.old self.new }
     {
@@ -79,7 +86,11 @@ impl Threads {
     /// Makes a thread Ready again, and delivers a number to it: the thread gets the number when it next runs (4.6).
     pub fn deliver(&mut self, thread: u32, number: u32)
         requires thread { IsThreadOf self.old thread }
-        ensures delivered { self.new ≡ with_records self.old (change_record (λ r. record r { status = status.Ready; delivered = Some number }) self.old.records thread) self.new.stale }
+        ensures delivered { self.new
+            ≡ with_records self.old (change_record (λ r. record r {
+              status = status.Ready;
+              delivered = Some number;
+            }) self.old.records thread) self.new.stale }
         ensures kept { (node : ANode) → IsStaleIn self.old node → IsStaleIn self.new node }
         ensures stale { MakesStaleIn self.old self.new }
     {

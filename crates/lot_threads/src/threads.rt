@@ -1,22 +1,29 @@
 //! The threads, and all that follows from what each is doing.
-ghost use Rattle.std.specs.Prelude.{◌≡◌, ◌+◌, ◌<◌, ◌≤◌, ◌↔◌, ◌++◌, ◌∷◌, ◌≢◌, true, false, [], Some, None, IfOk, IfSome, IfNone, IsErr, IsTrue, OnOk, OnErr, OnSome, MatchOption, length, replicate, slice_set, vec_capacity};
+ghost use Rattle.std.specs.Prelude.{◌≡◌, ◌+◌, ◌<◌, ◌≤◌, ◌↔◌, ◌++◌, ◌∷◌, ◌≢◌, true, false, [], Some, None, IfOk, IfSome};
+ghost use Rattle.std.specs.Prelude.{IfNone, IsErr, IsTrue, OnOk, OnErr, OnSome, MatchOption, length, replicate};
+ghost use Rattle.std.specs.Prelude.{slice_set, vec_capacity};
 ghost use Rattle.std.specs.Option.{SomeIff};
 ghost use Rattle.lot_machine.specs.declared.funding.Node.{Node as ANode};
-ghost use Rattle.lot_machine.specs.declared.funding.Node.TheVariants.{Currency as CurrencyNode, Thread as ThreadNode, Mutex as MutexNode};
+ghost use Rattle.lot_machine.specs.declared.funding.Node.TheVariants.{Currency as CurrencyNode, Thread as ThreadNode};
+ghost use Rattle.lot_machine.specs.declared.funding.Node.TheVariants.{Mutex as MutexNode};
 ghost use Rattle.lot_machine.specs.declared.record.Status.TheVariants.{Ready};
 ghost use Rattle.lot_machine.specs.declared.ticket.Ticket.{Ticket as ATicket};
 ghost use Rattle.lot_machine.specs.declared.ticket.Target.TheVariants.{Unfunded};
 ghost use Rattle.lot_machine.specs.Numbered.{at_number, set_number};
-ghost use Rattle.lot_machine.specs.Funding.{ticket_at, target_of, owner_of, issued_in, backing_currency, with_target, with_new_ticket, without_ticket};
+ghost use Rattle.lot_machine.specs.Funding.{ticket_at, target_of, owner_of, issued_in, backing_currency, with_target};
+ghost use Rattle.lot_machine.specs.Funding.{with_new_ticket, without_ticket};
 ghost use Rattle.lot_machine.specs.Activity.{IsActive, active_amount};
 ghost use Rattle.lot_machine.specs.Equations.{HasEquation, Reaches};
 ghost use Rattle.lot_machine.specs.State.{live_in, status_of, thread_on, used_by};
 ghost use Rattle.lot_machine.specs.Value.{node_value, ticket_value};
-ghost use Rattle.lot_graph.specs.Graphs.{IsNodeOf, IsThread, IsMutex, IsCurrency, IsUserCurrency, IsTarget, IsCycle, IsFunding};
+ghost use Rattle.lot_graph.specs.Graphs.{IsNodeOf, IsThread, IsMutex, IsCurrency, IsUserCurrency, IsTarget, IsCycle};
+ghost use Rattle.lot_graph.specs.Graphs.{IsFunding};
 ghost use Rattle.lot_tree.specs.Visits.{CountsReads};
 ghost use Rattle.lot_value.specs.Counts.{counted_up};
 ghost use Rattle.lot_value.specs.Caches.{HasNoneTwice, edges_into_all};
-ghost use Rattle.lot_threads.specs.Threaded.{IsLiveIn, IsThreadOf, IsStaleIn, CanRun, CanChange, MakesStaleIn, drawn_in, funding_in, limited_in, newborn, settled_in, with_records, worth_in};
+ghost use Rattle.lot_threads.specs.Threaded.{IsLiveIn, IsThreadOf, IsStaleIn, CanRun, CanChange, MakesStaleIn};
+ghost use Rattle.lot_threads.specs.Threaded.{drawn_in, funding_in, limited_in, newborn, settled_in, with_records};
+ghost use Rattle.lot_threads.specs.Threaded.{worth_in};
 ghost use Rattle.lot_threads.specs.Timely.{IsTimely};
 
 use crate::following::{
@@ -132,7 +139,8 @@ impl Threads {
     pub fn add_thread(&mut self, thread: Thread) -> u32
         requires room { length self.old.records < self.old.thread_limit }
         ensures number { result ≡ length self.old.records + 1 }
-        ensures added { self.new ≡ record (with_records self.old (self.old.records ++ newborn ∷ []) self.new.stale) { threads = self.old.threads ++ thread ∷ [] } }
+        ensures added { self.new ≡ record (with_records self.old
+            (self.old.records ++ newborn ∷ []) self.new.stale) { threads = self.old.threads ++ thread ∷ [] } }
         ensures kept { (node : ANode) → IsStaleIn self.old node → IsStaleIn self.new node }
         ensures stale { MakesStaleIn self.old self.new }
     {
@@ -176,7 +184,8 @@ impl Threads {
 
     /// Whether a thread may have this record, except for what it lends.
     fn can_stand(&self, thread: u32, next: Record) -> bool
-        ensures can { IsTrue result ↔ (IsThreadOf self.now thread × IsTimely self.now.quantum next × CanRun self.now thread next.status) }
+        ensures can { IsTrue result ↔ (IsThreadOf self.now thread × IsTimely self.now.quantum next
+            × CanRun self.now thread next.status) }
         ensures within { IsTrue result → thread ≤ self.now.thread_limit }
     {
         is_thread(&self.graph, thread)
@@ -203,7 +212,8 @@ impl Threads {
     /// Makes a currency and returns its number, one more than the last, or `None` if the currencies made have reached
     /// the limit.
     pub fn make_currency(&mut self) -> Option<u32>
-        ensures number { SomeIff result (length self.old.currencies ≤ self.old.currency_limit) (length self.old.currencies) }
+        ensures number { SomeIff result (length self.old.currencies ≤ self.old.currency_limit)
+            (length self.old.currencies) }
         ensures made { OnSome result (self.new ≡ record self.old { currencies = self.old.currencies ++ true ∷ [] }) }
         ensures unchanged { IfNone result (self.new ≡ self.old) }
     {
@@ -225,8 +235,10 @@ impl Threads {
     pub fn issue(&mut self, currency: u32, amount: u32) -> Option<u32>
         requires currency { IsCurrency (funding_in self.old) currency }
         requires amount { 0 < amount }
-        ensures number { SomeIff result (length self.old.tickets < self.old.ticket_limit) (length self.old.tickets + 1) }
-        ensures issued { OnSome result (self.new ≡ record self.old { tickets = with_new_ticket self.old.tickets amount currency Unfunded }) }
+        ensures number { SomeIff result (length self.old.tickets < self.old.ticket_limit)
+            (length self.old.tickets + 1) }
+        ensures issued { OnSome result (self.new
+            ≡ record self.old { tickets = with_new_ticket self.old.tickets amount currency Unfunded }) }
         ensures unchanged { IfNone result (self.new ≡ self.old) }
     {
         self.graph.issue(currency, amount)
@@ -246,7 +258,8 @@ impl Threads {
         requires unfunded { target_of (funding_in self.old) ticket ≡ Some Unfunded }
         requires target { IsTarget (funding_in self.old) target }
         ensures cycle { IsErr result ↔ IsCycle (funding_in self.old) ticket target }
-        ensures funded { OnOk result (self.new ≡ record self.old { tickets = with_target self.old.tickets ticket target; stale = self.new.stale }) }
+        ensures funded { OnOk result (self.new
+            ≡ record self.old { tickets = with_target self.old.tickets ticket target; stale = self.new.stale }) }
         ensures unchanged { OnErr result (self.new ≡ self.old) }
         ensures kept { (node : ANode) → IsStaleIn self.old node → IsStaleIn self.new node }
         ensures stale { MakesStaleIn self.old self.new }
@@ -257,7 +270,10 @@ impl Threads {
     /// Takes a ticket from what it funds. Computes no value.
     pub fn unfund(&mut self, ticket: u32)
         requires funding { IsFunding (funding_in self.old) ticket }
-        ensures unfunded { self.new ≡ record self.old { tickets = with_target self.old.tickets ticket Unfunded; stale = self.new.stale } }
+        ensures unfunded { self.new ≡ record self.old {
+          tickets = with_target self.old.tickets ticket Unfunded;
+          stale = self.new.stale;
+        } }
         ensures kept { (node : ANode) → IsStaleIn self.old node → IsStaleIn self.new node }
         ensures stale { MakesStaleIn self.old self.new }
     {
@@ -268,7 +284,10 @@ impl Threads {
     /// no value.
     pub fn give_up_mutex(&mut self, mutex: u32)
         requires mutex { IsMutex (funding_in self.old) mutex }
-        ensures freed { self.new ≡ record self.old { owners = set_number self.old.owners mutex None; stale = self.new.stale } }
+        ensures freed { self.new ≡ record self.old {
+          owners = set_number self.old.owners mutex None;
+          stale = self.new.stale;
+        } }
         ensures kept { (node : ANode) → IsStaleIn self.old node → IsStaleIn self.new node }
         ensures stale { MakesStaleIn self.old self.new }
     {
@@ -282,7 +301,10 @@ impl Threads {
         requires free { owner_of (funding_in self.old) mutex ≡ None }
         requires owner { IsThread (funding_in self.old) owner }
         requires apart { ¬ Reaches (funding_in self.old) (ThreadNode owner) (MutexNode mutex) }
-        ensures owned { self.new ≡ record self.old { owners = set_number self.old.owners mutex (Some owner); stale = self.new.stale } }
+        ensures owned { self.new ≡ record self.old {
+          owners = set_number self.old.owners mutex (Some owner);
+          stale = self.new.stale;
+        } }
         ensures kept { (node : ANode) → IsStaleIn self.old node → IsStaleIn self.new node }
         ensures stale { MakesStaleIn self.old self.new }
     {
@@ -297,7 +319,10 @@ impl Threads {
         requires next { IsThread (funding_in self.old) next }
         requires other { owner ≢ next }
         requires live { IsLiveIn self.old owner × IsLiveIn self.old next }
-        ensures moved { self.new ≡ record self.old { owners = set_number self.old.owners mutex (Some next); stale = self.new.stale } }
+        ensures moved { self.new ≡ record self.old {
+          owners = set_number self.old.owners mutex (Some next);
+          stale = self.new.stale;
+        } }
         ensures kept { (node : ANode) → IsStaleIn self.old node → IsStaleIn self.new node }
         ensures stale { MakesStaleIn self.old self.new }
         ensures owners { IsStaleIn self.new (ThreadNode owner) × IsStaleIn self.new (ThreadNode next) }
@@ -312,8 +337,10 @@ impl Threads {
         ensures settled { self.new ≡ record self.old { stale = []; meter = self.new.meter } }
         ensures ready { IfSome result (λ w. status_of self.old.records w.thread ≡ Some Ready) }
         ensures once { HasNoneTwice self.old.stale }
-        ensures reads { self.new.meter.ticket_reads ≡ counted_up self.old.meter.ticket_reads (edges_into_all (funding_in self.old) self.old.stale) }
-        ensures visits { MatchOption result (self.new.meter.tree_visits ≡ self.old.meter.tree_visits) (λ w. CountsReads self.old.thread_limit self.old.meter.tree_visits self.new.meter.tree_visits) }
+        ensures reads { self.new.meter.ticket_reads
+            ≡ counted_up self.old.meter.ticket_reads (edges_into_all (funding_in self.old) self.old.stale) }
+        ensures visits { MatchOption result (self.new.meter.tree_visits ≡ self.old.meter.tree_visits)
+            (λ w. CountsReads self.old.thread_limit self.old.meter.tree_visits self.new.meter.tree_visits) }
     {
         self.queue.draw(&mut self.graph, d)
     }
@@ -361,7 +388,8 @@ impl Threads {
     /// What a node is worth (4.4), if it isn't stale.
     pub fn value_of(&self, node: Node) -> u64
         requires node { IsNodeOf (limited_in self.now) node }
-        ensures worth { ¬ IsStaleIn self.now node → HasEquation (funding_in self.now) node → result ≡ node_value self.now.unit (funding_in self.now) (live_in self.now.records) node }
+        ensures worth { ¬ IsStaleIn self.now node → HasEquation (funding_in self.now) node
+            → result ≡ node_value self.now.unit (funding_in self.now) (live_in self.now.records) node }
     {
         self.graph.value_of(node)
     }
@@ -378,9 +406,12 @@ impl Threads {
     /// What a ticket is worth (4.4), in units of base, if the currency that issued it isn't stale. If the ticket funds
     /// something, that is one reading, which is counted; otherwise it is worth nothing.
     pub fn ticket_value(&mut self, ticket: u32) -> u64
-        requires fresh { (t : ATicket) → ticket_at (funding_in self.old) ticket ≡ Some t → ¬ IsStaleIn self.old (CurrencyNode t.issuer) }
-        ensures worth { (t : ATicket) → ticket_at (funding_in self.old) ticket ≡ Some t → result ≡ ticket_value self.old.unit (funding_in self.old) (live_in self.old.records) t }
-        ensures counted { IsFunding (funding_in self.old) ticket → self.new ≡ record self.old { meter = record self.old.meter { ticket_reads = counted_up self.old.meter.ticket_reads 1 } } }
+        requires fresh { (t : ATicket) → ticket_at (funding_in self.old) ticket ≡ Some t
+            → ¬ IsStaleIn self.old (CurrencyNode t.issuer) }
+        ensures worth { (t : ATicket) → ticket_at (funding_in self.old) ticket ≡ Some t
+            → result ≡ ticket_value self.old.unit (funding_in self.old) (live_in self.old.records) t }
+        ensures counted { IsFunding (funding_in self.old) ticket
+            → self.new ≡ record self.old { meter = record self.old.meter { ticket_reads = counted_up self.old.meter.ticket_reads 1 } } }
         ensures uncounted { ¬ IsFunding (funding_in self.old) ticket → self.new ≡ self.old }
     {
         self.graph.ticket_value(ticket)
@@ -439,7 +470,8 @@ impl Threads {
 
     /// Who runs on the processor, `None` if and only if nobody does. The ticks used are below the quantum.
     pub fn runner(&self, processor: u32) -> Option<Runner>
-        ensures thread { MatchOption result (thread_on self.now.records processor ≡ None) (λ r. thread_on self.now.records processor ≡ Some r.thread) }
+        ensures thread { MatchOption result (thread_on self.now.records processor ≡ None)
+            (λ r. thread_on self.now.records processor ≡ Some r.thread) }
         ensures used { IfSome result (λ r. used_by self.now.records processor r.thread ≡ Some r.used) }
         ensures there { IfSome result (λ r. IsThreadOf self.now r.thread) }
         ensures below { IfSome result (λ r. r.used < self.now.quantum) }

@@ -1,5 +1,6 @@
 //! The partial sums of a tree, which can be read only by a call that counts the reading.
-ghost use Rattle.std.specs.Prelude.{◌≡◌, ℕ, ◌+◌, ◌*◌, ◌^◌, ◌<◌, ◌≤◌, length, min, sum, slice_index, slice_set, IfOk, replicate};
+ghost use Rattle.std.specs.Prelude.{◌≡◌, ℕ, ◌+◌, ◌*◌, ◌^◌, ◌<◌, ◌≤◌, length, min, sum, slice_index, slice_set, IfOk};
+ghost use Rattle.std.specs.Prelude.{replicate};
 ghost use Rattle.lot_tree.specs.Sums.{AreKept, ArePartialSumsAt};
 ghost use Rattle.lot_tree.specs.Visits.{counted_up};
 

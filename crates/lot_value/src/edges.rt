@@ -18,8 +18,10 @@ use lot_machine::Edge;
 /// Takes up an edge that was put into the graph.
 #[inline(always)]
 pub(crate) fn attach(graph: &Graph, active: &mut Active, values: &mut Values, edge: Edge)
-    requires before { (before : LimitedFunding) × (ends : Ends) × AddsEdge before graph.now edge ends × StandsFor before graph.now ends × AreTogether before active.old values.old }
-    ensures follows { (before : LimitedFunding) (ends : Ends) → AddsEdge before graph.now edge ends → StandsFor before graph.now ends → AreTogether before active.old values.old
+    requires before { (before : LimitedFunding) × (ends : Ends) × AddsEdge before graph.now edge ends
+        × StandsFor before graph.now ends × AreTogether before active.old values.old }
+    ensures follows { (before : LimitedFunding) (ends : Ends) → AddsEdge before graph.now edge ends
+        → StandsFor before graph.now ends → AreTogether before active.old values.old
         → Follows before graph.now active.old active.new values.old values.new (live_of before active.old) }
     ensures kept { (node : ANode) → IsStale values.old node → IsStale values.new node }
     ensures others { values.new ≡ record values.old { stale = values.new.stale } }
@@ -37,8 +39,10 @@ pub(crate) fn attach(graph: &Graph, active: &mut Active, values: &mut Values, ed
 pub(crate) fn detach(graph: &Graph, active: &mut Active, values: &mut Values, ends: EdgeEnds)
     requires sound { IsSound graph.now.funding }
     requires fits { FitsLimits graph.now }
-    requires before { (before : LimitedFunding) × (edge : AnEdge) × AddsEdge graph.now before edge ends × StandsFor before graph.now ends × AreTogether before active.old values.old }
-    ensures follows { (before : LimitedFunding) (edge : AnEdge) → AddsEdge graph.now before edge ends → StandsFor before graph.now ends → AreTogether before active.old values.old
+    requires before { (before : LimitedFunding) × (edge : AnEdge) × AddsEdge graph.now before edge ends
+        × StandsFor before graph.now ends × AreTogether before active.old values.old }
+    ensures follows { (before : LimitedFunding) (edge : AnEdge) → AddsEdge graph.now before edge ends
+        → StandsFor before graph.now ends → AreTogether before active.old values.old
         → Follows before graph.now active.old active.new values.old values.new (live_of before active.old) }
     ensures kept { (node : ANode) → IsStale values.old node → IsStale values.new node }
     ensures others { values.new ≡ record values.old { stale = values.new.stale } }

@@ -14,20 +14,29 @@ ghost use Rattle.lot_value.specs.Caches.{Known, IsRightBut, DiffersAt, CoversCha
 /// What is right for a graph and the live threads is right for others too, except at the nodes whose equations have
 /// changed. So after all changes of an event each of these nodes is touched, in any order.
 pub fn changed_nodes_are_pending()
-    ensures { (before after : LimitedFunding) (live now : List Bool) (c : Known) (pending changed : List Node) → IsRightBut before live c pending → DiffersAt c.unit before live after now changed → IsRightBut after now c (changed ++ pending) }
+    ensures { (before after : LimitedFunding) (live now : List Bool) (c : Known) (pending changed : List Node)
+        → IsRightBut before live c pending → DiffersAt c.unit before live after now changed
+        → IsRightBut after now c (changed ++ pending) }
 {}
 
-/// After a change that these nodes cover, each other node has the equation that it had: the same edges lead into it, and they
-/// pass on as much.
+/// After a change that these nodes cover, each other node has the equation that it had: the same edges lead into it,
+/// and they pass on as much.
 pub fn equations_stay_elsewhere()
-    ensures { (unit : ℕ) (before after : Funding) (live now : List Bool) (changed : List Node) → IsSound before → IsSound after → CoversChange before live after now changed → (node : Node) → ¬ Contains changed node → HasSameEquation unit before live after now node }
+    ensures { (unit : ℕ) (before after : Funding) (live now : List Bool) (changed : List Node) → IsSound before
+        → IsSound after → CoversChange before live after now changed → (node : Node) → ¬ Contains changed node
+        → HasSameEquation unit before live after now node }
 {}
 
 /// The change is covered by the nodes that a call of an `Active` switched, those funded by tickets of the user
 /// currencies whose active amount it changed, and the ends of the edges that the graph got or lost.
 pub fn listed_nodes_cover_the_change()
-    ensures { (old new : Activity) (before after : LimitedFunding) (live now : List Bool) (begun : Node) (changed : List Node) → layout_of after ≡ layout_of before → IsKeptFor old before live → IsKeptFor new after now → ChangesNodes before live after now begun new
-        → ((from to : Node) → IsEdge after.funding from to → HasEquation after.funding to) → TouchesListed after new changed
-        → ((edge : Edge) → (ends_of_edge after.funding edge ≡ ends_of_edge before.funding edge) ⊎ ((from to : Node) → (ends_of before.funding edge ≡ Some (from, to)) ⊎ (ends_of after.funding edge ≡ Some (from, to)) → Contains changed to))
+    ensures { (old new : Activity) (before after : LimitedFunding) (live now : List Bool) (begun : Node)
+        (changed : List Node) → layout_of after ≡ layout_of before → IsKeptFor old before live
+        → IsKeptFor new after now → ChangesNodes before live after now begun new
+        → ((from to : Node) → IsEdge after.funding from to → HasEquation after.funding to)
+        → TouchesListed after new changed
+        → ((edge : Edge) → (ends_of_edge after.funding edge ≡ ends_of_edge before.funding edge)
+        ⊎ ((from to : Node) → (ends_of before.funding edge ≡ Some (from, to))
+        ⊎ (ends_of after.funding edge ≡ Some (from, to)) → Contains changed to))
         → CoversChange before.funding live after.funding now changed }
 {}

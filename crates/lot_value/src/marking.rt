@@ -58,7 +58,8 @@ fn add_funded(graph: &Graph, stale: &mut Lists, currency: u32)
     requires list { IsStaleList stale.old (places.node_count (layout_of graph.now)) }
     requires node { IsNodeOf graph.now (CurrencyNode currency) }
     ensures list { IsStaleList stale.new (places.node_count (layout_of graph.now)) }
-    ensures spreads { Spreads stale.old stale.new (LeadsToPlace (layout_of graph.now) graph.now.funding (CurrencyNode currency)) }
+    ensures spreads { Spreads stale.old stale.new (LeadsToPlace (layout_of graph.now) graph.now.funding
+        (CurrencyNode currency)) }
 {
     let layout = graph.layout();
     for number in graph.tickets_of(currency) {

@@ -28,8 +28,12 @@ pub(crate) struct Sources<'a> {
 #[inline(always)]
 pub(crate) fn read_value(sources: Sources, node: Node, reads: &mut ReadCount) -> u64
     requires node { IsNodeOf sources.graph.now node }
-    requires sources { (live : List Bool) × AreSources sources live × (shares_into sources.unit sources.graph.now.funding live (kept_worth (layout_of sources.graph.now) sources.values.now) node < 2 ^ 64) }
-    ensures value { (live : List Bool) → AreSources sources.entry live → result ≡ shares_into sources.entry.unit sources.entry.graph.now.funding live (kept_worth (layout_of sources.entry.graph.now) sources.entry.values.now) node }
+    requires sources { (live : List Bool) × AreSources sources live
+        × (shares_into sources.unit sources.graph.now.funding live
+        (kept_worth (layout_of sources.graph.now) sources.values.now) node < 2 ^ 64) }
+    ensures value { (live : List Bool) → AreSources sources.entry live
+        → result ≡ shares_into sources.entry.unit sources.entry.graph.now.funding live
+        (kept_worth (layout_of sources.entry.graph.now) sources.entry.values.now) node }
     ensures counted { reads.new ≡ counted_up reads.old (edge_count_into sources.entry.graph.now.funding node) }
 {
     let mut total = 0;
@@ -43,8 +47,12 @@ pub(crate) fn read_value(sources: Sources, node: Node, reads: &mut ReadCount) ->
 #[inline(always)]
 pub(crate) fn read_share(sources: Sources, edge: Edge, reads: &mut ReadCount) -> u64
     requires edge { (to : ANode) × LeadsInto sources.graph.now.funding to edge }
-    requires sources { (live : List Bool) × AreSources sources live × (share sources.unit sources.graph.now.funding live (kept_worth (layout_of sources.graph.now) sources.values.now) edge < 2 ^ 64) }
-    ensures value { (live : List Bool) → AreSources sources.entry live → result ≡ share sources.entry.unit sources.entry.graph.now.funding live (kept_worth (layout_of sources.entry.graph.now) sources.entry.values.now) edge }
+    requires sources { (live : List Bool) × AreSources sources live
+        × (share sources.unit sources.graph.now.funding live
+        (kept_worth (layout_of sources.graph.now) sources.values.now) edge < 2 ^ 64) }
+    ensures value { (live : List Bool) → AreSources sources.entry live
+        → result ≡ share sources.entry.unit sources.entry.graph.now.funding live
+        (kept_worth (layout_of sources.entry.graph.now) sources.entry.values.now) edge }
     ensures counted { reads.new ≡ counted_up reads.old 1 }
 {
     reads.count();
@@ -60,8 +68,12 @@ pub(crate) fn read_share(sources: Sources, edge: Edge, reads: &mut ReadCount) ->
 #[inline(always)]
 fn ticket_share(sources: Sources, number: u32) -> u64
     requires edge { (to : ANode) × LeadsInto sources.graph.now.funding to (OfTicketEdge number) }
-    requires sources { (live : List Bool) × AreSources sources live × (share sources.unit sources.graph.now.funding live (kept_worth (layout_of sources.graph.now) sources.values.now) (OfTicketEdge number) < 2 ^ 64) }
-    ensures { (live : List Bool) → AreSources sources.entry live → result ≡ share sources.entry.unit sources.entry.graph.now.funding live (kept_worth (layout_of sources.entry.graph.now) sources.entry.values.now) (OfTicketEdge number) }
+    requires sources { (live : List Bool) × AreSources sources live
+        × (share sources.unit sources.graph.now.funding live
+        (kept_worth (layout_of sources.graph.now) sources.values.now) (OfTicketEdge number) < 2 ^ 64) }
+    ensures { (live : List Bool) → AreSources sources.entry live
+        → result ≡ share sources.entry.unit sources.entry.graph.now.funding live
+        (kept_worth (layout_of sources.entry.graph.now) sources.entry.values.now) (OfTicketEdge number) }
 {
     let Some(ticket) = sources.graph.ticket(number) else {
         unreachable!()
@@ -77,8 +89,8 @@ fn ticket_share(sources: Sources, number: u32) -> u64
     share_of(value, ticket.amount, active)
 }
 
-/// The share of a value that an amount has, of all active amounts, rounded down once (4.4). An amount that is all of them needs no
-/// division, and nearly all products fit 64 bits, which divide faster.
+/// The share of a value that an amount has, of all active amounts, rounded down once (4.4). An amount that is all of
+/// them needs no division, and nearly all products fit 64 bits, which divide faster.
 #[inline(always)]
 fn share_of(value: u64, amount: u32, active: u64) -> u64
     requires active { 0 < active }

@@ -30,8 +30,10 @@ use lot_machine::{Edge, Node};
 pub(crate) fn has_stale_source(graph: &Graph, stale: &Lists, node: Node) -> bool
     requires list { IsStaleList stale.now (places.node_count (layout_of graph.now)) }
     requires node { IsNodeOf graph.now node }
-    ensures found { OnTrue result ((place : ℕ) × Contains (nodes_of stale.now 0) place × LeadsFromPlace (layout_of graph.now) graph.now.funding place node) }
-    ensures none { OnFalse result ((from : ANode) → IsEdge graph.now.funding from node → ¬ Contains (nodes_of stale.now 0) (node_place (layout_of graph.now) from)) }
+    ensures found { OnTrue result ((place : ℕ) × Contains (nodes_of stale.now 0) place
+        × LeadsFromPlace (layout_of graph.now) graph.now.funding place node) }
+    ensures none { OnFalse result ((from : ANode) → IsEdge graph.now.funding from node
+        → ¬ Contains (nodes_of stale.now 0) (node_place (layout_of graph.now) from)) }
 {
     let layout = graph.layout();
     let mut found = false;
@@ -79,8 +81,8 @@ pub(crate) fn raise_fresh(
     fresh
 }
 
-/// Moves the node at the front of the list to the back, if there is one, and answers its place. If one was turned over before,
-/// answers that one.
+/// Moves the node at the front of the list to the back, if there is one, and answers its place. If one was turned over
+/// before, answers that one.
 fn turn_over(stale: &mut Lists, turned: Option<usize>) -> Option<usize>
     requires list { IsStaleList stale.old stale.old.nodes }
     ensures list { IsStaleList stale.new stale.old.nodes }
@@ -94,7 +96,8 @@ fn turn_over(stale: &mut Lists, turned: Option<usize>) -> Option<usize>
     Some(place)
 }
 
-/// Moves stale nodes to the back until the one there has no stale source, and answers its place; `None` if none is stale.
+/// Moves stale nodes to the back until the one there has no stale source, and answers its place; `None` if none is
+/// stale.
 fn fresh_back(graph: &Graph, stale: &mut Lists) -> Option<usize>
     requires list { IsStaleList stale.old (places.node_count (layout_of graph.now)) }
     ensures list { IsStaleList stale.new (places.node_count (layout_of graph.now)) }
@@ -118,8 +121,11 @@ fn raise_sources(graph: &Graph, stale: &mut Lists, node: Node) -> bool
     requires node { IsNodeOf graph.now node }
     ensures list { IsStaleList stale.new (places.node_count (layout_of graph.now)) }
     ensures reordered { IsReordered (nodes_of stale.old 0) (nodes_of stale.new 0) }
-    ensures raised { OnTrue result ((place : ℕ) × (last_of stale.new ≡ Some place) × LeadsFromPlace (layout_of graph.now) graph.now.funding place node) }
-    ensures none { OnFalse result ((stale.new ≡ stale.old) × ((from : ANode) → IsEdge graph.now.funding from node → ¬ Contains (nodes_of stale.old 0) (node_place (layout_of graph.now) from))) }
+    ensures raised { OnTrue result ((place : ℕ) × (last_of stale.new ≡ Some place)
+        × LeadsFromPlace (layout_of graph.now) graph.now.funding place node) }
+    ensures none { OnFalse result ((stale.new ≡ stale.old)
+        × ((from : ANode) → IsEdge graph.now.funding from node
+        → ¬ Contains (nodes_of stale.old 0) (node_place (layout_of graph.now) from))) }
 {
     let layout = graph.layout();
     let mut raised = false;

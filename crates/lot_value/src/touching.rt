@@ -22,8 +22,10 @@ pub(crate) fn touch_switched(graph: &Graph, active: &Active, values: &mut Values
     requires layout { values.old.layout ≡ layout_of graph.now }
     requires kept { (live : List Bool) × IsKeptFor active.now graph.now live }
     requires nodes { (node : ANode) → Contains (switched_nodes graph.now active.now) node → IsNodeOf graph.now node }
-    ensures touched { Touched graph.now values.old values.new (λ node. Contains (switched_nodes graph.now active.now) node × HasEquation graph.now.funding node) }
-    ensures marked { (node : ANode) → Contains (switched_nodes graph.now active.now) node → HasEquation graph.now.funding node → IsStale values.new node }
+    ensures touched { Touched graph.now values.old values.new
+        (λ node. Contains (switched_nodes graph.now active.now) node × HasEquation graph.now.funding node) }
+    ensures marked { (node : ANode) → Contains (switched_nodes graph.now active.now) node
+        → HasEquation graph.now.funding node → IsStale values.new node }
 {
     for node in active.switched() {
         if has_equation(graph, node) {
@@ -85,8 +87,8 @@ fn is_user_currency(node: Node) -> bool
     }
 }
 
-/// Touches all that the last call of `active` asks for: the nodes that it switched, and what tickets of the user currencies
-/// fund whose active amount it changed.
+/// Touches all that the last call of `active` asks for: the nodes that it switched, and what tickets of the user
+/// currencies fund whose active amount it changed.
 #[inline(always)]
 pub(crate) fn touch_listed(graph: &Graph, active: &Active, values: &mut Values)
     requires layout { values.old.layout ≡ layout_of graph.now }

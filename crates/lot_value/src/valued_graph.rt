@@ -1,18 +1,22 @@
 //! A funding graph with what is active in it and what everything is worth, kept together.
-ghost use Rattle.std.specs.Prelude.{◌≡◌, ◌+◌, ◌<◌, ◌≤◌, ◌↔◌, ◌++◌, ◌∷◌, ◌≢◌, Bool, true, false, List, [], Some, None, IfOk, IfSome, IfNone, IsErr, IsTrue, OnOk, OnErr, OnSome, length, slice_set};
+ghost use Rattle.std.specs.Prelude.{◌≡◌, ◌+◌, ◌<◌, ◌≤◌, ◌↔◌, ◌++◌, ◌∷◌, ◌≢◌, Bool, true, false, List, [], Some, None};
+ghost use Rattle.std.specs.Prelude.{IfOk, IfSome, IfNone, IsErr, IsTrue, OnOk, OnErr, OnSome, length, slice_set};
 ghost use Rattle.std.specs.Option.{SomeIff};
 ghost use Rattle.lot_machine.specs.declared.funding.Node.{Node as ANode};
-ghost use Rattle.lot_machine.specs.declared.funding.Node.TheVariants.{Currency as CurrencyNode, Thread as ThreadNode, Mutex as MutexNode};
+ghost use Rattle.lot_machine.specs.declared.funding.Node.TheVariants.{Currency as CurrencyNode, Thread as ThreadNode};
+ghost use Rattle.lot_machine.specs.declared.funding.Node.TheVariants.{Mutex as MutexNode};
 ghost use Rattle.lot_machine.specs.declared.ticket.Ticket.{Ticket as ATicket};
 ghost use Rattle.lot_machine.specs.declared.ticket.Target.TheVariants.{Unfunded};
 ghost use Rattle.lot_machine.specs.Numbered.{at_number, set_number};
-ghost use Rattle.lot_machine.specs.Funding.{edge_count_into, ticket_at, target_of, owner_of, issued_in, backing_currency, with_target, with_new_ticket, without_ticket};
+ghost use Rattle.lot_machine.specs.Funding.{edge_count_into, ticket_at, target_of, owner_of, issued_in};
+ghost use Rattle.lot_machine.specs.Funding.{backing_currency, with_target, with_new_ticket, without_ticket};
 ghost use Rattle.lot_machine.specs.Activity.{IsActive, active_amount};
 ghost use Rattle.lot_machine.specs.Lends.{IsLive};
 ghost use Rattle.lot_machine.specs.declared.funding.Lend.TheVariants.{Nobody};
 ghost use Rattle.lot_machine.specs.Equations.{HasEquation, Reaches};
 ghost use Rattle.lot_machine.specs.Value.{node_value, ticket_value};
-ghost use Rattle.lot_graph.specs.Graphs.{IsNodeOf, IsThread, IsMutex, IsCurrency, IsUserCurrency, IsTarget, IsCycle, IsFunding, IsLender, IsBorrower, LendReaches, opening_funding};
+ghost use Rattle.lot_graph.specs.Graphs.{IsNodeOf, IsThread, IsMutex, IsCurrency, IsUserCurrency, IsTarget, IsCycle};
+ghost use Rattle.lot_graph.specs.Graphs.{IsFunding, IsLender, IsBorrower, LendReaches, opening_funding};
 ghost use Rattle.lot_graph.specs.Places.{layout_of};
 ghost use Rattle.lot_active.specs.Changes.{ChangesNodes};
 ghost use Rattle.lot_active.specs.Fundings.{IsKeptFor};
@@ -30,9 +34,9 @@ use lot_machine::{Edge, Lend, Limits, Node, Target};
 use std::alloc::{AllocError, Global};
 use std::marker::Model;
 
-/// Tickets and what they fund, what threads lend and who owns mutexes; which threads are live, and so which tickets are active;
-/// and what each currency, thread and mutex is worth (4.4), if it isn't stale. Each change of the first two makes stale what it
-/// has to, and reads nothing for a value.
+/// Tickets and what they fund, what threads lend and who owns mutexes; which threads are live, and so which tickets are
+/// active; and what each currency, thread and mutex is worth (4.4), if it isn't stale. Each change of the first two
+/// makes stale what it has to, and reads nothing for a value.
 pub struct ValuedGraph {
     graph: Graph,
     active: Active,
@@ -63,7 +67,13 @@ impl Model for ValuedGraph {
 impl ValuedGraph {
     /// Base alone, free mutexes, nobody live, nothing stale, and nothing read.
     pub fn new(alloc: Global, limits: &Limits) -> Result<Self, AllocError>
-        ensures now { IfOk result (λ made. made.now ≡ record { funding = opening_funding limits.now.mutexes; ticket_limit = limits.now.tickets; currency_limit = limits.now.currencies; thread_limit = limits.now.threads }) }
+        ensures now { IfOk result (λ made. made.now
+            ≡ record {
+              funding = opening_funding limits.now.mutexes;
+              ticket_limit = limits.now.tickets;
+              currency_limit = limits.now.currencies;
+              thread_limit = limits.now.threads;
+            }) }
         ensures live { IfOk result (λ made. made.live ≡ []) }
         ensures unit { IfOk result (λ made. made.known.unit ≡ limits.now.unit) }
         ensures stale { IfOk result (λ made. made.known.stale ≡ []) }
@@ -95,8 +105,10 @@ impl ValuedGraph {
 
     /// Makes a currency and answers its number, one more than the last, or `None` if as many were made as there may be.
     pub fn make_currency(&mut self) -> Option<u32>
-        ensures number { SomeIff result (length self.old.now.funding.currencies ≤ self.old.now.currency_limit) (length self.old.now.funding.currencies) }
-        ensures made { OnSome result (self.new.now ≡ with_currencies self.old.now (self.old.now.funding.currencies ++ true ∷ [])) }
+        ensures number { SomeIff result (length self.old.now.funding.currencies ≤ self.old.now.currency_limit)
+            (length self.old.now.funding.currencies) }
+        ensures made { OnSome result (self.new.now
+            ≡ with_currencies self.old.now (self.old.now.funding.currencies ++ true ∷ [])) }
         ensures unchanged { IfNone result (self.new ≡ self.old) }
         ensures live { self.new.live ≡ self.old.live }
         ensures known { self.new.known ≡ self.old.known }
@@ -109,20 +121,23 @@ impl ValuedGraph {
         requires currency { IsUserCurrency self.old.now.funding currency }
         requires none_issued { issued_in self.old.now.funding currency ≡ [] }
         requires none_backing { backing_currency self.old.now.funding currency ≡ [] }
-        ensures removed { self.new.now ≡ with_currencies self.old.now (slice_set self.old.now.funding.currencies currency false) }
+        ensures removed { self.new.now
+            ≡ with_currencies self.old.now (slice_set self.old.now.funding.currencies currency false) }
         ensures live { self.new.live ≡ self.old.live }
         ensures known { self.new.known ≡ self.old.known }
     {
         self.graph.remove_currency(currency);
     }
 
-    /// Issues a ticket in a currency and answers its number, one more than the last, or `None` if as many were made as there may
-    /// be. The amount is at least 1.
+    /// Issues a ticket in a currency and answers its number, one more than the last, or `None` if as many were made as
+    /// there may be. The amount is at least 1.
     pub fn issue(&mut self, currency: u32, amount: u32) -> Option<u32>
         requires currency { IsCurrency self.old.now.funding currency }
         requires amount { 0 < amount }
-        ensures number { SomeIff result (length self.old.now.funding.tickets < self.old.now.ticket_limit) (length self.old.now.funding.tickets + 1) }
-        ensures issued { OnSome result (self.new.now ≡ with_tickets self.old.now (with_new_ticket self.old.now.funding.tickets amount currency Unfunded)) }
+        ensures number { SomeIff result (length self.old.now.funding.tickets < self.old.now.ticket_limit)
+            (length self.old.now.funding.tickets + 1) }
+        ensures issued { OnSome result (self.new.now
+            ≡ with_tickets self.old.now (with_new_ticket self.old.now.funding.tickets amount currency Unfunded)) }
         ensures unchanged { IfNone result (self.new ≡ self.old) }
         ensures live { self.new.live ≡ self.old.live }
         ensures known { self.new.known ≡ self.old.known }
@@ -133,7 +148,8 @@ impl ValuedGraph {
     /// Removes a ticket that funds nothing. Its number is never given again.
     pub fn destroy(&mut self, ticket: u32)
         requires unfunded { target_of self.old.now.funding ticket ≡ Some Unfunded }
-        ensures destroyed { self.new.now ≡ with_tickets self.old.now (without_ticket self.old.now.funding.tickets ticket) }
+        ensures destroyed { self.new.now
+            ≡ with_tickets self.old.now (without_ticket self.old.now.funding.tickets ticket) }
         ensures live { self.new.live ≡ self.old.live }
         ensures known { self.new.known ≡ self.old.known }
     {
@@ -150,12 +166,14 @@ impl ValuedGraph {
         self.graph.add_thread();
     }
 
-    /// Makes a ticket that funds nothing fund a user currency or a thread. `Cycle` if and only if it would make one (4.4).
+    /// Makes a ticket that funds nothing fund a user currency or a thread. `Cycle` if and only if it would make one
+    /// (4.4).
     pub fn fund(&mut self, ticket: u32, target: Target) -> Result<(), Cycle>
         requires unfunded { target_of self.old.now.funding ticket ≡ Some Unfunded }
         requires target { IsTarget self.old.now.funding target }
         ensures cycle { IsErr result ↔ IsCycle self.old.now.funding ticket target }
-        ensures funded { OnOk result (self.new.now ≡ with_tickets self.old.now (with_target self.old.now.funding.tickets ticket target)) }
+        ensures funded { OnOk result (self.new.now
+            ≡ with_tickets self.old.now (with_target self.old.now.funding.tickets ticket target)) }
         ensures unchanged { OnErr result (self.new ≡ self.old) }
         ensures live { self.new.live ≡ self.old.live }
         ensures known { self.new.known ≡ record self.old.known { stale = self.new.known.stale } }
@@ -171,7 +189,8 @@ impl ValuedGraph {
     /// Takes a ticket from what it funds.
     pub fn unfund(&mut self, ticket: u32)
         requires funding { IsFunding self.old.now.funding ticket }
-        ensures unfunded { self.new.now ≡ with_tickets self.old.now (with_target self.old.now.funding.tickets ticket Unfunded) }
+        ensures unfunded { self.new.now
+            ≡ with_tickets self.old.now (with_target self.old.now.funding.tickets ticket Unfunded) }
         ensures live { self.new.live ≡ self.old.live }
         ensures known { self.new.known ≡ record self.old.known { stale = self.new.known.stale } }
         ensures kept { (node : ANode) → IsStale self.old.known node → IsStale self.new.known node }
@@ -232,13 +251,15 @@ impl ValuedGraph {
         detach(&self.graph, &mut self.active, &mut self.values, ends);
     }
 
-    /// Makes a thread the owner of a free mutex that it doesn't reach. What waiting threads lend to the mutex goes on to it (6.1).
+    /// Makes a thread the owner of a free mutex that it doesn't reach. What waiting threads lend to the mutex goes on
+    /// to it (6.1).
     pub fn take_mutex(&mut self, mutex: u32, owner: u32)
         requires mutex { IsMutex self.old.now.funding mutex }
         requires free { owner_of self.old.now.funding mutex ≡ None }
         requires owner { IsThread self.old.now.funding owner }
         requires apart { ¬ Reaches self.old.now.funding (ThreadNode owner) (MutexNode mutex) }
-        ensures owned { self.new.now ≡ with_owners self.old.now (set_number self.old.now.funding.owners mutex (Some owner)) }
+        ensures owned { self.new.now
+            ≡ with_owners self.old.now (set_number self.old.now.funding.owners mutex (Some owner)) }
         ensures live { self.new.live ≡ self.old.live }
         ensures known { self.new.known ≡ record self.old.known { stale = self.new.known.stale } }
         ensures kept { (node : ANode) → IsStale self.old.known node → IsStale self.new.known node }
@@ -249,8 +270,8 @@ impl ValuedGraph {
         attach(&self.graph, &mut self.active, &mut self.values, edge);
     }
 
-    /// Makes another live thread, which doesn't reach it, the owner of a mutex that a live thread owns (6.1). Both are backed before
-    /// it and after it, so that nothing is put to sleep or woken, and both are stale then.
+    /// Makes another live thread, which doesn't reach it, the owner of a mutex that a live thread owns (6.1). Both are
+    /// backed before it and after it, so that nothing is put to sleep or woken, and both are stale then.
     pub fn move_mutex(&mut self, mutex: u32, owner: u32, next: u32)
         requires mutex { IsMutex self.old.now.funding mutex }
         requires owner { owner_of self.old.now.funding mutex ≡ Some owner }
@@ -258,7 +279,8 @@ impl ValuedGraph {
         requires other { owner ≢ next }
         requires live { IsLive self.old.live owner × IsLive self.old.live next }
         requires apart { ¬ Reaches self.old.now.funding (ThreadNode next) (MutexNode mutex) }
-        ensures moved { self.new.now ≡ with_owners self.old.now (set_number self.old.now.funding.owners mutex (Some next)) }
+        ensures moved { self.new.now
+            ≡ with_owners self.old.now (set_number self.old.now.funding.owners mutex (Some next)) }
         ensures live { self.new.live ≡ self.old.live }
         ensures known { self.new.known ≡ record self.old.known { stale = self.new.known.stale } }
         ensures kept { (node : ANode) → IsStale self.old.known node → IsStale self.new.known node }
@@ -318,17 +340,21 @@ impl ValuedGraph {
     /// What a node is worth (4.4), if it isn't stale.
     pub fn value_of(&self, node: Node) -> u64
         requires node { IsNodeOf self.now.now node }
-        ensures worth { ¬ IsStale self.now.known node → HasEquation self.now.now.funding node → result ≡ node_value self.now.known.unit self.now.now.funding self.now.live node }
+        ensures worth { ¬ IsStale self.now.known node → HasEquation self.now.now.funding node
+            → result ≡ node_value self.now.known.unit self.now.now.funding self.now.live node }
     {
         self.values.value_of(node)
     }
 
-    /// What a ticket is worth (4.4), in units of base, if the currency that issued it isn't stale. If the ticket funds something,
-    /// that is one reading, which is counted; else it is worth nothing.
+    /// What a ticket is worth (4.4), in units of base, if the currency that issued it isn't stale. If the ticket funds
+    /// something, that is one reading, which is counted; else it is worth nothing.
     pub fn ticket_value(&mut self, ticket: u32) -> u64
-        requires fresh { (t : ATicket) → ticket_at self.old.now.funding ticket ≡ Some t → ¬ IsStale self.old.known (CurrencyNode t.issuer) }
-        ensures worth { (t : ATicket) → ticket_at self.old.now.funding ticket ≡ Some t → result ≡ ticket_value self.old.known.unit self.old.now.funding self.old.live t }
-        ensures counted { IsFunding self.old.now.funding ticket → self.new ≡ record self.old { known = record self.old.known { reads = counted_up self.old.known.reads 1 } } }
+        requires fresh { (t : ATicket) → ticket_at self.old.now.funding ticket ≡ Some t
+            → ¬ IsStale self.old.known (CurrencyNode t.issuer) }
+        ensures worth { (t : ATicket) → ticket_at self.old.now.funding ticket ≡ Some t
+            → result ≡ ticket_value self.old.known.unit self.old.now.funding self.old.live t }
+        ensures counted { IsFunding self.old.now.funding ticket
+            → self.new ≡ record self.old { known = record self.old.known { reads = counted_up self.old.known.reads 1 } } }
         ensures uncounted { ¬ IsFunding self.old.now.funding ticket → self.new ≡ self.old }
     {
         self.values.ticket_value(&self.graph, &self.active, ticket)
@@ -348,7 +374,8 @@ impl ValuedGraph {
         ensures unit { self.new.known.unit ≡ self.old.known.unit }
         ensures settled { self.new.known.stale ≡ [] }
         ensures once { IsOnce self.old.known }
-        ensures counted { self.new.known.reads ≡ counted_up self.old.known.reads (edges_into_all self.old.now.funding self.old.known.stale) }
+        ensures counted { self.new.known.reads
+            ≡ counted_up self.old.known.reads (edges_into_all self.old.now.funding self.old.known.stale) }
     {
         self.values.settle(&self.graph, &self.active);
     }
@@ -360,12 +387,15 @@ impl ValuedGraph {
         ensures now { self.new.now ≡ self.old.now }
         ensures live { self.new.live ≡ self.old.live }
         ensures layout { self.new.known.layout ≡ layout_of self.new.now }
-        ensures worth { (node : ANode) → IsNodeOf self.new.now node → ¬ IsStale self.new.known node → HasEquation self.new.now.funding node → value_in self.new.known node ≡ node_value self.new.known.unit self.new.now.funding self.new.live node }
+        ensures worth { (node : ANode) → IsNodeOf self.new.now node → ¬ IsStale self.new.known node
+            → HasEquation self.new.now.funding node
+            → value_in self.new.known node ≡ node_value self.new.known.unit self.new.now.funding self.new.live node }
         ensures node { IfSome result (HasEquation self.old.now.funding) }
         ensures within { IfSome result (IsNodeOf self.old.now) }
         ensures once { IsOnce self.old.known }
         ensures settles { IfSome result (Settles self.old.known self.new.known) }
-        ensures counted { IfSome result (λ node. self.new.known.reads ≡ counted_up self.old.known.reads (edge_count_into self.old.now.funding node)) }
+        ensures counted { IfSome result (λ node. self.new.known.reads
+            ≡ counted_up self.old.known.reads (edge_count_into self.old.now.funding node)) }
         ensures none { IfNone result ((self.old.known.stale ≡ []) × (self.new ≡ self.old)) }
     {
         self.values.settle_next(&self.graph, &self.active)
@@ -376,8 +406,10 @@ impl ValuedGraph {
 fn set_awake(graph: &Graph, active: &mut Active, thread: u32, live: bool)
     requires thread { IsThread graph.now.funding thread }
     requires kept { (before : List Bool) × IsKeptFor active.old graph.now before }
-    ensures kept { (before : List Bool) → IsKeptFor active.old graph.now before → thread ≤ length before → IsKeptFor active.new graph.now (set_number before thread live) }
-    ensures changes { (before : List Bool) → IsKeptFor active.old graph.now before → thread ≤ length before → ChangesNodes graph.now before graph.now (set_number before thread live) (ThreadNode thread) active.new }
+    ensures kept { (before : List Bool) → IsKeptFor active.old graph.now before → thread ≤ length before
+        → IsKeptFor active.new graph.now (set_number before thread live) }
+    ensures changes { (before : List Bool) → IsKeptFor active.old graph.now before → thread ≤ length before
+        → ChangesNodes graph.now before graph.now (set_number before thread live) (ThreadNode thread) active.new }
 {
     if live {
         active.wake(graph, thread);

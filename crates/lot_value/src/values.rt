@@ -1,5 +1,6 @@
 //! Values that are kept, and those that are stale.
-ghost use Rattle.std.specs.Prelude.{◌≡◌, ◌<◌, ◌⊎◌, ◌↔◌, ℕ, Bool, List, [], ◌∷◌, Contains, Some, IfOk, IfSome, IfNone, IsTrue, replicate};
+ghost use Rattle.std.specs.Prelude.{◌≡◌, ◌<◌, ◌⊎◌, ◌↔◌, ℕ, Bool, List, [], ◌∷◌, Contains, Some, IfOk, IfSome, IfNone};
+ghost use Rattle.std.specs.Prelude.{IsTrue, replicate};
 ghost use Rattle.lot_machine.specs.declared.funding.Node.{Node as ANode};
 ghost use Rattle.lot_machine.specs.declared.funding.Node.TheVariants.{Currency as CurrencyNode};
 ghost use Rattle.lot_machine.specs.declared.ticket.Ticket.{Ticket as ATicket};
@@ -12,7 +13,8 @@ ghost use Rattle.lot_graph.specs.Places as places;
 ghost use Rattle.lot_graph.specs.Places.{FitsLimits, IsNodeWithin, layout_of};
 ghost use Rattle.lot_active.specs.Fundings.{IsKeptFor};
 ghost use Rattle.lot_value.specs.Counts.{counted_up};
-ghost use Rattle.lot_value.specs.Caches.{IsStale, IsOnce, IsRight, IsRightBut, IsSmall, Settles, edges_into_all, value_in};
+ghost use Rattle.lot_value.specs.Caches.{IsStale, IsOnce, IsRight, IsRightBut, IsSmall, Settles, edges_into_all};
+ghost use Rattle.lot_value.specs.Caches.{value_in};
 ghost use Rattle.lot_value.specs.Marking.{IsFreshPlace, stale_places};
 
 use crate::marking::{STALE, mark};
@@ -25,8 +27,8 @@ use lot_machine::{Edge, Node};
 use std::alloc::{AllocError, Global};
 use std::marker::Model;
 
-/// How many edges were read for values. `Values::new` makes one, and no other module can; it can't be copied. So a reading is counted
-/// for the values that it is made for.
+/// How many edges were read for values. `Values::new` makes one, and no other module can; it can't be copied. So a
+/// reading is counted for the values that it is made for.
 #[derive(Drop)]
 pub(crate) struct ReadCount {
     reads: u64,
@@ -47,8 +49,8 @@ impl ReadCount {
     }
 }
 
-/// What each currency, thread and mutex is worth, in units of base, as far as it is known: a value for each, and which values are stale;
-/// and how many edges were read for them.
+/// What each currency, thread and mutex is worth, in units of base, as far as it is known: a value for each, and which
+/// values are stale; and how many edges were read for them.
 #[derive(Drop)]
 pub struct Values {
     values: Vec<u64>,
@@ -70,15 +72,29 @@ impl Model for Values {
 
     ghost Value = { Known };
 
-    ghost view = { λ s. record { unit = s.unit; layout = s.layout; values = s.values.items; stale = map (node_of s.layout) (nodes_of s.stale 0); reads = s.reads } };
+    ghost view = { λ s. record {
+      unit = s.unit;
+      layout = s.layout;
+      values = s.values.items;
+      stale = map (node_of s.layout) (nodes_of s.stale 0);
+      reads = s.reads;
+    } };
 
-    ghost invariant = { λ s. IsStaleList s.stale (node_count s.layout) × (length s.values.items ≡ node_count s.layout) };
+    ghost invariant = { λ s. IsStaleList s.stale (node_count s.layout)
+        × (length s.values.items ≡ node_count s.layout) };
 }
 
 impl Values {
     /// All nodes that a graph may have, worth nothing, none of them stale, and nothing read.
     pub fn new(alloc: Global, graph: &Graph, unit: u32) -> Result<Self, AllocError>
-        ensures { IfOk result (λ made. made ≡ record { unit = unit; layout = layout_of graph.now; values = replicate (places.node_count (layout_of graph.now)) 0; stale = []; reads = 0 }) }
+        ensures { IfOk result (λ made. made
+            ≡ record {
+              unit = unit;
+              layout = layout_of graph.now;
+              values = replicate (places.node_count (layout_of graph.now)) 0;
+              stale = [];
+              reads = 0;
+            }) }
     {
         let layout = graph.layout();
         let nodes = layout.node_count();
@@ -111,18 +127,25 @@ impl Values {
     pub fn value_of(&self, node: Node) -> u64
         requires node { IsNodeWithin self.now.layout node }
         ensures value { result ≡ value_in self.now node }
-        ensures worth { ¬ IsStale self.now node → (w : LimitedFunding) (live : List Bool) → IsSound w.funding → FitsLimits w → IsRight w live self.now → HasEquation w.funding node → result ≡ node_value self.now.unit w.funding live node }
+        ensures worth { ¬ IsStale self.now node → (w : LimitedFunding) (live : List Bool) → IsSound w.funding
+            → FitsLimits w → IsRight w live self.now → HasEquation w.funding node
+            → result ≡ node_value self.now.unit w.funding live node }
     {
         self.values[self.layout.list_of(node)]
     }
 
-    /// What a ticket is worth (4.4), in units of base, if the currency that issued it isn't stale. If the ticket funds something,
-    /// that is one reading, which is counted; else it is worth nothing.
+    /// What a ticket is worth (4.4), in units of base, if the currency that issued it isn't stale. If the ticket funds
+    /// something, that is one reading, which is counted; else it is worth nothing.
     pub fn ticket_value(&mut self, graph: &Graph, active: &Active, ticket: u32) -> u64
-        requires right { (live : List Bool) × IsKeptFor active.now graph.now live × IsSmall self.old.unit graph.now live × IsRight graph.now live self.old }
-        requires fresh { (t : ATicket) → ticket_at graph.now.funding ticket ≡ Some t → ¬ IsStale self.old (CurrencyNode t.issuer) }
-        ensures worth { (live : List Bool) → IsKeptFor active.now graph.now live → IsRight graph.now live self.old → (t : ATicket) → ticket_at graph.now.funding ticket ≡ Some t → result ≡ ticket_value self.old.unit graph.now.funding live t }
-        ensures counted { IsFunding graph.now.funding ticket → self.new ≡ record self.old { reads = counted_up self.old.reads 1 } }
+        requires right { (live : List Bool) × IsKeptFor active.now graph.now live
+            × IsSmall self.old.unit graph.now live × IsRight graph.now live self.old }
+        requires fresh { (t : ATicket) → ticket_at graph.now.funding ticket ≡ Some t
+            → ¬ IsStale self.old (CurrencyNode t.issuer) }
+        ensures worth { (live : List Bool) → IsKeptFor active.now graph.now live → IsRight graph.now live self.old
+            → (t : ATicket) → ticket_at graph.now.funding ticket ≡ Some t
+            → result ≡ ticket_value self.old.unit graph.now.funding live t }
+        ensures counted { IsFunding graph.now.funding ticket
+            → self.new ≡ record self.old { reads = counted_up self.old.reads 1 } }
         ensures uncounted { ¬ IsFunding graph.now.funding ticket → self.new ≡ self.old }
         ensures unit { self.new.unit ≡ self.old.unit }
         ensures right { (live : List Bool) → IsRight graph.now live self.old → IsRight graph.now live self.new }
@@ -139,28 +162,35 @@ impl Values {
         read_share(sources, Edge::OfTicket(ticket), &mut self.reads)
     }
 
-    /// Makes a node and all that it reaches stale. It reads each edge from a node that gets stale once, and nothing for a value.
+    /// Makes a node and all that it reaches stale. It reads each edge from a node that gets stale once, and nothing for
+    /// a value.
     ///
     /// After a change of the graph, or of who is live, the caller touches each node whose equation has changed.
     pub fn touch(&mut self, graph: &Graph, node: Node)
         requires layout { self.old.layout ≡ layout_of graph.now }
         requires node { IsNodeOf graph.now node }
-        ensures right { (live : List Bool) (others : List ANode) → HasEquation graph.now.funding node → IsRightBut graph.now live self.old (node ∷ others) → IsRightBut graph.now live self.new others }
+        ensures right { (live : List Bool) (others : List ANode) → HasEquation graph.now.funding node
+            → IsRightBut graph.now live self.old (node ∷ others) → IsRightBut graph.now live self.new others }
         ensures marked { IsStale self.new node }
         ensures kept { (x : ANode) → IsStale self.old x → IsStale self.new x }
         ensures only { (x : ANode) → IsStale self.new x → IsStale self.old x ⊎ Reaches graph.now.funding node x }
-        ensures exact { (live : List Bool) → HasEquation graph.now.funding node → IsRightBut graph.now live self.old (node ∷ []) → (x : ANode) → IsStale self.new x ↔ (IsStale self.old x ⊎ Reaches graph.now.funding node x) }
+        ensures exact { (live : List Bool) → HasEquation graph.now.funding node
+            → IsRightBut graph.now live self.old (node ∷ []) → (x : ANode)
+            → IsStale self.new x ↔ (IsStale self.old x ⊎ Reaches graph.now.funding node x) }
         ensures others { self.new ≡ record self.old { stale = self.new.stale } }
     {
         mark(graph, &mut self.stale, node);
     }
 
-    /// Computes the values of all stale nodes again, in an order along the edges. Counts each edge into a node that was stale once.
+    /// Computes the values of all stale nodes again, in an order along the edges. Counts each edge into a node that was
+    /// stale once.
     pub fn settle(&mut self, graph: &Graph, active: &Active)
-        requires right { (live : List Bool) × IsKeptFor active.now graph.now live × IsSmall self.old.unit graph.now live × IsRight graph.now live self.old }
+        requires right { (live : List Bool) × IsKeptFor active.now graph.now live
+            × IsSmall self.old.unit graph.now live × IsRight graph.now live self.old }
         ensures settled { self.new.stale ≡ [] }
         ensures unit { self.new.unit ≡ self.old.unit }
-        ensures right { (live : List Bool) → IsKeptFor active.now graph.now live → IsRight graph.now live self.old → IsRight graph.now live self.new }
+        ensures right { (live : List Bool) → IsKeptFor active.now graph.now live → IsRight graph.now live self.old
+            → IsRight graph.now live self.new }
         ensures once { IsOnce self.old }
         ensures counted { self.new.reads ≡ counted_up self.old.reads (edges_into_all graph.now.funding self.old.stale) }
     {
@@ -173,13 +203,16 @@ impl Values {
     /// stale. Counts each edge into the node.
     #[inline(always)]
     pub fn settle_next(&mut self, graph: &Graph, active: &Active) -> Option<Node>
-        requires right { (live : List Bool) × IsKeptFor active.now graph.now live × IsSmall self.old.unit graph.now live × IsRight graph.now live self.old }
-        ensures right { (live : List Bool) → IsKeptFor active.now graph.now live → IsRight graph.now live self.old → IsRight graph.now live self.new }
+        requires right { (live : List Bool) × IsKeptFor active.now graph.now live
+            × IsSmall self.old.unit graph.now live × IsRight graph.now live self.old }
+        ensures right { (live : List Bool) → IsKeptFor active.now graph.now live → IsRight graph.now live self.old
+            → IsRight graph.now live self.new }
         ensures node { IfSome result (HasEquation graph.now.funding) }
         ensures within { IfSome result (IsNodeWithin self.old.layout) }
         ensures once { IsOnce self.old }
         ensures settles { IfSome result (Settles self.old self.new) }
-        ensures counted { IfSome result (λ node. self.new.reads ≡ counted_up self.old.reads (edge_count_into graph.now.funding node)) }
+        ensures counted { IfSome result (λ node. self.new.reads
+            ≡ counted_up self.old.reads (edge_count_into graph.now.funding node)) }
         ensures none { IfNone result ((self.old.stale ≡ []) × (self.new ≡ self.old)) }
     {
         if self.turned.is_none() {
@@ -196,11 +229,14 @@ impl Values {
     /// The same from the back of the list, for when the node at the front has a stale source, or one that was turned
     /// over isn't settled yet. That is seldom so.
     fn settle_raised(&mut self, graph: &Graph, active: &Active) -> Option<Node>
-        requires right { (live : List Bool) × IsKeptFor active.now graph.now live × IsSmall self.old.unit graph.now live × IsRight graph.now live self.old }
-        ensures right { (live : List Bool) → IsKeptFor active.now graph.now live → IsRight graph.now live self.old → IsRight graph.now live self.new }
+        requires right { (live : List Bool) × IsKeptFor active.now graph.now live
+            × IsSmall self.old.unit graph.now live × IsRight graph.now live self.old }
+        ensures right { (live : List Bool) → IsKeptFor active.now graph.now live → IsRight graph.now live self.old
+            → IsRight graph.now live self.new }
         ensures within { IfSome result (IsNodeWithin self.old.layout) }
         ensures settles { IfSome result (Settles self.old self.new) }
-        ensures counted { IfSome result (λ node. self.new.reads ≡ counted_up self.old.reads (edge_count_into graph.now.funding node)) }
+        ensures counted { IfSome result (λ node. self.new.reads
+            ≡ counted_up self.old.reads (edge_count_into graph.now.funding node)) }
         ensures none { IfNone result ((self.old.stale ≡ []) × (self.new ≡ self.old)) }
     {
         let place = raise_fresh(graph, &mut self.stale, &mut self.turned)?;
@@ -212,11 +248,13 @@ impl Values {
     /// Computes again the value of a stale node none of whose sources is stale. Counts each edge into the node.
     #[inline(always)]
     fn settle_node(&mut self, graph: &Graph, active: &Active, place: usize, node: Node)
-        requires right { (live : List Bool) × IsKeptFor active.now graph.now live × IsSmall self.old.unit graph.now live × IsRight graph.now live self.old }
+        requires right { (live : List Bool) × IsKeptFor active.now graph.now live
+            × IsSmall self.old.unit graph.now live × IsRight graph.now live self.old }
         requires place { place < places.node_count (layout_of graph.now) }
         requires node { node ≡ places.node_of (layout_of graph.now) place }
         requires fresh { IsFreshPlace (layout_of graph.now) graph.now.funding (stale_places self.old) place }
-        ensures right { (live : List Bool) → IsKeptFor active.now graph.now live → IsRight graph.now live self.old → IsRight graph.now live self.new }
+        ensures right { (live : List Bool) → IsKeptFor active.now graph.now live → IsRight graph.now live self.old
+            → IsRight graph.now live self.new }
         ensures settles { Settles self.old self.new node }
         ensures counted { self.new.reads ≡ counted_up self.old.reads (edge_count_into graph.now.funding node) }
     {

@@ -23,7 +23,10 @@ impl Model for Room {
 
     ghost view = { λ s. (s.graph, s.queue) };
 
-    ghost invariant = { λ s. record { weights : AreWeights s.queue s.graph.known; competes : CompetesIn s.queue.competitors s.graph } };
+    ghost invariant = { λ s. record {
+      weights : AreWeights s.queue s.graph.known;
+      competes : CompetesIn s.queue.competitors s.graph;
+    } };
 }
 
 impl Room {

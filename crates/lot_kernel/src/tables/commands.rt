@@ -1,10 +1,13 @@
 //! The commands of the console (4.7).
-ghost use Rattle.std.specs.Prelude.{◌≡◌, ◌<◌, ◌+◌, ◌^◌, true, Some, IfNone, IfSome, OnSome, is_some, length, map, slice_get, if◌then◌else◌};
+ghost use Rattle.std.specs.Prelude.{◌≡◌, ◌<◌, ◌+◌, ◌^◌, true, Some, IfNone, IfSome, OnSome, is_some, length, map};
+ghost use Rattle.std.specs.Prelude.{slice_get, if◌then◌else◌};
 ghost use Rattle.std.specs.Option.{SomeIff};
 ghost use Rattle.lot_machine.specs.declared.refusal.Refusal.TheVariants.{Cycle};
 ghost use Rattle.lot_machine.specs.declared.reply.Reply.TheVariants.{Done, Refused};
 ghost use Rattle.lot_machine.specs.declared.ticket.Target.TheVariants.{Thread as ToThread, Unfunded};
-ghost use Rattle.lot_machine.specs.declared.command.Command.TheVariants.{MakeTicket, RemoveTicket, MakeCurrency, RemoveCurrency, Fund, Unfund, MakeThread, MakeFunded};
+ghost use Rattle.lot_machine.specs.declared.command.Command.TheVariants.{MakeTicket, RemoveTicket, MakeCurrency};
+ghost use Rattle.lot_machine.specs.declared.command.Command.TheVariants.{RemoveCurrency, Fund, Unfund, MakeThread};
+ghost use Rattle.lot_machine.specs.declared.command.Command.TheVariants.{MakeFunded};
 ghost use Rattle.lot_machine.specs.Commands as names;
 ghost use Rattle.lot_machine.specs.Commands.{command_step};
 ghost use Rattle.lot_machine.specs.Funding.{target_of, ticket_in, with_new_ticket, with_target};
@@ -69,8 +72,10 @@ impl Tables {
     fn issue(&mut self, issuer: u32, amount: u32) -> Option<u32>
         requires issuer { slice_get (map is_some self.old.state.currencies) issuer ≡ Some true }
         requires amount { 0 < amount }
-        ensures number { SomeIff result (length self.old.state.tickets < self.old.state.limits.tickets) (length self.old.state.tickets + 1) }
-        ensures issued { OnSome result (self.new ≡ record self.old { state = record self.old.state { tickets = with_new_ticket self.old.state.tickets amount issuer Unfunded } }) }
+        ensures number { SomeIff result (length self.old.state.tickets < self.old.state.limits.tickets)
+            (length self.old.state.tickets + 1) }
+        ensures issued { OnSome result (self.new
+            ≡ record self.old { state = record self.old.state { tickets = with_new_ticket self.old.state.tickets amount issuer Unfunded } }) }
         ensures unchanged { IfNone result (self.new ≡ self.old) }
     {
         self.threads.issue(issuer, amount)
@@ -172,7 +177,8 @@ impl Tables {
 
     fn make_funded(&mut self, amount: u64, currency: &Name, name: &Name, script: u32) -> Reply
         ensures reply { result ≡ (command_step self.old.state (MakeFunded amount currency.now name.now script)).reply }
-        ensures state { self.new.state ≡ (command_step self.old.state (MakeFunded amount currency.now name.now script)).state }
+        ensures state { self.new.state
+            ≡ (command_step self.old.state (MakeFunded amount currency.now name.now script)).state }
         ensures stale { MakesStale self.old self.new }
         ensures kept { KeepsStale self.old self.new }
         ensures meter { self.new.meter ≡ self.old.meter }
@@ -207,7 +213,8 @@ impl Tables {
     fn fund_thread(&mut self, ticket: u32, thread: u32)
         requires unfunded { target_of (funding_of self.old.state) ticket ≡ Some Unfunded }
         requires thread { IsThere self.old.state.records thread }
-        ensures state { self.new.state ≡ record self.old.state { tickets = with_target self.old.state.tickets ticket (ToThread thread) } }
+        ensures state { self.new.state
+            ≡ record self.old.state { tickets = with_target self.old.state.tickets ticket (ToThread thread) } }
         ensures stale { MakesStale self.old self.new }
         ensures kept { KeepsStale self.old self.new }
         ensures meter { self.new.meter ≡ self.old.meter }
@@ -247,7 +254,9 @@ impl Tables {
         requires unfunded { target_of (funding_of self.old.state) ticket ≡ Some Unfunded }
         requires target { IsTarget (funding_of self.old.state) to }
         ensures reply { result ≡ (if names.is_cycle self.old.state ticket to then Refused Cycle else Done) }
-        ensures state { self.new.state ≡ (if names.is_cycle self.old.state ticket to then self.old.state else record self.old.state { tickets = with_target self.old.state.tickets ticket to }) }
+        ensures state { self.new.state
+            ≡ (if names.is_cycle self.old.state ticket to then self.old.state
+            else record self.old.state { tickets = with_target self.old.state.tickets ticket to }) }
         ensures stale { MakesStale self.old self.new }
         ensures kept { KeepsStale self.old self.new }
         ensures meter { self.new.meter ≡ self.old.meter }

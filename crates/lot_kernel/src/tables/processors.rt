@@ -24,7 +24,8 @@ use lot_threads::Runner;
 impl Tables {
     /// Who runs on the processor, `None` if and only if nobody does. The ticks used are below the quantum.
     pub(crate) fn runner(&self, processor: u32) -> Option<Runner>
-        ensures thread { MatchOption result (thread_on self.now.state.records processor ≡ None) (λ r. thread_on self.now.state.records processor ≡ Some r.thread) }
+        ensures thread { MatchOption result (thread_on self.now.state.records processor ≡ None)
+            (λ r. thread_on self.now.state.records processor ≡ Some r.thread) }
         ensures used { IfSome result (λ r. used_by self.now.state.records processor r.thread ≡ Some r.used) }
         ensures there { IfSome result (λ r. (0 < r.thread) × (r.thread ≤ length self.now.state.records)) }
         ensures below { IfSome result (λ r. r.used < self.now.state.limits.quantum) }
@@ -141,8 +142,14 @@ impl Tables {
         requires runs { RunsOn self.old.state.records trap.thread trap.processor }
         requires alone { RunsAlone self.old.state.records trap.processor trap.thread }
         requires stops { StopsIfLeaves after }
-        requires lend { (status : AStatus) → after ≡ Leaves status → CanLend (funding_of self.old.state) trap.thread (lend_of status) }
-        ensures state { self.new.state ≡ record self.old.state { records = change_record (λ r. with_ticks trap.ticks (after_trap after trap.processor trap.used self.old.state.limits.quantum r)) self.old.state.records trap.thread } }
+        requires lend { (status : AStatus) → after ≡ Leaves status
+            → CanLend (funding_of self.old.state) trap.thread (lend_of status) }
+        ensures state { self.new.state
+            ≡ record self.old.state {
+              records = change_record
+                  (λ r. with_ticks trap.ticks
+                  (after_trap after trap.processor trap.used self.old.state.limits.quantum r)) self.old.state.records trap.thread;
+            } }
         ensures stale { MakesStale self.old self.new }
         ensures kept { KeepsStale self.old self.new }
         ensures meter { self.new.meter ≡ self.old.meter }

@@ -21,7 +21,8 @@ impl Tables {
         requires { IsInOrder self.old.state }
         ensures row { result ≡ rows.ticket_row self.old.state ticket }
         ensures state { self.new.state ≡ self.old.state }
-        ensures settled { (t : ATicket) → ticket_in self.old.state.tickets ticket ≡ Some t → self.new ≡ record (settled self.old) { meter = with_ticket_read (settled self.old).meter t } }
+        ensures settled { (t : ATicket) → ticket_in self.old.state.tickets ticket ≡ Some t
+            → self.new ≡ record (settled self.old) { meter = with_ticket_read (settled self.old).meter t } }
         ensures once { IfSome result (λ r. HasNoneTwice self.old.stale) }
         ensures unchanged { IfNone result (self.new ≡ self.old) }
     {
@@ -64,7 +65,8 @@ impl Tables {
     fn currency_value(&self, currency: u32) -> u64
         requires there { currency < length self.now.state.currencies }
         requires settled { self.now.stale ≡ [] }
-        ensures { result ≡ worth.node_value self.now.state.limits.unit (funding_of self.now.state) (live_of self.now.state) (node.Currency currency) }
+        ensures { result ≡ worth.node_value self.now.state.limits.unit (funding_of self.now.state)
+            (live_of self.now.state) (node.Currency currency) }
     {
         if currency == 0 {
             return self.threads.active_amount(0);

@@ -1,5 +1,6 @@
 //! The station, and the calls of its seats.
-ghost use Rattle.std.specs.Prelude.{◌≡◌, ℕ, ◌+◌, ◌<◌, ◌↔◌, false, [], ◌∷◌, All, EachIndex, Some, length, map, slice_get, IfOk, IfErr, IsTrue};
+ghost use Rattle.std.specs.Prelude.{◌≡◌, ℕ, ◌+◌, ◌<◌, ◌↔◌, false, [], ◌∷◌, All, EachIndex, Some, length, map};
+ghost use Rattle.std.specs.Prelude.{slice_get, IfOk, IfErr, IsTrue};
 ghost use Rattle.crossbeam_queue.specs.Passes.{view, IsPassOf, ruled_capacity};
 ghost use Rattle.lot_system.specs.Seen.{Seen};
 ghost use Rattle.lot_system.specs.Turns.{Faults, IsWorkOf};
@@ -90,7 +91,8 @@ impl BatonStation {
         requires { seat.old.station ≡ self.now.id }
         ensures same { IsSameSeat seat.old seat.new }
         ensures ok { IfOk result (λ answer. Turns seat.old slice.entry answer seat.new) }
-        ensures err { IfErr result (λ fault. Looks seat.old seat.new × Faults seat.new.seen seat.old.actor slice.entry fault) }
+        ensures err { IfErr result (λ fault. Looks seat.old seat.new
+            × Faults seat.new.seen seat.old.actor slice.entry fault) }
     {
         let mut system = take(rt, &self.queue, &mut seat.pass);
         let answer = system.turn(seat.actor, slice);
@@ -151,7 +153,8 @@ impl BatonStation {
         ensures shows { IfOk result (λ x. All (Shows x) seats.items) }
         ensures sums { IfOk result (λ x. AddUp x seats.items) }
         ensures counts { IfOk result (λ x. CountsAddUp x seats.items) }
-        ensures err { IfErr result (λ e. (¬ HasEachSeat self.processors seats.items) × (e.station ≡ self) × (e.seats ≡ seats)) }
+        ensures err { IfErr result (λ e. (¬ HasEachSeat self.processors seats.items) × (e.station ≡ self)
+            × (e.seats ≡ seats)) }
     {
         if !in_order(self.processors, seats.as_slice()) {
             return Err(SeatMissing {
@@ -169,7 +172,8 @@ impl BatonStation {
 /// The counters of each actor's turns in the system's history, the console's first.
 fn counts_of_actors(alloc: Global, system: &System) -> Result<Vec<Counts>, AllocError>
     ensures count { IfOk result (λ counts. length counts.items ≡ system.now.setting.program.limits.processors + 1) }
-    ensures each { IfOk result (λ counts. EachIndex counts.items (λ k. slice_get counts.items k ≡ Some (counts_in system.now k))) }
+    ensures each { IfOk result (λ counts. EachIndex counts.items
+        (λ k. slice_get counts.items k ≡ Some (counts_in system.now k))) }
 {
     let count = system.processors() as usize + 1;
     let mut counts = Vec::with_capacity(alloc, count)?;

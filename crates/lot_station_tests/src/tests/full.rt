@@ -54,9 +54,12 @@ fn work<
     ticks: Blank,
 ) -> Result<Outcome, AllocError>
     requires setting { system.setting ≡ T.setting }
-    requires turns { (turns.name ≡ T.name) × (turns.parts ≡ T.parts) × (T.parts ≡ system.setting.program.limits.processors + 1) }
-    requires quanta { (quanta.name ≡ Q.name) × (quanta.parts ≡ Q.parts) × (Q.parts ≡ system.setting.program.limits.processors + 1) }
-    requires ticks { (ticks.name ≡ K.name) × (ticks.parts ≡ K.parts) × (K.parts ≡ system.setting.program.limits.processors + 1) }
+    requires turns { (turns.name ≡ T.name) × (turns.parts ≡ T.parts)
+        × (T.parts ≡ system.setting.program.limits.processors + 1) }
+    requires quanta { (quanta.name ≡ Q.name) × (quanta.parts ≡ Q.parts)
+        × (Q.parts ≡ system.setting.program.limits.processors + 1) }
+    requires ticks { (ticks.name ≡ K.name) × (ticks.parts ≡ K.parts)
+        × (K.parts ≡ system.setting.program.limits.processors + 1) }
 {
     let (station, mut seats) = Station::<T, Q, K>::open(alloc, system, turns, quanta, ticks)?;
     let is_full = is_stopped(run_all(rt, &station, program, gate, &mut seats));

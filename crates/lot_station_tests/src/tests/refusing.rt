@@ -32,7 +32,8 @@ fn without_last<T: TurnLedger, Q: Ledger, K: Ledger>(
     station: Station<T, Q, K>,
     mut seats: Vec<Seat<T, Q, K>>,
 ) -> Option<HandedBack<T, Q, K>>
-    requires { (T.parts ≡ station.program.limits.processors + 1) × (Q.parts ≡ station.program.limits.processors + 1) × (K.parts ≡ station.program.limits.processors + 1) }
+    requires { (T.parts ≡ station.program.limits.processors + 1) × (Q.parts ≡ station.program.limits.processors + 1)
+        × (K.parts ≡ station.program.limits.processors + 1) }
     ensures { IfSome result (λ back. back.1 ≡ station) }
 {
     let last = seats.pop()?;
@@ -49,7 +50,8 @@ fn reversed<T: TurnLedger, Q: Ledger, K: Ledger>(
     station: Station<T, Q, K>,
     mut seats: Vec<Seat<T, Q, K>>,
 ) -> Option<HandedBack<T, Q, K>>
-    requires { (T.parts ≡ station.program.limits.processors + 1) × (Q.parts ≡ station.program.limits.processors + 1) × (K.parts ≡ station.program.limits.processors + 1) }
+    requires { (T.parts ≡ station.program.limits.processors + 1) × (Q.parts ≡ station.program.limits.processors + 1)
+        × (K.parts ≡ station.program.limits.processors + 1) }
     ensures { IfSome result (λ back. back.1 ≡ station) }
 {
     seats.reverse();
@@ -66,7 +68,8 @@ fn after_draw<T: TurnLedger, Q: Ledger, K: Ledger>(
     station: Station<T, Q, K>,
     mut seats: Vec<Seat<T, Q, K>>,
 ) -> Option<System>
-    requires { (T.parts ≡ station.program.limits.processors + 1) × (Q.parts ≡ station.program.limits.processors + 1) × (K.parts ≡ station.program.limits.processors + 1) }
+    requires { (T.parts ≡ station.program.limits.processors + 1) × (Q.parts ≡ station.program.limits.processors + 1)
+        × (K.parts ≡ station.program.limits.processors + 1) }
 {
     turn_at(rt, &station, &mut seats, 1)?;
     station.close(seats).ok()
@@ -79,7 +82,8 @@ fn close_often<T: TurnLedger, Q: Ledger, K: Ledger>(
     station: Station<T, Q, K>,
     mut seats: Vec<Seat<T, Q, K>>,
 ) -> Option<(usize, usize, System)>
-    requires { (T.parts ≡ station.program.limits.processors + 1) × (Q.parts ≡ station.program.limits.processors + 1) × (K.parts ≡ station.program.limits.processors + 1) }
+    requires { (T.parts ≡ station.program.limits.processors + 1) × (Q.parts ≡ station.program.limits.processors + 1)
+        × (K.parts ≡ station.program.limits.processors + 1) }
 {
     turn_at(rt, &station, &mut seats, 0)?;
     let (few, station, seats) = without_last(station, seats)?;
@@ -98,9 +102,12 @@ fn misplace<T: TurnLedger, Q: Ledger, K: Ledger>(
     ticks: Blank,
 ) -> Result<Option<(usize, usize, System)>, AllocError>
     requires setting { system.setting ≡ T.setting }
-    requires turns { (turns.name ≡ T.name) × (turns.parts ≡ T.parts) × (T.parts ≡ system.setting.program.limits.processors + 1) }
-    requires quanta { (quanta.name ≡ Q.name) × (quanta.parts ≡ Q.parts) × (Q.parts ≡ system.setting.program.limits.processors + 1) }
-    requires ticks { (ticks.name ≡ K.name) × (ticks.parts ≡ K.parts) × (K.parts ≡ system.setting.program.limits.processors + 1) }
+    requires turns { (turns.name ≡ T.name) × (turns.parts ≡ T.parts)
+        × (T.parts ≡ system.setting.program.limits.processors + 1) }
+    requires quanta { (quanta.name ≡ Q.name) × (quanta.parts ≡ Q.parts)
+        × (Q.parts ≡ system.setting.program.limits.processors + 1) }
+    requires ticks { (ticks.name ≡ K.name) × (ticks.parts ≡ K.parts)
+        × (K.parts ≡ system.setting.program.limits.processors + 1) }
 {
     let (station, seats) = Station::<T, Q, K>::open(alloc, system, turns, quanta, ticks)?;
     Ok(close_often(rt, station, seats))

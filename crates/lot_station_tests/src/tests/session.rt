@@ -64,9 +64,12 @@ fn play<T: TurnLedger, Q: Ledger, K: Ledger>(
     actors: &[usize],
 ) -> Result<(Session, Option<System>), AllocError>
     requires setting { system.setting ≡ T.setting }
-    requires turns { (turns.name ≡ T.name) × (turns.parts ≡ T.parts) × (T.parts ≡ system.setting.program.limits.processors + 1) }
-    requires quanta { (quanta.name ≡ Q.name) × (quanta.parts ≡ Q.parts) × (Q.parts ≡ system.setting.program.limits.processors + 1) }
-    requires ticks { (ticks.name ≡ K.name) × (ticks.parts ≡ K.parts) × (K.parts ≡ system.setting.program.limits.processors + 1) }
+    requires turns { (turns.name ≡ T.name) × (turns.parts ≡ T.parts)
+        × (T.parts ≡ system.setting.program.limits.processors + 1) }
+    requires quanta { (quanta.name ≡ Q.name) × (quanta.parts ≡ Q.parts)
+        × (Q.parts ≡ system.setting.program.limits.processors + 1) }
+    requires ticks { (ticks.name ≡ K.name) × (ticks.parts ≡ K.parts)
+        × (K.parts ≡ system.setting.program.limits.processors + 1) }
 {
     let (station, mut seats) = Station::<T, Q, K>::open(alloc, system, turns, quanta, ticks)?;
     let begun = all_shares(alloc, &seats)?;

@@ -1,4 +1,5 @@
-//! What is printed for replies, listings, totals, histories and refused inputs. What is expected is written out by hand.
+//! What is printed for replies, listings, totals, histories and refused inputs. What is expected is written out by
+//! hand.
 ghost use Rattle.std.specs.Prelude.{◌≡◌, false};
 
 use lot_io::{IoFault, Watched};
