@@ -1,6 +1,7 @@
 use Rattle.std.proofs.Common.{Contains, List, Some, ap, arith, length, option_map, rules, subst, sym, ℕ, ◌+◌, ◌∙◌, ◌≡◌}
 use Rattle.std.proofs.lemmas.List.{length-append}
 use Rattle.lot_kernel.specs.Snapshots.{Snapshot}
+use Rattle.lot_machine.specs.declared.reply.Reply.TheVariants.{Funded}
 use Rattle.lot_machine.specs.State.{State, funding_of}
 use Rattle.lot_machine.specs.declared.ticket.Target.TheVariants.{Thread, Unfunded}
 use Rattle.lot_machine.specs.declared.ticket.Ticket.{Ticket}
@@ -80,7 +81,9 @@ returns-clause-reply c =
     let issued : c.issue.new.self ≡ record old { state = record old.state { tickets = with_new_ticket old.state.tickets c.args.amount c.in-Some.issuer Unfunded } } = search rules in
     let number : c.in-Some-issue.ticket ≡ length old.state.tickets + 1 = search rules in
     let thread : c.add_thread-thread.result ≡ length old.state.threads + 1 = c.add_thread-thread.ensures.number ∙ ap (λ (x : Snapshot). length x.state.threads + 1) issued in
-    search (rules, number, thread)
+    let made : Funded c.in-Some-issue.ticket c.add_thread-thread.result ≡ Funded (length old.state.tickets + 1) (length old.state.threads + 1) =
+    ap (λ n. Funded n c.add_thread-thread.result) number ∙ ap (λ t. Funded (length old.state.tickets + 1) t) thread in
+    search (rules, made)
 
 pub returns-clause-meter : goal.returns-clause-meter
 returns-clause-meter c =
