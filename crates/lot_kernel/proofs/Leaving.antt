@@ -69,7 +69,7 @@ module _ (records : List Record) (t p used : ℕ) (runs : status_of records t �
         by None none = queue-empty records (Queued port)
         by (Some found) some = queues.callers port found some
 
-    waiters-queue : (m : ℕ) → IsQueue records (Waiting m) (mutex_at mutexes m).waiters
+    pub waiters-queue : (m : ℕ) → IsQueue records (Waiting m) (mutex_at mutexes m).waiters
     waiters-queue m = by (at_number mutexes m) refl
       where
         by : (o : Option Mutex) → at_number mutexes m ≡ o → IsQueue records (Waiting m) (unwrap_or o (record { owner = None; waiters = [] })).waiters

@@ -1,5 +1,6 @@
-use Rattle.std.proofs.Common.{ap, arith, rules, sym, ◌∙◌}
+use Rattle.std.proofs.Common.{Contains, ap, arith, rules, sym, ◌∙◌}
 use Rattle.lot_machine.specs.Step.{Effect}
+use Rattle.lot_threads.specs.Threaded.{Threaded}
 use Rattle.lot_queues.specs.QueueLists.{IsThere}
 use Rattle.lot_machine.specs.Ports.{call}
 use Rattle.lot_kernel.proofs.Trapping.{call-done, call-keeps, ports-held, ports-state, running-nowhere}
@@ -47,3 +48,17 @@ returns-clause-stale c =
     let trap = call i.threads.records i.queues.clients i.queues.ports c.args.thread c.args.port c.args.number in
     let threads = ports-held (sizes_of i.limits) i.currencies.items i.threads c.call.new.threads i.queues c.call.new.queues c.self.invariant.threads trap c.call.ensures.threads c.call.ensures.queues in
     rw (← c.self.view_is) (makes-held (sizes_of i.limits) i.currencies.items i.currencies.items i.threads c.call.new.threads i.queues c.call.new.queues c.self.invariant.threads threads c.call.ensures.stale)
+
+pub call-requires-clause-port : goal.call-requires-clause-port
+call-requires-clause-port c = (omega (arith, c.if-port-eq0.false), omega (arith, c.if-port-ports.false, c.ports.ensures))
+
+pub call-requires-clause-same : goal.call-requires-clause-same
+call-requires-clause-same c = sym c.self.invariant.clients
+
+pub returns-clause-kept : goal.returns-clause-kept
+returns-clause-kept c x stale =
+    let here : Contains (the_view c.self.inside).stale x = rw (← c.self.view_is) at stale in
+    c.call.ensures.kept x here
+
+pub returns-clause-meter : goal.returns-clause-meter
+returns-clause-meter c = rw (← c.self.view_is) (ap (λ (v : Threaded). v.meter) c.call.ensures.threads)

@@ -1,5 +1,7 @@
-use Rattle.std.proofs.Common.{Contains, List, Some, ap, length, option_map, rules, subst, sym, ℕ, ◌+◌, ◌∙◌, ◌≡◌}
+use Rattle.std.proofs.Common.{Contains, List, Some, ap, arith, length, option_map, rules, subst, sym, ℕ, ◌+◌, ◌∙◌, ◌≡◌}
+use Rattle.std.proofs.lemmas.List.{length-append}
 use Rattle.lot_kernel.specs.Snapshots.{Snapshot}
+use Rattle.lot_machine.specs.declared.reply.Reply.TheVariants.{Funded}
 use Rattle.lot_machine.specs.State.{State, funding_of}
 use Rattle.lot_machine.specs.declared.ticket.Target.TheVariants.{Thread, Unfunded}
 use Rattle.lot_machine.specs.declared.ticket.Ticket.{Ticket}
@@ -59,3 +61,32 @@ returns-clause-kept c x stale =
     let issued : c.issue.new.self ≡ record old { state = record old.state { tickets = with_new_ticket old.state.tickets c.args.amount c.in-Some.issuer Unfunded } } = search rules in
     let here : Contains old.stale x = rw (← c.self.view_is) at stale in
     c.fund_thread.ensures.kept x (c.add_thread-thread.ensures.kept x (subst (λ (y : Snapshot). Contains y.stale x) (sym issued) here))
+
+pub issue-requires-clause-amount : goal.issue-requires-clause-amount
+issue-requires-clause-amount c = omega (arith, c.if-amount-eq0.false)
+
+pub fund_thread-requires-clause-thread : goal.fund_thread-requires-clause-thread
+fund_thread-requires-clause-thread c =
+    let old = the_view c.self.inside in
+    let issued : c.issue.new.self ≡ record old { state = record old.state { tickets = with_new_ticket old.state.tickets c.args.amount c.in-Some.issuer Unfunded } } = search rules in
+    let count : length c.issue.new.self.state.threads ≡ length c.issue.new.self.state.records =
+    ap (λ (x : Snapshot). length x.state.threads) issued ∙ c.self.invariant.count ∙ sym (ap (λ (x : Snapshot). length x.state.records) issued) in
+    let size : length c.add_thread-thread.new.self.state.records ≡ length c.issue.new.self.state.records + 1 =
+    ap (λ (x : State). length x.records) c.add_thread-thread.ensures.state ∙ length-append c.issue.new.self.state.records _ in
+    (omega (arith, c.add_thread-thread.ensures.number), omega (arith, c.add_thread-thread.ensures.number, count, size))
+
+pub returns-clause-reply : goal.returns-clause-reply
+returns-clause-reply c =
+    let old = the_view c.self.inside in
+    let issued : c.issue.new.self ≡ record old { state = record old.state { tickets = with_new_ticket old.state.tickets c.args.amount c.in-Some.issuer Unfunded } } = search rules in
+    let number : c.in-Some-issue.ticket ≡ length old.state.tickets + 1 = search rules in
+    let thread : c.add_thread-thread.result ≡ length old.state.threads + 1 = c.add_thread-thread.ensures.number ∙ ap (λ (x : Snapshot). length x.state.threads + 1) issued in
+    let made : Funded c.in-Some-issue.ticket c.add_thread-thread.result ≡ Funded (length old.state.tickets + 1) (length old.state.threads + 1) =
+    ap (λ n. Funded n c.add_thread-thread.result) number ∙ ap (λ t. Funded (length old.state.tickets + 1) t) thread in
+    search (rules, made)
+
+pub returns-clause-meter : goal.returns-clause-meter
+returns-clause-meter c =
+    let old = the_view c.self.inside in
+    let issued : c.issue.new.self ≡ record old { state = record old.state { tickets = with_new_ticket old.state.tickets c.args.amount c.in-Some.issuer Unfunded } } = search rules in
+    rw (← c.self.view_is) (c.fund_thread.ensures.meter ∙ c.add_thread-thread.ensures.meter ∙ ap (λ (x : Snapshot). x.meter) issued)

@@ -1,5 +1,6 @@
-use Rattle.std.proofs.Common.{ap, arith, rules, sym, ◌∙◌}
+use Rattle.std.proofs.Common.{Contains, ap, arith, rules, sym, ◌∙◌}
 use Rattle.lot_machine.specs.Step.{Effect}
+use Rattle.lot_threads.specs.Threaded.{Threaded}
 use Rattle.lot_queues.specs.QueueLists.{IsThere}
 use Rattle.lot_kernel.proofs.Holding.{makes-held}
 use Rattle.lot_kernel.proofs.Trapping.{ports-held, ports-state, receive-done, receive-keeps, running-nowhere}
@@ -48,3 +49,17 @@ returns-clause-stale c =
     let trap = receive i.threads.records i.queues.clients i.queues.ports c.args.thread c.args.port in
     let threads = ports-held (sizes_of i.limits) i.currencies.items i.threads c.receive.new.threads i.queues c.receive.new.queues c.self.invariant.threads trap c.receive.ensures.threads c.receive.ensures.queues in
     rw (← c.self.view_is) (makes-held (sizes_of i.limits) i.currencies.items i.currencies.items i.threads c.receive.new.threads i.queues c.receive.new.queues c.self.invariant.threads threads c.receive.ensures.stale)
+
+pub receive-requires-clause-port : goal.receive-requires-clause-port
+receive-requires-clause-port c = (omega (arith, c.if-port-eq0.false), omega (arith, c.if-port-ports.false, c.ports.ensures))
+
+pub receive-requires-clause-same : goal.receive-requires-clause-same
+receive-requires-clause-same c = sym c.self.invariant.clients
+
+pub returns-clause-kept : goal.returns-clause-kept
+returns-clause-kept c x stale =
+    let here : Contains (the_view c.self.inside).stale x = rw (← c.self.view_is) at stale in
+    c.receive.ensures.kept x here
+
+pub returns-clause-meter : goal.returns-clause-meter
+returns-clause-meter c = rw (← c.self.view_is) (ap (λ (v : Threaded). v.meter) c.receive.ensures.threads)

@@ -1,8 +1,9 @@
-use Rattle.std.proofs.Common.{ap, arith, rules, sym, ◌∙◌}
+use Rattle.std.proofs.Common.{Contains, ap, arith, rules, sym, ◌∙◌}
 use Rattle.lot_machine.specs.Step.{Effect}
 use Rattle.lot_queues.specs.QueueLists.{IsThere}
 use Rattle.lot_kernel.proofs.Holding.{makes-held}
 use Rattle.lot_kernel.proofs.Trapping.{ports-held, ports-state, running-nowhere, serve-done, serve-keeps}
+use Rattle.lot_threads.specs.Threaded.{Threaded}
 use Rattle.lot_machine.specs.Ports.{serve}
 use Rattle.lot_machine.specs.State.{sizes_of}
 use Rattle.lot_kernel.specs.contracts.tables.Tables.{the_view}
@@ -49,3 +50,20 @@ returns-clause-stale c =
     let left = serve i.threads.records i.queues.clients i.queues.ports c.args.thread c.args.port c.args.number in
     let threads = ports-held (sizes_of i.limits) i.currencies.items i.threads c.serve.new.threads i.queues c.serve.new.queues c.self.invariant.threads left c.serve.ensures.threads c.serve.ensures.queues in
     rw (← c.self.view_is) (makes-held (sizes_of i.limits) i.currencies.items i.currencies.items i.threads c.serve.new.threads i.queues c.serve.new.queues c.self.invariant.threads threads c.serve.ensures.stale)
+
+pub serve-requires-clause-port : goal.serve-requires-clause-port
+serve-requires-clause-port c = (omega (arith, c.if-port-eq0.false), omega (arith, c.if-port-ports.false, c.ports.ensures))
+
+pub serve-requires-clause-client : goal.serve-requires-clause-client
+serve-requires-clause-client c = sym c.first_client.ensures ∙ c.in-Some.is
+
+pub serve-requires-clause-same : goal.serve-requires-clause-same
+serve-requires-clause-same c = sym c.self.invariant.clients
+
+pub returns-clause-kept : goal.returns-clause-kept
+returns-clause-kept c x stale =
+    let here : Contains (the_view c.self.inside).stale x = rw (← c.self.view_is) at stale in
+    c.serve.ensures.kept x here
+
+pub returns-clause-meter : goal.returns-clause-meter
+returns-clause-meter c = rw (← c.self.view_is) (ap (λ (v : Threaded). v.meter) c.serve.ensures.threads)

@@ -11,7 +11,7 @@ use Rattle.lot_machine.specs.Rows.{currency_name, target_name}
 use Rattle.lot_machine.proofs.TicketDepth.{is_active-exact}
 use Rattle.lot_machine.specs.Commands.{is_funding}
 use Rattle.lot_machine.specs.Numbered.{option_any}
-use Rattle.lot_kernel.proofs.Holding.{settles-held, snapshot_of}
+use Rattle.lot_kernel.proofs.Holding.{held-stale, settles-held, snapshot_of}
 use Rattle.lot_kernel.proofs.Rows.{same-truth, ticket-row-of}
 use Rattle.lot_kernel.specs.Counted.{with_ticket_read}
 use Rattle.lot_kernel.specs.contracts.tables.Tables.{the_view}
@@ -65,3 +65,25 @@ returns-clause-settled c t there =
     let after = settles-held (sizes_of i.limits) i.currencies.items i.threads c.settle.new.self i.queues c.self.invariant.threads c.settle.ensures.settled in
     rw (← c.self.view_is)
     (ap (snapshot_of (sizes_of i.limits) i.currencies.items i.queues) read ∙ ap (λ (x : Snapshot). record x { meter = with_ticket_read x.meter t }) after)
+
+pub invariant_of-self : goal.invariant_of-self
+invariant_of-self c =
+    let i = c.self.inside in
+    let t = c.in_ok-found.found in
+    let found : ticket_in i.threads.tickets c.args.ticket ≡ Some t = search rules in
+    let here : ticket_in c.settle.new.self.tickets c.args.ticket ≡ Some t = ap (λ (v : Threaded). ticket_in v.tickets c.args.ticket) c.settle.ensures.settled ∙ found in
+    let read = read-meter c.args.ticket t c.settle.new.self c.ticket_value.new.self here c.ticket_value.ensures.counted c.ticket_value.ensures.uncounted in
+    let whole = read ∙ ap (λ (v : Threaded). record v { meter = with_ticket_read v.meter t }) c.settle.ensures.settled in
+    let threads = held-stale (sizes_of i.limits) i.currencies.items i.threads c.ticket_value.new.self i.queues c.self.invariant.threads [] (with_ticket_read (settled_in i.threads).meter t) whole in
+    search (rules, threads, whole)
+
+pub returns-clause-state : goal.returns-clause-state
+returns-clause-state c =
+    let i = c.self.inside in
+    let t = c.in_ok-found.found in
+    let found : ticket_in i.threads.tickets c.args.ticket ≡ Some t = search rules in
+    let here : ticket_in c.settle.new.self.tickets c.args.ticket ≡ Some t = ap (λ (v : Threaded). ticket_in v.tickets c.args.ticket) c.settle.ensures.settled ∙ found in
+    let read = read-meter c.args.ticket t c.settle.new.self c.ticket_value.new.self here c.ticket_value.ensures.counted c.ticket_value.ensures.uncounted in
+    let after = settles-held (sizes_of i.limits) i.currencies.items i.threads c.settle.new.self i.queues c.self.invariant.threads c.settle.ensures.settled in
+    rw (← c.self.view_is)
+    (ap (λ (x : Snapshot). x.state) (ap (snapshot_of (sizes_of i.limits) i.currencies.items i.queues) read ∙ ap (λ (x : Snapshot). record x { meter = with_ticket_read x.meter t }) after))

@@ -5,6 +5,7 @@ use Rattle.lot_machine.specs.Mutexes.{MutexTrap, mutex_at, unlock}
 use Rattle.lot_threads.specs.Threaded.{Threaded, settled_in, worth_in}
 use Rattle.lot_kernel.proofs.Holding.{held-mutexes, makes-held}
 use Rattle.lot_kernel.proofs.Trapping.{mutexes-state, unlock-count, unlock-done, unlock-same}
+use Rattle.lot_kernel.proofs.Leaving.{waiters-queue}
 use Rattle.lot_kernel.proofs.Metering.{unlock-counts}
 use Rattle.lot_kernel.specs.Snapshots.{held}
 use Rattle.lot_machine.specs.State.{sizes_of}
@@ -63,3 +64,22 @@ returns-clause-counts c =
     let reads = ap (λ (v : Threaded). (settled_in v).meter) c.self.invariant.threads in
     rw (← c.self.view_is) (unlock-counts i.threads.records i.queues.mutexes (worth_in i.threads) c.args.mutex c.args.d (the_view i) (record { state = held (sizes_of i.limits) i.currencies.items c.unlock.new.threads c.unlock.new.queues; stale = c.unlock.new.threads.stale; meter = c.unlock.new.threads.meter }) c.unlock.result.outcome
     c.unlock.ensures.outcome c.unlock.ensures.kept c.unlock.ensures.uncounted (λ some. c.unlock.ensures.counted some ∙ reads) c.unlock.ensures.once c.args.thread owned c.unlock.ensures.owners)
+
+pub unlock-requires-clause-mutex : goal.unlock-requires-clause-mutex
+unlock-requires-clause-mutex c = (omega (arith, c.if-mutex-eq0.false), omega (arith, c.if-mutex-mutexes.false, c.mutexes.ensures))
+
+pub unlock-requires-clause-waiters : goal.unlock-requires-clause-waiters
+unlock-requires-clause-waiters c =
+    let i = c.self.inside in
+    let order = rw (← c.self.view_is) at c.requires.order in
+    let runs = rw (← c.self.view_is) at c.requires.runs in
+    waiters-queue i.threads.records c.args.thread runs.0 runs.1.0 runs.1.1 i.queues.clients i.queues.ports i.queues.mutexes order.queues c.args.mutex
+
+pub unlock-requires-clause-same : goal.unlock-requires-clause-same
+unlock-requires-clause-same c = sym c.self.invariant.clients
+
+pub unlock-requires-clause-owners : goal.unlock-requires-clause-owners
+unlock-requires-clause-owners c = sym (ap (λ (v : Threaded). v.owners) c.self.invariant.threads)
+
+pub unlock-requires-clause-room : goal.unlock-requires-clause-room
+unlock-requires-clause-room c = c.self.invariant.queue_room ∙ sym c.self.invariant.lottery_room
