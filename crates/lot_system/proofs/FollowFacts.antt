@@ -1,6 +1,6 @@
 -- One more of a program's turns in time.
 use Rattle.std.proofs.Common.{◌≡◌, ℕ, zero, suc, ◌+◌, ◌-◌, ◌<◌, ◌≤◌, ◌==◌, Bool, true, false, Option, Some, None, List, [], ◌∷◌, ◌++◌, length, take, drop, codes, refl, sym, ◌∙◌, ap, subst, arith, append_assoc, append-nil, length-append, length-drop, ne_eqb}
-use Rattle.std.specs.Prelude.{map, count_by, replicate, if◌then◌else◌}
+use Rattle.std.specs.Prelude.{map, count_by, replicate, if◌then◌else◌, Result, Ok, Err, IsErr, IfOk}
 use Rattle.std.specs.List.{flat_map}
 use Rattle.std.proofs.lemmas.Grind.{flat_map-append}
 use Rattle.std.proofs.lemmas.List.{length-map, map-append, take-append-drop}
@@ -13,7 +13,7 @@ use Rattle.lot_machine.specs.declared.event.Event.{Event}
 use Rattle.lot_machine.specs.declared.reply.Reply.{Reply}
 use Rattle.lot_simulation.specs.declared.timed.Due.{Due}
 use Rattle.std.proofs.lemmas.List.Sums.{sum_by_push}
-use Rattle.lot_simulation.specs.Report.{ActorTurn, beside, count_in, total_of}
+use Rattle.lot_simulation.specs.Report.{ActorTurn, count_in, total_of}
 use Rattle.lot_simulation.specs.declared.manner.Manner.TheVariants.{Timed}
 use Rattle.lot_simulation.specs.Output.{timed_text}
 use Rattle.lot_simulation.specs.Texts.{front, reply_text}
@@ -270,3 +270,23 @@ opened-followed program following as_many time clocks fits followed =
       room = fits;
       followed = followed;
     }
+
+-- what a result that is an error says of its value
+pub if-ok-none : {A E : Type 0} (r : Result A E) (P : A → Type 0) → IsErr r → IfOk r P
+if-ok-none (Ok x) P is = cc
+if-ok-none (Err e) P is = tt
+
+-- the next turn was made, or there is none
+pub made-one : (program : Program) (seen made later : Seen) (told : TimedReply) (following : Following) → next_turns program seen ≡ turn_told seen told ∷ [] → made ≡ after_turn seen told.actor → later ≡ made → IsFollowed program made following → MadeNext program seen later following true
+made-one program seen made later told following next is same followed = record {
+  followed = subst (λ (s : Seen). IsFollowed program s following) (sym same) followed;
+  length_is = ap (λ (s : Seen). length s.history) (same ∙ is) ∙ length-append seen.history (told.actor ∷ []);
+  more_is = ap (length {A = TimedTurn}) next;
+}
+
+pub made-no : (program : Program) (seen later : Seen) (following : Following) → next_turns program seen ≡ [] → later ≡ seen → IsFollowed program later following → MadeNext program seen later following false
+made-no program seen later following none same followed = record {
+  followed = followed;
+  length_is = let is = ap (λ (s : Seen). length s.history) same in omega (arith, is);
+  more_is = ap (length {A = TimedTurn}) none;
+}
