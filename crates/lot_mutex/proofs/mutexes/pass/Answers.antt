@@ -1,14 +1,15 @@
 use Rattle.std.specs.Option.{option_flatten}
-use Rattle.std.proofs.Common.{◌∙◌, ℕ, Option, Some, List, remove, ap, sym, refl}
+use Rattle.std.proofs.Common.{◌∙◌, ℕ, Option, Some, List, length, remove, ap, arith, sym, refl}
+use Rattle.std.proofs.lemmas.List.{length-map}
 use Rattle.lot_machine.specs.declared.record.Record.{Record}
 use Rattle.lot_machine.specs.declared.record.Status.TheVariants as status
 use Rattle.lot_machine.specs.Mutexes.{mutex_at}
 use Rattle.lot_machine.specs.Numbered.{at_number}
-use Rattle.lot_machine.specs.State.{change_record, status_of}
+use Rattle.lot_machine.specs.State.{Mutex, change_record, status_of}
 use Rattle.lot_machine.proofs.Queues.{status-now, status-other}
 use Rattle.lot_queues.proofs.Callers.{mutex-passed}
 use Rattle.lot_threads.specs.Threaded.{Threaded}
-use Rattle.lot_threads.proofs.Ways.{live-other, live-status}
+use Rattle.lot_threads.proofs.Ways.{live-other, live-status, live-there}
 use Rattle.lot_mutex.proofs.Owners.{owner-at}
 use Rattle.lot_mutex.proofs.Passing.{live-same, passed, passes-stale}
 use Rattle.lot_mutex.proofs.mutexes.pass.Goals as goal
@@ -53,3 +54,15 @@ pub returns-clause-stale : goal.returns-clause-stale
 returns-clause-stale c =
     passes-stale c.args.threads.now c.set_status.new.self c.move_mutex.new.self c.args.mutex c.args.next (change_record awake c.args.threads.now.records c.args.next) c.set_status.ensures.set c.move_mutex.ensures.moved c.set_status.ensures.stale
     c.move_mutex.ensures.stale
+
+pub move_mutex-requires-clause-mutex : goal.move_mutex-requires-clause-mutex
+move_mutex-requires-clause-mutex c =
+    let mutexes = c.args.queues.now.mutexes in
+    let same = ap (λ (x : Threaded). length x.owners) c.set_status.ensures.set in
+    (c.requires.mutex.0, omega (arith, c.requires.mutex.1, same, ap (λ (os : List (Option ℕ)). length os) c.requires.owners, length-map mutexes (λ (m : Mutex). m.owner)))
+
+pub move_mutex-requires-clause-next : goal.move_mutex-requires-clause-next
+move_mutex-requires-clause-next c = live-there c.set_status.new.self c.args.next (move_mutex-requires-clause-live c).1
+
+pub returns-clause-owners : goal.returns-clause-owners
+returns-clause-owners c = c.move_mutex.ensures.owners

@@ -7,8 +7,9 @@ use Rattle.lot_machine.specs.declared.reply.Outcome.TheVariants.{Freed, Passed}
 use Rattle.lot_machine.specs.Lottery.{winner}
 use Rattle.lot_machine.specs.Mutexes.{MutexTrap, mutex_at, unlock}
 use Rattle.lot_machine.specs.Numbered.{set_number}
+use Rattle.lot_machine.specs.State.{status_of}
 use Rattle.lot_value.specs.declared.meter.Meter.{Meter}
-use Rattle.lot_threads.specs.Threaded.{Threaded, IsStaleIn, MakesStaleIn, worth_in}
+use Rattle.lot_threads.specs.Threaded.{Threaded, IsLiveIn, IsStaleIn, MakesStaleIn, worth_in}
 use Rattle.lot_mutex.specs.Listed.{Listed, with_mutexes}
 use Rattle.lot_mutex.proofs.Owners.{owners-after, place-below, unlock-passes}
 use Rattle.lot_mutex.proofs.Passing.{next-owner, pass-threads, settled-makes}
@@ -83,3 +84,53 @@ returns-then-is_empty-clause-owners c next draw passed = let never : Freed ≡ P
 
 pub returns-clause-owners : goal.returns-clause-owners
 returns-clause-owners c next draw passed = (c.pass.ensures.owners.0, subst (λ t. IsStaleIn c.pass.new.threads (Thread t)) (ap next-owner passed) c.pass.ensures.owners.1)
+
+pub returns-clause-after : goal.returns-clause-after
+returns-clause-after c =
+    let v = c.args.threads.now in
+    let mutexes = c.args.queues.now.mutexes in
+    let ws = (mutex_at mutexes c.args.mutex).waiters in
+    let place = unwrap_or (option_map (λ (w : Drawn). w.place) c.hold-drawn.result) 0 in
+    let listed : c.list.new.self.waiters ≡ ws = ap (λ (l : Listed). l.waiters) c.list.ensures in
+    let some : ws ≢ [] = λ none. let empty = c.if-is_empty.ensures.1 (listed ∙ none) in cc in
+    let drawn : c.hold-drawn.result ≡ winner (map (worth_in v) ws) c.args.d =
+    c.hold-drawn.ensures.drawn ∙ ap (λ (x : Threaded). winner (map (worth_in x) c.list.new.self.waiters) c.args.d) c.settle.ensures.settled ∙ ap (λ xs. winner (map (worth_in v) xs) c.args.d) listed in
+    let step = unlock-passes v.records mutexes (worth_in v) c.args.mutex c.args.d ws refl some c.hold-drawn.result drawn in
+    sym (ap (λ (e : MutexTrap). e.after) step)
+
+pub returns-clause-kept : goal.returns-clause-kept
+returns-clause-kept c none =
+    let listed : c.list.new.self.waiters ≡ (mutex_at c.args.queues.now.mutexes c.args.mutex).waiters = ap (λ (l : Listed). l.waiters) c.list.ensures in
+    let empty = c.if-is_empty.ensures.1 (listed ∙ none) in
+    cc
+
+pub returns-clause-uncounted : goal.returns-clause-uncounted
+returns-clause-uncounted c none =
+    let listed : c.list.new.self.waiters ≡ (mutex_at c.args.queues.now.mutexes c.args.mutex).waiters = ap (λ (l : Listed). l.waiters) c.list.ensures in
+    let empty = c.if-is_empty.ensures.1 (listed ∙ none) in
+    cc
+
+pub returns-clause-once : goal.returns-clause-once
+returns-clause-once c some = c.settle.ensures.once
+
+pub pass-requires-clause-live : goal.pass-requires-clause-live
+pass-requires-clause-live c = subst (λ (x : Threaded). IsLiveIn x c.args.owner) (sym c.settle.ensures.settled) c.requires.live
+
+pub pass-requires-clause-same : goal.pass-requires-clause-same
+pass-requires-clause-same c = ap (λ (x : Threaded). length x.records) c.settle.ensures.settled ∙ c.requires.same
+
+pub pass-requires-clause-owners : goal.pass-requires-clause-owners
+pass-requires-clause-owners c = c.requires.owners ∙ sym (ap (λ (x : Threaded). x.owners) c.settle.ensures.settled)
+
+pub pass-requires-clause-waits : goal.pass-requires-clause-waits
+pass-requires-clause-waits c =
+    let v = c.args.threads.now in
+    let mutexes = c.args.queues.now.mutexes in
+    let ws = (mutex_at mutexes c.args.mutex).waiters in
+    let place = unwrap_or (option_map (λ (w : Drawn). w.place) c.hold-drawn.result) 0 in
+    let listed : c.list.new.self.waiters ≡ ws = ap (λ (l : Listed). l.waiters) c.list.ensures in
+    let some : ws ≢ [] = λ none. let empty = c.if-is_empty.ensures.1 (listed ∙ none) in cc in
+    let next : c.picked-next.result ≡ slice_index ws place = c.picked-next.ensures ∙ ap (λ (l : Listed). slice_index l.waiters place) c.hold-drawn.ensures.same ∙ ap (λ xs. slice_index xs place) listed in
+    let below = place-below ws c.hold-drawn.result some (subst (λ xs. IfSome c.hold-drawn.result (λ (w : Drawn). w.place < length xs)) listed c.hold-drawn.ensures.within) in
+    let at : slice_get ws place ≡ Some c.picked-next.result = slice_get-get_or ws place 0 below ∙ ap Some (sym next) in
+    ap (λ (x : Threaded). status_of x.records c.picked-next.result) c.settle.ensures.settled ∙ c.requires.waiters.each place c.picked-next.result at
