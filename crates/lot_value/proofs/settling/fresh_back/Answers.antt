@@ -1,10 +1,14 @@
-use Rattle.std.proofs.Common.{◌∙◌, ap, sym, subst}
+use Rattle.std.proofs.Common.{◌∙◌, ◌<◌, ap, sym, subst}
 use Rattle.std.proofs.lemmas.Bool.{OnFalse_at, OnTrue_at}
 use Rattle.lot_lists.specs.NodeLists.{NodeLists, nodes_of}
 use Rattle.lot_machine.specs.declared.funding.Node.{Node}
 use Rattle.lot_graph.specs.declared.layout.Layout.{Layout}
-use Rattle.lot_graph.specs.Places.{node_of, layout_of}
+use Rattle.lot_machine.proofs.EachOnce.{contains-at}
+use Rattle.lot_graph.specs.Places.{IsNodeWithin, node_of, node_count, layout_of}
+use Rattle.lot_graph.proofs.SpreadLemmas.{list-back}
 use Rattle.lot_value.specs.Marking.{IsFreshPlace, LeadsFromPlace}
+use Rattle.lot_value.proofs.Listed.{list-within, reordered-same, reordered-then}
+use Rattle.lot_value.proofs.Nodes.{within-node}
 use Rattle.lot_value.proofs.Settled.{rank-falls, fresh-place, last-none}
 use Rattle.lot_value.proofs.settling.fresh_back.Goals as goal
 
@@ -29,3 +33,50 @@ loop-place-smaller c =
 
 pub returns-clause-none : goal.returns-clause-none
 returns-clause-none c = last-none (nodes_of c.loop-place.stale 0) c.last.result c.last.ensures c.in_default.is
+
+pub loop-place-init : goal.loop-place-init
+loop-place-init c = record { list = c.requires.list; reordered = reordered-same (nodes_of c.args.stale.now 0) }
+
+pub node_of-requires : goal.node_of-requires
+node_of-requires c =
+    let v = c.loop-place.stale in
+    let here = contains-at (nodes_of v 0) _ c.in-Some.place (sym c.last.ensures ∙ c.in-Some.is) in
+    subst (λ (l : Layout). c.in-Some.place < node_count l) (sym c.layout-layout.ensures.layout) (list-within v (node_count (layout_of c.args.graph.now)) c.loop-place.invariant.list c.in-Some.place here)
+
+pub raise_sources-requires : goal.raise_sources-requires
+raise_sources-requires c =
+    let w = c.args.graph.now in
+    let v = c.loop-place.stale in
+    let place = c.in-Some.place in
+    let here = contains-at (nodes_of v 0) _ place (sym c.last.ensures ∙ c.in-Some.is) in
+    let low = list-within v (node_count (layout_of w)) c.loop-place.invariant.list place here in
+    let node_is = c.node_of.ensures ∙ ap (λ (l : Layout). node_of l place) c.layout-layout.ensures.layout in
+    record {
+      list = c.loop-place.invariant.list;
+      node = within-node w c.node_of.result (subst (IsNodeWithin (layout_of w)) (sym node_is) (list-back (layout_of w) place low).1);
+    }
+
+pub loop-place-preserved : goal.loop-place-preserved
+loop-place-preserved c = record {
+  list = c.raise_sources.ensures.list;
+  reordered = reordered-then (nodes_of c.args.stale.now 0) (nodes_of c.loop-place.stale 0) (nodes_of c.raise_sources.new.stale 0) c.loop-place.invariant.reordered c.raise_sources.ensures.reordered;
+}
+
+pub returns-then-not-raise_sources-clause-list : goal.returns-then-not-raise_sources-clause-list
+returns-then-not-raise_sources-clause-list c = c.raise_sources.ensures.list
+
+pub returns-then-not-raise_sources-clause-reordered : goal.returns-then-not-raise_sources-clause-reordered
+returns-then-not-raise_sources-clause-reordered c =
+    reordered-then (nodes_of c.args.stale.now 0) (nodes_of c.loop-place.stale 0) (nodes_of c.raise_sources.new.stale 0) c.loop-place.invariant.reordered c.raise_sources.ensures.reordered
+
+pub returns-then-not-raise_sources-clause-none : goal.returns-then-not-raise_sources-clause-none
+returns-then-not-raise_sources-clause-none c = tt
+
+pub returns-clause-list : goal.returns-clause-list
+returns-clause-list c = c.loop-place.invariant.list
+
+pub returns-clause-reordered : goal.returns-clause-reordered
+returns-clause-reordered c = c.loop-place.invariant.reordered
+
+pub returns-clause-fresh : goal.returns-clause-fresh
+returns-clause-fresh c = tt

@@ -1,8 +1,11 @@
-use Rattle.std.proofs.Common.{◌≡◌, ◌∙◌, ℕ, Bool, List, map, ap, sym, subst, refl}
+use Rattle.std.proofs.Common.{◌≡◌, ◌∙◌, ◌<◌, ℕ, Bool, List, map, ap, sym, subst, refl}
 use Rattle.lot_lists.specs.NodeLists.{nodes_of}
 use Rattle.lot_machine.specs.declared.funding.Node.{Node}
 use Rattle.lot_graph.specs.declared.layout.Layout.{Layout}
-use Rattle.lot_graph.specs.Places.{node_of, node_count, layout_of}
+use Rattle.lot_machine.specs.Funding.{edge_count_into}
+use Rattle.lot_graph.specs.Places.{IsNodeWithin, node_of, node_count, layout_of}
+use Rattle.lot_graph.proofs.SpreadLemmas.{list-back}
+use Rattle.lot_value.specs.Counts.{counted_up}
 use Rattle.lot_value.specs.Caches.{Known, IsRight, IsSmall, Settles}
 use Rattle.lot_value.specs.Marking.{IsStaleList, IsReordered, IsFreshPlace}
 use Rattle.lot_value.proofs.Listed.{list-within}
@@ -69,3 +72,48 @@ returns-clause-settles c =
     let before = (goal.at.returns-clause-settles c).After-raise_fresh in
     let settles = reordered-settles (known before) c.settle_node.new.self (stale before) c.node_of-node.result (reordered before) c.settle_node.ensures.settles in
     subst (λ (old : Known). Settles old c.settle_node.new.self c.node_of-node.result) c.self.view_is settles
+
+pub raise_fresh-requires : goal.raise_fresh-requires
+raise_fresh-requires c =
+    let (live, kept, small, right) = c.requires.right in
+    record { list = subst (λ (x : Layout). IsStaleList c.self.inside.stale (node_count x)) (ap (λ (k : Known). k.layout) c.self.view_is ∙ right.layout) c.self.invariant.0 }
+
+pub node_of-node-requires : goal.node_of-node-requires
+node_of-node-requires c =
+    let low = list-within c.raise_fresh.new.stale (node_count (layout_of c.args.graph.now)) c.raise_fresh.ensures.list c.in_ok-place.place c.in_ok-place.ensures.fresh.listed in
+    subst (λ (l : Layout). c.in_ok-place.place < node_count l) (sym c.layout.ensures.layout) low
+
+pub settle_node-requires-clause-place : goal.settle_node-requires-clause-place
+settle_node-requires-clause-place c = list-within c.raise_fresh.new.stale (node_count (layout_of c.args.graph.now)) c.raise_fresh.ensures.list c.in_ok-place.place c.in_ok-place.ensures.fresh.listed
+
+pub settle_node-requires-clause-node : goal.settle_node-requires-clause-node
+settle_node-requires-clause-node c = c.node_of-node.ensures ∙ ap (λ (l : Layout). node_of l c.in_ok-place.place) c.layout.ensures.layout
+
+pub invariant_of-self : goal.invariant_of-self
+invariant_of-self c =
+    let before = (goal.at.invariant_of-self c).After-raise_fresh in
+    (subst (λ (x : Layout). IsStaleList c.raise_fresh.new.stale (node_count x)) (sym (places-are before)) c.raise_fresh.ensures.list, c.self.invariant.1)
+
+pub returns-in_err-place-clause-within : goal.returns-in_err-place-clause-within
+returns-in_err-place-clause-within c = rw c.from_residual.ensures tt
+
+pub returns-in_err-place-clause-counted : goal.returns-in_err-place-clause-counted
+returns-in_err-place-clause-counted c = rw c.from_residual.ensures tt
+
+pub returns-in_err-place-clause-settles : goal.returns-in_err-place-clause-settles
+returns-in_err-place-clause-settles c = rw c.from_residual.ensures tt
+
+pub returns-clause-within : goal.returns-clause-within
+returns-clause-within c =
+    let w = c.args.graph.now in
+    let (live, kept, small, right) = c.requires.right in
+    let low = list-within c.raise_fresh.new.stale (node_count (layout_of c.args.graph.now)) c.raise_fresh.ensures.list c.in_ok-place.place c.in_ok-place.ensures.fresh.listed in
+    let node_is = c.node_of-node.ensures ∙ ap (λ (l : Layout). node_of l c.in_ok-place.place) c.layout.ensures.layout in
+    subst (λ (l : Layout). IsNodeWithin l c.node_of-node.result) (sym right.layout) (subst (IsNodeWithin (layout_of w)) (sym node_is) (list-back (layout_of w) c.in_ok-place.place low).1)
+
+pub returns-clause-counted : goal.returns-clause-counted
+returns-clause-counted c =
+    c.settle_node.ensures.counted ∙ ap (λ (k : Known). counted_up k.reads (edge_count_into c.args.graph.now.funding c.node_of-node.result)) c.self.view_is
+
+pub returns-clause-none : goal.returns-clause-none
+returns-clause-none c = tt
