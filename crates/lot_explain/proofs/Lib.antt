@@ -3,7 +3,7 @@ pub mod GatheringFacts
 pub mod LineFacts
 pub mod WonFacts
 pub mod TurnFacts
-pub mod TimeTexts
+pub mod MadeTexts
 pub mod Lengths
 pub mod ShortLots
 pub mod ShortTurns

@@ -21,8 +21,6 @@ use Rattle.lot_machine.proofs.Draws.{winner-is}
 use Rattle.lot_print.specs.declared.lots.Lot.{Lot}
 use Rattle.lot_simulation.specs.World.{Program, World, console_turn, processor_event, system_turn}
 use Rattle.lot_simulation.specs.World.Answer.{Answered}
-use Rattle.lot_system.specs.Playing.{turn_in}
-use Rattle.lot_system.specs.Seen.{Seen, world_of}
 use Rattle.lot_explain.specs.declared.won.Won.{Won}
 use Rattle.lot_explain.specs.Numbers.{HasNumber, number_in}
 use Rattle.lot_explain.specs.Lots.{draw_lots, lot_of, lots_of, mutex_lots, total_of, won_in}
@@ -205,11 +203,11 @@ turn-reply program w actor e r is = at (actor == 0) refl
 pub turn-won : (program : Program) (w : World) (actor : ℕ) (e : Event) (r : Reply) → (system_turn program w actor).answer ≡ Answered e r → HasWon (lots_of w.state e) e r
 turn-won program w actor e r is = subst (HasWon (lots_of w.state e) e) (turn-reply program w actor e r is) (step-won w.state e)
 
-pub won-total : (seen : Seen) (actor : ℕ) (e : Event) (r : Reply) → (turn_in seen actor).answer ≡ Answered e r → IfSome (won_in e r) (λ won. won.total ≡ total_of (lots_of (world_of seen).state e))
-won-total seen actor e r is = from (won_in e r) (turn-won seen.setting.program (world_of seen) actor e r is)
+pub won-total : (program : Program) (w : World) (actor : ℕ) (e : Event) (r : Reply) → (system_turn program w actor).answer ≡ Answered e r → IfSome (won_in e r) (λ won. won.total ≡ total_of (lots_of w.state e))
+won-total program w actor e r is = from (won_in e r) (turn-won program w actor e r is)
   where
     lots : List Lot
-    lots = lots_of (world_of seen).state e
+    lots = lots_of w.state e
 
     from : (o : Option Won) → IfSome o (λ won. (won.total ≡ total_of lots) × IfSome (number_in r) (IsOnly lots won.winner)) → IfSome o (λ won. won.total ≡ total_of lots)
     from None is = tt

@@ -1,6 +1,7 @@
 pub mod Lots
 pub mod Numbers
 pub mod Explained
+pub mod MadeTurns
 pub mod Gathering
 pub mod OnLiterals
 pub mod Short

@@ -1,16 +1,18 @@
 //! Explaining an input.
-ghost use Rattle.std.specs.Prelude.{◌≡◌, ℕ, List, false, true, IfErr, IfOk, OnOk};
+ghost use Rattle.std.specs.Prelude.{◌≡◌, ℕ, List, [], false, true, IfErr, IfOk, OnOk};
 ghost use Rattle.std.specs.Io.KnownBytes.{Appends};
 ghost use Rattle.lot_simulation.specs.Grammar.{program_in};
 ghost use Rattle.lot_system.specs.Played.{Leaves, Plays, came_of};
 ghost use Rattle.lot_io.specs.Reading.{Reads};
-ghost use Rattle.lot_io.specs.Writing.{IsFaultOf};
+ghost use Rattle.lot_io.specs.Writing.{IsFaultOf, Writes};
 ghost use Rattle.lot_system.specs.declared.playing.Played.TheVariants.{Done};
+ghost use Rattle.lot_playback.specs.Stages.{HasMade};
 ghost use Rattle.lot_explain.specs.Explained.{explained_output, explained_program};
 
-use crate::in_time::explain_timed;
-use crate::scheduled::explain_scheduled;
-use lot_io::{IoFault, Watched, read_input};
+use crate::explained::explain_turns;
+use crate::gathering::Lots;
+use lot_io::{IoFault, Watched, flush, read_input};
+use lot_playback::Playback;
 use lot_system::{Leftovers, Played, program_of, refuse};
 use lot_text::{ParseFault, Program};
 use std::alloc::Global;
@@ -61,7 +63,7 @@ pub fn explain_bytes<W: Write>(
     }
 }
 
-/// Explains the program in a system of its own.
+/// Explains the program in a system of its own. It allocates all its memory before the first turn.
 fn explain_program<W: Write>(
     alloc: Global,
     program: &Program,
@@ -73,9 +75,33 @@ fn explain_program<W: Write>(
     ensures played { Plays W.contents writer.old writer.new result Done
         (explained_program program.now program.now.duration) }
 {
-    if program.format().is_timed() {
-        explain_timed(alloc, program, leftovers, writer)
-    } else {
-        explain_scheduled(alloc, program, leftovers, writer)
-    }
+    let Ok(mut playback) = Playback::open(alloc, program) else {
+        return Err(IoFault::Memory);
+    };
+    let Ok(mut lots) = Lots::open(alloc, program.limits().threads) else {
+        return Err(IoFault::Memory);
+    };
+    explain_all(program, &mut playback, &mut lots, leftovers, writer)?;
+    playback.note_end(leftovers);
+    Ok(Played::Done)
+}
+
+/// Makes the program's turns, and writes what explains them and the report.
+fn explain_all<W: Write>(
+    program: &Program,
+    playback: &mut Playback,
+    lots: &mut Lots,
+    leftovers: &mut Leftovers,
+    writer: &mut Watched<W>,
+) -> Result<(), IoFault>
+    requires none { playback.old.made ≡ 0 }
+    requires made { HasMade program.now [] playback.old.seen }
+    requires room { lots.old.room ≡ program.now.limits.threads }
+    requires working { writer.old.failed ≡ false }
+    ensures flushed { OnOk result (writer.new.flushed ≡ true) }
+    ensures text { Writes W.contents writer.old writer.new result (explained_program program.now program.now.duration) }
+{
+    explain_turns(program, playback, lots, leftovers, writer)?;
+    playback.write_report(program, writer)?;
+    flush(writer)
 }

@@ -3,14 +3,12 @@
 #![tactic(auto)]
 
 mod entrants;
+mod explained;
 mod explaining;
 mod gathering;
-mod in_time;
 pub mod laws;
 mod lines;
 pub mod rows;
-mod scheduled;
-mod turns;
 mod won;
 
 pub use explaining::{explain, explain_bytes};

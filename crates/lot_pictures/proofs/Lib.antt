@@ -1,3 +1,4 @@
+pub mod NotedFacts
 pub mod Notes
 pub mod OwnTicks
 pub mod Shows

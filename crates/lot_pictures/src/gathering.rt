@@ -1,120 +1,105 @@
 //! Making the turns of a program for its curves.
-ghost use Rattle.std.specs.Prelude.{◌≡◌, ◌+◌, ◌*◌, ◌^◌, ◌<◌, ◌≤◌, [], IfOk, IsSome, OnOk, length, max, vec_len};
+ghost use Rattle.std.specs.Prelude.{◌≡◌, ◌+◌, ◌*◌, ◌^◌, ◌<◌, ◌≤◌, [], IfOk, OnOk, ⊤, length, vec_len};
 ghost use Rattle.lot_machine.specs.Bounds.{IsBetween};
-ghost use Rattle.lot_simulation.specs.Timed.{timed_schedule};
-ghost use Rattle.lot_curves.specs.Curves.{curves_of, name_in, names_in, scheduled_curves, stretches_made, timed_curves};
-ghost use Rattle.lot_curves.specs.Curves.{timed_stretches};
+ghost use Rattle.lot_curves.specs.Curves.{curves_of, name_in, names_in};
 ghost use Rattle.lot_curves.specs.Stretches.{last_end};
-ghost use Rattle.lot_system.specs.Playing.{HasPlayed, IsOpened, IsPlayed};
 ghost use Rattle.lot_system.specs.Seen.{world_of};
+ghost use Rattle.lot_playback.specs.Stages.{HasMade};
+ghost use Rattle.lot_playback.specs.Turns.{program_turns};
+ghost use Rattle.lot_pictures.specs.Noted.{end_in, stretches_in};
 
 use lot_curves::{Curves, Stretch};
-use lot_machine::{Event, Name};
-use lot_system::{System, TimedRun, next_turn};
+use lot_machine::Name;
+use lot_playback::{Observer, Playback, Turn, play_through};
+use lot_system::System;
 use lot_text::Program;
 use std::alloc::{AllocError, Global};
 
-/// Makes the turns of the program in a system of its own, in the order of time if its format says so, otherwise those
+/// Notes what each turn was for a thread.
+#[derive(Drop)]
+struct Stretches {
+    stretches: Vec<Stretch>,
+}
+
+impl Observer for Stretches {
+    type Fault = AllocError;
+
+    ghost observed = { λ program turns first now. (now.stretches.items ≡ stretches_in [] turns)
+        × (vec_len now.stretches ≤ length turns)
+        × (last_end now.stretches.items ≤ (length turns + 1) * 2 ^ 32) };
+
+    ghost awaits = { λ program turns world actor first now. (now.stretches.items ≡ stretches_in [] turns)
+        × (vec_len now.stretches ≤ length turns)
+        × (last_end now.stretches.items ≤ (length turns + 1) * 2 ^ 32) };
+
+    ghost stopped = { λ program turns first now fault. ⊤ };
+
+    fn before(&mut self, program: &Program, system: &mut System, actor: u32) {
+        let _ = self;
+        let _ = program;
+        let _ = system;
+        let _ = actor;
+    }
+
+    fn after(
+        &mut self,
+        program: &Program,
+        system: &mut System,
+        turn: &Turn,
+    ) -> Result<(), AllocError> {
+        let _ = program;
+        let Some(answered) = &turn.answer else {
+            return Ok(());
+        };
+        let stretch = Stretch::new(end_of(system, turn), answered.reply);
+        self.stretches.push(stretch)?;
+        Ok(())
+    }
+}
+
+/// When a turn ended that the system has just made: at its time, or, if it has none, by its actor's own time.
+fn end_of(system: &System, turn: &Turn) -> u64
+    requires { turn.now.actor ≤ system.now.setting.program.limits.processors }
+    ensures end { result ≡ end_in system.now turn.now.time turn.now.actor }
+    ensures early { result ≤ (length system.now.history + 1) * 2 ^ 32 }
+{
+    match turn.time {
+        Some(time) => u64::from(time),
+        None => system.clock(turn.actor),
+    }
+}
+
+/// Makes the turns of the program in a system of its own, in the order of time if it has a duration, otherwise those
 /// of its schedule, and gathers what they were for each thread.
 pub fn gather(alloc: Global, program: &Program) -> Result<Curves, AllocError>
     ensures { IfOk result (λ curves. curves ≡ curves_of program.now) }
 {
-    if program.format().is_timed() {
-        gather_timed(alloc, program)
-    } else {
-        gather_scheduled(alloc, program)
-    }
-}
-
-/// Makes the turns of the program's schedule, and gathers what they were.
-fn gather_scheduled(alloc: Global, program: &Program) -> Result<Curves, AllocError>
-    ensures { IfOk result (λ curves. curves ≡ scheduled_curves program.now) }
-{
-    let room = program.schedule().len();
-    let mut stretches = Vec::with_capacity(alloc, room)?;
-    let mut system = System::open(alloc, program, room as u32)?;
-    note_turns(program, &mut system, &mut stretches)?;
+    let mut playback = Playback::open(alloc, program)?;
+    let stretches = note_turns(alloc, program, &mut playback)?;
+    let mut system = playback.into_system();
     let names = names_of(alloc, &mut system)?;
     Ok(Curves::new(names, stretches))
 }
 
-/// Makes the program's turns in the order of time, and gathers what they were.
-fn gather_timed(alloc: Global, program: &Program) -> Result<Curves, AllocError>
-    requires { IsSome program.now.duration }
-    ensures { IfOk result (λ curves. curves ≡ timed_curves program.now) }
-{
-    let mut stretches = Vec::new(alloc);
-    let mut run = TimedRun::open(alloc, program)?;
-    note_timed_turns(program, &mut run, &mut stretches)?;
-    let names = names_of(alloc, &mut run.into_system())?;
-    Ok(Curves::new(names, stretches))
-}
-
-/// Makes the program's turns in the order of time, and notes what each was for a thread.
-fn note_timed_turns(
-    program: &Program,
-    run: &mut TimedRun,
-    stretches: &mut Vec<Stretch>,
-) -> Result<(), AllocError>
-    requires program { run.old.setting.program ≡ program.now }
-    requires first { run.old.history ≡ [] }
-    requires none { stretches.old.items ≡ [] }
-    ensures program { OnOk result (run.new.setting.program ≡ program.now) }
-    ensures made { OnOk result (run.new.history ≡ timed_schedule program.now) }
-    ensures noted { OnOk result (stretches.new.items ≡ timed_stretches program.now) }
-    ensures few { OnOk result (vec_len stretches.new < 2 ^ 32) }
-    ensures early { OnOk result (last_end stretches.new.items < 2 ^ 32) }
-{
-    let mut event = Event::Expire(0);
-    while let Some(told) = run.next_turn(program, &mut event) {
-        stretches.push(Stretch::new(u64::from(told.time), told.reply))?;
-    }
-    Ok(())
-}
-
-/// Makes the turns of the program's schedule, and notes what each was for a thread.
+/// Makes the program's turns, and notes what each was for a thread.
 fn note_turns(
+    alloc: Global,
     program: &Program,
-    system: &mut System,
-    stretches: &mut Vec<Stretch>,
-) -> Result<(), AllocError>
-    requires opened { IsOpened program.now system.old }
-    requires none { stretches.old.items ≡ [] }
-    ensures played { OnOk result (HasPlayed program.now program.now.schedule system.new) }
-    ensures noted { OnOk result (stretches.new.items ≡ stretches_made program.now system.new.history) }
-    ensures few { OnOk result (vec_len stretches.new ≤ length program.now.schedule) }
-    ensures early { OnOk result (last_end stretches.new.items ≤ length program.now.schedule * 2 ^ 32) }
+    playback: &mut Playback,
+) -> Result<Vec<Stretch>, AllocError>
+    requires none { playback.old.made ≡ 0 }
+    requires made { HasMade program.now [] playback.old.seen }
+    ensures made { OnOk result (HasMade program.now (program_turns program.now) playback.new.seen) }
+    ensures noted { IfOk result (λ stretches. stretches.items ≡ stretches_in [] (program_turns program.now)) }
+    ensures few { IfOk result (λ stretches. vec_len stretches < 2 ^ 32) }
+    ensures early { IfOk result (λ stretches. last_end stretches.items < 2 ^ 56) }
 {
-    for actor in program.schedule() {
-        note_turn(program, system, u32::from(*actor), stretches)?;
-    }
-    Ok(())
-}
-
-/// Makes one turn, and notes what it was for a thread.
-fn note_turn(
-    program: &Program,
-    system: &mut System,
-    actor: u32,
-    stretches: &mut Vec<Stretch>,
-) -> Result<(), AllocError>
-    requires there { actor ≤ system.old.setting.program.limits.processors }
-    requires program { system.old.setting.program ≡ program.now }
-    requires room { length system.old.history < system.old.setting.room }
-    requires noted { stretches.old.items ≡ stretches_made program.now system.old.history }
-    ensures played { IsPlayed system.old actor system.new }
-    ensures noted { OnOk result (stretches.new.items ≡ stretches_made program.now system.new.history) }
-    ensures few { OnOk result (vec_len stretches.new ≤ vec_len stretches.old + 1) }
-    ensures early { OnOk result (last_end stretches.new.items
-        ≤ max (last_end stretches.old.items) (length system.new.history * 2 ^ 32)) }
-{
-    let mut event = Event::Expire(actor);
-    let Some(reply) = next_turn(program, system, actor, &mut event) else {
-        return Ok(());
-    };
-    let stretch = Stretch::new(system.clock(actor), reply);
-    stretches.push(stretch)?;
-    Ok(())
+    let schedule = program.schedule();
+    let room = Vec::with_capacity(alloc, schedule.len())?;
+    let mut noted = Stretches { stretches: room };
+    play_through(program, playback, &mut noted)?;
+    let Stretches { stretches } = noted;
+    Ok(stretches)
 }
 
 /// The threads' names, by rising number.

@@ -1,0 +1,34 @@
+-- What `explain` writes of a program's turns.
+use Rattle.std.specs.Prelude.{◌≡◌, ℕ, List}
+use Rattle.std.specs.List.{flat_map}
+use Rattle.lot_machine.specs.declared.event.Event.{Event}
+use Rattle.lot_machine.specs.declared.reply.Reply.{Reply}
+use Rattle.lot_print.specs.declared.lots.Lot.{Lot}
+use Rattle.lot_simulation.specs.World.{Program, World, system_turn}
+use Rattle.lot_simulation.specs.World.Answer.{Answered}
+use Rattle.lot_system.specs.Seen.{Seen, world_of}
+use Rattle.lot_playback.specs.declared.turn.Turn.{Turn}
+use Rattle.lot_playback.specs.Stages.{Reports}
+use Rattle.lot_playback.specs.Texts.{manner_at}
+use Rattle.lot_playback.specs.Turns.{MadeTurn}
+use Rattle.lot_explain.specs.Explained.{explained_text}
+use Rattle.lot_explain.specs.Lots.{lots_of}
+
+-- the lots of a turn's lottery, and then the turn's lines
+abbrev pub explained_made : MadeTurn → List ℕ
+explained_made made = explained_text (manner_at made.time) made.actor made.before made.turn
+
+-- the same of turns
+abbrev pub explained_turns : List MadeTurn → List ℕ
+explained_turns turns = flat_map explained_made turns
+
+-- these are the lots of the lottery that the actor's turn in this world may hold
+abbrev pub HasLots : Program → World → ℕ → List Lot → Type 0
+HasLots program w actor lots = (event : Event) (reply : Reply) → (system_turn program w actor).answer ≡ Answered event reply → lots ≡ lots_of w.state event
+
+-- the system has made this turn, which is reported so, and these are the lots of its lottery
+pub record IsExplained (seen : Seen) (turn : Turn) (lots : List Lot) (made : MadeTurn) : Type 0 where
+  pub turn_is : made.turn ≡ system_turn seen.setting.program made.before made.actor
+  pub reports : Reports turn made
+  pub world : world_of seen ≡ made.turn.world
+  pub gathered : HasLots seen.setting.program made.before made.actor lots

@@ -1,0 +1,188 @@
+//! The lines of turns, with what explains them.
+ghost use Rattle.std.specs.Prelude.{◌≡◌, ◌<◌, ◌++◌, [], codes, false, true, IfSome, OnOk};
+ghost use Rattle.std.specs.Fmt.{decimal};
+ghost use Rattle.lot_io.specs.Writing.{Begins, IsPut, Puts, Writes};
+ghost use Rattle.lot_io.specs.declared.fault.IoFault.TheVariants as faults;
+ghost use Rattle.lot_simulation.specs.Texts.{front, reply_text};
+ghost use Rattle.lot_system.specs.Seen.{world_of};
+ghost use Rattle.lot_playback.specs.Stages.{HasMade, turns_left};
+ghost use Rattle.lot_playback.specs.Turns.{MadeTurn, program_turns};
+ghost use Rattle.lot_explain.specs.Lots.{total_of, won_in, won_lines};
+ghost use Rattle.lot_explain.specs.MadeTurns.{HasLots, IsExplained, explained_made, explained_turns};
+
+use crate::gathering::Lots;
+use crate::lines::put_lots;
+use lot_io::{IoFault, Watched};
+use lot_machine::{Event, Reply};
+use lot_playback::{Observer, Playback, Turn, play_through};
+use lot_print::{Heading, Lot, Page, write_ended};
+use lot_simulation::Manner;
+use lot_system::{Leftovers, System, put_answer};
+use lot_text::Program;
+use std::io::Write;
+
+/// Writes the lots of each lottery that was won and a line for each turn, a page of them at a time, and records the
+/// warnings.
+#[derive(Drop)]
+struct Explained<'a, W> {
+    /// Those of the lottery that the next turn may hold.
+    lots: &'a mut Lots,
+    page: Page,
+    leftovers: &'a mut Leftovers,
+    writer: &'a mut Watched<W>,
+}
+
+impl<'a, W: Write> Observer for Explained<'a, W> {
+    type Fault = IoFault;
+
+    ghost observed = { λ program turns first now. (now.writer.ghost_name ≡ first.writer.ghost_name)
+        × (now.lots.now.room ≡ program.limits.threads)
+        × (now.writer.now.failed ≡ false)
+        × IsPut (W.contents first.writer.now.inner) (W.contents now.writer.now.inner) [] now.page (explained_turns turns) };
+
+    ghost awaits = { λ program turns world actor first now. (now.writer.ghost_name ≡ first.writer.ghost_name)
+        × (now.lots.now.room ≡ program.limits.threads)
+        × (now.writer.now.failed ≡ false)
+        × IsPut (W.contents first.writer.now.inner) (W.contents now.writer.now.inner) [] now.page (explained_turns turns)
+        × HasLots program world actor now.lots.now.lots };
+
+    ghost stopped = { λ program turns first now fault. (now.writer.ghost_name ≡ first.writer.ghost_name)
+        × (fault ≡ faults.Write) × (now.writer.now.failed ≡ true)
+        × Begins (W.contents first.writer.now.inner) (W.contents now.writer.now.inner) (explained_turns turns) };
+
+    #[inline(always)]
+    fn before(&mut self, program: &Program, system: &mut System, actor: u32) {
+        self.lots.gather(program, system, actor);
+    }
+
+    #[inline(always)]
+    fn after(
+        &mut self,
+        program: &Program,
+        system: &mut System,
+        turn: &Turn,
+    ) -> Result<(), IoFault> {
+        let _ = program;
+        put_explained(
+            system,
+            turn,
+            self.lots,
+            self.leftovers,
+            self.writer,
+            &mut self.page,
+        )
+    }
+}
+
+impl<'a, W: Write> Explained<'a, W> {
+    /// Writes the lines that wait.
+    fn write_out(&mut self) -> Result<(), IoFault>
+        requires { self.old.writer.now.failed ≡ false }
+        ensures same { self.new.writer.ghost_name ≡ self.old.writer.ghost_name }
+        ensures text { Writes W.contents self.old.writer.now self.new.writer.now result self.old.page }
+    {
+        self.page.write_out(self.writer)
+    }
+}
+
+/// Makes the program's turns, and writes their lines with what explains them.
+pub(crate) fn explain_turns<W: Write>(
+    program: &Program,
+    playback: &mut Playback,
+    lots: &mut Lots,
+    leftovers: &mut Leftovers,
+    writer: &mut Watched<W>,
+) -> Result<(), IoFault>
+    requires none { playback.old.made ≡ 0 }
+    requires made { HasMade program.now [] playback.old.seen }
+    requires room { lots.old.room ≡ program.now.limits.threads }
+    requires working { writer.old.failed ≡ false }
+    ensures setting { playback.new.seen.setting ≡ playback.old.seen.setting }
+    ensures ended { OnOk result (turns_left playback.new ≡ []) }
+    ensures text { Writes W.contents writer.old writer.new result (explained_turns (program_turns program.now)) }
+{
+    let mut explained = Explained {
+        lots,
+        page: Page::new(),
+        leftovers,
+        writer,
+    };
+    play_through(program, playback, &mut explained)?;
+    explained.write_out()
+}
+
+/// Puts the lines of a turn on the page, after the lots of its lottery, if it was won, and records its warning.
+fn put_explained<W: Write>(
+    system: &mut System,
+    turn: &Turn,
+    lots: &Lots,
+    leftovers: &mut Leftovers,
+    writer: &mut Watched<W>,
+    page: &mut Page,
+) -> Result<(), IoFault>
+    requires made { (made : MadeTurn) × IsExplained system.old turn.now lots.now.lots made }
+    requires working { writer.old.failed ≡ false }
+    ensures same { system.new ≡ system.old }
+    ensures text { (made : MadeTurn) → IsExplained system.old turn.now lots.now.lots made
+        → Puts W.contents writer.old writer.new page.old page.new result (explained_made made) }
+{
+    let heading = heading(system, turn.manner(), turn.actor);
+    match &turn.answer {
+        Some(answered) => {
+            leftovers.note(turn.actor, &answered.reply);
+            put_turn(
+                system,
+                heading,
+                &answered.event,
+                answered.reply,
+                lots.as_slice(),
+                writer,
+                page,
+            )
+        }
+        None => write_ended(writer, page, heading),
+    }
+}
+
+/// Puts the lines of a turn on the page, after the lots of its lottery, if it was won.
+fn put_turn<W: Write>(
+    system: &mut System,
+    heading: Heading,
+    event: &Event,
+    reply: Reply,
+    lots: &[Lot],
+    writer: &mut Watched<W>,
+    page: &mut Page,
+) -> Result<(), IoFault>
+    requires working { writer.old.failed ≡ false }
+    requires unit { 0 < heading.unit }
+    requires total { IfSome (won_in event.now reply) (λ won. won.total ≡ total_of lots.now) }
+    ensures same { system.new ≡ system.old }
+    ensures text { Puts W.contents writer.old writer.new page.old page.new result (won_lines heading.manner heading.unit heading.actor lots.now (won_in event.now reply)
+        ++ (front heading.manner ++ (decimal heading.actor ++ (codes " " ++ reply_text heading.manner (world_of system.old).state event.now reply)))) }
+{
+    put_lots(heading, event, reply, lots, writer, page)?;
+    put_answer(
+        system,
+        heading.manner,
+        heading.actor,
+        event,
+        &reply,
+        writer,
+        page,
+    )
+}
+
+/// What the lines of the actor's turn need in addition to its event and reply.
+fn heading(system: &System, manner: Manner, actor: u32) -> Heading
+    ensures manner { result.manner ≡ manner }
+    ensures actor { result.actor ≡ actor }
+    ensures unit { result.unit ≡ (world_of system.now).state.limits.unit }
+    ensures some { 0 < result.unit }
+{
+    Heading {
+        manner,
+        unit: system.unit(),
+        actor,
+    }
+}

@@ -1,0 +1,38 @@
+-- The stretches of a program's turns.
+use Rattle.std.specs.Prelude.{ℕ, Option, Some, None, List, [], ◌∷◌, ◌++◌, map}
+use Rattle.lot_simulation.specs.Report.{ActorTurn, ticks_in, total_of, turns_made, turns_of}
+use Rattle.lot_simulation.specs.World.{Program, opening_world}
+use Rattle.lot_curves.specs.declared.stretch.Stretch.{Stretch}
+use Rattle.lot_curves.specs.Curves.{Curves, names_in}
+use Rattle.lot_curves.specs.Stretches.{stretch_of}
+use Rattle.lot_system.specs.Seen.{Seen}
+use Rattle.lot_playback.specs.Turns.{MadeTurn, counted_turn, counted_turns, world_after_turns}
+
+-- the stretch of a counted turn after these, the last of which is itself: it ends when its actor has used the ticks of
+-- its turns
+abbrev pub own_stretch : List ActorTurn → ActorTurn → Stretch
+own_stretch turns turn = stretch_of (record { time = total_of ticks_in (turns_of turn.actor turns); answer = turn.answer })
+
+-- the stretch of a turn that was made after these: it ends at this time, or, if it has none, by its actor's own time;
+-- none if no command was left
+abbrev pub stretches_at : Option ℕ → List MadeTurn → MadeTurn → List Stretch
+stretches_at (Some time) before made = stretch_of (record { time = time; answer = made.turn.answer }) ∷ []
+stretches_at None before made = map (own_stretch (counted_turns (before ++ made ∷ []))) (counted_turn made.actor made.turn.answer)
+
+-- the same, at the turn's time
+abbrev pub stretches_of_turn : List MadeTurn → MadeTurn → List Stretch
+stretches_of_turn before made = stretches_at made.time before made
+
+-- the stretches of these turns, which were made after those before them
+abbrev pub stretches_in : List MadeTurn → List MadeTurn → List Stretch
+stretches_in before [] = []
+stretches_in before (made ∷ turns) = stretches_of_turn before made ++ stretches_in (before ++ made ∷ []) turns
+
+-- the curves of these turns of the program
+abbrev pub curves_after : Program → List MadeTurn → Curves
+curves_after program turns = record { names = names_in (world_after_turns (opening_world program) turns).state; stretches = stretches_in [] turns }
+
+-- when this actor's last turn ended in a system: at this time, or, if it has none, by the actor's own time
+abbrev pub end_in : Seen → Option ℕ → ℕ → ℕ
+end_in seen (Some time) actor = time
+end_in seen None actor = total_of ticks_in (turns_of actor (turns_made seen.setting.program seen.history))

@@ -1,0 +1,54 @@
+-- A system that has made turns of its program, and one turn more.
+use Rattle.std.proofs.Common.{◌≡◌, ℕ, List, [], ◌∷◌, ◌++◌, refl, sym, ◌∙◌, ap, append-nil}
+use Rattle.std.proofs.lemmas.Grind.{flat_map-append}
+use Rattle.lot_machine.specs.declared.event.Event.{Event}
+use Rattle.lot_machine.specs.declared.reply.Reply.{Reply}
+use Rattle.lot_simulation.specs.Report.{ActorTurn, turns_made}
+use Rattle.lot_simulation.specs.World.{Program, World, Answer, Turn, opening_world}
+use Rattle.lot_simulation.specs.World.Answer.{Answered, Ended}
+use Rattle.lot_system.specs.Playing.{turn_in}
+use Rattle.lot_system.specs.Seen.{Seen, Setting, after_turn, world_of}
+use Rattle.lot_system.proofs.CountFacts.{turns_made-answered}
+use Rattle.lot_playback.specs.Turns.{MadeTurn, counted_turn, counted_turns, world_after_turns}
+use Rattle.lot_playback.specs.Stages.{HasMade}
+
+-- the world after turns is that which the last of them leaves
+pub world-one_more : (w : World) (turns : List MadeTurn) (made : MadeTurn) → world_after_turns w (turns ++ made ∷ []) ≡ made.turn.world
+world-one_more w [] made = refl
+world-one_more w (t ∷ turns) made = world-one_more t.turn.world turns made
+
+pub counted-one_more : (turns : List MadeTurn) (made : MadeTurn) → counted_turns (turns ++ made ∷ []) ≡ counted_turns turns ++ counted_turn made.actor made.turn.answer
+counted-one_more turns made =
+    flat_map-append (λ (m : MadeTurn). counted_turn m.actor m.turn.answer) turns (made ∷ []) ∙ ap (λ ts. counted_turns turns ++ ts) (append-nil (counted_turn made.actor made.turn.answer))
+
+module _ (old now : Seen) (actor : ℕ) (setting : now.setting ≡ old.setting) (world : world_of now ≡ (turn_in old actor).world) (made : MadeTurn) (its_actor : made.actor ≡ actor) (its_turn : made.turn ≡ turn_in old actor) (counted : turns_made old.setting.program now.history ≡ turns_made old.setting.program old.history ++ counted_turn actor (turn_in old actor).answer) where
+  -- it has made one turn more
+  pub made-more : (program : Program) (turns : List MadeTurn) → HasMade program turns old → HasMade program (turns ++ made ∷ []) now
+  made-more program turns has = record {
+    program_is = ap (λ (s : Setting). s.program) setting ∙ has.program_is;
+    world = world ∙ ap (λ (t : Turn). t.world) (sym its_turn) ∙ sym (world-one_more (opening_world program) turns made);
+    counted =
+        ap (λ (p : Program). turns_made p now.history) (sym has.program_is)
+        ∙ counted
+        ∙ ap (λ (p : Program). turns_made p old.history ++ counted_turn actor (turn_in old actor).answer) has.program_is
+        ∙ ap (λ (ts : List ActorTurn). ts ++ counted_turn actor (turn_in old actor).answer) has.counted
+        ∙ ap (λ a. counted_turns turns ++ counted_turn a (turn_in old actor).answer) (sym its_actor)
+        ∙ ap (λ (t : Turn). counted_turns turns ++ counted_turn made.actor t.answer) (sym its_turn)
+        ∙ sym (counted-one_more turns made);
+  }
+
+-- a turn that is answered is counted
+pub counted-answered : (old now : Seen) (actor : ℕ) (e : Event) (r : Reply) → now ≡ after_turn old actor → (turn_in old actor).answer ≡ Answered e r
+    → turns_made old.setting.program now.history ≡ turns_made old.setting.program old.history ++ counted_turn actor (turn_in old actor).answer
+counted-answered old now actor e r next is =
+    ap (λ (s : Seen). turns_made old.setting.program s.history) next
+    ∙ turns_made-answered old.setting.program old.history actor e r is
+    ∙ ap (λ (a : Answer). turns_made old.setting.program old.history ++ counted_turn actor a) (sym is)
+
+-- one without a command isn't
+pub counted-ended : (old now : Seen) (actor : ℕ) → now ≡ old → (turn_in old actor).answer ≡ Ended
+    → turns_made old.setting.program now.history ≡ turns_made old.setting.program old.history ++ counted_turn actor (turn_in old actor).answer
+counted-ended old now actor same is =
+    ap (λ (s : Seen). turns_made old.setting.program s.history) same
+    ∙ sym (append-nil (turns_made old.setting.program old.history))
+    ∙ ap (λ (a : Answer). turns_made old.setting.program old.history ++ counted_turn actor a) (sym is)

@@ -1,0 +1,8 @@
+-- The turns of a program: those of its schedule, or those in the order of time.
+pub mod Turns
+-- What `play` writes of them.
+pub mod Texts
+-- How far a program is played.
+pub mod Stages
+-- Whose turn is next.
+pub mod Orders

@@ -1,0 +1,31 @@
+-- Whose turn is next.
+use Rattle.std.specs.Prelude.{◌≡◌, ℕ, ◌≤◌, None, IsSome, length, take}
+use Rattle.lot_text.specs.Programs.{IsProgram}
+use Rattle.lot_system.specs.InTime.{IsFollowed}
+use Rattle.lot_system.specs.Playing.{HasPlayed}
+use Rattle.lot_system.specs.Seen.{Seen}
+use Rattle.lot_system.specs.declared.following.Following.{Following}
+use Rattle.lot_playback.specs.declared.playback.Order.{Order}
+use Rattle.lot_playback.specs.declared.playback.Order.TheVariants.{Scheduled, InTime}
+
+-- how many turns a system has made that has come this far
+abbrev pub made_in : Seen → Order → ℕ
+made_in seen (Scheduled place) = place
+made_in seen (InTime following) = length seen.history
+
+-- the system has played its program's schedule up to this place, and has room for the rest
+pub record IsAtPlace (seen : Seen) (place : ℕ) : Type 0 where
+  pub legal : IsProgram seen.setting.program
+  pub untimed : seen.setting.program.duration ≡ None
+  pub room : length seen.setting.program.schedule ≤ seen.setting.room
+  pub played : HasPlayed seen.setting.program (take place seen.setting.program.schedule) seen
+
+-- the system has made turns of its program in the order of time, and these are its clocks
+pub record IsAtTime (seen : Seen) (following : Following) : Type 0 where
+  pub timed : IsSome seen.setting.program.duration
+  pub followed : IsFollowed seen.setting.program seen following
+
+-- one of both
+abbrev pub IsInOrder : Seen → Order → Type 0
+IsInOrder seen (Scheduled place) = IsAtPlace seen place
+IsInOrder seen (InTime following) = IsAtTime seen following

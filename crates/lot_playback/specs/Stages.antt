@@ -1,0 +1,63 @@
+-- How far a program is played.
+use Rattle.std.specs.Prelude.{◌≡◌, ℕ, ◌≤◌, Option, Some, None, List, [], ◌∷◌, ◌++◌, drop}
+use Rattle.lot_simulation.specs.Report.{turns_made}
+use Rattle.lot_simulation.specs.World.{Program, Answer, opening_world, system_turn}
+use Rattle.lot_simulation.specs.World.Answer.{Answered as GivenAnswer, Ended}
+use Rattle.lot_system.specs.Seen.{Seen, world_of}
+use Rattle.lot_playback.specs.declared.turn.Answered.{Answered}
+use Rattle.lot_playback.specs.declared.turn.NextTurn.{NextTurn}
+use Rattle.lot_playback.specs.declared.turn.Turn.{Turn}
+use Rattle.lot_playback.specs.Turns.{MadeTurn, counted_turns, program_turns, world_after_turns}
+
+-- the system, and how many of its program's turns were made: also those of the console without a command
+pub record Stage : Type 0 where
+  pub seen : Seen
+  pub made : ℕ
+
+-- the turns that aren't made yet
+abbrev pub turns_left : Stage → List MadeTurn
+turns_left stage = drop stage.made (program_turns stage.seen.setting.program)
+
+-- this is the actor of the turn, and its time
+pub record IsOf (made : MadeTurn) (next : NextTurn) : Type 0 where
+  pub time : next.time ≡ made.time
+  pub actor : next.actor ≡ made.actor
+
+-- this turn is next
+abbrev pub IsNext : Stage → NextTurn → Type 0
+IsNext stage next = (made : MadeTurn) × (others : List MadeTurn) × (turns_left stage ≡ made ∷ others) × IsOf made next
+
+-- an answer, or that no command was left
+abbrev pub answer_in : Option Answered → Answer
+answer_in (Some given) = GivenAnswer given.event given.reply
+answer_in None = Ended
+
+-- it reports this turn
+pub record Reports (turn : Turn) (made : MadeTurn) : Type 0 where
+  pub time : turn.time ≡ made.time
+  pub actor : turn.actor ≡ made.actor
+  pub answer : made.turn.answer ≡ answer_in turn.answer
+
+-- ---- what a turn leaves
+
+-- the system has made these turns of the program
+pub record HasMade (program : Program) (turns : List MadeTurn) (seen : Seen) : Type 0 where
+  pub program_is : seen.setting.program ≡ program
+  pub world : world_of seen ≡ world_after_turns (opening_world program) turns
+  pub counted : turns_made program seen.history ≡ counted_turns turns
+
+-- After these turns it has made this one, which is reported so. Its actor is one of the program's. Only a turn of a
+-- schedule can be one of the console without a command.
+pub record HasJustMade (program : Program) (turns : List MadeTurn) (made : MadeTurn) (turn : Turn) (seen : Seen) : Type 0 where
+  pub turn_is : made.turn ≡ system_turn program made.before made.actor
+  pub actor : made.actor ≤ program.limits.processors
+  pub ended : made.turn.answer ≡ Ended → made.time ≡ None
+  pub reports : Reports turn made
+  pub has : HasMade program (turns ++ made ∷ []) seen
+
+-- the next turn was made, which is this one
+pub record MakesTurn (old new : Stage) (turn : Turn) (made : MadeTurn) : Type 0 where
+  pub setting : new.seen.setting ≡ old.seen.setting
+  pub left : turns_left old ≡ made ∷ turns_left new
+  pub before : made.before ≡ world_of old.seen
+  pub just : (turns : List MadeTurn) → HasMade old.seen.setting.program turns old.seen → HasJustMade old.seen.setting.program turns made turn new.seen

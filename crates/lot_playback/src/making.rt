@@ -1,0 +1,113 @@
+//! Making a turn, in either order.
+ghost use Rattle.std.specs.Prelude.{◌≡◌, ◌+◌, ◌<◌, ◌≤◌, [], ◌∷◌, IfNone, IfSome, length};
+ghost use Rattle.lot_playback.specs.Orders.{IsAtPlace, IsAtTime};
+ghost use Rattle.lot_playback.specs.Stages.{IsNext, MakesTurn, turns_left};
+ghost use Rattle.lot_playback.specs.Turns.{MadeTurn};
+
+use crate::{Answered, NextTurn, Turn};
+use lot_machine::Event;
+use lot_simulation::Due;
+use lot_system::{Following, System, make_due, next_turn};
+use lot_text::Program;
+
+/// Whose turn is next at this place of the schedule.
+#[inline(always)]
+pub(crate) fn next_scheduled(program: &Program, system: &System, place: usize) -> Option<NextTurn>
+    requires program { system.now.setting.program ≡ program.now }
+    requires there { IsAtPlace system.now place }
+    ensures none { IfNone result (turns_left (record { seen = system.now; made = place }) ≡ []) }
+    ensures next { IfSome result (IsNext (record { seen = system.now; made = place })) }
+{
+    let _ = system;
+    let schedule = program.schedule();
+    if schedule.len() <= place {
+        return None;
+    }
+    Some(NextTurn {
+        time: None,
+        actor: u32::from(schedule[place]),
+    })
+}
+
+/// Whose turn is next by the clocks.
+#[inline(always)]
+pub(crate) fn next_in_time(
+    program: &Program,
+    system: &System,
+    following: &Following,
+) -> Option<NextTurn>
+    requires program { system.now.setting.program ≡ program.now }
+    requires there { IsAtTime system.now following.now }
+    ensures none { IfNone result (turns_left (record { seen = system.now; made = length system.now.history }) ≡ []) }
+    ensures next { IfSome result (IsNext (record { seen = system.now; made = length system.now.history })) }
+{
+    let due = following.next_due(program, system)?;
+    Some(NextTurn {
+        time: Some(due.time as u32),
+        actor: due.actor,
+    })
+}
+
+/// Makes the turn at this place of the schedule.
+#[inline(always)]
+pub(crate) fn make_scheduled(
+    program: &Program,
+    system: &mut System,
+    place: &mut usize,
+    next: NextTurn,
+) -> Turn
+    requires program { system.old.setting.program ≡ program.now }
+    requires there { IsAtPlace system.old place.old }
+    requires next { IsNext (record { seen = system.old; made = place.old }) next }
+    ensures there { IsAtPlace system.new place.new }
+    ensures made { (made : MadeTurn) × MakesTurn (record { seen = system.old; made = place.old }) (record { seen = system.new; made = place.new }) result made }
+{
+    let actor = next.actor;
+    let mut event = Event::Expire(actor);
+    *place += 1;
+    match next_turn(program, system, actor, &mut event) {
+        Some(reply) => Turn {
+            time: None,
+            actor,
+            answer: Some(Answered { event, reply }),
+        },
+        None => Turn {
+            time: None,
+            actor,
+            answer: None,
+        },
+    }
+}
+
+/// Makes the turn that is due by the clocks.
+#[inline(always)]
+pub(crate) fn make_in_time(
+    program: &Program,
+    system: &mut System,
+    following: &mut Following,
+    next: NextTurn,
+) -> Turn
+    requires program { system.old.setting.program ≡ program.now }
+    requires there { IsAtTime system.old following.old }
+    requires next { IsNext (record { seen = system.old; made = length system.old.history }) next }
+    ensures there { IsAtTime system.new following.new }
+    ensures made { (made : MadeTurn) × MakesTurn (record { seen = system.old; made = length system.old.history }) (record { seen = system.new; made = length system.new.history }) result made }
+{
+    let Some(time) = next.time else {
+        unreachable!()
+    };
+    let due = Due {
+        time: u64::from(time),
+        actor: next.actor,
+    };
+    let mut event = Event::Expire(next.actor);
+    let told = make_due(program, system, following, due, &mut event);
+    Turn {
+        time: Some(told.time),
+        actor: told.actor,
+        answer: Some(Answered {
+            event,
+            reply: told.reply,
+        }),
+    }
+}

@@ -1,0 +1,56 @@
+//! What is made of a program's turns.
+ghost use Rattle.std.specs.Prelude.{◌≡◌, ℕ, List, ◌∷◌, [], ◌++◌, IfErr, OnOk};
+ghost use Rattle.lot_simulation.specs.World.{Program as ProgramRecord, World};
+ghost use Rattle.lot_system.specs.Seen.{world_of};
+ghost use Rattle.lot_playback.specs.Stages.{HasJustMade, HasMade};
+ghost use Rattle.lot_playback.specs.Turns.{MadeTurn};
+
+use crate::Turn;
+use lot_system::System;
+use lot_text::Program;
+
+/// Follows a program's turns, one after another, and makes something of them.
+pub trait Observer {
+    /// Why it stops the play.
+    type Fault;
+
+    // what it has made of these turns of the program, and what it was before them
+    ghost observed: { ProgramRecord → List MadeTurn → Self → Self → Type 0 };
+
+    // the same, and it has seen the world in which this actor's turn is next
+    ghost awaits: { ProgramRecord → List MadeTurn → World → ℕ → Self → Self → Type 0 };
+
+    // it has stopped at the last of these turns
+    ghost stopped: { ProgramRecord → List MadeTurn → Self → Self → Self.Fault → Type 0 };
+
+    /// Sees the system before this actor's turn.
+    fn before(&mut self, program: &Program, system: &mut System, actor: u32)
+        requires program { system.old.setting.program ≡ program.now }
+        requires observed { (turns : List MadeTurn) × (first : Self)
+            × HasMade program.now turns system.old × observed program.now turns first self.old }
+        ensures same { system.new ≡ system.old }
+        ensures awaits { (turns : List MadeTurn) (first : Self)
+            → HasMade program.now turns system.old → observed program.now turns first self.old
+            → awaits program.now turns (world_of system.old) actor first self.new };
+
+    /// Sees the turn, and the system after it.
+    fn after(
+        &mut self,
+        program: &Program,
+        system: &mut System,
+        turn: &Turn,
+    ) -> Result<(), Self::Fault>
+        requires program { system.old.setting.program ≡ program.now }
+        requires awaits { (turns : List MadeTurn) × (made : MadeTurn) × (first : Self)
+            × HasJustMade program.now turns made turn.now system.old
+            × awaits program.now turns made.before made.actor first self.old }
+        ensures same { system.new ≡ system.old }
+        ensures ok { OnOk result ((turns : List MadeTurn) (made : MadeTurn) (first : Self)
+            → HasJustMade program.now turns made turn.now system.old
+            → awaits program.now turns made.before made.actor first self.old
+            → observed program.now (turns ++ made ∷ []) first self.new) }
+        ensures err { IfErr result (λ fault. (turns : List MadeTurn) (made : MadeTurn) (first : Self)
+            → HasJustMade program.now turns made turn.now system.old
+            → awaits program.now turns made.before made.actor first self.old
+            → stopped program.now (turns ++ made ∷ []) first self.new fault) };
+}

@@ -1,0 +1,46 @@
+//! A turn of a program.
+ghost use Rattle.std.specs.Prelude.{◌≡◌};
+ghost use Rattle.lot_playback.specs.Texts.{manner_at};
+
+use lot_machine::{Event, Reply};
+use lot_simulation::Manner;
+
+/// Whose turn is next.
+#[derive(Clone, Copy, Debug, PartialEq, Eq)]
+pub struct NextTurn {
+    /// When it will be made, in ticks, if the program's turns come in the order of time.
+    pub time: Option<u32>,
+    /// 0 is the console, and the others are the processors.
+    pub actor: u32,
+}
+
+/// An event, and the kernel's reply to it.
+#[derive(Debug, PartialEq, Eq, Drop)]
+pub struct Answered {
+    pub event: Event,
+    pub reply: Reply,
+}
+
+/// A turn that was made.
+#[derive(Debug, PartialEq, Eq, Drop)]
+pub struct Turn {
+    /// When it was made, in ticks, if the program's turns come in the order of time.
+    pub time: Option<u32>,
+    /// 0 is the console, and the others are the processors.
+    pub actor: u32,
+    /// None for a turn of the console after its last command.
+    pub answer: Option<Answered>,
+}
+
+impl Turn {
+    /// How it is written: with its time, if it has one.
+    #[inline(always)]
+    pub fn manner(&self) -> Manner
+        ensures { result ≡ manner_at self.now.time }
+    {
+        match self.time {
+            Some(time) => Manner::Timed(time),
+            None => Manner::Whole,
+        }
+    }
+}
