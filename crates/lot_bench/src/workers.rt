@@ -3,9 +3,9 @@ ghost use Rattle.std.specs.Prelude.{All};
 ghost use Rattle.lot_station.specs.BatonSeats.{IsSeatOf};
 
 use anyhow::{Result, bail, ensure};
+use lot_engine::System;
 use lot_processors::{OpenGate, RunFault, free_run, run_all_baton};
 use lot_station::{BatonSeat, BatonStation};
-use lot_system::System;
 use lot_text::{ParseFault, Program, parse};
 use std::alloc::Global;
 use std::rt::Clock;

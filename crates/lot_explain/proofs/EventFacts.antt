@@ -7,11 +7,11 @@ use Rattle.lot_machine.specs.Step.{step}
 use Rattle.lot_script.specs.Slices.{Parts, IsSlice}
 use Rattle.lot_simulation.specs.World.{Program, World, Turn, number_of, processor_event, system_turn}
 use Rattle.lot_simulation.specs.World.Answer.{Answered}
-use Rattle.lot_system.specs.Playing.{turn_in}
-use Rattle.lot_system.specs.Seen.{Seen, world_of}
-use Rattle.lot_system.specs.Steps.{event_given}
-use Rattle.lot_system.specs.Turns.{IsFresh}
-use Rattle.lot_system.proofs.TurnFacts.{event-is, system_turn-processor}
+use Rattle.lot_engine.specs.Playing.{turn_in}
+use Rattle.lot_engine.specs.Seen.{Seen, world_of}
+use Rattle.lot_engine.specs.Steps.{event_given}
+use Rattle.lot_engine.specs.Turns.{IsFresh}
+use Rattle.lot_engine.proofs.TurnFacts.{event-is, system_turn-processor}
 
 -- a turn of a processor answers its event
 processor-answers : (program : Program) (w : World) (p : ℕ) (e : Event) (r : Reply) → 0 < p → (system_turn program w p).answer ≡ Answered e r → e ≡ processor_event w p

@@ -19,7 +19,7 @@ use Rattle.lot_simulation.specs.Output.{answer_text}
 use Rattle.lot_simulation.specs.Texts.{front, newline, refused, reply_text}
 use Rattle.lot_simulation.specs.World.{Program, World, Answer, Turn, console_turn, opening_world, processor_event, processor_turn, system_turn}
 use Rattle.lot_simulation.specs.World.Answer.{Answered, Ended}
-use Rattle.lot_system.specs.Seen.{Seen, world_of}
+use Rattle.lot_engine.specs.Seen.{Seen, world_of}
 use Rattle.lot_playback.specs.declared.turn.Answered.{Answered as Given}
 use Rattle.lot_playback.specs.declared.turn.Turn.{Turn as ATurn}
 use Rattle.lot_playback.specs.Stages.{HasJustMade, answer_in}

@@ -6,7 +6,7 @@ use Rattle.lot_machine.specs.declared.reply.Reply.{Reply}
 use Rattle.lot_print.specs.declared.lots.Lot.{Lot}
 use Rattle.lot_simulation.specs.World.{Program, World, system_turn}
 use Rattle.lot_simulation.specs.World.Answer.{Answered}
-use Rattle.lot_system.specs.Seen.{Seen, world_of}
+use Rattle.lot_engine.specs.Seen.{Seen, world_of}
 use Rattle.lot_playback.specs.declared.turn.Turn.{Turn}
 use Rattle.lot_playback.specs.Stages.{Reports}
 use Rattle.lot_playback.specs.Texts.{manner_at}

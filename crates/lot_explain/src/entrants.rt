@@ -6,13 +6,13 @@ ghost use Rattle.lot_script.specs.Slices.{IsSlice};
 ghost use Rattle.lot_simulation.specs.Script.{Slice as ASlice};
 ghost use Rattle.lot_simulation.specs.World.{event_of_slice};
 ghost use Rattle.lot_simulation.specs.World.Answer.{Answered};
-ghost use Rattle.lot_system.specs.Playing.{turn_in};
-ghost use Rattle.lot_system.specs.Steps.{event_given};
+ghost use Rattle.lot_engine.specs.Playing.{turn_in};
+ghost use Rattle.lot_engine.specs.Steps.{event_given};
 ghost use Rattle.lot_explain.specs.Lots.{entrants_in};
 
+use lot_engine::{System, slice_in};
 use lot_script::Slice;
 use lot_simulation::ScriptTrap;
-use lot_system::{System, slice_in};
 use lot_text::Program;
 
 /// Who takes part in a lottery.

@@ -4,7 +4,7 @@ ghost use Rattle.std.specs.Fmt.{decimal};
 ghost use Rattle.lot_io.specs.Writing.{Begins, IsPut, Puts, Writes};
 ghost use Rattle.lot_io.specs.declared.fault.IoFault.TheVariants as faults;
 ghost use Rattle.lot_simulation.specs.Texts.{front, reply_text};
-ghost use Rattle.lot_system.specs.Seen.{world_of};
+ghost use Rattle.lot_engine.specs.Seen.{world_of};
 ghost use Rattle.lot_playback.specs.Stages.{HasMade, turns_left};
 ghost use Rattle.lot_playback.specs.Turns.{MadeTurn, program_turns};
 ghost use Rattle.lot_explain.specs.Lots.{total_of, won_in, won_lines};
@@ -12,12 +12,11 @@ ghost use Rattle.lot_explain.specs.MadeTurns.{HasLots, IsExplained, explained_ma
 
 use crate::gathering::Lots;
 use crate::lines::put_lots;
+use lot_engine::{Leftovers, System, heading, put_answer};
 use lot_io::{IoFault, Watched};
 use lot_machine::{Event, Reply};
 use lot_playback::{Observer, Playback, Turn, play_through};
 use lot_print::{Heading, Lot, Page, write_ended};
-use lot_simulation::Manner;
-use lot_system::{Leftovers, System, put_answer};
 use lot_text::Program;
 use std::io::Write;
 
@@ -38,12 +37,14 @@ impl<'a, W: Write> Observer for Explained<'a, W> {
     ghost observed = { λ program turns first now. (now.writer.ghost_name ≡ first.writer.ghost_name)
         × (now.lots.now.room ≡ program.limits.threads)
         × (now.writer.now.failed ≡ false)
-        × IsPut (W.contents first.writer.now.inner) (W.contents now.writer.now.inner) [] now.page (explained_turns turns) };
+        × IsPut (W.contents first.writer.now.inner) (W.contents now.writer.now.inner) [] now.page
+        (explained_turns turns) };
 
     ghost awaits = { λ program turns world actor first now. (now.writer.ghost_name ≡ first.writer.ghost_name)
         × (now.lots.now.room ≡ program.limits.threads)
         × (now.writer.now.failed ≡ false)
-        × IsPut (W.contents first.writer.now.inner) (W.contents now.writer.now.inner) [] now.page (explained_turns turns)
+        × IsPut (W.contents first.writer.now.inner) (W.contents now.writer.now.inner) [] now.page
+        (explained_turns turns)
         × HasLots program world actor now.lots.now.lots };
 
     ghost stopped = { λ program turns first now fault. (now.writer.ghost_name ≡ first.writer.ghost_name)
@@ -158,8 +159,10 @@ fn put_turn<W: Write>(
     requires unit { 0 < heading.unit }
     requires total { IfSome (won_in event.now reply) (λ won. won.total ≡ total_of lots.now) }
     ensures same { system.new ≡ system.old }
-    ensures text { Puts W.contents writer.old writer.new page.old page.new result (won_lines heading.manner heading.unit heading.actor lots.now (won_in event.now reply)
-        ++ (front heading.manner ++ (decimal heading.actor ++ (codes " " ++ reply_text heading.manner (world_of system.old).state event.now reply)))) }
+    ensures text { Puts W.contents writer.old writer.new page.old page.new result
+        (won_lines heading.manner heading.unit heading.actor lots.now (won_in event.now reply)
+        ++ (front heading.manner ++ (decimal heading.actor
+        ++ (codes " " ++ reply_text heading.manner (world_of system.old).state event.now reply)))) }
 {
     put_lots(heading, event, reply, lots, writer, page)?;
     put_answer(
@@ -171,18 +174,4 @@ fn put_turn<W: Write>(
         writer,
         page,
     )
-}
-
-/// What the lines of the actor's turn need in addition to its event and reply.
-fn heading(system: &System, manner: Manner, actor: u32) -> Heading
-    ensures manner { result.manner ≡ manner }
-    ensures actor { result.actor ≡ actor }
-    ensures unit { result.unit ≡ (world_of system.now).state.limits.unit }
-    ensures some { 0 < result.unit }
-{
-    Heading {
-        manner,
-        unit: system.unit(),
-        actor,
-    }
 }

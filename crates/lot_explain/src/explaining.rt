@@ -2,18 +2,18 @@
 ghost use Rattle.std.specs.Prelude.{◌≡◌, ℕ, List, [], false, true, IfErr, IfOk, OnOk};
 ghost use Rattle.std.specs.Io.KnownBytes.{Appends};
 ghost use Rattle.lot_simulation.specs.Grammar.{program_in};
-ghost use Rattle.lot_system.specs.Played.{Leaves, Plays, came_of};
+ghost use Rattle.lot_engine.specs.Played.{Leaves, Plays, came_of};
 ghost use Rattle.lot_io.specs.Reading.{Reads};
 ghost use Rattle.lot_io.specs.Writing.{IsFaultOf, Writes};
-ghost use Rattle.lot_system.specs.declared.playing.Played.TheVariants.{Done};
+ghost use Rattle.lot_engine.specs.declared.inputs.Played.TheVariants.{Done};
 ghost use Rattle.lot_playback.specs.Stages.{HasMade};
 ghost use Rattle.lot_explain.specs.Explained.{explained_output, explained_program};
 
 use crate::explained::explain_turns;
 use crate::gathering::Lots;
+use lot_engine::{Leftovers, Played, program_of, refuse};
 use lot_io::{IoFault, Watched, flush, read_input};
 use lot_playback::Playback;
-use lot_system::{Leftovers, Played, program_of, refuse};
 use lot_text::{ParseFault, Program};
 use std::alloc::Global;
 use std::io::{Read, Write};

@@ -4,15 +4,15 @@ ghost use Rattle.lot_machine.specs.Bounds.{IsBetween};
 ghost use Rattle.lot_machine.specs.declared.event.Event.{Event as AnEvent};
 ghost use Rattle.lot_machine.specs.declared.reply.Reply.{Reply as AReply};
 ghost use Rattle.lot_simulation.specs.World.Answer.{Answered};
-ghost use Rattle.lot_system.specs.Playing.{turn_in};
-ghost use Rattle.lot_system.specs.Seen.{world_of};
+ghost use Rattle.lot_engine.specs.Playing.{turn_in};
+ghost use Rattle.lot_engine.specs.Seen.{world_of};
 ghost use Rattle.lot_explain.specs.Gathering.{lot_if_ready};
 ghost use Rattle.lot_explain.specs.Lots.{draw_lots, lots_of, waiter_lot};
 
 use crate::entrants::{Entrants, next_entrants};
+use lot_engine::System;
 use lot_machine::Status;
 use lot_print::Lot;
-use lot_system::System;
 use lot_text::Program;
 use std::alloc::{AllocError, Global};
 use std::marker::Model;

@@ -13,7 +13,8 @@ ghost use Rattle.lot_simulation.specs.World.Answer.{Answered};
 ghost use Rattle.lot_simulation.specs.declared.manner.Manner.{Manner};
 ghost use Rattle.lot_playback.specs.Texts.{last_report};
 ghost use Rattle.lot_playback.specs.Turns.{program_turns};
-ghost use Rattle.lot_explain.specs.Explained.{explained_in_time, explained_output, explained_program, explained_schedule};
+ghost use Rattle.lot_explain.specs.Explained.{explained_in_time, explained_output, explained_program};
+ghost use Rattle.lot_explain.specs.Explained.{explained_schedule};
 ghost use Rattle.lot_explain.specs.Lots.{lot_lines, lots_of, total_of, won_in};
 ghost use Rattle.lot_explain.specs.MadeTurns.{explained_turns};
 ghost use Rattle.lot_explain.specs.Numbers.{HasNumber, number_in};
@@ -22,7 +23,8 @@ ghost use Rattle.lot_explain.specs.declared.won.Won.{Won};
 
 /// The output of `explain` is what explains each of the program's turns, and then the report, in both orders.
 pub fn explanations_are_those_of_the_turns()
-    ensures { (program : Program) → explained_program program program.duration ≡ explained_turns (program_turns program) ++ last_report program program.duration }
+    ensures { (program : Program) → explained_program program program.duration
+        ≡ explained_turns (program_turns program) ++ last_report program program.duration }
 {}
 
 /// An explanation of a program's turns is longer than the output of `play` by at most 139 bytes for each turn and

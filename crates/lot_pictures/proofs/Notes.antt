@@ -13,7 +13,7 @@ use Rattle.lot_curves.specs.declared.stretch.Stretch.{Stretch}
 use Rattle.lot_curves.specs.Curves.{curves_of, names_in}
 use Rattle.lot_curves.specs.Stretches.{last_end, stretch_of}
 use Rattle.lot_curves.proofs.Ends.{last_end-push}
-use Rattle.lot_system.specs.Seen.{Seen, world_of}
+use Rattle.lot_engine.specs.Seen.{Seen, world_of}
 use Rattle.lot_playback.specs.declared.turn.Answered.{Answered as Given}
 use Rattle.lot_playback.specs.declared.turn.Turn.{Turn as ATurn}
 use Rattle.lot_playback.specs.Stages.{HasJustMade, HasMade, answer_in}

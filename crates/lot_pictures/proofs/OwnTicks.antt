@@ -43,8 +43,8 @@ use Rattle.lot_simulation.specs.TimedReport.{actor_turns}
 use Rattle.lot_simulation.specs.Report.{ActorTurn, beside, turns_made, turns_of, count_in, ticks_in, total_of}
 use Rattle.lot_simulation.proofs.TimedRuns.{timed-made, timed-world}
 use Rattle.lot_simulation.proofs.DrawnThreads.{number-some}
-use Rattle.lot_system.proofs.ReplyFacts.{numbered}
-use Rattle.lot_system.proofs.StepFacts.{effect-same, checked-same}
+use Rattle.lot_engine.proofs.ReplyFacts.{numbered}
+use Rattle.lot_engine.proofs.StepFacts.{effect-same, checked-same}
 use Rattle.lot_curves.specs.declared.stretch.Stretch.{Stretch}
 use Rattle.lot_curves.specs.Curves.{stretches_made, timed_stretches}
 use Rattle.lot_curves.specs.declared.stretch.Measure.TheVariants.{Ticks}

@@ -7,9 +7,9 @@ use Rattle.lot_simulation.specs.declared.input.InputFault.{InputFault}
 use Rattle.lot_simulation.specs.World.{Program}
 use Rattle.lot_curves.specs.Curves.{Curves}
 use Rattle.lot_io.specs.Watching.{Watch}
-use Rattle.lot_system.specs.Played.{Plays, came_of}
-use Rattle.lot_system.specs.declared.playing.Played.{Played}
-use Rattle.lot_system.specs.declared.playing.Played.TheVariants.{Done}
+use Rattle.lot_engine.specs.Played.{Plays, came_of}
+use Rattle.lot_engine.specs.declared.inputs.Played.{Played}
+use Rattle.lot_engine.specs.declared.inputs.Played.TheVariants.{Done}
 use Rattle.lot_io.specs.declared.fault.IoFault.{IoFault}
 use Rattle.lot_io.specs.declared.fault.IoFault.TheVariants.{Memory}
 use Rattle.lot_pictures.specs.Shown.{HasCurves, Shows, shown_of}

@@ -5,7 +5,7 @@ use Rattle.lot_simulation.specs.World.{Program, opening_world}
 use Rattle.lot_curves.specs.declared.stretch.Stretch.{Stretch}
 use Rattle.lot_curves.specs.Curves.{Curves, names_in}
 use Rattle.lot_curves.specs.Stretches.{stretch_of}
-use Rattle.lot_system.specs.Seen.{Seen}
+use Rattle.lot_engine.specs.Seen.{Seen}
 use Rattle.lot_playback.specs.Turns.{MadeTurn, counted_turn, counted_turns, world_after_turns}
 
 -- the stretch of a counted turn after these, the last of which is itself: it ends when its actor has used the ticks of

@@ -3,15 +3,15 @@ ghost use Rattle.std.specs.Prelude.{◌≡◌, ◌+◌, ◌*◌, ◌^◌, ◌<�
 ghost use Rattle.lot_machine.specs.Bounds.{IsBetween};
 ghost use Rattle.lot_curves.specs.Curves.{curves_of, name_in, names_in};
 ghost use Rattle.lot_curves.specs.Stretches.{last_end};
-ghost use Rattle.lot_system.specs.Seen.{world_of};
+ghost use Rattle.lot_engine.specs.Seen.{world_of};
 ghost use Rattle.lot_playback.specs.Stages.{HasMade};
 ghost use Rattle.lot_playback.specs.Turns.{program_turns};
 ghost use Rattle.lot_pictures.specs.Noted.{end_in, stretches_in};
 
 use lot_curves::{Curves, Stretch};
+use lot_engine::System;
 use lot_machine::Name;
 use lot_playback::{Observer, Playback, Turn, play_through};
-use lot_system::System;
 use lot_text::Program;
 use std::alloc::{AllocError, Global};
 

@@ -3,7 +3,7 @@ ghost use Rattle.std.specs.Prelude.{◌≡◌, ℕ, List, false, true, IfErr, If
 ghost use Rattle.std.specs.Io.KnownBytes.{Appends};
 ghost use Rattle.lot_simulation.specs.Grammar.{program_in};
 ghost use Rattle.lot_text.specs.Faults.{IsFaultOf as IsParseFaultOf};
-ghost use Rattle.lot_system.specs.Played.{Leaves, Plays, came_of};
+ghost use Rattle.lot_engine.specs.Played.{Leaves, Plays, came_of};
 ghost use Rattle.lot_io.specs.Reading.{Reads};
 ghost use Rattle.lot_io.specs.Writing.{IsFaultOf, Writes};
 ghost use Rattle.lot_pictures.specs.Shown.{HasCurves, Shows, chart_output, shares_output};
@@ -11,8 +11,8 @@ ghost use Rattle.lot_pictures.specs.Shown.{HasCurves, Shows, chart_output, share
 use crate::gather;
 use lot_chart::table;
 use lot_curves::{Curves, Measure};
+use lot_engine::{Played, refuse};
 use lot_io::{IoFault, Watched, flush, read_input, write_bytes};
-use lot_system::{Played, refuse};
 use lot_text::{ParseFault, parse};
 use std::alloc::{AllocError, Global};
 use std::io::{Read, Write};

@@ -7,13 +7,13 @@ use Rattle.lot_simulation.specs.Timed.{Moment, TimedTurn, due_first, moment_afte
 use Rattle.lot_simulation.specs.World.{Program, World, opening_world}
 use Rattle.lot_simulation.specs.World.Answer.{Answered, Ended}
 use Rattle.lot_simulation.proofs.TimedRuns.{due-there}
-use Rattle.lot_system.specs.InTime.{IsAtEnd, IsDue, IsFollowed, moment_in, next_turns, turn_told, turns_done}
-use Rattle.lot_system.specs.Playing.{turn_in}
-use Rattle.lot_system.specs.Seen.{Seen, Setting, after_turn, world_of}
-use Rattle.lot_system.specs.declared.following.Following.{Following}
-use Rattle.lot_system.specs.declared.following.TimedReply.{TimedReply}
-use Rattle.lot_system.proofs.FollowFacts.{all-done, one-next}
-use Rattle.lot_system.proofs.PlayingFacts.{played-after}
+use Rattle.lot_engine.specs.InTime.{IsAtEnd, IsDue, IsFollowed, moment_in, next_turns, turn_told, turns_done}
+use Rattle.lot_engine.specs.Playing.{turn_in}
+use Rattle.lot_engine.specs.Seen.{Seen, Setting, after_turn, world_of}
+use Rattle.lot_engine.specs.declared.following.Following.{Following}
+use Rattle.lot_engine.specs.declared.following.TimedReply.{TimedReply}
+use Rattle.lot_engine.proofs.FollowFacts.{all-done, one-next}
+use Rattle.lot_engine.proofs.PlayingFacts.{played-after}
 use Rattle.lot_playback.specs.declared.turn.NextTurn.{NextTurn}
 use Rattle.lot_playback.specs.declared.turn.Turn.{Turn as ATurn}
 use Rattle.lot_playback.specs.Orders.{IsAtTime}

@@ -6,9 +6,9 @@ use Rattle.lot_machine.specs.declared.reply.Reply.{Reply}
 use Rattle.lot_simulation.specs.Report.{ActorTurn, turns_made}
 use Rattle.lot_simulation.specs.World.{Program, World, Answer, Turn, opening_world}
 use Rattle.lot_simulation.specs.World.Answer.{Answered, Ended}
-use Rattle.lot_system.specs.Playing.{turn_in}
-use Rattle.lot_system.specs.Seen.{Seen, Setting, after_turn, world_of}
-use Rattle.lot_system.proofs.CountFacts.{turns_made-answered}
+use Rattle.lot_engine.specs.Playing.{turn_in}
+use Rattle.lot_engine.specs.Seen.{Seen, Setting, after_turn, world_of}
+use Rattle.lot_engine.proofs.CountFacts.{turns_made-answered}
 use Rattle.lot_playback.specs.Turns.{MadeTurn, counted_turn, counted_turns, world_after_turns}
 use Rattle.lot_playback.specs.Stages.{HasMade}
 

@@ -5,9 +5,9 @@ use Rattle.std.proofs.lemmas.List.Elements.{All-head, All-tail}
 use Rattle.lot_simulation.specs.Report.{turns_made}
 use Rattle.lot_simulation.specs.World.{Program, World, opening_world}
 use Rattle.lot_text.specs.Programs.{IsProgram}
-use Rattle.lot_system.specs.Playing.{HasPlayed, IsPlayed, turn_in}
-use Rattle.lot_system.specs.Seen.{Seen, Setting, world_of}
-use Rattle.lot_system.proofs.PlayingFacts.{played-more}
+use Rattle.lot_engine.specs.Playing.{HasPlayed, IsPlayed, turn_in}
+use Rattle.lot_engine.specs.Seen.{Seen, Setting, world_of}
+use Rattle.lot_engine.proofs.PlayingFacts.{played-more}
 use Rattle.lot_playback.specs.declared.turn.NextTurn.{NextTurn}
 use Rattle.lot_playback.specs.declared.turn.Turn.{Turn as ATurn}
 use Rattle.lot_playback.specs.Orders.{IsAtPlace}

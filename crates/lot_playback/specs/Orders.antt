@@ -1,10 +1,10 @@
 -- Whose turn is next.
 use Rattle.std.specs.Prelude.{◌≡◌, ℕ, ◌≤◌, None, IsSome, length, take}
 use Rattle.lot_text.specs.Programs.{IsProgram}
-use Rattle.lot_system.specs.InTime.{IsFollowed}
-use Rattle.lot_system.specs.Playing.{HasPlayed}
-use Rattle.lot_system.specs.Seen.{Seen}
-use Rattle.lot_system.specs.declared.following.Following.{Following}
+use Rattle.lot_engine.specs.InTime.{IsFollowed}
+use Rattle.lot_engine.specs.Playing.{HasPlayed}
+use Rattle.lot_engine.specs.Seen.{Seen}
+use Rattle.lot_engine.specs.declared.following.Following.{Following}
 use Rattle.lot_playback.specs.declared.playback.Order.{Order}
 use Rattle.lot_playback.specs.declared.playback.Order.TheVariants.{Scheduled, InTime}
 

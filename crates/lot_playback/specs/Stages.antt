@@ -3,7 +3,7 @@ use Rattle.std.specs.Prelude.{◌≡◌, ℕ, ◌≤◌, Option, Some, None, Lis
 use Rattle.lot_simulation.specs.Report.{turns_made}
 use Rattle.lot_simulation.specs.World.{Program, Answer, opening_world, system_turn}
 use Rattle.lot_simulation.specs.World.Answer.{Answered as GivenAnswer, Ended}
-use Rattle.lot_system.specs.Seen.{Seen, world_of}
+use Rattle.lot_engine.specs.Seen.{Seen, world_of}
 use Rattle.lot_playback.specs.declared.turn.Answered.{Answered}
 use Rattle.lot_playback.specs.declared.turn.NextTurn.{NextTurn}
 use Rattle.lot_playback.specs.declared.turn.Turn.{Turn}

@@ -3,13 +3,13 @@ ghost use Rattle.std.specs.Prelude.{◌≡◌, ℕ, List, false, true, IfErr, If
 ghost use Rattle.std.specs.Io.KnownBytes.{Appends};
 ghost use Rattle.lot_simulation.specs.Grammar.{program_in};
 ghost use Rattle.lot_simulation.specs.Output.{output};
-ghost use Rattle.lot_system.specs.Played.{Leaves, Plays, came_of};
+ghost use Rattle.lot_engine.specs.Played.{Leaves, Plays, came_of};
 ghost use Rattle.lot_io.specs.Reading.{Reads};
 ghost use Rattle.lot_io.specs.Writing.{IsFaultOf};
 
 use crate::play_program;
+use lot_engine::{Leftovers, Played, program_of, refuse};
 use lot_io::{IoFault, Watched, read_input};
-use lot_system::{Leftovers, Played, program_of, refuse};
 use lot_text::ParseFault;
 use std::alloc::Global;
 use std::io::{Read, Write};
@@ -26,8 +26,10 @@ pub fn play<R: Read, W: Write>(
     ensures flushed { OnOk result (writer.new.flushed ≡ true) }
     ensures err { IfErr result (λ fault. IsFaultOf fault reader.new.failed writer.new.failed) }
     ensures output { IfOk result (λ played. (bytes : List ℕ) × Reads R.remaining reader.old reader.new bytes
-        × (played ≡ came_of (program_in bytes)) × Appends (W.contents writer.old.inner) (W.contents writer.new.inner) (output bytes)) }
-    ensures fault { IfErr result (λ fault. Leaves output R.remaining reader.old reader.new W.contents writer.old writer.new fault) }
+        × (played ≡ came_of (program_in bytes))
+        × Appends (W.contents writer.old.inner) (W.contents writer.new.inner) (output bytes)) }
+    ensures fault { IfErr result
+        (λ fault. Leaves output R.remaining reader.old reader.new W.contents writer.old writer.new fault) }
 {
     let mut bytes = read_input(alloc, reader)?;
     let Ok(mut leftovers) = Leftovers::none(alloc) else {
@@ -47,7 +49,8 @@ pub fn play_bytes<W: Write>(
 ) -> Result<Played, IoFault>
     requires { writer.old.failed ≡ false }
     ensures flushed { OnOk result (writer.new.flushed ≡ true) }
-    ensures played { Plays W.contents writer.old writer.new result (came_of (program_in bytes.old.items)) (output bytes.old.items) }
+    ensures played { Plays W.contents writer.old writer.new result (came_of (program_in bytes.old.items))
+        (output bytes.old.items) }
 {
     match program_of(alloc, bytes) {
         Ok(program) => play_program(alloc, &program, leftovers, writer),

@@ -7,5 +7,6 @@ ghost use Rattle.lot_playback.specs.Turns.{program_turns};
 
 /// The output of `play` is the lines of each of the program's turns, and then the report, in both orders.
 pub fn output_is_that_of_the_turns()
-    ensures { (program : Program) → played_output program program.duration ≡ made_texts (program_turns program) ++ last_report program program.duration }
+    ensures { (program : Program) → played_output program program.duration
+        ≡ made_texts (program_turns program) ++ last_report program program.duration }
 {}

@@ -1,20 +1,19 @@
 //! The lines of turns.
-ghost use Rattle.std.specs.Prelude.{◌≡◌, ◌<◌, [], false, true, OnOk};
+ghost use Rattle.std.specs.Prelude.{◌≡◌, [], false, true, OnOk};
 ghost use Rattle.lot_io.specs.Writing.{Begins, IsPut, Puts, Writes};
 ghost use Rattle.lot_io.specs.declared.fault.IoFault.TheVariants as faults;
 ghost use Rattle.lot_simulation.specs.Output.{played_output};
-ghost use Rattle.lot_system.specs.Played.{Plays};
-ghost use Rattle.lot_system.specs.Seen.{world_of};
-ghost use Rattle.lot_system.specs.declared.playing.Played.TheVariants.{Done};
+ghost use Rattle.lot_engine.specs.Played.{Plays};
+ghost use Rattle.lot_engine.specs.Seen.{world_of};
+ghost use Rattle.lot_engine.specs.declared.inputs.Played.TheVariants.{Done};
 ghost use Rattle.lot_playback.specs.Stages.{HasMade, Reports, turns_left};
 ghost use Rattle.lot_playback.specs.Texts.{made_text, made_texts};
 ghost use Rattle.lot_playback.specs.Turns.{MadeTurn, program_turns};
 
 use crate::{Observer, Playback, Turn, play_through};
+use lot_engine::{Leftovers, Played, System, heading, put_answer};
 use lot_io::{IoFault, Watched, flush};
-use lot_print::{Heading, Page, write_ended};
-use lot_simulation::Manner;
-use lot_system::{Leftovers, Played, System, put_answer};
+use lot_print::{Page, write_ended};
 use lot_text::Program;
 use std::alloc::Global;
 use std::io::Write;
@@ -105,20 +104,6 @@ fn put_made<W: Write>(
     }
 }
 
-/// What the line of the actor's turn needs in addition to its event and reply.
-#[inline(always)]
-fn heading(system: &System, manner: Manner, actor: u32) -> Heading
-    ensures manner { result.manner ≡ manner }
-    ensures actor { result.actor ≡ actor }
-    ensures some { 0 < result.unit }
-{
-    Heading {
-        manner,
-        unit: system.unit(),
-        actor,
-    }
-}
-
 /// Makes the program's turns, and writes their lines.
 fn write_turns<W: Write>(
     program: &Program,
@@ -152,7 +137,8 @@ pub fn play_program<W: Write>(
 ) -> Result<Played, IoFault>
     requires { writer.old.failed ≡ false }
     ensures flushed { OnOk result (writer.new.flushed ≡ true) }
-    ensures played { Plays W.contents writer.old writer.new result Done (played_output program.now program.now.duration) }
+    ensures played { Plays W.contents writer.old writer.new result Done
+        (played_output program.now program.now.duration) }
 {
     let Ok(mut playback) = Playback::open(alloc, program) else {
         return Err(IoFault::Memory);

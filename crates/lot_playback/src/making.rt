@@ -1,13 +1,13 @@
 //! Making a turn, in either order.
-ghost use Rattle.std.specs.Prelude.{◌≡◌, ◌+◌, ◌<◌, ◌≤◌, [], ◌∷◌, IfNone, IfSome, length};
+ghost use Rattle.std.specs.Prelude.{◌≡◌, [], IfNone, IfSome, length};
 ghost use Rattle.lot_playback.specs.Orders.{IsAtPlace, IsAtTime};
 ghost use Rattle.lot_playback.specs.Stages.{IsNext, MakesTurn, turns_left};
 ghost use Rattle.lot_playback.specs.Turns.{MadeTurn};
 
 use crate::{Answered, NextTurn, Turn};
+use lot_engine::{Following, System, make_due, next_turn};
 use lot_machine::Event;
 use lot_simulation::Due;
-use lot_system::{Following, System, make_due, next_turn};
 use lot_text::Program;
 
 /// Whose turn is next at this place of the schedule.
@@ -60,7 +60,8 @@ pub(crate) fn make_scheduled(
     requires there { IsAtPlace system.old place.old }
     requires next { IsNext (record { seen = system.old; made = place.old }) next }
     ensures there { IsAtPlace system.new place.new }
-    ensures made { (made : MadeTurn) × MakesTurn (record { seen = system.old; made = place.old }) (record { seen = system.new; made = place.new }) result made }
+    ensures made { (made : MadeTurn) × MakesTurn (record { seen = system.old; made = place.old })
+        (record { seen = system.new; made = place.new }) result made }
 {
     let actor = next.actor;
     let mut event = Event::Expire(actor);
@@ -91,7 +92,8 @@ pub(crate) fn make_in_time(
     requires there { IsAtTime system.old following.old }
     requires next { IsNext (record { seen = system.old; made = length system.old.history }) next }
     ensures there { IsAtTime system.new following.new }
-    ensures made { (made : MadeTurn) × MakesTurn (record { seen = system.old; made = length system.old.history }) (record { seen = system.new; made = length system.new.history }) result made }
+    ensures made { (made : MadeTurn) × MakesTurn (record { seen = system.old; made = length system.old.history })
+        (record { seen = system.new; made = length system.new.history }) result made }
 {
     let Some(time) = next.time else {
         unreachable!()

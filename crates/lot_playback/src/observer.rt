@@ -1,12 +1,12 @@
 //! What is made of a program's turns.
 ghost use Rattle.std.specs.Prelude.{◌≡◌, ℕ, List, ◌∷◌, [], ◌++◌, IfErr, OnOk};
 ghost use Rattle.lot_simulation.specs.World.{Program as ProgramRecord, World};
-ghost use Rattle.lot_system.specs.Seen.{world_of};
+ghost use Rattle.lot_engine.specs.Seen.{world_of};
 ghost use Rattle.lot_playback.specs.Stages.{HasJustMade, HasMade};
 ghost use Rattle.lot_playback.specs.Turns.{MadeTurn};
 
 use crate::Turn;
-use lot_system::System;
+use lot_engine::System;
 use lot_text::Program;
 
 /// Follows a program's turns, one after another, and makes something of them.

@@ -1,6 +1,6 @@
 //! A program that is played, a turn at a time.
 ghost use Rattle.std.specs.Prelude.{◌≡◌, List, [], ◌∷◌, ◌++◌, IfErr, IfNone, IfOk, IfSome, IsSome, None, OnOk, false};
-ghost use Rattle.lot_system.specs.Seen.{world_of};
+ghost use Rattle.lot_engine.specs.Seen.{world_of};
 ghost use Rattle.lot_playback.specs.Stages.{HasJustMade, HasMade, IsNext, MakesTurn, turns_left};
 ghost use Rattle.lot_playback.specs.Texts.{last_report};
 ghost use Rattle.lot_playback.specs.Turns.{MadeTurn};
@@ -9,8 +9,8 @@ ghost use Rattle.lot_io.specs.Writing.{Writes};
 use crate::making::{make_in_time, make_scheduled, next_in_time, next_scheduled};
 use crate::reports::{report_in_time, report_scheduled};
 use crate::{NextTurn, Observer, Turn};
+use lot_engine::{Following, Leftovers, System, TimedRun};
 use lot_io::{IoFault, Watched};
-use lot_system::{Following, Leftovers, System, TimedRun};
 use lot_text::Program;
 use std::alloc::{AllocError, Global};
 use std::io::Write;

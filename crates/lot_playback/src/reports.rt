@@ -5,8 +5,8 @@ ghost use Rattle.lot_playback.specs.Orders.{IsAtPlace, IsAtTime};
 ghost use Rattle.lot_playback.specs.Stages.{turns_left};
 ghost use Rattle.lot_playback.specs.Texts.{last_report};
 
+use lot_engine::{Following, System, write_report, write_timed_report};
 use lot_io::{IoFault, Watched};
-use lot_system::{Following, System, write_report, write_timed_report};
 use lot_text::Program;
 use std::io::Write;
 

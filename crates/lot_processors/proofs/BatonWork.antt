@@ -2,12 +2,12 @@
 use Rattle.std.proofs.Common.{◌≡◌, refl, ℕ, ◌+◌, ◌<◌, ◌∷◌, [], List, length, slice_index_or, Option, Some, None, inl, inr, sym, ◌∙◌, ap, subst, arith}
 use Rattle.lot_simulation.specs.World.{Program}
 use Rattle.lot_script.specs.Slices.{Parts}
-use Rattle.lot_system.specs.declared.fault.TurnFault.{TurnFault}
-use Rattle.lot_system.specs.declared.turn.Answer.{Answer}
-use Rattle.lot_system.specs.declared.turn.Work.{Work}
-use Rattle.lot_system.specs.Fitting.{IsStale}
-use Rattle.lot_system.specs.Seen.{Seen}
-use Rattle.lot_system.specs.Turns.{Faults, IsWorkOf, Matches}
+use Rattle.lot_engine.specs.declared.fault.TurnFault.{TurnFault}
+use Rattle.lot_engine.specs.declared.turn.Answer.{Answer}
+use Rattle.lot_engine.specs.declared.turn.Work.{Work}
+use Rattle.lot_engine.specs.Fitting.{IsStale}
+use Rattle.lot_engine.specs.Seen.{Seen}
+use Rattle.lot_engine.specs.Turns.{Faults, IsWorkOf, Matches}
 use Rattle.lot_station.specs.BatonSeats.{Seat, IsSameSeat, Looks, Turns}
 use Rattle.lot_station.specs.BatonViews.{Extends}
 use Rattle.lot_station.specs.Settings.{IsLegalIn, turns_by}

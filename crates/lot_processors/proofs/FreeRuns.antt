@@ -3,7 +3,7 @@ use Rattle.std.proofs.Common.{◌≡◌, ℕ, ◌+◌, ◌<◌, ◌≤◌, ◌==
 use Rattle.std.specs.List.{slice_get}
 use Rattle.std.proofs.lemmas.Option.{get_or_from_slice_get, slice_get-get_or, slice_get_within}
 use Rattle.lot_simulation.specs.World.{Program}
-use Rattle.lot_system.specs.Seen.{Setting, Seen}
+use Rattle.lot_engine.specs.Seen.{Setting, Seen}
 use Rattle.lot_station.specs.Holders.{Holder, AreDealt, CountsAgree, InOrder, dealt}
 use Rattle.lot_station.specs.Settings.{IsLegalIn, times_in}
 use Rattle.lot_processors.specs.Workers.{AllMade, HasOthers, free_setting, turns_for}

@@ -5,12 +5,12 @@ use Rattle.std.proofs.lemmas.List.Sums.{sum_by_push}
 use Rattle.lot_simulation.specs.Report.{quanta_in, ticks_in}
 use Rattle.lot_simulation.specs.World.{Program}
 use Rattle.lot_script.specs.Slices.{Parts}
-use Rattle.lot_system.specs.declared.fault.TurnFault.{TurnFault}
-use Rattle.lot_system.specs.declared.turn.Answer.{Answer}
-use Rattle.lot_system.specs.declared.turn.Work.{Work}
-use Rattle.lot_system.specs.Fitting.{IsStale}
-use Rattle.lot_system.specs.Seen.{Setting}
-use Rattle.lot_system.specs.Turns.{Answers, Faults, Goes, IsWorkOf, Matches}
+use Rattle.lot_engine.specs.declared.fault.TurnFault.{TurnFault}
+use Rattle.lot_engine.specs.declared.turn.Answer.{Answer}
+use Rattle.lot_engine.specs.declared.turn.Work.{Work}
+use Rattle.lot_engine.specs.Fitting.{IsStale}
+use Rattle.lot_engine.specs.Seen.{Setting}
+use Rattle.lot_engine.specs.Turns.{Answers, Faults, Goes, IsWorkOf, Matches}
 use Rattle.lot_station.specs.Holders.{Holder, with_turn}
 use Rattle.lot_station.specs.Settings.{AtSome}
 use Rattle.lot_processors.specs.Workers.{AllMade, EachSeat, FirstStops, HasMade, HasMadeAll, HasStopped, HasWorked, IsFirstFault, IsReply, StopsTurn, turns_for}

@@ -1,10 +1,10 @@
 -- Workers at the seats of a system that is passed around as a baton.
 use Rattle.std.specs.Prelude.{◌≡◌, ◌⊎◌, ℕ, ◌+◌, ◌<◌, List, Option, Some, None, length}
 use Rattle.lot_simulation.specs.World.{Program}
-use Rattle.lot_system.specs.declared.fault.TurnFault.{TurnFault}
-use Rattle.lot_system.specs.declared.turn.Work.{Work}
-use Rattle.lot_system.specs.Seen.{Seen}
-use Rattle.lot_system.specs.Turns.{IsWorkOf}
+use Rattle.lot_engine.specs.declared.fault.TurnFault.{TurnFault}
+use Rattle.lot_engine.specs.declared.turn.Work.{Work}
+use Rattle.lot_engine.specs.Seen.{Seen}
+use Rattle.lot_engine.specs.Turns.{IsWorkOf}
 use Rattle.lot_station.specs.BatonSeats.{Seat}
 use Rattle.lot_station.specs.BatonViews.{Extends}
 use Rattle.lot_station.specs.Settings.{IsLegalIn, turns_by}

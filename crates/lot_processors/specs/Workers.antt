@@ -4,12 +4,12 @@ use Rattle.lot_machine.specs.declared.reply.Reply.{Reply}
 use Rattle.lot_simulation.specs.Report.{quanta_in, ticks_in}
 use Rattle.lot_simulation.specs.World.{Program, IsLegal}
 use Rattle.lot_script.specs.Slices.{Parts}
-use Rattle.lot_system.specs.declared.fault.TurnFault.{TurnFault}
-use Rattle.lot_system.specs.declared.turn.Answer.{Answer}
-use Rattle.lot_system.specs.declared.turn.Work.{Work}
-use Rattle.lot_system.specs.Fitting.{IsStale}
-use Rattle.lot_system.specs.Seen.{Setting, Seen}
-use Rattle.lot_system.specs.Turns.{Answers, Faults, Goes, IsWorkOf, Matches}
+use Rattle.lot_engine.specs.declared.fault.TurnFault.{TurnFault}
+use Rattle.lot_engine.specs.declared.turn.Answer.{Answer}
+use Rattle.lot_engine.specs.declared.turn.Work.{Work}
+use Rattle.lot_engine.specs.Fitting.{IsStale}
+use Rattle.lot_engine.specs.Seen.{Setting, Seen}
+use Rattle.lot_engine.specs.Turns.{Answers, Faults, Goes, IsWorkOf, Matches}
 use Rattle.lot_station.specs.Holders.{Holder, AreDealt, CountsAgree}
 use Rattle.lot_station.specs.Settings.{AtSome, IsLegalIn}
 use Rattle.lot_processors.specs.declared.fault.RunFault.{RunFault}

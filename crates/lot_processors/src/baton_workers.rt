@@ -5,8 +5,8 @@ ghost use Rattle.lot_processors.specs.BatonWorkers.{AllMade, FirstStops, HasMade
 ghost use Rattle.lot_processors.specs.Workers.{fault_in, turns_for};
 
 use crate::{Gate, RunFault};
+use lot_engine::{TurnFault, slice_for};
 use lot_station::{BatonSeat, BatonStation};
-use lot_system::{TurnFault, slice_for};
 use lot_text::Program;
 use std::sync::Wait;
 use std::thread;

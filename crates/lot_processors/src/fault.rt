@@ -1,6 +1,6 @@
 //! Why workers stop early.
 
-use lot_system::TurnFault;
+use lot_engine::TurnFault;
 use thiserror::Error;
 
 /// Why not all turns were made. All workers have stopped, and the seats count the turns that were made.

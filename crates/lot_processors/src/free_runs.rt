@@ -4,8 +4,8 @@ ghost use Rattle.lot_processors.specs.Workers as workers;
 ghost use Rattle.lot_processors.specs.Workers.{AllMade, FirstStops, IsFaultOf, IsFreeRun, fault_in, free_setting};
 
 use crate::{Gate, RunFault, run_all};
+use lot_engine::System;
 use lot_station::{Seat, Station, TurnLedger};
-use lot_system::System;
 use lot_text::Program;
 use std::alloc::Global;
 use std::marker::Brand;

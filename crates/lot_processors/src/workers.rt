@@ -4,8 +4,8 @@ ghost use Rattle.lot_processors.specs.Workers.{AllMade, FirstStops, HasMade, Has
 ghost use Rattle.lot_processors.specs.Workers.{fault_in, turns_for};
 
 use crate::{Gate, RunFault};
+use lot_engine::{TurnFault, slice_for};
 use lot_station::{Seat, Station, TurnLedger};
-use lot_system::{TurnFault, slice_for};
 use lot_text::Program;
 use std::sync::Wait;
 use std::sync::ledger::Ledger;

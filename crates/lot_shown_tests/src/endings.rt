@@ -1,10 +1,10 @@
 //! How a run may end, and what it has written by then.
 ghost use Rattle.std.specs.Prelude.{◌≡◌, ◌<◌, ◌↔◌, ◌⊎◌, Err, IsTrue, Ok};
 ghost use Rattle.lot_io.specs.declared.fault.IoFault.TheVariants as faults;
-ghost use Rattle.lot_system.specs.declared.playing.Played.TheVariants as came;
+ghost use Rattle.lot_engine.specs.declared.inputs.Played.TheVariants as came;
 
+use lot_engine::Played;
 use lot_io::IoFault;
-use lot_system::Played;
 
 /// Whether a run was played to its end and has written something, or lacked memory and has written nothing.
 pub fn has_written_or_lacked_memory(ended: Result<Played, IoFault>, written: usize) -> bool

@@ -3,8 +3,8 @@ use Rattle.std.proofs.Common.{◌≡◌, ℕ, zero, suc, ◌+◌, ◌<◌, List,
 use Rattle.std.specs.Prelude.{All, slice_get}
 use Rattle.std.proofs.lemmas.Option.{get_or_from_slice_get, slice_get-get_or, slice_get_within}
 use Rattle.atomic_table.specs.Seated.{TableId}
-use Rattle.lot_system.specs.declared.fault.TurnFault.{TurnFault}
-use Rattle.lot_system.specs.Seen.{Seen}
+use Rattle.lot_engine.specs.declared.fault.TurnFault.{TurnFault}
+use Rattle.lot_engine.specs.Seen.{Seen}
 use Rattle.lot_station.specs.declared.baton.view.View.{View}
 use Rattle.lot_station.specs.BatonViews.{claim, resting, together, SeesAll}
 use Rattle.lot_station.specs.BatonSeats.{Seat, Baton, IsSeatOf, HasEachSeat, seat, claim_of, Dealt, Shows}

@@ -6,7 +6,7 @@ use Rattle.std.proofs.lemmas.List.Sums.{sum_by-cons}
 use Rattle.lot_machine.specs.declared.reply.Reply.{Reply}
 use Rattle.lot_simulation.specs.Report.{ActorTurn, beside, turns_made, turns_of, total_of, count_in, quanta_in, idles_in, ticks_in}
 use Rattle.lot_simulation.specs.World.{Program, World, opening_world, system_turn, system_answers}
-use Rattle.lot_system.specs.Seen.{Seen}
+use Rattle.lot_engine.specs.Seen.{Seen}
 use Rattle.lot_station.specs.BatonSeats.{Seat, Shows}
 use Rattle.lot_station.proofs.BatonClosing.{all_at}
 use Rattle.lot_station.specs.BatonSums.{summed, summed_by, share, AddUp, CountsAddUp}

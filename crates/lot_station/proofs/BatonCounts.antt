@@ -3,11 +3,11 @@ use Rattle.std.proofs.Common.{◌≡◌, ℕ, ◌+◌, ◌==◌, Bool, true, fal
 use Rattle.std.specs.Prelude.{if◌then◌else◌}
 use Rattle.lot_simulation.specs.Report.{ActorTurn, beside, turns_made, turns_of}
 use Rattle.lot_simulation.specs.World.{Program, World, opening_world, system_turn, system_answers}
-use Rattle.lot_system.specs.declared.turn.Answer.{Answer}
-use Rattle.lot_system.specs.Counted.{counted, counted_with}
-use Rattle.lot_system.specs.Seen.{Seen, after_turn}
-use Rattle.lot_system.specs.Turns.{Answers}
-use Rattle.lot_system.proofs.CountFacts.{counted-own_more}
+use Rattle.lot_engine.specs.declared.turn.Answer.{Answer}
+use Rattle.lot_engine.specs.Counted.{counted, counted_with}
+use Rattle.lot_engine.specs.Seen.{Seen, after_turn}
+use Rattle.lot_engine.specs.Turns.{Answers}
+use Rattle.lot_engine.proofs.CountFacts.{counted-own_more}
 use Rattle.lot_station.specs.Settings.{counts_in, turns_by}
 use Rattle.lot_station.specs.BatonViews.{Extends}
 use Rattle.lot_station.proofs.BatonShares.{turns_by-append, turns_by-cons}

@@ -6,7 +6,7 @@ use Rattle.std.proofs.lemmas.List.Recursion.{is_count_by}
 use mathlib.Core.Option.{some, some-ne-none, some-injective}
 use lib.ListN.{get_elem?}
 use Rattle.crossbeam_queue.proofs.Lists.{at_set}
-use Rattle.lot_system.specs.Seen.{Seen}
+use Rattle.lot_engine.specs.Seen.{Seen}
 use Rattle.lot_station.specs.declared.baton.view.Claim.{Claim}
 use Rattle.lot_station.specs.declared.baton.view.View.{View}
 use Rattle.lot_station.specs.BatonViews.{claim, StartsWith, Sees, SeesAll}

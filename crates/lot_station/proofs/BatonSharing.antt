@@ -5,7 +5,7 @@ use Rattle.std.proofs.lemmas.List.Sums.{sum_by-cons}
 use mathlib.Core.Logic.{dite}
 use native.Mathlib.Decide.{ℕ_discrete}
 use Rattle.lot_simulation.specs.World.{Program, World, opening_world, system_turn, system_after}
-use Rattle.lot_system.specs.Seen.{Seen}
+use Rattle.lot_engine.specs.Seen.{Seen}
 use Rattle.lot_station.specs.Settings.{turns_by}
 use Rattle.lot_station.specs.BatonSeats.{Seat, HasEachSeat, Shows}
 use Rattle.lot_station.specs.BatonSums.{summed, summed_by, share, AddUp}

@@ -1,12 +1,12 @@
 -- What a seat may say after it had the system in its hands.
 use Rattle.std.proofs.Common.{◌≡◌, ℕ, ◌+◌, Option, [], ◌∷◌, Result, Ok, Err, IfOk, IfErr, refl, sym, ap, ◌∙◌, subst, inl, inr, arith}
 use Rattle.lot_script.specs.Slices.{Parts}
-use Rattle.lot_system.specs.declared.counts.Counts.{Counts}
-use Rattle.lot_system.specs.declared.fault.TurnFault.{TurnFault}
-use Rattle.lot_system.specs.declared.turn.Answer.{Answer}
-use Rattle.lot_system.specs.Counted.{counted_with}
-use Rattle.lot_system.specs.Seen.{Seen, after_turn}
-use Rattle.lot_system.specs.Turns.{Answers, Faults, Goes}
+use Rattle.lot_engine.specs.declared.counts.Counts.{Counts}
+use Rattle.lot_engine.specs.declared.fault.TurnFault.{TurnFault}
+use Rattle.lot_engine.specs.declared.turn.Answer.{Answer}
+use Rattle.lot_engine.specs.Counted.{counted_with}
+use Rattle.lot_engine.specs.Seen.{Seen, after_turn}
+use Rattle.lot_engine.specs.Turns.{Answers, Faults, Goes}
 use Rattle.lot_station.specs.declared.baton.view.Claim.{Claim}
 use Rattle.lot_station.specs.declared.baton.view.View.{View}
 use Rattle.lot_station.specs.BatonViews.{claim, resting, holding, took, gave, note_of, together, Extends, Sees, Next}

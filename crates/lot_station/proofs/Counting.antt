@@ -3,7 +3,7 @@ use Rattle.std.proofs.Common.{◌≡◌, ℕ, ◌+◌, ◌==◌, cond, List, [],
 use Rattle.std.proofs.lemmas.List.Sums.{sum_by-cons, length-filter}
 use Rattle.lot_simulation.specs.Report.{ActorTurn, beside, turns_of}
 use Rattle.lot_simulation.specs.World.{Program, World, opening_world, system_turn, system_answers}
-use Rattle.lot_system.specs.Seen.{Seen}
+use Rattle.lot_engine.specs.Seen.{Seen}
 use Rattle.lot_station.specs.Settings.{times_in, turns_in}
 
 -- an actor has as many turns as it stands among the actors

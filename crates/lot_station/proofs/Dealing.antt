@@ -7,7 +7,7 @@ use Rattle.lot_simulation.specs.Report.{quanta_in, ticks_in, total_of, turns_of}
 use Rattle.lot_simulation.specs.World.{IsLegal}
 use Rattle.lot_simulation.proofs.ActorCounts.{counts-add_up, lengths-add_up, turns_made-actors, turns_made-length}
 use Rattle.lot_machine.proofs.Sums.{sum-same}
-use Rattle.lot_system.specs.Seen.{Seen}
+use Rattle.lot_engine.specs.Seen.{Seen}
 use Rattle.lot_station.specs.Holders.{Holder, dealt}
 use Rattle.lot_station.specs.Settings.{times_in, turns_in}
 use Rattle.lot_station.specs.Shares.{IsEnough}

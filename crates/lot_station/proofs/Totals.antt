@@ -4,14 +4,14 @@ use Rattle.std.proofs.lemmas.List.Elements.{All-pop}
 use Rattle.std.proofs.lemmas.List.Sums.{sum_by_push}
 use Rattle.lot_simulation.specs.Report.{quanta_in, ticks_in, total_of}
 use Rattle.lot_simulation.specs.World.{Program, IsLegal}
-use Rattle.lot_system.specs.declared.counts.Counts.{Counts}
-use Rattle.lot_system.specs.declared.turn.Answer.{Answer}
-use Rattle.lot_system.specs.declared.fault.TurnFault.{TurnFault}
-use Rattle.lot_system.specs.Counted.{counted, counted_with}
+use Rattle.lot_engine.specs.declared.counts.Counts.{Counts}
+use Rattle.lot_engine.specs.declared.turn.Answer.{Answer}
+use Rattle.lot_engine.specs.declared.fault.TurnFault.{TurnFault}
+use Rattle.lot_engine.specs.Counted.{counted, counted_with}
 use Rattle.lot_script.specs.Slices.{Parts}
-use Rattle.lot_system.specs.Seen.{Setting, Seen, after_turn}
-use Rattle.lot_system.specs.Turns.{Answers, Faults, Goes}
-use Rattle.lot_system.proofs.CountFacts.{counted-one_more}
+use Rattle.lot_engine.specs.Seen.{Setting, Seen, after_turn}
+use Rattle.lot_engine.specs.Turns.{Answers, Faults, Goes}
+use Rattle.lot_engine.proofs.CountFacts.{counted-one_more}
 use Rattle.lot_station.specs.Settings.{AtSome, turns_in}
 
 -- ---- the totals

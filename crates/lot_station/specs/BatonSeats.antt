@@ -2,12 +2,12 @@
 use Rattle.std.specs.Prelude.{◌≡◌, ℕ, ◌+◌, Option, Some, None, List, [], ◌∷◌, length, slice_get}
 use Rattle.atomic_table.specs.Seated.{TableId}
 use Rattle.lot_script.specs.Slices.{Parts}
-use Rattle.lot_system.specs.declared.fault.TurnFault.{TurnFault}
-use Rattle.lot_system.specs.declared.counts.Counts.{Counts}
-use Rattle.lot_system.specs.declared.turn.Answer.{Answer}
-use Rattle.lot_system.specs.Counted.{counted_with}
-use Rattle.lot_system.specs.Seen.{Seen, after_turn}
-use Rattle.lot_system.specs.Turns.{Answers, Goes}
+use Rattle.lot_engine.specs.declared.fault.TurnFault.{TurnFault}
+use Rattle.lot_engine.specs.declared.counts.Counts.{Counts}
+use Rattle.lot_engine.specs.declared.turn.Answer.{Answer}
+use Rattle.lot_engine.specs.Counted.{counted_with}
+use Rattle.lot_engine.specs.Seen.{Seen, after_turn}
+use Rattle.lot_engine.specs.Turns.{Answers, Goes}
 use Rattle.lot_station.specs.declared.baton.view.Claim.{Claim}
 use Rattle.lot_station.specs.Settings.{IsLegalIn, counts_in, nothing_seen, turns_by}
 use Rattle.lot_station.specs.BatonViews.{claim, Extends}

@@ -1,7 +1,7 @@
 -- Sums over the turns of a history, and over those of one actor.
 use Rattle.std.specs.Prelude.{◌≡◌, ℕ, ◌+◌, List, [], ◌∷◌, sum_by, if◌then◌else◌, ◌==◌}
 use Rattle.lot_simulation.specs.World.{Program, World, opening_world, system_turn}
-use Rattle.lot_system.specs.Seen.{Seen}
+use Rattle.lot_engine.specs.Seen.{Seen}
 use Rattle.lot_station.specs.BatonSeats.{Seat, seat_counts}
 use Rattle.lot_station.specs.Settings.{counts_of}
 

@@ -1,6 +1,6 @@
 -- What a pass knows of the system that it shares.
 use Rattle.std.specs.Prelude.{◌≡◌, ◌⊎◌, ℕ, ◌+◌, ◌<◌, ◌≤◌, ⊤, List, [], ◌∷◌, ◌++◌, map, Option, Some, None, Bool, true, false}
-use Rattle.lot_system.specs.Seen.{Seen}
+use Rattle.lot_engine.specs.Seen.{Seen}
 use Rattle.lot_station.specs.Settings.{turns_by}
 use Rattle.lot_station.specs.declared.baton.view.Claim.{Claim}
 use Rattle.lot_station.specs.declared.baton.view.View.{View}

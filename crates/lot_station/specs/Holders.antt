@@ -2,8 +2,8 @@
 use Rattle.std.specs.Prelude.{◌≡◌, ℕ, ◌+◌, Option, Some, None, List, length, sum_by, slice_get}
 use Rattle.lot_machine.specs.declared.reply.Reply.{Reply}
 use Rattle.lot_simulation.specs.Report.{quanta_in, ticks_in, total_of, turns_of}
-use Rattle.lot_system.specs.declared.fault.TurnFault.{TurnFault}
-use Rattle.lot_system.specs.Seen.{Seen}
+use Rattle.lot_engine.specs.declared.fault.TurnFault.{TurnFault}
+use Rattle.lot_engine.specs.Seen.{Seen}
 use Rattle.lot_station.specs.Settings.{times_in, turns_in}
 
 -- a seat: its actor, its shares of the totals of all turns, quanta and ticks, and the fault that stopped its user

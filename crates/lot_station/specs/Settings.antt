@@ -2,9 +2,9 @@
 use Rattle.std.specs.Prelude.{ℕ, ◌==◌, List, [], count_by, None}
 use Rattle.lot_simulation.specs.Report.{ActorTurn, turns_made, turns_of}
 use Rattle.lot_simulation.specs.World.{IsLegal}
-use Rattle.lot_system.specs.declared.counts.Counts.{Counts}
-use Rattle.lot_system.specs.Counted.{counted}
-use Rattle.lot_system.specs.Seen.{Setting, Seen}
+use Rattle.lot_engine.specs.declared.counts.Counts.{Counts}
+use Rattle.lot_engine.specs.Counted.{counted}
+use Rattle.lot_engine.specs.Seen.{Setting, Seen}
 
 -- the turns of the system's history
 abbrev pub turns_in : Seen → List ActorTurn

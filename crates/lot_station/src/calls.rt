@@ -1,12 +1,12 @@
 //! The calls of a seat.
 ghost use Rattle.std.specs.Prelude.{◌≡◌, IfOk, IfErr, OnErr};
-ghost use Rattle.lot_system.specs.Turns.{Answers, Faults, Goes, IsWorkOf};
+ghost use Rattle.lot_engine.specs.Turns.{Answers, Faults, Goes, IsWorkOf};
 ghost use Rattle.lot_station.specs.Holders.{with_turn};
 ghost use Rattle.lot_station.specs.Settings.{AtSome};
 
 use crate::{Seat, Station, TurnLedger};
+use lot_engine::{Answer, TurnFault, Work};
 use lot_script::Slice;
-use lot_system::{Answer, TurnFault, Work};
 use std::sync::Wait;
 use std::sync::ledger::Ledger;
 

@@ -1,13 +1,13 @@
 //! Closing a station.
 ghost use Rattle.std.specs.Prelude.{◌≡◌, ◌⊎◌, ◌+◌, ◌<◌, ◌≤◌, length, sum_by, IfOk, IfErr, MatchBool};
-ghost use Rattle.lot_system.specs.Seen.{Seen};
+ghost use Rattle.lot_engine.specs.Seen.{Seen};
 ghost use Rattle.lot_station.specs.declared.station.CloseFault.TheVariants.{SeatMissing, CountsDiffer};
 ghost use Rattle.lot_station.specs.Holders.{AddUp, CountsAgree, InOrder};
 ghost use Rattle.lot_station.specs.Settings.{IsLegalIn, times_in};
 
 use crate::desk::Desk;
 use crate::{CloseFault, Seat, Station, TurnLedger};
-use lot_system::System;
+use lot_engine::System;
 use std::sync::ledger::{Ledger, Share};
 
 impl<T: TurnLedger, Q: Ledger, K: Ledger> Station<T, Q, K> {

@@ -2,15 +2,15 @@
 ghost use Rattle.std.specs.Prelude.{◌≡◌, length, IfOk, IfErr, OnErr};
 ghost use Rattle.lot_simulation.specs.Report as report;
 ghost use Rattle.lot_simulation.specs.Report.{total_of};
-ghost use Rattle.lot_system.specs.Seen.{Setting};
-ghost use Rattle.lot_system.specs.Turns.{Answers, Faults, Goes, IsWorkOf};
+ghost use Rattle.lot_engine.specs.Seen.{Setting};
+ghost use Rattle.lot_engine.specs.Turns.{Answers, Faults, Goes, IsWorkOf};
 ghost use Rattle.lot_station.specs.Holders.{with_turn};
 ghost use Rattle.lot_station.specs.Settings.{AtSome, IsLegalIn, no_setting, turns_in};
 
 use crate::Seat;
+use lot_engine::{Answer, System, TurnFault};
 use lot_machine::Reply;
 use lot_script::Slice;
-use lot_system::{Answer, System, TurnFault};
 use std::marker::Brand;
 use std::sync::ledger::{Book, Ledger};
 

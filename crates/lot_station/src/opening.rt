@@ -8,7 +8,7 @@ ghost use Rattle.lot_station.specs.Settings.{turns_in};
 use crate::desk::Desk;
 use crate::holding::{Holding, opened};
 use crate::{Seat, Station, TurnLedger};
-use lot_system::System;
+use lot_engine::System;
 use std::alloc::{AllocError, Global};
 use std::sync::Mutex;
 use std::sync::ledger::{Blank, Ledger, Share};

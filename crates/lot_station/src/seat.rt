@@ -3,7 +3,7 @@ ghost use Rattle.std.specs.Prelude.{◌≡◌, Some, None};
 
 use crate::TurnLedger;
 use crate::holding::Holding;
-use lot_system::TurnFault;
+use lot_engine::TurnFault;
 use std::marker::Model;
 use std::sync::ledger::Ledger;
 

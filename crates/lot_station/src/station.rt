@@ -2,7 +2,7 @@
 
 use crate::desk::Desk;
 use crate::{Seat, TurnLedger};
-use lot_system::System;
+use lot_engine::System;
 use std::marker::Model;
 use std::sync::Mutex;
 use std::sync::ledger::Ledger;
@@ -19,7 +19,7 @@ pub struct Station<T: TurnLedger, Q: Ledger, K: Ledger> {
 
 impl<T: TurnLedger, Q: Ledger, K: Ledger> Model for Station<T, Q, K> {
     ghost use Rattle.std.specs.Prelude.{◌≡◌};
-    ghost use Rattle.lot_system.specs.Seen.{Setting};
+    ghost use Rattle.lot_engine.specs.Seen.{Setting};
 
     ghost Value = { Setting };
 

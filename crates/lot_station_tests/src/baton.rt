@@ -3,8 +3,8 @@ ghost use Rattle.std.specs.Prelude.{◌≡◌};
 ghost use Rattle.lot_station.specs.BatonSeats.{IsSameSeat, seat_counts};
 
 use crate::Shares;
+use lot_engine::{Answer, TurnFault, slice_for};
 use lot_station::{BatonSeat, BatonStation};
-use lot_system::{Answer, TurnFault, slice_for};
 use lot_text::Program;
 use std::sync::Wait;
 

@@ -15,8 +15,8 @@ mod texts;
 mod turnstile;
 
 use crate::Shares;
+use lot_engine::{System, write_end};
 use lot_machine::Reply;
-use lot_system::{System, write_end};
 use lot_text::{Program, Watched, parse};
 use std::alloc::Global;
 

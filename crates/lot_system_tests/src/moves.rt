@@ -1,10 +1,10 @@
 //! A turn of a system, with the slice of its actor's work.
 ghost use Rattle.std.specs.Prelude.{◌≡◌, ◌≤◌, ◌⊎◌, IfErr, IfOk, Option};
 ghost use Rattle.lot_script.specs.Slices.{Parts};
-ghost use Rattle.lot_system.specs.Fitting.{IsStale};
-ghost use Rattle.lot_system.specs.Seen.{after_turn};
-ghost use Rattle.lot_system.specs.Turns.{Faults, IsWorkOf, Matches};
-ghost use Rattle.lot_system.specs.declared.turn.Work.{Work as WorkRecord};
+ghost use Rattle.lot_engine.specs.Fitting.{IsStale};
+ghost use Rattle.lot_engine.specs.Seen.{after_turn};
+ghost use Rattle.lot_engine.specs.Turns.{Faults, IsWorkOf, Matches};
+ghost use Rattle.lot_engine.specs.declared.turn.Work.{Work as WorkRecord};
 
 use lot_system::{System, TurnFault, slice_for};
 use lot_text::Program;

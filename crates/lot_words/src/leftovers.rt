@@ -1,8 +1,8 @@
 //! What a run leaves to tell, in words.
 
 use crate::CommandLines;
+use lot_engine::{Few, Leftovers, RefusedCommand, StuckThread};
 use lot_machine::{Refusal, Status};
-use lot_system::{Few, Leftovers, RefusedCommand, StuckThread};
 use std::io::Write;
 use std::{fmt, io, str};
 

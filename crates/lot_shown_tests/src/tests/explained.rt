@@ -1,7 +1,7 @@
 //! Inputs that are explained, and their explanations.
+use lot_engine::Played;
 use lot_explain::explain;
 use lot_io::Watched;
-use lot_system::Played;
 use std::alloc::Global;
 use std::process::Abort;
 

@@ -1,9 +1,9 @@
 //! A short run, as tables and as a picture.
 use super::SCHEDULED;
 use lot_curves::Measure;
+use lot_engine::Played;
 use lot_io::{IoFault, Watched};
 use lot_pictures::{chart, shares};
-use lot_system::Played;
 use std::alloc::Global;
 use std::process::Abort;
 use std::test::Fail;

@@ -2,7 +2,7 @@
 
 use crate::baton::view::View;
 use crossbeam_queue::protocol::{Join, Lesson, Outcome, Protocol, Split};
-use lot_system::System;
+use lot_engine::System;
 
 /// The system is in the queue, or in the hands of one pass.
 pub struct OneBaton;

@@ -4,7 +4,7 @@ ghost use Rattle.lot_station.specs.BatonSeats.{seat_counts};
 
 use crate::baton::view::View;
 use crossbeam_queue::Pass;
-use lot_system::{Counts, System, TurnFault};
+use lot_engine::{Counts, System, TurnFault};
 use std::marker::Model;
 
 /// A seat's pass of the queue.

@@ -1,6 +1,6 @@
 //! What a pass of the queue knows. No value of these types is made.
 
-use lot_system::System;
+use lot_engine::System;
 use std::collections::LinkedList;
 
 /// The actors from `from` to below `to` are the pass's own, and this is the system as it saw it.

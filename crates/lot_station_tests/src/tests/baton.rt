@@ -6,9 +6,9 @@ use crate::tests::{
     END, ENDED, EXPIRED, FIRST_DRAW, FUNDED, IDLE, SECOND_DRAW, TWO_PROCESSORS, end_of, program_of,
 };
 use crate::{baton_shares_of, make_turn};
+use lot_engine::{System, TurnFault};
 use lot_machine::Reply;
 use lot_station::{BatonSeat, BatonStation, SeatMissing};
-use lot_system::{System, TurnFault};
 use lot_text::Program;
 use std::alloc::Global;
 use std::sync::Wait;

@@ -3,9 +3,9 @@ ghost use Rattle.std.specs.Prelude.{◌≡◌, ◌+◌};
 
 use crate::tests::turnstile::Turnstile;
 use crate::tests::{TWO_PROCESSORS, program_of};
+use lot_engine::{System, TurnFault};
 use lot_processors::{Gate, OpenGate, RunFault, run_all};
 use lot_station::{Seat, Station, TurnLedger};
-use lot_system::{System, TurnFault};
 use lot_text::Program;
 use std::alloc::{AllocError, Global};
 use std::marker::Brand;

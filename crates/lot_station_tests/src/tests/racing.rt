@@ -3,8 +3,8 @@ ghost use Rattle.std.specs.Prelude.{◌≡◌, ◌+◌};
 
 use crate::tests::replaying::{Compared, Played, compared};
 use crate::tests::{TWO_PROCESSORS, program_of};
+use lot_engine::{Answer, System, slice_for};
 use lot_station::{Seat, Station, TurnLedger};
-use lot_system::{Answer, System, slice_for};
 use lot_text::Program;
 use std::alloc::{AllocError, Global};
 use std::marker::Brand;

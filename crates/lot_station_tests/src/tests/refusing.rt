@@ -2,8 +2,8 @@
 ghost use Rattle.std.specs.Prelude.{◌≡◌, ◌+◌, IfSome};
 
 use crate::tests::{TWO_PROCESSORS, opened};
+use lot_engine::System;
 use lot_station::{CloseFault, Seat, Station, TurnLedger};
-use lot_system::System;
 use std::alloc::{AllocError, Global};
 use std::marker::Brand;
 use std::sync::Wait;

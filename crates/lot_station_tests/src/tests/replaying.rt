@@ -1,7 +1,7 @@
 //! The turns of a history again, by one thread.
 
 use crate::tests::end_of;
-use lot_system::{Answer, System, slice_for};
+use lot_engine::{Answer, System, slice_for};
 use lot_text::Program;
 use std::alloc::Global;
 

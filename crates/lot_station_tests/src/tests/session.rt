@@ -5,9 +5,9 @@ use crate::tests::{
     END, ENDED, EXPIRED, FIRST_DRAW, FUNDED, IDLE, SECOND_DRAW, TWO_PROCESSORS, end_of, opened,
 };
 use crate::{Shares, shares_of};
+use lot_engine::{System, slice_for};
 use lot_machine::Reply;
 use lot_station::{Seat, Station, TurnLedger};
-use lot_system::{System, slice_for};
 use lot_text::Program;
 use std::alloc::{AllocError, Global};
 use std::marker::Brand;

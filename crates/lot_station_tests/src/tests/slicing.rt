@@ -3,10 +3,10 @@ ghost use Rattle.std.specs.Prelude.{◌≡◌, ◌+◌};
 
 use crate::tests::opened;
 use crate::{Shares, shares_of};
+use lot_engine::{System, TurnFault, Work, slice_for};
 use lot_machine::{Outcome, Reply};
 use lot_script::Place;
 use lot_station::{Seat, Station, TurnLedger};
-use lot_system::{System, TurnFault, Work, slice_for};
 use lot_text::Program;
 use std::alloc::{AllocError, Global};
 use std::marker::Brand;

@@ -1,7 +1,7 @@
 //! The texts of faults.
 
+use lot_engine::TurnFault;
 use lot_processors::{FreeRunFault, RunFault};
-use lot_system::TurnFault;
 use std::test::*;
 
 #[test]

@@ -1,7 +1,7 @@
 //! Histories that are full.
 
+use lot_engine::{System, TurnFault};
 use lot_machine::Reply;
-use lot_system::{System, TurnFault};
 use lot_text::parse;
 use std::process::Abort;
 use std::test::Fail;

@@ -1,13 +1,13 @@
 //! Calls that allocate memory, at the least and the largest sizes.
 ghost use Rattle.std.specs.Prelude.{◌≡◌, ◌+◌};
 
+use lot_engine::System;
 use lot_graph::Graph;
 use lot_kernel::Kernel;
 use lot_lists::Lists;
 use lot_machine::{Limits, Node, Sizes};
 use lot_queues::Queues;
 use lot_station::{BatonStation, Station, TurnLedger};
-use lot_system::System;
 use lot_text::{Program, parse};
 use lot_tree::SumTree;
 use std::alloc::{AllocError, Global};

@@ -4,7 +4,7 @@ use Rattle.std.specs.Io.KnownBytes.{Appends}
 use Rattle.lot_simulation.specs.Output.{end_text}
 use Rattle.lot_simulation.specs.World.{Program}
 use Rattle.lot_io.specs.declared.fault.IoFault.{IoFault}
-use Rattle.lot_system.specs.Seen.{Setting}
+use Rattle.lot_engine.specs.Seen.{Setting}
 use Rattle.lot_io.specs.Writing.{Begins}
 use Rattle.lot_command.specs.declared.run.RunStop.TheVariants.{Play}
 use Rattle.lot_command.specs.Running.{EndsRun}

@@ -1,6 +1,6 @@
 use Rattle.std.proofs.Common.{◌∙◌, ap, arith}
 use Rattle.lot_simulation.specs.World.{number_of}
-use Rattle.lot_system.specs.Seen.{world_of}
+use Rattle.lot_engine.specs.Seen.{world_of}
 use Rattle.lot_explain.specs.Lots.{entrants_in}
 use Rattle.lot_explain.proofs.EventFacts.{event-given}
 use Rattle.lot_explain.proofs.entrants.next_entrants.Goals as goal

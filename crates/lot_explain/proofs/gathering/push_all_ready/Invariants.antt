@@ -1,7 +1,7 @@
 use Rattle.std.proofs.Common.{◌≡◌, ◌≤◌}
 use Rattle.std.specs.List.{flat_map, range_with_len}
 use Rattle.std.specs.Prelude.{vec_capacity, vec_len}
-use Rattle.lot_system.specs.Seen.{world_of}
+use Rattle.lot_engine.specs.Seen.{world_of}
 use Rattle.lot_explain.specs.Gathering.{lot_if_ready}
 use Rattle.lot_explain.proofs.gathering.push_all_ready.Given as goal
 

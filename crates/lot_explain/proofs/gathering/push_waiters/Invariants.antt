@@ -1,6 +1,6 @@
 use Rattle.std.proofs.Common.{◌≡◌, map, take}
 use Rattle.std.specs.Prelude.{vec_capacity}
-use Rattle.lot_system.specs.Seen.{world_of}
+use Rattle.lot_engine.specs.Seen.{world_of}
 use Rattle.lot_explain.specs.Lots.{waiter_lot}
 use Rattle.lot_explain.proofs.gathering.push_waiters.Given as goal
 

@@ -1,6 +1,6 @@
 use Rattle.std.proofs.Common.{◌≡◌, ◌<◌, ◌^◌, Some, [], ◌∷◌, refl, sym, ◌∙◌, ap, subst, rules}
 use Rattle.lot_simulation.specs.World.{Program}
-use Rattle.lot_system.specs.InTime.{IsDue, IsFollowed, next_turns, turn_told}
+use Rattle.lot_engine.specs.InTime.{IsDue, IsFollowed, next_turns, turn_told}
 use Rattle.lot_playback.proofs.ClockFacts.{time-due, time-made, time-there}
 use Rattle.lot_playback.proofs.making.make_in_time.Goals as goal
 

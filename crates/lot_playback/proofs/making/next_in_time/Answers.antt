@@ -1,7 +1,7 @@
 use Rattle.std.proofs.Common.{◌≡◌, Option, None, Some, [], refl, sym, subst}
 use Rattle.std.specs.Option.{IfNone}
 use Rattle.lot_simulation.specs.World.{Program}
-use Rattle.lot_system.specs.InTime.{IsDue, next_turns}
+use Rattle.lot_engine.specs.InTime.{IsDue, next_turns}
 use Rattle.lot_playback.proofs.ClockFacts.{time-next, time-none}
 use Rattle.lot_playback.proofs.making.next_in_time.Goals as goal
 

@@ -1,7 +1,7 @@
 -- What was made before the loop, before a turn, and by it.
 use Rattle.std.proofs.Common.{◌≡◌, ◌+◌, ◌∙◌, refl, sym, subst, arith}
 use Rattle.std.proofs.lemmas.Result.{err_from_is_err_and}
-use Rattle.lot_system.specs.Turns.{IsWorkOf}
+use Rattle.lot_engine.specs.Turns.{IsWorkOf}
 use Rattle.lot_processors.specs.BatonWorkers.{HasMade}
 use Rattle.lot_processors.proofs.BatonWork.{looked, made_then, next_work, none_made, refused, stopped, turned, unfit}
 use Rattle.lot_processors.proofs.baton_workers.processor_turns.Goals as goal

@@ -1,7 +1,7 @@
 -- The seats were dealt by an empty system. They made all their turns, which are those of the history; or one was stopped first.
 use Rattle.std.proofs.Common.{◌≡◌, ◌≤◌, inl, inr, sym, ◌∙◌, ap, subst}
 use Rattle.lot_simulation.specs.World.{IsLegal}
-use Rattle.lot_system.specs.Seen.{Setting}
+use Rattle.lot_engine.specs.Seen.{Setting}
 use Rattle.lot_processors.specs.Workers.{AllMade}
 use Rattle.lot_processors.proofs.FreeRuns.{free_turns, has_others, still_in_order}
 use Rattle.lot_processors.proofs.free_runs.run_system.Goals as goal

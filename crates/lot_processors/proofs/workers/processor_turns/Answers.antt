@@ -1,7 +1,7 @@
 -- What was made before a turn, and by it.
 use Rattle.std.proofs.Common.{refl, sym, subst, arith, ap, ◌∙◌}
 use Rattle.std.proofs.lemmas.Result.{err_from_is_err_and}
-use Rattle.lot_system.specs.Turns.{IsWorkOf}
+use Rattle.lot_engine.specs.Turns.{IsWorkOf}
 use Rattle.lot_station.specs.Holders.{Holder}
 use Rattle.lot_station.specs.Settings.{AtSome}
 use Rattle.lot_processors.proofs.SeatWork.{none_made, refused, stopped, turned, unfit}

@@ -1,5 +1,5 @@
 use Rattle.std.proofs.Common.{ap, ◌∙◌}
-use Rattle.lot_system.specs.declared.counts.Counts.{Counts}
+use Rattle.lot_engine.specs.declared.counts.Counts.{Counts}
 use Rattle.lot_station.proofs.Counting.{length-turns_of}
 use Rattle.lot_station.proofs.closing.times.Goals as goal
 

@@ -1,6 +1,6 @@
 use Rattle.std.proofs.Common.{rules, ◌+◌, ap, ◌∙◌}
 use Rattle.lot_simulation.specs.Report.{quanta_in, ticks_in, total_of, turns_of}
-use Rattle.lot_system.specs.declared.counts.Counts.{Counts}
+use Rattle.lot_engine.specs.declared.counts.Counts.{Counts}
 use Rattle.lot_station.specs.Settings.{times_in, turns_in}
 use Rattle.lot_station.proofs.Counting.{length-turns_of}
 use Rattle.lot_station.proofs.Dealing.{left-enough, left-next, dealt_one, deals_one, all-turns, all-counted}

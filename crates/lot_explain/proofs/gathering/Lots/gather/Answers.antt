@@ -1,5 +1,5 @@
 use Rattle.std.proofs.Common.{map, sym, ◌∙◌, ap}
-use Rattle.lot_system.specs.Seen.{world_of}
+use Rattle.lot_engine.specs.Seen.{world_of}
 use Rattle.lot_explain.specs.Lots.{lots_among, waiter_lot}
 use Rattle.lot_explain.proofs.gathering.Lots.gather.Goals as goal
 

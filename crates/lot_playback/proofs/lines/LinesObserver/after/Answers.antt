@@ -1,6 +1,6 @@
 use Rattle.std.proofs.Common.{◌≡◌, ◌∙◌}
 use Rattle.lot_simulation.specs.World.{opening_world}
-use Rattle.lot_system.specs.Seen.{world_of}
+use Rattle.lot_engine.specs.Seen.{world_of}
 use Rattle.lot_playback.specs.Stages.{Reports}
 use Rattle.lot_playback.specs.Texts.{made_text}
 use Rattle.lot_playback.specs.Turns.{MadeTurn}

@@ -1,5 +1,5 @@
 use Rattle.std.proofs.Common.{List, ap, sym, ◌∙◌, subst, refl, inr}
-use Rattle.lot_system.specs.Seen.{Setting}
+use Rattle.lot_engine.specs.Seen.{Setting}
 use Rattle.lot_station.specs.Holders.{Holder, CountsAgree, InOrder}
 use Rattle.lot_station.proofs.station.Station.close.Goals as goal
 

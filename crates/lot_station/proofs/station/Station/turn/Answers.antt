@@ -1,7 +1,7 @@
 -- What lies under the lock is of the station's program and room.
 use Rattle.std.proofs.Common.{IfOk, IfErr, subst}
-use Rattle.lot_system.specs.Seen.{Setting}
-use Rattle.lot_system.specs.Turns.{Answers, Faults, Goes, IsWorkOf}
+use Rattle.lot_engine.specs.Seen.{Setting}
+use Rattle.lot_engine.specs.Turns.{Answers, Faults, Goes, IsWorkOf}
 use Rattle.lot_station.specs.Settings.{AtSome}
 use Rattle.lot_station.proofs.station.Station.turn.Goals as goal
 

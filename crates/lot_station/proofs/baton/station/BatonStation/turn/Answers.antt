@@ -1,6 +1,6 @@
 use Rattle.std.proofs.Common.{IfOk, IfErr, ap, subst}
 use Rattle.crossbeam_queue.specs.Passes.{view}
-use Rattle.lot_system.specs.Turns.{Faults}
+use Rattle.lot_engine.specs.Turns.{Faults}
 use Rattle.lot_station.specs.declared.baton.view.View.{View}
 use Rattle.lot_station.specs.BatonViews.{SeesAll}
 use Rattle.lot_station.specs.BatonSeats.{seat, Looks, Turns, seen_in}

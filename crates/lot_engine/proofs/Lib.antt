@@ -1,0 +1,16 @@
+pub mod StepFacts
+pub mod ReplyFacts
+pub mod Runs
+pub mod PlaceFacts
+pub mod TurnFacts
+pub mod RunFacts
+pub mod TimeFacts
+pub mod WaitFacts
+pub mod FollowFacts
+pub mod TimedReportFacts
+pub mod CountFacts
+pub mod WritingFacts
+pub mod ListingFacts
+pub mod PlayingFacts
+pub mod WorkFacts
+pub mod Openings

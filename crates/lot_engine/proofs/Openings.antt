@@ -1,0 +1,28 @@
+-- A system with no turn holds its program's opening world.
+use Rattle.std.proofs.Common.{◌≡◌, ℕ, List, [], arith, refl, subst, sym}
+use Rattle.lot_machine.specs.State.{State, opening}
+use Rattle.lot_script.specs.Places.{Place}
+use Rattle.lot_simulation.specs.World.{Program, opening_world, system_run}
+use Rattle.lot_engine.specs.Counted.{IsCount}
+use Rattle.lot_engine.specs.Held.{IsHeld}
+
+opens : (program : Program) → IsHeld program (opening_world program) (opening program.limits) [] program.seeds 0
+opens program = record {
+  state = refl;
+  kept = record { limits = refl; records = refl; count = omega arith };
+  places_at = tt;
+  seeds = refl;
+  wide = refl;
+  commands = refl;
+}
+
+pub opening-held : (program : Program) (history : List ℕ) (state : State) (places : List Place) (generators : List ℕ) → history ≡ [] → state ≡ opening program.limits → places ≡ [] → generators ≡ program.seeds → IsHeld program (system_run program history) state places generators 0
+opening-held program history state places generators none is placed seeded =
+    subst (λ h. IsHeld program (system_run program h) state places generators 0) (sym none)
+    (subst (λ s. IsHeld program (opening_world program) s places generators 0) (sym is)
+    (subst (λ ps. IsHeld program (opening_world program) (opening program.limits) ps generators 0) (sym placed)
+    (subst (λ gs. IsHeld program (opening_world program) (opening program.limits) [] gs 0) (sym seeded) (opens program))))
+
+-- no turn counts nothing
+pub nothing-counted : IsCount [] 0 (record { turns = 0; quanta = 0; idles = 0; ticks = 0 })
+nothing-counted = record { exact = refl; small = record { turns = omega arith; quanta = omega arith; idles = omega arith; ticks = omega arith } }

@@ -1,0 +1,54 @@
+-- What is written of the turns of a schedule.
+use Rattle.std.proofs.Common.{◌≡◌, ℕ, ◌+◌, List, [], ◌∷◌, ◌++◌, codes, refl, sym, ◌∙◌, ap, arith, length-append}
+use Rattle.std.specs.Fmt.{decimal}
+use Rattle.lot_machine.specs.declared.event.Event.{Event}
+use Rattle.lot_machine.specs.declared.reply.Reply.{Reply}
+use Rattle.lot_simulation.specs.Output.{answer_text, turn_text}
+use Rattle.lot_simulation.specs.Report.{report}
+use Rattle.lot_simulation.specs.declared.manner.Manner.{Manner}
+use Rattle.lot_simulation.specs.Texts.{front, reply_text}
+use Rattle.lot_simulation.specs.World.{Program, World, Answer, Turn, system_turn, system_run}
+use Rattle.lot_simulation.specs.World.Answer.{Answered}
+use Rattle.lot_engine.specs.Playing.{HasPlayed, IsPlayed, turn_in}
+use Rattle.lot_engine.specs.Seen.{Seen, Setting, world_of, after_turn}
+use Rattle.lot_engine.proofs.Runs.{system_run-one_more, past-more}
+
+-- ---- a turn that goes
+
+module _ (old : Seen) (actor : ℕ) (e : Event) (r : Reply) (is : (turn_in old actor).answer ≡ Answered e r) where
+  world-after : world_of (after_turn old actor) ≡ (turn_in old actor).world
+  world-after = system_run-one_more old.setting.program old.history actor
+
+  pub played-after : IsPlayed old actor (after_turn old actor)
+  played-after =
+      record {
+        setting = refl;
+        world = world-after;
+        past = λ past. past-more old.setting.program old.history actor e r past is;
+        bounded = omega (arith, length-append old.history (actor ∷ []));
+      }
+
+  pub text-after : (manner : Manner) → front manner ++ (decimal actor ++ (codes " " ++ reply_text manner (world_of (after_turn old actor)).state e r)) ≡ turn_text manner actor (turn_in old actor)
+  text-after manner =
+      ap (λ (w : World). front manner ++ (decimal actor ++ (codes " " ++ reply_text manner w.state e r))) world-after
+      ∙ ap (λ (a : Answer). front manner ++ (decimal actor ++ (codes " " ++ answer_text manner (turn_in old actor).world.state a))) (sym is)
+
+-- ---- turns one after another
+
+module _ (program : Program) (actors : List ℕ) (old : Seen) (has : HasPlayed program actors old) (actor : ℕ) where
+  pub turn-is : turn_in old actor ≡ system_turn program (system_run program actors) actor
+  turn-is = ap (λ (p : Program). system_turn p (world_of old) actor) has.program_is ∙ ap (λ (w : World). system_turn program w actor) has.world
+
+  pub played-more : (now : Seen) → IsPlayed old actor now → HasPlayed program (actors ++ actor ∷ []) now
+  played-more now is =
+      record {
+        program_is = ap (λ (x : Setting). x.program) is.setting ∙ has.program_is;
+        world = is.world ∙ ap (λ (t : Turn). t.world) turn-is ∙ sym (system_run-one_more program actors actor);
+        past = is.past has.past;
+        bounded = omega (arith, length-append actors (actor ∷ []), is.bounded, has.bounded);
+      }
+
+-- the report of a system is that of the history that the turns left
+pub report-is : (program : Program) (seen : Seen) → HasPlayed program program.schedule seen → report seen.setting.program seen.history ≡ report program (system_run program program.schedule).history
+report-is program seen has =
+    ap (λ (p : Program). report p seen.history) has.program_is ∙ ap (report program) (sym has.past ∙ ap (λ (w : World). w.history) has.world)

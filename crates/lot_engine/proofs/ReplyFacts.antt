@@ -1,0 +1,101 @@
+-- Whom a reply names.
+use Rattle.std.proofs.Common.{◌≡◌, ℕ, zero, suc, ◌+◌, ◌==◌, false, not, ◌||◌, Option, Some, None, is_none, List, [], ◌∷◌, length, map, option_map, nat_lt, refl, sym, ◌∙◌, ap, arith, length-append}
+use Rattle.std.specs.List.{slice_get}
+use Rattle.std.proofs.lemmas.Bool.{ltb-false, leb-false, or_parts, eqb-false}
+use Rattle.std.proofs.lemmas.Option.{slice_get_within}
+use Rattle.lot_machine.specs.declared.record.Record.{Record}
+use Rattle.lot_machine.specs.declared.record.Status.{Status}
+use Rattle.lot_machine.specs.declared.action.Action.{Action}
+use Rattle.lot_machine.specs.declared.command.Command.{Command}
+use Rattle.lot_machine.specs.declared.command.Command.TheVariants.{MakeTicket, RemoveTicket, MakeCurrency, RemoveCurrency, Fund, Unfund, MakeThread, MakeFunded, List as Listing}
+use Rattle.lot_machine.specs.declared.event.Event.TheVariants as event
+use Rattle.lot_machine.specs.declared.refusal.Refusal.{Refusal}
+use Rattle.lot_machine.specs.declared.refusal.Refusal.TheVariants.{BadName, NameTaken, NoCurrency, BadAmount, Full, NoScript}
+use Rattle.lot_machine.specs.declared.drawn.Drawn.{Drawn}
+use Rattle.lot_machine.specs.Bounds.{IsBetween}
+use Rattle.lot_machine.specs.Lottery.{winner}
+use Rattle.lot_machine.specs.State.{State, status_of, ready_threads, weight_of}
+use Rattle.lot_machine.specs.Commands.{Step, is_bad_amount, is_good_name, is_taken, is_no_script, are_tickets_full, are_threads_full, currency_named, with_thread, command_effect, command_step, unless_refused}
+use Rattle.lot_machine.specs.Step.{draw, thread_there, event_refusal, event_effect, step}
+use Rattle.lot_machine.proofs.CommandsKept.{all-pass}
+use Rattle.lot_machine.proofs.Tickets.{at_number-suc}
+use Rattle.lot_simulation.proofs.DrawnThreads.{drawn-numbered}
+use Rattle.lot_engine.specs.Steps.{KeepsThreads, OneMore, MakesThread, OfDraw, OfRun}
+
+-- ---- commands
+
+with_thread-more : (s : State) (name : List ℕ) (script : ℕ) → is_no_script s script ≡ false → are_threads_full s ≡ false → OneMore s (with_thread s name script) (length s.threads + 1)
+with_thread-more s name script known room =
+    let parts = or_parts (script == 0) (nat_lt s.limits.scripts script) known in
+    let free = leb-false s.limits.threads (length s.threads) room in
+    record {
+      number = refl;
+      thread = record { name = name; script = script };
+      threads = refl;
+      records = length-append s.records _;
+      script = (omega (arith, eqb-false script 0 parts.0), ltb-false s.limits.scripts script parts.1);
+      limits = refl;
+      count = omega (arith, free);
+    }
+
+kept-same : (s : State) (c : Command) (o : Option Refusal) (next : Step) → KeepsThreads s s → ((o ≡ None) → MakesThread s next.state next.reply) → MakesThread s (unless_refused s o next).state (unless_refused s o next).reply
+kept-same s c None next none made = made refl
+kept-same s c (Some refusal) next none made = none
+
+unchanged : (s : State) → KeepsThreads s s
+unchanged s = record { threads = refl; records = refl; limits = refl }
+
+pub command-makes : (s : State) (c : Command) → MakesThread s (command_step s c).state (command_step s c).reply
+command-makes s (MakeTicket amount currency) = kept-same s (MakeTicket amount currency) _ (command_effect s (MakeTicket amount currency)) (unchanged s) (λ _. record { threads = refl; records = refl; limits = refl })
+command-makes s (RemoveTicket n) = kept-same s (RemoveTicket n) _ (command_effect s (RemoveTicket n)) (unchanged s) (λ _. record { threads = refl; records = refl; limits = refl })
+command-makes s (MakeCurrency name) = kept-same s (MakeCurrency name) _ (command_effect s (MakeCurrency name)) (unchanged s) (λ _. record { threads = refl; records = refl; limits = refl })
+command-makes s (RemoveCurrency currency) = kept-same s (RemoveCurrency currency) _ (command_effect s (RemoveCurrency currency)) (unchanged s) (λ _. record { threads = refl; records = refl; limits = refl })
+command-makes s (Fund n name) = kept-same s (Fund n name) _ (command_effect s (Fund n name)) (unchanged s) (λ _. record { threads = refl; records = refl; limits = refl })
+command-makes s (Unfund n) = kept-same s (Unfund n) _ (command_effect s (Unfund n)) (unchanged s) (λ _. record { threads = refl; records = refl; limits = refl })
+command-makes s (MakeThread name script) =
+    kept-same s (MakeThread name script) _ (command_effect s (MakeThread name script)) (unchanged s) (λ e.
+    let passed = all-pass ((not (is_good_name name), BadName) ∷ (is_taken s name, NameTaken) ∷ (is_no_script s script, NoScript) ∷ (are_threads_full s, Full) ∷ []) e in
+    with_thread-more s name script passed.1.1.0 passed.1.1.1.0)
+command-makes s (MakeFunded amount currency name script) =
+    kept-same s (MakeFunded amount currency name script) _ (command_effect s (MakeFunded amount currency name script)) (unchanged s) (λ e.
+    let passed = all-pass ((is_bad_amount amount, BadAmount) ∷ (is_none (currency_named s currency), NoCurrency) ∷ (not (is_good_name name), BadName) ∷ (is_taken s name, NameTaken) ∷ (is_no_script s script, NoScript) ∷ (are_tickets_full s || are_threads_full s, Full) ∷ []) e in
+    let more = with_thread-more s name script passed.1.1.1.1.0 (or_parts (are_tickets_full s) (are_threads_full s) passed.1.1.1.1.1.0).1 in
+    record { number = more.number; thread = more.thread; threads = more.threads; records = more.records; script = more.script; limits = more.limits; count = more.count })
+command-makes s (Listing kind) = unchanged s
+
+-- ---- draws
+
+-- who has a status is one of the numbered
+pub numbered : (records : List Record) (t : ℕ) (status : Status) → status_of records t ≡ Some status → IsBetween 1 (length records) t
+numbered records zero status e = cc
+numbered records (suc i) status e = from (slice_get records i) refl (sym (ap (option_map (λ (r : Record). r.status)) (at_number-suc records i)) ∙ e)
+  where
+    from : (o : Option Record) → slice_get records i ≡ o → option_map (λ (r : Record). r.status) o ≡ Some status → IsBetween 1 (length records) (suc i)
+    from None is h = cc
+    from (Some r) is h = (omega arith, omega (arith, slice_get_within records i r is))
+
+drawn-names : (s : State) (p d : ℕ) → OfDraw (length s.records) (draw s p d).reply
+drawn-names s p d = at (winner (map (weight_of s) (ready_threads s.records)) d) refl
+  where
+    at : (o : Option Drawn) → winner (map (weight_of s) (ready_threads s.records)) d ≡ o → OfDraw (length s.records) (draw s p d).reply
+    at None is = rw is tt
+    at (Some w) is = rw is (drawn-numbered s d w is)
+
+refused-draw : (s : State) (count : ℕ) (o : Option Refusal) (next : Step) → OfDraw count next.reply → OfDraw count (unless_refused s o next).reply
+refused-draw s count None next is = is
+refused-draw s count (Some refusal) next is = tt
+
+pub draw-names : (s : State) (p d : ℕ) → OfDraw (length s.records) (step s (event.Draw p d)).reply
+draw-names s p d = refused-draw s (length s.records) (event_refusal s (event.Draw p d)) (draw s p d) (drawn-names s p d)
+
+-- ---- expiries and traps
+
+refused-run : (s : State) (t : ℕ) (o : Option Refusal) (next : Step) → OfRun t next.reply → OfRun t (unless_refused s o next).reply
+refused-run s t None next is = is
+refused-run s t (Some refusal) next is = tt
+
+pub expire-names : (s : State) (p : ℕ) → OfRun (thread_there s p) (step s (event.Expire p)).reply
+expire-names s p = refused-run s (thread_there s p) (event_refusal s (event.Expire p)) (event_effect s (event.Expire p)) refl
+
+pub trap-names : (s : State) (p ran : ℕ) (action : Action) → OfRun (thread_there s p) (step s (event.Trap p ran action)).reply
+trap-names s p ran action = refused-run s (thread_there s p) (event_refusal s (event.Trap p ran action)) (event_effect s (event.Trap p ran action)) refl

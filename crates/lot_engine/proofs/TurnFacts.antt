@@ -1,0 +1,336 @@
+-- What a system holds after a turn is what the world comes to.
+use Rattle.std.proofs.Common.{◌≡◌, ◌↔◌, ℕ, suc, ◌+◌, ◌-◌, ◌<◌, ◌≤◌, ◌==◌, Bool, true, false, Option, Some, None, List, [], ◌∷◌, ◌++◌, length, drop, get_or, unwrap_or, option_map, refl, sym, ◌∙◌, ap, subst, arith, length-append, ne_eqb}
+use Rattle.std.specs.Prelude.{if◌then◌else◌, nat_lt, count_by, is_some}
+use Rattle.std.proofs.Math.Seq.{drop-cons}
+use Rattle.std.proofs.Math.ListN.{drop_of_length-le}
+use Rattle.std.proofs.lemmas.Bool.{ltb-true, ltb-false}
+use Rattle.std.proofs.lemmas.List.Sums.{sum_by_push}
+use Rattle.std.proofs.lemmas.List.Elements.{All-push}
+use Rattle.std.specs.Option.{IfSome}
+use Rattle.lot_machine.specs.declared.record.Record.{Record}
+use Rattle.lot_machine.specs.declared.record.Thread.{Thread}
+use Rattle.lot_machine.specs.declared.record.Status.TheVariants.{Running}
+use Rattle.lot_simulation.specs.declared.script.ScriptTrap.{ScriptTrap}
+use Rattle.lot_machine.specs.declared.command.Command.{Command}
+use Rattle.lot_machine.specs.declared.command.Command.TheVariants.{List as Listing}
+use Rattle.lot_machine.specs.declared.command.Kind.TheVariants.{Threads}
+use Rattle.lot_machine.specs.declared.event.Event.{Event}
+use Rattle.lot_machine.specs.declared.event.Event.TheVariants as event
+use Rattle.lot_machine.specs.declared.reply.Reply.{Reply}
+use Rattle.lot_machine.specs.declared.reply.Reply.TheVariants as reply
+use Rattle.lot_machine.specs.Bounds.{IsBetween}
+use Rattle.lot_machine.specs.Numbered.{at_number, set_number}
+use Rattle.lot_simulation.specs.Script.{Context, slice}
+use Rattle.lot_machine.specs.State.{State, thread_on, used_by}
+use Rattle.lot_machine.specs.Step.{step, thread_there, used_there}
+use Rattle.lot_simulation.specs.World.{Program, World, action_of, event_of_slice, generator_of, number_from, seed_from, number_of, context_of, slice_on, processor_event, takes_number, delivered_to, number_delivered, contexts_after, new_contexts, console_turn, processor_turn, system_turn, IsLegal}
+use Rattle.lot_simulation.specs.World.Answer.{Answered}
+use Rattle.lot_machine.proofs.RecordsKept.{found-runs}
+use Rattle.lot_script.specs.Drafts.{IsScript}
+use Rattle.lot_script.specs.Places.{Place, context_at, first_place}
+use Rattle.lot_script.specs.Slices.{Parts, IsSlice}
+use Rattle.lot_engine.specs.declared.turn.Work.{Work}
+use Rattle.lot_engine.specs.Held.{script_lines, IsAt, AreAt, IsKept, IsHeld}
+use Rattle.lot_engine.specs.Steps.{KeepsThreads, MakesIn, MakesThread, made_thread, OfDraw, OfRun, OfGiven, done_of, event_given, delivered_to_place, place_of, places_after}
+use Rattle.lot_engine.specs.Turns.{IsWork, IsWorkIn, IsSliceOf, Matches}
+use Rattle.lot_engine.proofs.StepFacts.{draws-same, expires-same, traps-same}
+use Rattle.lot_engine.proofs.ReplyFacts.{command-makes, numbered, draw-names, expire-names, trap-names}
+use Rattle.lot_simulation.proofs.DrawnThreads.{number-some}
+use Rattle.lot_engine.proofs.PlaceFacts.{number-or, at-delivered_to, at-lengths, at-place, at-set}
+
+-- ---- what is kept
+
+kept-in : (program : Program) (s after : State) (made : Option ℕ) → IsKept program s → MakesIn s after made → IsKept program after
+kept-in program s after None kept is =
+    record { limits = is.limits ∙ kept.limits; records = is.records ∙ kept.records ∙ ap length (sym is.threads); count = rw (is.threads, is.limits) kept.count }
+kept-in program s after (Some n) kept is =
+    let longer = length-append s.threads (is.thread ∷ []) in
+    let threads : length after.threads ≡ length s.threads + 1 = ap length is.threads ∙ longer in
+    let room : length s.threads + 1 ≤ after.limits.threads = rw is.limits is.count in
+    record { limits = is.limits ∙ kept.limits; records = is.records ∙ ap (λ n. n + 1) kept.records ∙ sym threads; count = rw threads room }
+
+pub kept-made : (program : Program) (s after : State) (r : Reply) → IsKept program s → MakesThread s after r → IsKept program after
+kept-made program s after r kept makes = kept-in program s after (made_thread r) kept makes
+
+-- ---- the console
+
+module _ (program : Program) (w : World) (s : State) (places : List Place) (seeds : List ℕ) (spent : ℕ) (held : IsHeld program w s places seeds spent) where
+  -- a command is left if the world has one
+  pub command-left : ¬ (◌≡◌ {A = ℕ} 0 0 × (w.commands ≡ [])) → spent < length program.commands
+  command-left some = at (nat_lt spent (length program.commands)) refl
+    where
+      at : (b : Bool) → nat_lt spent (length program.commands) ≡ b → spent < length program.commands
+      at true is = ltb-true spent (length program.commands) is
+      at false is = absurd (some (refl, sym held.commands ∙ drop_of_length-le program.commands (ltb-false spent (length program.commands) is)))
+
+  -- no command is left if and only if as many were run as there are
+  pub commands-ended : (commands : List Command) → commands ≡ program.commands → (actor : ℕ) → actor ≡ 0 → (length commands ≤ spent) ↔ ((actor ≡ 0) × (w.commands ≡ []))
+  commands-ended commands same actor zero_is = (
+    λ most. (zero_is, sym held.commands ∙ drop_of_length-le program.commands (omega (arith, most, ap length same))),
+    λ ended. none (nat_lt spent (length program.commands)) refl ended.1,
+  )
+    where
+      none : (b : Bool) → nat_lt spent (length program.commands) ≡ b → w.commands ≡ [] → length commands ≤ spent
+      none false is e = omega (arith, ltb-false spent (length program.commands) is, ap length same)
+      none true is e =
+          let left : drop spent program.commands ≡ get_or program.commands spent (Listing Threads) ∷ drop (suc spent) program.commands = drop-cons program.commands spent (Listing Threads) (ltb-true spent (length program.commands) is) in
+          absurd (cons-nil (sym left ∙ held.commands ∙ e))
+        where
+          cons-nil : {x : Command} {xs : List Command} → x ∷ xs ≡ [] → ⊥
+          cons-nil e = cc
+
+  pub command-next : (commands : List Command) (c d : Command) → spent < length program.commands → commands ≡ program.commands → d ≡ get_or commands spent d → c ≡ d → w.commands ≡ c ∷ drop (spent + 1) program.commands
+  command-next commands c d below same is copy =
+      let next : spent + 1 ≡ suc spent = omega arith in
+      let first : c ≡ get_or program.commands spent d = copy ∙ is ∙ ap (λ (cs : List Command). get_or cs spent d) same in
+      sym held.commands ∙ drop-cons program.commands spent d below ∙ ap (λ (x : Command). x ∷ drop (suc spent) program.commands) (sym first) ∙ ap (λ n. c ∷ drop n program.commands) (sym next)
+
+  module _ (c : Command) (cs : List Command) (is : w.commands ≡ c ∷ cs) (after : State) (r : Reply) (state : after ≡ (step s (event.Command c)).state) (replied : r ≡ (step s (event.Command c)).reply) where
+    pub command-made : MakesThread s after r
+    command-made = rw (state, replied) (command-makes s c)
+
+    pub command-answer : (system_turn program w 0).answer ≡ Answered (event.Command c) r
+    command-answer = let world : system_turn program w 0 ≡ console_turn program w (c ∷ cs) = rw is refl in rw (world, replied, held.state) refl
+
+    pub command-held : cs ≡ drop (spent + 1) program.commands → (now : List Place) → AreAt program after.threads now (w.contexts ++ new_contexts program s after) → IsHeld program (system_turn program w 0).world after now seeds (spent + 1)
+    command-held left now at =
+        let world : system_turn program w 0 ≡ console_turn program w (c ∷ cs) = rw is refl in
+        let ends : after ≡ (step w.state (event.Command c)).state = state ∙ ap (λ (x : State). (step x (event.Command c)).state) held.state in
+        rw world (record {
+          state = ends;
+          kept = kept-made program s after r held.kept command-made;
+          places_at = subst (λ (x : State). AreAt program after.threads now (w.contexts ++ new_contexts program w.state x)) ends (subst (λ (x : State). AreAt program after.threads now (w.contexts ++ new_contexts program x after)) held.state at);
+          seeds = held.seeds;
+          wide = held.wide;
+          commands = sym left;
+        })
+
+-- ---- processors
+
+pub system_turn-processor : (program : Program) (w : World) (p : ℕ) → 0 < p → system_turn program w p ≡ processor_turn w p (processor_event w p)
+system_turn-processor program w p some = let no : (p == 0) ≡ false = ne_eqb p 0 (λ e. omega arith) in rw no refl
+
+-- what the thread on a processor does is what the slice of its work does
+slice-done : (program : Program) (w : World) (p : ℕ) (work : Work) (given : Parts) → IsWork program w p work → IsSliceOf program work given → IsSlice given → slice_on w p work.thread ≡ done_of given
+slice-done program w p work given is of exact =
+    let context : context_of w work.thread ≡ context_at given.lines given.start =
+    sym is.means ∙ ap (λ lines. context_at lines work.place) (sym of.lines) ∙ ap (λ place. context_at given.lines place) (sym of.start) in
+    let budget = sym is.budget ∙ sym of.budget in
+    ap (λ b. slice (context_of w work.thread) b) budget ∙ ap (λ x. slice x given.budget) context ∙ exact.sliced
+
+pub event-is : (program : Program) (w : World) (p drawn : ℕ) (work : Option Work) (given : Option Parts) → 0 < p → IsWorkIn program w p work → Matches program work given → IfSome given IsSlice
+    → drawn ≡ number_of w p → processor_event w p ≡ event_given p drawn given
+event-is program w p drawn None None some is matches exact e = rw (is some, e) refl
+event-is program w p drawn None (Some given) some is matches exact e = absurd matches
+event-is program w p drawn (Some work) None some is matches exact e = absurd matches
+event-is program w p drawn (Some work) (Some given) some is matches exact e = rw (is.1.runs, slice-done program w p work given is.1 matches exact, e) refl
+
+-- the thread on a processor has a number
+pub there-between : (records : List Record) (p t : ℕ) → thread_on records p ≡ Some t → IsBetween 1 (length records) t
+there-between records p t runs = let found = found-runs records p t runs in numbered records t (Running p found.0) found.1
+
+slice-same : (s : State) (p drawn : ℕ) (given : Parts) (trap : Option ScriptTrap) → given.trap ≡ trap → KeepsThreads s (step s (event_of_slice p drawn (done_of given))).state
+slice-same s p drawn given None is = rw is (expires-same s p)
+slice-same s p drawn given (Some trap) is = rw is (traps-same s p given.ticks (action_of trap given.end.accumulator drawn))
+
+pub given-same : (s : State) (p drawn : ℕ) (given : Option Parts) → KeepsThreads s (step s (event_given p drawn given)).state
+given-same s p drawn None = draws-same s p drawn
+given-same s p drawn (Some given) = slice-same s p drawn given given.trap refl
+
+slice-names : (s : State) (p drawn : ℕ) (given : Parts) (trap : Option ScriptTrap) → given.trap ≡ trap → OfRun (thread_there s p) (step s (event_of_slice p drawn (done_of given))).reply
+slice-names s p drawn given None is = rw is (expire-names s p)
+slice-names s p drawn given (Some trap) is = rw is (trap-names s p given.ticks (action_of trap given.end.accumulator drawn))
+
+-- ---- work
+
+-- what a system answers for the thread on a processor is its work
+module _ (program : Program) (w : World) (s : State) (places : List Place) (seeds : List ℕ) (spent : ℕ) (held : IsHeld program w s places seeds spent) (p : ℕ) where
+  -- the thread's script is one of the program's
+  pub script-there : (t script : ℕ) → IsBetween 1 (length s.records) t → option_map (λ t. t.script) (at_number s.threads t) ≡ Some script → IsBetween 1 (length program.scripts) script
+  script-there t script between is =
+      let none : Thread = record { name = []; script = 0 } in
+      let start : Context = record { rest = []; accumulator = 0 } in
+      let count : IsBetween 1 (length s.threads) t = rw held.kept.records at between in
+      let numbered : at_number s.threads t ≡ Some (get_or s.threads (t - 1) none) = number-some s.threads t none count in
+      let at : IsAt program (get_or s.threads (t - 1) none) (get_or places (t - 1) first_place) (get_or w.contexts (t - 1) start) =
+      at-place program s.threads places w.contexts (t - 1) none first_place start held.places_at (omega (arith, count)) in
+      let same : Some (get_or s.threads (t - 1) none).script ≡ Some script = ap (option_map (λ (t : Thread). t.script)) (sym numbered) ∙ is in
+      let number : (get_or s.threads (t - 1) none).script ≡ script = cc in
+      rw (← number) at.script
+
+  pub work-is : (work : Work) (used : ℕ) → thread_on s.records p ≡ Some work.thread → used_by s.records p work.thread ≡ Some used → IsBetween 1 (length s.records) work.thread → used < s.limits.quantum
+      → s.limits.quantum ≤ 1000 → option_map (λ t. t.script) (at_number s.threads work.thread) ≡ Some work.script → (d : Place) → work.place ≡ get_or places (work.thread - 1) d → work.budget ≡ s.limits.quantum - used
+      → IsScript (script_lines program work.script) → IsWork program w p work
+  work-is work used runs there between below most script d context budget legal =
+      let none : Thread = record { name = []; script = 0 } in
+      let start : Context = record { rest = []; accumulator = 0 } in
+      let count : IsBetween 1 (length s.threads) work.thread = rw held.kept.records at between in
+      let numbered : at_number s.threads work.thread ≡ Some (get_or s.threads (work.thread - 1) none) = number-some s.threads work.thread none count in
+      let at : IsAt program (get_or s.threads (work.thread - 1) none) (get_or places (work.thread - 1) d) (get_or w.contexts (work.thread - 1) start) =
+      at-place program s.threads places w.contexts (work.thread - 1) none d start held.places_at (omega (arith, count)) in
+      let same : Some (get_or s.threads (work.thread - 1) none).script ≡ Some work.script = ap (option_map (λ (t : Thread). t.script)) (sym numbered) ∙ script in
+      let number : (get_or s.threads (work.thread - 1) none).script ≡ work.script = cc in
+      let here : IsAt program (get_or s.threads (work.thread - 1) none) work.place (context_of w work.thread) =
+      rw (context, number-or w.contexts work.thread start between.0) at in
+      let spent_there : used_there s p ≡ used = rw (runs, there) refl in
+      let left : work.budget ≡ w.state.limits.quantum - used_there w.state p = budget ∙ ap (λ n. s.limits.quantum - n) (sym spent_there) ∙ ap (λ (x : State). x.limits.quantum - used_there x p) held.state in
+      record {
+        runs = ap (λ (x : State). thread_on x.records p) (sym held.state) ∙ runs;
+        script = ap (λ (x : State). option_map (λ (t : Thread). t.script) (at_number x.threads work.thread)) (sym held.state) ∙ script;
+        there = rw (← number) here.script;
+        legal = legal;
+        fits = rw (← number) here.fits;
+        means = rw (← number) here.means;
+        budget = left;
+        some_left = (omega (arith, budget, below), omega (arith, budget, most));
+      }
+
+-- ---- a processor's turn
+
+module _ (program : Program) (w : World) (s : State) (p : ℕ) (state : s ≡ w.state) where
+  there-is : (t : ℕ) → thread_on w.state.records p ≡ Some t → thread_there s p ≡ t
+  there-is t runs = rw (state, runs) refl
+
+  -- whom the reply names
+  pub given-names : (drawn : ℕ) (work : Option Work) (given : Option Parts) → IsWorkIn program w p work → Matches program work given
+      → (t : ℕ) × OfGiven (length s.records) t given (step s (event_given p drawn given)).reply
+  given-names drawn None None is matches = (0, draw-names s p drawn)
+  given-names drawn None (Some given) is matches = absurd matches
+  given-names drawn (Some work) None is matches = absurd matches
+  given-names drawn (Some work) (Some given) is matches =
+      let named = slice-names s p drawn given given.trap refl in
+      let between = there-between w.state.records p work.thread is.1.runs in
+      (work.thread, (rw state between, subst (λ t. OfRun t (step s (event_given p drawn (Some given))).reply) (there-is work.thread is.1.runs) named))
+
+module _ (program : Program) (w : World) (p : ℕ) (threads : List Thread) (places : List Place) (at : AreAt program threads places w.contexts) where
+  -- the thread's place, if it is elsewhere then
+  moved : (t : ℕ) (place : Place) (context : Context) → ((d : Thread) → IsAt program (get_or threads (t - 1) d) place context) → AreAt program threads (set_number places t place) (set_number w.contexts t context)
+  moved t place context now = from threads refl
+    where
+      from : (ts : List Thread) → threads ≡ ts → AreAt program threads (set_number places t place) (set_number w.contexts t context)
+      from [] is = at-set program threads places w.contexts (t - 1) (record { name = []; script = 0 }) place context at (now (record { name = []; script = 0 }))
+      from (d ∷ ds) is = at-set program threads places w.contexts (t - 1) d place context at (now d)
+
+  draw-follows : (r : Reply) → OfDraw (length threads) r → AreAt program threads (places_after places None r) (contexts_after w p r)
+  draw-follows (reply.Winner t number total delivered) of =
+      let lengths = at-lengths program threads places w.contexts at in
+      moved t (delivered_to_place delivered (place_of places t)) (delivered_to delivered (context_of w t)) (λ d.
+      at-delivered_to program (get_or threads (t - 1) d) (place_of places t) (context_of w t) delivered
+      (rw (number-or places t first_place of.0, number-or w.contexts t (record { rest = []; accumulator = 0 }) of.0)
+      (at-place program threads places w.contexts (t - 1) d first_place (record { rest = []; accumulator = 0 }) at (omega (arith, of.0, of.1)))))
+  draw-follows reply.Idle of = at
+  draw-follows (reply.Refused why) of = at
+  draw-follows (reply.Ticket n) of = absurd of
+  draw-follows (reply.Currency n) of = absurd of
+  draw-follows (reply.Thread n) of = absurd of
+  draw-follows (reply.Funded ticket n) of = absurd of
+  draw-follows reply.Done of = absurd of
+  draw-follows (reply.List kind) of = absurd of
+  draw-follows (reply.Expired t ticks) of = absurd of
+  draw-follows (reply.Trapped t ticks outcome ends) of = absurd of
+
+  module _ (work : Work) (given : Parts) (is : IsWork program w p work) (of : IsSliceOf program work given) (exact : IsSlice given) (same : threads ≡ w.state.threads) (between : IsBetween 1 (length threads) work.thread) where
+    -- the slice's end is a place of the thread's script
+    end-at : (d : Thread) → IsAt program (get_or threads (work.thread - 1) d) given.end (slice_on w p work.thread).end
+    end-at d =
+        let numbered : at_number threads work.thread ≡ Some (get_or threads (work.thread - 1) d) = number-some threads work.thread d between in
+        let script : Some (get_or threads (work.thread - 1) d).script ≡ Some work.script =
+        ap (option_map (λ (t : Thread). t.script)) (sym numbered) ∙ ap (λ (ts : List Thread). option_map (λ (t : Thread). t.script) (at_number ts work.thread)) same ∙ is.script in
+        let number : (get_or threads (work.thread - 1) d).script ≡ work.script = cc in
+        let lines : given.lines ≡ script_lines program (get_or threads (work.thread - 1) d).script = of.lines ∙ ap (script_lines program) (sym number) in
+        record {
+          script = rw number is.there;
+          fits = rw (← lines) exact.end_fits;
+          means = rw (slice-done program w p work given is of exact, ← lines) refl;
+        }
+
+    slice-follows : (r : Reply) → OfRun work.thread r → AreAt program threads (places_after places (Some given) r) (contexts_after w p r)
+    slice-follows (reply.Expired t ticks) names = rw names (moved work.thread given.end (slice_on w p work.thread).end end-at)
+    slice-follows (reply.Trapped t ticks outcome ends) names =
+        rw names (moved work.thread (delivered_to_place (number_delivered outcome) given.end) (delivered_to (number_delivered outcome) (slice_on w p work.thread).end) (λ d.
+        at-delivered_to program (get_or threads (work.thread - 1) d) given.end (slice_on w p work.thread).end (number_delivered outcome) (end-at d)))
+    slice-follows (reply.Refused why) names = at
+    slice-follows (reply.Winner t number total delivered) names = absurd names
+    slice-follows reply.Idle names = absurd names
+    slice-follows (reply.Ticket n) names = absurd names
+    slice-follows (reply.Currency n) names = absurd names
+    slice-follows (reply.Thread n) names = absurd names
+    slice-follows (reply.Funded ticket n) names = absurd names
+    slice-follows reply.Done names = absurd names
+    slice-follows (reply.List kind) names = absurd names
+
+module _ (program : Program) (w : World) (s : State) (places : List Place) (seeds : List ℕ) (spent : ℕ) (held : IsHeld program w s places seeds spent) (p : ℕ) (some : 0 < p) where
+  module _ (drawn : ℕ) (work : Option Work) (given : Option Parts) (is : IsWorkIn program w p work) (matches : Matches program work given) (exact : IfSome given IsSlice) (number : drawn ≡ number_from (is_some program.duration) (unwrap_or (at_number seeds p) 0)) where
+    module _ (e : Event) (event_is : e ≡ event_given p drawn given) (after : State) (r : Reply) (state : after ≡ (step s e).state) (replied : r ≡ (step s e).reply) where
+      its-event : processor_event w p ≡ e
+      its-event =
+          event-is program w p drawn work given some is matches exact (number ∙ ap (λ (ns : List ℕ). number_from (is_some program.duration) (unwrap_or (at_number ns p) 0)) held.seeds ∙ ap (λ wide. number_from wide (generator_of w p)) (sym held.wide)) ∙ sym event_is
+
+      its-turn : system_turn program w p ≡ processor_turn w p e
+      its-turn = system_turn-processor program w p some ∙ ap (processor_turn w p) its-event
+
+      pub turn-answer : (system_turn program w p).answer ≡ Answered e r
+      turn-answer = rw (its-turn, replied, held.state) refl
+
+      -- whom the reply names
+      pub turn-names : (t : ℕ) × OfGiven (length places) t given r
+      turn-names =
+          let names = given-names program w s p held.state drawn work given is matches in
+          let count : length s.records ≡ length places = held.kept.records ∙ sym (at-lengths program s.threads places w.contexts held.places_at).0 in
+          (names.0, rw (replied, event_is, ← count) names.1)
+
+      same-threads : KeepsThreads s after
+      same-threads = rw (state, event_is) (given-same s p drawn given)
+
+      turn-places : AreAt program s.threads (places_after places given r) (contexts_after w p r)
+      turn-places = from work given is matches exact (subst (λ (x : Event). r ≡ (step s x).reply) event_is replied)
+        where
+          from : (wk : Option Work) (g : Option Parts) → IsWorkIn program w p wk → Matches program wk g → IfSome g IsSlice → r ≡ (step s (event_given p drawn g)).reply
+              → AreAt program s.threads (places_after places g r) (contexts_after w p r)
+          from None None a b c told =
+              draw-follows program w p s.threads places held.places_at r (rw told (subst (λ n. OfDraw n (step s (event.Draw p drawn)).reply) held.kept.records (draw-names s p drawn)))
+          from None (Some g) a b c told = absurd b
+          from (Some wk) None a b c told = absurd b
+          from (Some wk) (Some g) a b c told =
+              let between = there-between w.state.records p wk.thread a.1.runs in
+              let count : length w.state.records ≡ length s.threads = ap (λ (x : State). length x.records) (sym held.state) ∙ held.kept.records in
+              let named = slice-names s p drawn g g.trap refl in
+              slice-follows program w p s.threads places held.places_at wk g a.1 b c (ap (λ (x : State). x.threads) held.state) (rw (← count) between) r
+              (rw told (subst (λ t. OfRun t (step s (event_given p drawn (Some g))).reply) (there-is program w s p held.state wk.thread a.1.runs) named))
+
+      pub turn-held : (now : List Place) (passed : List ℕ) → now ≡ places_after places given r → passed ≡ (if takes_number e then set_number seeds p (seed_from (is_some program.duration) (unwrap_or (at_number seeds p) 0)) else seeds)
+          → IsHeld program (system_turn program w p).world after now passed spent
+      turn-held now passed at numbers =
+          let replies : r ≡ (step w.state e).reply = replied ∙ ap (λ (x : State). (step x e).reply) held.state in
+          let places_now : AreAt program after.threads now (contexts_after w p r) = rw (at, same-threads.threads) turn-places in
+          rw its-turn (record {
+            state = state ∙ ap (λ (x : State). (step x e).state) held.state;
+            kept = kept-in program s after None held.kept same-threads;
+            places_at = subst (λ (x : Reply). AreAt program after.threads now (contexts_after w p x)) replies places_now;
+            seeds = numbers ∙ ap (λ (ns : List ℕ). if takes_number e then set_number ns p (seed_from (is_some program.duration) (unwrap_or (at_number ns p) 0)) else ns) held.seeds
+                ∙ ap (λ wide. if takes_number e then set_number w.generators p (seed_from wide (generator_of w p)) else w.generators) (sym held.wide);
+            wide = held.wide;
+            commands = held.commands;
+          })
+
+-- ---- histories
+
+count-more : (history : List ℕ) (actor : ℕ) → count_by (λ a. a == 0) (history ++ actor ∷ []) ≡ count_by (λ a. a == 0) history + count_by (λ a. a == 0) (actor ∷ [])
+count-more history actor =
+    let one : (if◌then◌else◌ {A = ℕ} (actor == 0) 1 0) ≡ 0 + (if actor == 0 then 1 else 0) = omega arith in
+    sum_by_push (λ a. if a == 0 then 1 else 0) history actor ∙ ap (λ n. count_by (λ a. a == 0) history + n) one
+
+pub count-console : (history : List ℕ) → count_by (λ a. a == 0) (history ++ 0 ∷ []) ≡ count_by (λ a. a == 0) history + 1
+count-console history = count-more history 0
+
+pub count-processor : (history : List ℕ) (p : ℕ) → 0 < p → count_by (λ a. a == 0) (history ++ p ∷ []) ≡ count_by (λ a. a == 0) history
+count-processor history p some =
+    let no : (p == 0) ≡ false = ne_eqb p 0 (λ e. omega arith) in
+    let none : count_by (λ a. a == 0) (p ∷ []) ≡ 0 = rw no refl in
+    omega (arith, count-more history p, none)
+
+pub legal-more : (program : Program) (room : ℕ) (history : List ℕ) (actor : ℕ) → IsLegal program room history → actor ≤ program.limits.processors → length history < room
+    → count_by (λ a. a == 0) (history ++ actor ∷ []) ≤ length program.commands → IsLegal program room (history ++ actor ∷ [])
+legal-more program room history actor legal there below left =
+    let longer = length-append history (actor ∷ []) in
+    record { actors = All-push (λ a. a ≤ program.limits.processors) history actor legal.actors there; within_room = omega (arith, longer, below); console = left }

@@ -1,0 +1,19 @@
+-- The thread that was made is after all the others.
+use Rattle.std.proofs.Common.{sym, subst, ap, ◌∙◌, arith}
+use Rattle.lot_engine.specs.Steps.{MakesIn}
+use Rattle.lot_engine.proofs.PlaceFacts.{at-lengths, new-at}
+use Rattle.lot_engine.proofs.places.follow_command.Goals as goal
+
+pub push_reserved-requires : goal.push_reserved-requires
+push_reserved-requires c =
+    let s = c.requires.made.0 in
+    let more = subst (MakesIn s c.args.kernel.now.state) (sym c.in-Some.ensures) c.requires.made.2 in
+    let lengths = at-lengths c.args.program.now s.threads c.args.places.now.items c.requires.made.1 c.requires.made.3 in
+    let room = ap (λ l. l.threads) more.limits in
+    omega (arith, lengths.0, more.count, room, c.requires.room)
+
+pub returns-in-Some-clause-at : goal.returns-in-Some-clause-at
+returns-in-Some-clause-at c = λ s before makes at.
+    let more = subst (MakesIn s c.args.kernel.now.state) (sym c.in-Some.ensures) makes in
+    rw c.push_reserved.ensures.items
+    (new-at c.args.program.now s c.args.kernel.now.state c.in-Some.thread c.unwrap-script.result c.args.places.now.items before c.begin.result more at (sym c.unwrap-script.ensures ∙ c.script_of.ensures) c.begin.ensures)

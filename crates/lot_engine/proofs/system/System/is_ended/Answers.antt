@@ -1,0 +1,11 @@
+use Rattle.std.proofs.lemmas.Bool.{leb-true, le-leb}
+use Rattle.lot_simulation.specs.World.{system_run}
+use Rattle.lot_engine.proofs.TurnFacts.{commands-ended}
+use Rattle.lot_engine.proofs.system.System.is_ended.Goals as goal
+
+pub returns-then-actor-eq0 : goal.returns-then-actor-eq0
+returns-then-actor-eq0 c =
+    let s = c.self.inside in
+    let ended =
+    commands-ended s.program (system_run s.program s.history.items) s.kernel.state s.places.items s.generators.items s.spent c.self.invariant.held c.commands.result.now c.commands.ensures.commands c.args.actor c.if-actor-eq0.true in
+    rw (← c.self.view_is) (λ most. ended.0 (leb-true _ _ most), λ none. le-leb _ _ (ended.1 none))

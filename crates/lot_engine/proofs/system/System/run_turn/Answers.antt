@@ -1,0 +1,95 @@
+-- The place that moves on is that of the work, and what is held then is what the world comes to.
+use Rattle.std.proofs.Common.{◌≡◌, ◌++◌, [], ◌∷◌, length, ap, sym, ◌∙◌, subst, unwrap_or, arith}
+use Rattle.std.specs.Prelude.{if◌then◌else◌}
+use Rattle.lot_machine.specs.Numbered.{at_number, set_number}
+use Rattle.lot_simulation.specs.Report.{turns_made}
+use Rattle.lot_simulation.specs.World.{IsLegal, number_from, seed_from, system_turn, system_run, takes_number}
+use Rattle.lot_simulation.specs.World.Answer.{Answered}
+use Rattle.lot_script.specs.Places.{Fits}
+use Rattle.lot_engine.specs.Seen.{Seen, world_of}
+use Rattle.lot_engine.specs.Steps.{place_of}
+use Rattle.lot_engine.proofs.CountFacts.{each-after, total-after}
+use Rattle.lot_engine.proofs.RunFacts.{run-answer, run-held, run-names, thread-kept, work-kept}
+use Rattle.lot_engine.proofs.Runs.{system_run-one_more, past-more}
+use Rattle.lot_engine.proofs.TurnFacts.{count-processor, legal-more}
+use Rattle.lot_engine.proofs.system.System.run_turn.Goals as goal
+
+pub script_numbered-script-requires : goal.script_numbered-script-requires
+script_numbered-script-requires c =
+    let runs = rw (← c.self.view_is) at c.requires.runs in
+    runs.1.1.there
+
+pub pass_slice-done-requires : goal.pass_slice-done-requires
+pass_slice-done-requires c =
+    let s = c.self.inside in
+    let runs = rw (← c.self.view_is) at c.requires.runs in
+    let work = work-kept s.program (system_run s.program s.history.items) s.kernel.state s.places.items s.generators.items s.spent c.self.invariant.held c.args.actor c.args.running runs.0 runs.1.1 in
+    record {
+      there = thread-kept s.program (system_run s.program s.history.items) s.kernel.state s.places.items s.generators.items s.spent c.self.invariant.held c.args.actor c.args.running runs.0 runs.1.1;
+      fits = subst (λ lines. Fits lines (place_of s.places.items c.args.running.thread)) (sym c.script_numbered-script.ensures.lines) work.fits;
+      budget = work.some_left;
+    }
+
+pub receive-requires : goal.receive-requires
+receive-requires c =
+    let s = c.self.inside in
+    let requires = rw (← c.self.view_is) at c.requires in
+    let runs = requires.runs in
+    let number = ap (λ wide. number_from wide (unwrap_or (at_number s.generators.items c.args.actor) 0)) c.self.invariant.wide in
+    let passed = c.pass_slice-done.ensures in
+    run-names s.program (system_run s.program s.history.items) s.kernel.state s.places.items s.generators.items s.spent c.self.invariant.held c.args.actor c.args.running runs.0 runs.1.1 requires.actor
+    c.script_numbered-script.result.now c.script_numbered-script.ensures.lines c.pass_slice-done.result c.pass_slice-done.new.places.items passed.slice passed.places passed.accumulator _ number
+    c.next_event.new.event c.next_event.ensures.event c.event.new.self.state c.event.result c.event.ensures.state c.event.ensures.reply
+
+pub count_turn-requires-clause-bounded : goal.count_turn-requires-clause-bounded
+count_turn-requires-clause-bounded c =
+    let s = c.self.inside in
+    let requires = rw (← c.self.view_is) at c.requires in
+    (turns_made s.program s.history.items, length s.history.items, omega (arith, requires.room), c.self.invariant.each_counted)
+
+pub invariant_of-self : goal.invariant_of-self
+invariant_of-self c =
+    let s = c.self.inside in
+    let i = c.self.invariant in
+    let requires = rw (← c.self.view_is) at c.requires in
+    let runs = requires.runs in
+    let number = ap (λ wide. number_from wide (unwrap_or (at_number s.generators.items c.args.actor) 0)) c.self.invariant.wide in
+    let passed = c.pass_slice-done.ensures in
+    let numbers = c.next_event.ensures.values ∙ ap (λ wide. if takes_number c.next_event.new.event then set_number s.generators.items c.args.actor (seed_from wide (unwrap_or (at_number s.generators.items c.args.actor) 0)) else s.generators.items) c.self.invariant.wide in
+    let held =
+    run-held s.program (system_run s.program s.history.items) s.kernel.state s.places.items s.generators.items s.spent i.held c.args.actor c.args.running runs.0 runs.1.1 requires.actor
+    c.script_numbered-script.result.now c.script_numbered-script.ensures.lines c.pass_slice-done.result c.pass_slice-done.new.places.items passed.slice passed.places passed.accumulator _ number
+    c.next_event.new.event c.next_event.ensures.event c.event.new.self.state c.event.result c.event.ensures.state c.event.ensures.reply
+    c.receive.new.places.items c.next_event.new.generators.items c.receive.ensures.received numbers in
+    let answer =
+    run-answer s.program (system_run s.program s.history.items) s.kernel.state s.places.items s.generators.items s.spent i.held c.args.actor c.args.running runs.0 runs.1.1 requires.actor
+    c.script_numbered-script.result.now c.script_numbered-script.ensures.lines c.pass_slice-done.result c.pass_slice-done.new.places.items passed.slice passed.places passed.accumulator _ number
+    c.next_event.new.event c.next_event.ensures.event c.event.new.self.state c.event.result c.event.ensures.state c.event.ensures.reply in
+    let count = count-processor s.history.items c.args.actor (omega (arith, requires.actor.0)) in
+    let legal : IsLegal s.program s.room (s.history.items ++ c.args.actor ∷ []) = legal-more s.program s.room s.history.items c.args.actor i.legal requires.actor.1 requires.room (omega (arith, count, i.legal.console)) in
+    rw c.remember.ensures.items (record {
+      program = i.program;
+      legal = legal;
+      held = rw (system_run-one_more s.program s.history.items c.args.actor) held;
+      generators = c.next_event.ensures.count ∙ i.generators;
+      wide = i.wide;
+      past = past-more s.program s.history.items c.args.actor c.next_event.new.event c.event.result i.past answer;
+      spent = omega (arith, count, i.spent);
+      counts = c.count_turn.ensures.count ∙ i.counts;
+      each_counted = each-after s.program s.history.items c.args.actor c.next_event.new.event c.event.result answer c.count_turn.new.counts.items (c.count_turn.ensures.exact (turns_made s.program s.history.items) (length s.history.items) c.next_event.new.event i.each_counted);
+      total_counted = total-after s.program s.history.items c.args.actor c.next_event.new.event c.event.result answer s.total c.with_turn-self-inside.result i.total_counted c.with_turn-self-inside.ensures.exact (c.with_turn-self-inside.ensures.small (length s.history.items) i.total_counted.small);
+      threads = omega (arith, c.receive.ensures.room, c.pass_slice-done.ensures.room, i.threads);
+      room = omega (arith, c.remember.ensures.capacity, i.room);
+    })
+
+pub returns-clause-answer : goal.returns-clause-answer
+returns-clause-answer c =
+    let s = c.self.inside in
+    let requires = rw (← c.self.view_is) at c.requires in
+    let runs = requires.runs in
+    let number = ap (λ wide. number_from wide (unwrap_or (at_number s.generators.items c.args.actor) 0)) c.self.invariant.wide in
+    let passed = c.pass_slice-done.ensures in
+    subst (λ (x : Seen). (system_turn x.setting.program (world_of x) c.args.actor).answer ≡ Answered c.next_event.new.event c.event.result) c.self.view_is
+    (run-answer s.program (system_run s.program s.history.items) s.kernel.state s.places.items s.generators.items s.spent c.self.invariant.held c.args.actor c.args.running runs.0 runs.1.1 requires.actor
+    c.script_numbered-script.result.now c.script_numbered-script.ensures.lines c.pass_slice-done.result c.pass_slice-done.new.places.items passed.slice passed.places passed.accumulator _ number
+    c.next_event.new.event c.next_event.ensures.event c.event.new.self.state c.event.result c.event.ensures.state c.event.ensures.reply)

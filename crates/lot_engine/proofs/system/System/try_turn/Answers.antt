@@ -1,0 +1,19 @@
+-- What isn't the slice of the work isn't the slice of any work of the actor: there is one.
+use Rattle.std.proofs.Common.{◌≡◌, true, refl, sym, subst}
+use Rattle.lot_engine.specs.Seen.{Seen}
+use Rattle.lot_engine.specs.Turns.{IsFresh, Matches}
+use Rattle.lot_engine.proofs.WorkFacts.{fresh-matches}
+use Rattle.lot_engine.proofs.system.System.try_turn.Goals as goal
+
+pub returns-then-not-matches_work-clause-err : goal.returns-then-not-matches_work-clause-err
+returns-then-not-matches_work-clause-err c =
+    let seen = c.args.self.now in
+    let work = c.kept_work-work.result in
+    let given = c.args.slice.now in
+    let stale : IsFresh seen c.args.actor given → ⊥ =
+    λ fresh.
+    let matches = fresh-matches seen c.args.actor work given c.kept_work-work.ensures fresh in
+    let yes : c.matches_work.result ≡ true = c.matches_work.ensures.1 (subst (λ (x : Seen). Matches x.setting.program work given) (sym c.self.view_is) matches) in
+    let no = c.if-not-matches_work.true in
+    cc in
+    (stale, refl)

@@ -1,0 +1,12 @@
+pub mod Seen
+pub mod Steps
+pub mod Held
+pub mod InTime
+pub mod Turns
+pub mod Counted
+pub mod Listing
+pub mod Playing
+pub mod Played
+pub mod Fitting
+pub mod Kept
+pub mod Leaving

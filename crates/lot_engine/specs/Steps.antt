@@ -1,0 +1,128 @@
+-- The threads after an event, and the thread that its reply names.
+use Rattle.std.specs.Prelude.{◌≡◌, ℕ, ◌+◌, ◌≤◌, ⊤, Bool, true, false, Option, Some, None, List, [], ◌∷◌, ◌++◌, length, unwrap_or}
+use Rattle.lot_machine.specs.declared.event.Event.{Event}
+use Rattle.lot_machine.specs.declared.event.Event.TheVariants as event
+use Rattle.lot_machine.specs.declared.record.Thread.{Thread}
+use Rattle.lot_machine.specs.declared.reply.Reply.{Reply}
+use Rattle.lot_machine.specs.declared.reply.Reply.TheVariants as reply
+use Rattle.lot_machine.specs.Bounds.{IsBetween}
+use Rattle.lot_machine.specs.Numbered.{at_number, set_number}
+use Rattle.lot_simulation.specs.declared.script.Line.{Line}
+use Rattle.lot_simulation.specs.declared.script.ScriptTrap.{ScriptTrap}
+use Rattle.lot_simulation.specs.declared.script.ScriptTrap.TheVariants as script_trap
+use Rattle.lot_simulation.specs.Script.{Slice}
+use Rattle.lot_machine.specs.State.{State}
+use Rattle.lot_simulation.specs.World.{event_of_slice, number_delivered}
+use Rattle.lot_script.specs.Places.{Place, first_place, context_at}
+use Rattle.lot_script.specs.Slices.{Parts}
+use Rattle.lot_engine.specs.declared.turn.Done.{Done}
+
+-- ---- the threads after an event
+
+-- the same threads, as many records, and the same sizes
+pub record KeepsThreads (s after : State) : Type 0 where
+  pub threads : after.threads ≡ s.threads
+  pub records : length after.records ≡ length s.records
+  pub limits : after.limits ≡ s.limits
+
+-- one more thread, which has this number and one of the scripts
+pub record OneMore (s after : State) (n : ℕ) : Type 0 where
+  pub number : n ≡ length s.threads + 1
+  pub thread : Thread
+  pub threads : after.threads ≡ s.threads ++ thread ∷ []
+  pub records : length after.records ≡ length s.records + 1
+  pub script : IsBetween 1 s.limits.scripts thread.script
+  pub limits : after.limits ≡ s.limits
+  pub count : length s.threads + 1 ≤ s.limits.threads
+
+-- the number of the thread that was made, if one was
+abbrev pub made_thread : Reply → Option ℕ
+made_thread (reply.Thread n) = Some n
+made_thread (reply.Funded ticket n) = Some n
+made_thread other = None
+
+-- a command that made no thread leaves the threads as they are
+abbrev pub MakesIn : State → State → Option ℕ → Type 0
+MakesIn s after None = KeepsThreads s after
+MakesIn s after (Some n) = OneMore s after n
+
+-- the reply to a command names the thread that was made, if one was
+abbrev pub MakesThread : State → State → Reply → Type 0
+MakesThread s after r = MakesIn s after (made_thread r)
+
+-- the reply to a draw names one of this many threads, if any
+abbrev pub OfDraw : ℕ → Reply → Type 0
+OfDraw count (reply.Winner t number total delivered) = IsBetween 1 count t
+OfDraw count reply.Idle = ⊤
+OfDraw count (reply.Refused why) = ⊤
+OfDraw count other = ⊥
+
+-- the reply to an expiry or a trap names this thread, if any
+abbrev pub OfRun : ℕ → Reply → Type 0
+OfRun t (reply.Expired u ticks) = u ≡ t
+OfRun t (reply.Trapped u ticks outcome ends) = u ≡ t
+OfRun t (reply.Refused why) = ⊤
+OfRun t other = ⊥
+
+-- ---- slices as turns
+
+-- what a slice did, as a slice of the machine
+abbrev pub done_of : Parts → Slice
+done_of given = record { ticks = given.ticks; trap = given.trap; end = context_at given.lines given.end }
+
+-- what the slice did, and the accumulator at its end
+abbrev pub did : Parts → Done
+did given = record { ticks = given.ticks; trap = given.trap; accumulator = given.end.accumulator }
+
+-- the event of a turn whose slice did this; without a slice the processor draws
+abbrev pub event_done : ℕ → ℕ → Option Done → Event
+event_done p drawn None = event.Draw p drawn
+event_done p drawn (Some done) = event_of_slice p drawn (record { ticks = done.ticks; trap = done.trap; end = record { rest = []; accumulator = done.accumulator } })
+
+-- without a slice the processor draws
+abbrev pub event_given : ℕ → ℕ → Option Parts → Event
+event_given p drawn None = event.Draw p drawn
+event_given p drawn (Some given) = event_of_slice p drawn (done_of given)
+
+-- whether the trap unlocks a mutex
+abbrev pub unlocks : Option ScriptTrap → Bool
+unlocks (Some (script_trap.Unlock mutex)) = true
+unlocks other = false
+
+-- whether the event takes a drawn number: a draw does, and a slice that unlocks
+abbrev pub needs_number : Option Done → Bool
+needs_number None = true
+needs_number (Some done) = unlocks done.trap
+
+-- the reply is one to such an event: to a draw among this many threads, or to the slice of one of them
+abbrev pub OfGiven : ℕ → ℕ → Option Parts → Reply → Type 0
+OfGiven count t None r = OfDraw count r
+OfGiven count t (Some given) r = IsBetween 1 count t × OfRun t r
+
+-- ---- places
+
+-- the place, with the number that was delivered as its accumulator
+abbrev pub delivered_to_place : Option ℕ → Place → Place
+delivered_to_place None place = place
+delivered_to_place (Some number) place = record place { accumulator = number }
+
+-- where the thread is
+abbrev pub place_of : List Place → ℕ → Place
+place_of places t = unwrap_or (at_number places t) first_place
+
+-- The places after a turn: a winner has what was delivered to it, and the thread that ran is at its slice's end, and
+-- has what it received.
+abbrev pub places_after : List Place → Option Parts → Reply → List Place
+places_after places None (reply.Winner t number total delivered) = set_number places t (delivered_to_place delivered (place_of places t))
+places_after places (Some given) (reply.Trapped t ticks outcome ends) = set_number places t (delivered_to_place (number_delivered outcome) given.end)
+places_after places (Some given) (reply.Expired t ticks) = set_number places t given.end
+places_after places given other = places
+
+-- the slice of these lines with this budget that did this on the way from one place to the other
+abbrev pub slice_between : List Line → Place → ℕ → Done → Place → Parts
+slice_between lines start budget done end = record { lines = lines; start = start; budget = budget; ticks = done.ticks; trap = done.trap; end = end }
+
+-- the places once the thread that ran has what it received
+abbrev pub places_received : List Place → Reply → List Place
+places_received places (reply.Trapped t ticks outcome ends) = set_number places t (delivered_to_place (number_delivered outcome) (place_of places t))
+places_received places other = places

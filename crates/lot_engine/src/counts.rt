@@ -1,0 +1,81 @@
+//! Counters of turns.
+ghost use Rattle.std.specs.Prelude.{◌≡◌, ◌+◌, ◌<◌, ◌++◌, [], ◌∷◌, ℕ, List, IfOk, vec_len};
+ghost use Rattle.lot_machine.specs.declared.event.Event.{Event as EventRecord};
+ghost use Rattle.lot_simulation.specs.Report.{ActorTurn};
+ghost use Rattle.lot_simulation.specs.World.Answer.{Answered};
+ghost use Rattle.lot_engine.specs.Counted.{AreCounts, IsSmall, counted_with};
+
+use lot_machine::Reply;
+use std::alloc::{AllocError, Global};
+
+/// The counters of some turns.
+#[derive(Clone, Copy, Debug, PartialEq, Eq)]
+pub struct Counts {
+    /// The number of turns, refused commands and traps included.
+    pub turns: u64,
+    /// The draws that a thread won.
+    pub quanta: u64,
+    /// The draws that no thread won.
+    pub idles: u64,
+    /// The ticks of their expiries and traps.
+    pub ticks: u64,
+}
+
+impl Counts {
+    /// Of no turn.
+    pub(crate) const NONE: Counts = Counts {
+        turns: 0,
+        quanta: 0,
+        idles: 0,
+        ticks: 0,
+    };
+
+    /// With one more turn, which got this reply.
+    #[inline(always)]
+    pub(crate) fn with_turn(self, reply: Reply) -> Counts
+        requires { (n : ℕ) × (n < 4294967295) × IsSmall n self }
+        ensures exact { result ≡ counted_with self reply }
+        ensures small { (n : ℕ) → IsSmall n self → IsSmall (n + 1) result }
+    {
+        let turns = self.turns + 1;
+        match reply {
+            Reply::Winner { .. } => Counts {
+                turns,
+                quanta: self.quanta + 1,
+                ..self
+            },
+            Reply::Idle => Counts {
+                turns,
+                idles: self.idles + 1,
+                ..self
+            },
+            Reply::Expired { ticks, .. } | Reply::Trapped { ticks, .. } => Counts {
+                turns,
+                ticks: self.ticks + u64::from(ticks),
+                ..self
+            },
+            _ => Counts { turns, ..self },
+        }
+    }
+}
+
+/// The counts of this many actors that have had no turn.
+pub(crate) fn no_counts(alloc: Global, actors: usize) -> Result<Vec<Counts>, AllocError>
+    ensures none { IfOk result (λ counts. AreCounts [] 0 counts.items) }
+    ensures count { IfOk result (λ counts. vec_len counts ≡ actors) }
+{
+    vec![in alloc; Counts::NONE; actors]
+}
+
+/// Counts an actor's turn that got this reply.
+#[inline(always)]
+pub(crate) fn count_turn(counts: &mut Vec<Counts>, actor: u32, reply: Reply)
+    requires there { actor < vec_len counts.old }
+    requires bounded { (turns : List ActorTurn) × (n : ℕ) × (n < 4294967295) × AreCounts turns n counts.old.items }
+    ensures exact { (turns : List ActorTurn) (n : ℕ) (e : EventRecord) → AreCounts turns n counts.old.items
+        → AreCounts (turns ++ record { actor = actor; answer = Answered e reply } ∷ []) (n + 1) counts.new.items }
+    ensures count { vec_len counts.new ≡ vec_len counts.old }
+{
+    let place = actor as usize;
+    counts[place] = counts[place].with_turn(reply);
+}

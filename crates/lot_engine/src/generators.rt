@@ -1,0 +1,76 @@
+//! The processors' generators.
+ghost use Rattle.std.specs.Prelude.{◌≡◌, IfOk, length, unwrap_or, vec_len, if◌then◌else◌};
+ghost use Rattle.lot_machine.specs.Bounds.{IsBetween};
+ghost use Rattle.lot_machine.specs.Numbered.{at_number, set_number};
+ghost use Rattle.lot_simulation.specs.World as world;
+ghost use Rattle.lot_simulation.specs.World.{number_from, seed_from};
+ghost use Rattle.lot_engine.specs.Steps.{event_done};
+
+use crate::turn::{Done, event_of, needs_number};
+use lot_draw::ParkMiller;
+use lot_machine::Event;
+use lot_text::Program;
+use std::alloc::{AllocError, Global};
+
+/// A generator for each processor.
+pub(crate) fn generators_of(alloc: Global, program: &Program) -> Result<Vec<ParkMiller>, AllocError>
+    ensures seeds { IfOk result (λ generators. generators.items ≡ program.now.seeds) }
+    ensures count { IfOk result (λ generators. vec_len generators ≡ program.now.limits.processors) }
+{
+    let mut generators = Vec::new(alloc);
+    for seed in program.seeds() {
+        generators.push(ParkMiller::new(*seed).unwrap())?;
+    }
+    Ok(generators)
+}
+
+/// A processor's next number, and its generator after it.
+#[derive(Clone, Copy, Debug)]
+struct NextNumber {
+    number: u128,
+    after: ParkMiller,
+}
+
+/// The processor's next number, a wide one or not, which stays its next one.
+#[inline(always)]
+fn next_number(generators: &[ParkMiller], processor: u32, is_wide: bool) -> NextNumber
+    requires { IsBetween 1 (length generators.now) processor }
+    ensures number { result.number ≡ number_from is_wide (unwrap_or (at_number generators.now processor) 0) }
+    ensures after { result.after ≡ seed_from is_wide (unwrap_or (at_number generators.now processor) 0) }
+{
+    let mut after = generators[processor as usize - 1];
+    let number = if is_wide {
+        after.wide_number()
+    } else {
+        u128::from(after.number())
+    };
+    NextNumber { number, after }
+}
+
+/// Stores the event of a processor's turn whose slice did this, or of its draw without one, in `event`. Only a turn
+/// that takes a number advances the processor's generator.
+#[inline(always)]
+pub(crate) fn next_event(
+    generators: &mut Vec<ParkMiller>,
+    processor: u32,
+    is_wide: bool,
+    done: Option<Done>,
+    event: &mut Event,
+)
+    requires processor { IsBetween 1 (vec_len generators.old) processor }
+    ensures event { event.new ≡ event_done processor (number_from is_wide
+        (unwrap_or (at_number generators.old.items processor) 0)) done }
+    ensures values { generators.new.items
+        ≡ (if world.takes_number event.new
+        then set_number generators.old.items processor (seed_from is_wide
+        (unwrap_or (at_number generators.old.items processor) 0)) else generators.old.items) }
+    ensures count { vec_len generators.new ≡ vec_len generators.old }
+{
+    if !needs_number(done) {
+        *event = event_of(processor, done, 0);
+        return;
+    }
+    let next = next_number(generators, processor, is_wide);
+    *event = event_of(processor, done, next.number);
+    generators[processor as usize - 1] = next.after;
+}

@@ -1,0 +1,50 @@
+//! The sums in the reports, and an actor's work: laws of the definitions, with nothing to run.
+ghost use Rattle.std.specs.Prelude.{◌≡◌, ◌<◌, ◌^◌, ℕ, List, Option, sum_by};
+ghost use Rattle.std.specs.List.{range_with_len};
+ghost use Rattle.lot_machine.specs.Bounds.{IsWithinBounds};
+ghost use Rattle.lot_simulation.specs.Report.{idles_in, quanta_in, ticks_in, total_of, turns_made, turns_of};
+ghost use Rattle.lot_simulation.specs.World.{IsLegal, Program, system_run};
+ghost use Rattle.lot_script.specs.Slices.{Parts};
+ghost use Rattle.lot_engine.specs.declared.fault.TurnFault.TheVariants.{Stale};
+ghost use Rattle.lot_engine.specs.declared.turn.Work.{Work};
+ghost use Rattle.lot_engine.specs.Seen.{Seen};
+ghost use Rattle.lot_engine.specs.Turns.{Faults, IsFresh, IsWorkOf, Matches};
+
+/// The quanta and the ticks of the threads, as the world that a legal history leads to has them, add up to those that
+/// are counted in its turns. Those of a thread stop at the greatest u64; no history of fewer than 2 ^ 32 turns gets
+/// there.
+pub fn threads_add_up()
+    ensures quanta { (program : Program) (room : ℕ) (history : List ℕ) → IsWithinBounds program.limits
+        → IsLegal program room history → room < 2 ^ 32
+        → sum_by (λ r. r.quanta) (system_run program history).state.records
+        ≡ total_of quanta_in (turns_made program history) }
+    ensures ticks { (program : Program) (room : ℕ) (history : List ℕ) → IsWithinBounds program.limits
+        → IsLegal program room history → room < 2 ^ 32
+        → sum_by (λ r. r.ticks) (system_run program history).state.records
+        ≡ total_of ticks_in (turns_made program history) }
+{}
+
+/// The report's numbers of the processors add up to the counters of all turns of a legal history: the console wins no
+/// draws and uses no ticks.
+pub fn processors_add_up()
+    ensures quanta { (program : Program) (room : ℕ) (history : List ℕ) → IsLegal program room history
+        → sum_by (λ p. total_of quanta_in (turns_of p (turns_made program history)))
+        (range_with_len 1 program.limits.processors) ≡ total_of quanta_in (turns_made program history) }
+    ensures idles { (program : Program) (room : ℕ) (history : List ℕ) → IsLegal program room history
+        → sum_by (λ p. total_of idles_in (turns_of p (turns_made program history)))
+        (range_with_len 1 program.limits.processors) ≡ total_of idles_in (turns_made program history) }
+    ensures ticks { (program : Program) (room : ℕ) (history : List ℕ) → IsLegal program room history
+        → sum_by (λ p. total_of ticks_in (turns_of p (turns_made program history)))
+        (range_with_len 1 program.limits.processors) ≡ total_of ticks_in (turns_made program history) }
+{}
+
+/// An actor has exactly one work in a system. So a caller that gives the slice of the actor's work never gets Stale,
+/// and one that gives anything else does: the slice is fresh if and only if it is that of this work.
+pub fn works_are_one()
+    ensures one { (seen : Seen) (actor : ℕ) (work other : Option Work) → IsWorkOf seen actor work
+        → IsWorkOf seen actor other → work ≡ other }
+    ensures fresh { (seen : Seen) (actor : ℕ) (work : Option Work) (given : Option Parts) → IsWorkOf seen actor work
+        → IsFresh seen actor given → Matches seen.setting.program work given }
+    ensures never_stale { (seen : Seen) (actor : ℕ) (work other : Option Work) (given : Option Parts)
+        → IsWorkOf seen actor work → Matches seen.setting.program work given → ¬ Faults seen actor given (Stale other) }
+{}

@@ -1,0 +1,185 @@
+//! Where the threads are in their scripts.
+ghost use Rattle.std.specs.Prelude.{◌≡◌, ◌+◌, ◌≤◌, ◌++◌, ℕ, List, [], Some, None, IfOk, length, vec_capacity};
+ghost use Rattle.lot_machine.specs.declared.record.Thread.{Thread};
+ghost use Rattle.lot_machine.specs.Bounds.{IsBetween};
+ghost use Rattle.lot_machine.specs.Numbered.{set_number};
+ghost use Rattle.lot_script.specs.Places.{Fits};
+ghost use Rattle.lot_script.specs.Slices.{IsSlice};
+ghost use Rattle.lot_simulation.specs.Script.{Context, start};
+ghost use Rattle.lot_machine.specs.State.{State};
+ghost use Rattle.lot_simulation.specs.World.{new_contexts, number_delivered as number_delivered_in};
+ghost use Rattle.lot_engine.specs.Held.{AreAt, IsAt, script_lines};
+ghost use Rattle.lot_engine.specs.Steps as steps;
+ghost use Rattle.lot_engine.specs.Steps.{MakesThread, OfDraw, OfRun, OfGiven, delivered_to_place, place_of};
+ghost use Rattle.lot_engine.specs.Steps.{places_after, places_received, slice_between};
+
+use crate::turn::Done;
+use lot_kernel::Kernel;
+use lot_machine::{Outcome, Reply};
+use lot_script::{Place, Script, Slice};
+use lot_text::Program;
+use std::alloc::{AllocError, Global};
+
+/// Room for the places of this many threads.
+pub(crate) fn places_for(alloc: Global, threads: u32) -> Result<Vec<Place>, AllocError>
+    ensures none { IfOk result (λ places. places.items ≡ []) }
+    ensures room { IfOk result (λ places. threads ≤ vec_capacity places) }
+{
+    Vec::with_capacity(alloc, threads as usize)
+}
+
+/// After a command: a thread that was made begins its script.
+pub(crate) fn follow_command(
+    places: &mut Vec<Place>,
+    program: &Program,
+    kernel: &Kernel,
+    reply: Reply,
+)
+    requires made { (s : State) × (before : List Context) × MakesThread s kernel.now.state reply
+        × AreAt program.now s.threads places.old.items before × (s.limits.scripts ≡ length program.now.scripts) }
+    requires room { kernel.now.state.limits.threads ≤ vec_capacity places.old }
+    ensures at { (s : State) (before : List Context) → MakesThread s kernel.now.state reply
+        → AreAt program.now s.threads places.old.items before
+        → AreAt program.now kernel.now.state.threads places.new.items
+        (before ++ new_contexts program.now s kernel.now.state) }
+    ensures room { vec_capacity places.new ≡ vec_capacity places.old }
+{
+    if let Some(thread) = made_thread(reply) {
+        let script = kernel.script_of(thread).unwrap();
+        places.push_reserved(begin(program, script));
+    }
+}
+
+/// The thread that was made, if one was.
+fn made_thread(reply: Reply) -> Option<u32>
+    ensures { result ≡ steps.made_thread reply }
+{
+    match reply {
+        Reply::Thread(thread) | Reply::Funded { thread, .. } => Some(thread),
+        _ => None,
+    }
+}
+
+/// Where a thread of the script begins.
+fn begin(program: &Program, script: u32) -> Place
+    requires { IsBetween 1 (length program.now.scripts) script }
+    ensures { (t : Thread) → t.script ≡ script → IsAt program.now t result (start (script_lines program.now script)) }
+{
+    program.scripts()[script as usize - 1].start()
+}
+
+/// After a processor's turn: a winner has what was delivered to it, and the thread that ran is at its slice's end,
+/// and has what it received.
+#[inline(always)]
+pub(crate) fn follow_turn(places: &mut Vec<Place>, slice: &Option<Slice>, reply: Reply)
+    requires { (t : ℕ) × OfGiven (length places.old.items) t slice.now reply }
+    ensures follows { places.new.items ≡ places_after places.old.items slice.now reply }
+    ensures room { vec_capacity places.new ≡ vec_capacity places.old }
+{
+    match slice {
+        None => follow_draw(places, reply),
+        Some(slice) => follow_slice(places, slice, reply),
+    }
+}
+
+/// A winner has what was delivered to it.
+#[inline(always)]
+fn follow_draw(places: &mut Vec<Place>, reply: Reply)
+    requires { OfDraw (length places.old.items) reply }
+    ensures follows { places.new.items ≡ places_after places.old.items None reply }
+    ensures room { vec_capacity places.new ≡ vec_capacity places.old }
+{
+    if let Reply::Winner {
+        thread,
+        delivered,
+        ..
+    } = reply
+    {
+        deliver(places, thread, delivered);
+    }
+}
+
+/// The thread that ran is at its slice's end, and has what it received.
+#[inline(always)]
+fn follow_slice(places: &mut Vec<Place>, slice: &Slice, reply: Reply)
+    requires { (t : ℕ) × (IsBetween 1 (length places.old.items) t × OfRun t reply) }
+    ensures follows { places.new.items ≡ places_after places.old.items (Some slice.now) reply }
+    ensures room { vec_capacity places.new ≡ vec_capacity places.old }
+{
+    match reply {
+        Reply::Expired { thread, .. } => places[thread as usize - 1] = slice.end().copied(),
+        Reply::Trapped {
+            thread,
+            outcome,
+            ..
+        } => {
+            places[thread as usize - 1] = slice.end().copied();
+            deliver(places, thread, number_delivered(outcome));
+        }
+        _ => {}
+    }
+}
+
+/// Advances the thread's place where the system keeps it, as a slice of its script with this budget does. Returns
+/// what the slice did.
+#[inline(always)]
+pub(crate) fn pass_slice(places: &mut Vec<Place>, script: &Script, thread: u32, budget: u32) -> Done
+    requires there { IsBetween 1 (length places.old.items) thread }
+    requires fits { Fits script.now (place_of places.old.items thread) }
+    requires budget { IsBetween 1 1000 budget }
+    ensures slice { IsSlice (slice_between script.now (place_of places.old.items thread) budget result
+        (place_of places.new.items thread)) }
+    ensures places { places.new.items ≡ set_number places.old.items thread (place_of places.new.items thread) }
+    ensures accumulator { result.accumulator ≡ (place_of places.new.items thread).accumulator }
+    ensures room { vec_capacity places.new ≡ vec_capacity places.old }
+{
+    let place = &mut places[thread as usize - 1];
+    let done = script.pass_slice(place, budget);
+    Done {
+        ticks: done.ticks,
+        trap: done.trap,
+        accumulator: place.accumulator(),
+    }
+}
+
+/// The thread that ran, and is at its slice's end, has what it received.
+#[inline(always)]
+pub(crate) fn receive(places: &mut Vec<Place>, reply: Reply)
+    requires { (t : ℕ) × (IsBetween 1 (length places.old.items) t × OfRun t reply) }
+    ensures received { places.new.items ≡ places_received places.old.items reply }
+    ensures room { vec_capacity places.new ≡ vec_capacity places.old }
+{
+    if let Reply::Trapped {
+        thread,
+        outcome,
+        ..
+    } = reply
+    {
+        deliver(places, thread, number_delivered(outcome));
+    }
+}
+
+/// The number that was received with a call.
+#[inline(always)]
+fn number_delivered(outcome: Outcome) -> Option<u32>
+    ensures { result ≡ number_delivered_in outcome }
+{
+    match outcome {
+        Outcome::Received { number, .. } => Some(number),
+        Outcome::RepliedThenReceived { number, .. } => Some(number),
+        _ => None,
+    }
+}
+
+/// Sets the thread's accumulator to the number that was delivered, if one was.
+#[inline(always)]
+fn deliver(places: &mut Vec<Place>, thread: u32, number: Option<u32>)
+    requires { IsBetween 1 (length places.old.items) thread }
+    ensures delivered { places.new.items
+        ≡ set_number places.old.items thread (delivered_to_place number (place_of places.old.items thread)) }
+    ensures room { vec_capacity places.new ≡ vec_capacity places.old }
+{
+    if let Some(number) = number {
+        places[thread as usize - 1].set_accumulator(number);
+    }
+}

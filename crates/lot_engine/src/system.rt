@@ -1,0 +1,504 @@
+//! The system.
+ghost use Rattle.std.specs.Prelude.{◌≡◌, ◌↔◌, ◌<◌, ◌≤◌, ◌*◌, ◌^◌, [], ◌∷◌, ◌++◌, All, IfOk, IfErr, IfNone, IfSome};
+ghost use Rattle.std.specs.Prelude.{IsTrue, Some, length, vec_len, vec_capacity};
+ghost use Rattle.lot_machine.specs.Bounds.{IsBetween};
+ghost use Rattle.lot_machine.specs.Mutexes.{mutex_at};
+ghost use Rattle.lot_machine.specs.Rows as rows;
+ghost use Rattle.lot_machine.specs.State.{sizes_of};
+ghost use Rattle.lot_simulation.specs.Formats.{unit_of};
+ghost use Rattle.lot_simulation.specs.World.Answer.{Answered};
+ghost use Rattle.lot_simulation.specs.World.{IsLegal, system_turn};
+ghost use Rattle.lot_simulation.specs.Report.{ticks_in, total_of, turns_made, turns_of};
+ghost use Rattle.lot_engine.specs.Counted.{counted};
+ghost use Rattle.lot_engine.specs.Listing.{given_count};
+ghost use Rattle.lot_engine.specs.InTime.{commands_made};
+ghost use Rattle.lot_engine.specs.Playing.{IsPlayed};
+ghost use Rattle.lot_engine.specs.Seen.{after_turn, world_of};
+ghost use Rattle.lot_script.specs.Places.{Place as PlaceRecord};
+ghost use Rattle.lot_engine.specs.Turns.{Answers, Faults, Goes, IfStale, IsEnded, IsFresh, IsWorkOf, Prevents, work_at};
+
+use crate::TurnFault;
+use crate::counts::{Counts, count_turn, no_counts};
+use crate::generators::{generators_of, next_event};
+use crate::places::{follow_command, follow_turn, pass_slice, places_for, receive};
+use crate::slices::script_numbered;
+use crate::turn::{Answer, KeptWork, Running, Unmade, Work, done_in, matches_work};
+use lot_draw::ParkMiller;
+use lot_kernel::Kernel;
+use lot_machine::{CurrencyRow, Event, Kind, Limits, Reply, ThreadRow, TicketRow};
+use lot_script::{Place, Slice};
+use lot_simulation::Format;
+use lot_text::Program;
+use std::alloc::{AllocError, Global};
+use std::marker::Model;
+
+/// A kernel with a console and processors that have turns. Actor 0 is the console, and the others are the processors.
+///
+/// Contracts see it as its program, its room and its history: everything else follows from the program's run over the
+/// history. `open` makes all its room, and no turn allocates memory.
+pub struct System {
+    kernel: Kernel,
+    program: Program,
+    /// How many commands were run.
+    spent: usize,
+    /// Each processor's generator.
+    generators: Vec<ParkMiller>,
+    /// Whether it gives wide numbers: what the program's format says, kept since each draw asks it.
+    is_wide: bool,
+    /// Where each thread is in its script.
+    places: Vec<Place>,
+    history: Vec<u8>,
+    /// Each actor's, the console first.
+    counts: Vec<Counts>,
+    /// All actors'.
+    total: Counts,
+    room: u32,
+}
+
+impl Drop for System {
+    // An explicit drop is a call: a proof about code that drops a `System` needn't look at its fields.
+    fn drop(self) {
+        let Self {
+            kernel: _,
+            program: _,
+            spent: _,
+            generators: _,
+            is_wide: _,
+            places: _,
+            history: _,
+            counts: _,
+            total: _,
+            room: _,
+        } = self;
+    }
+}
+
+impl Model for System {
+    ghost use Rattle.std.specs.Prelude.{◌≡◌, ◌==◌, ◌+◌, ◌≤◌, All, count_by, is_some, length, vec_len, vec_capacity};
+    ghost use Rattle.lot_simulation.specs.Report.{turns_made};
+    ghost use Rattle.lot_simulation.specs.World.{IsLegal, system_run};
+    ghost use Rattle.lot_text.specs.Programs.{IsProgram};
+    ghost use Rattle.lot_engine.specs.Seen.{Seen};
+    ghost use Rattle.lot_engine.specs.Counted.{AreCounts, IsCount};
+    ghost use Rattle.lot_engine.specs.Held.{IsHeld};
+
+    ghost Value = { Seen };
+
+    ghost view = { λ s. record { setting = record { program = s.program; room = s.room }; history = s.history.items } };
+
+    ghost invariant = { λ s. record {
+      program : IsProgram s.program;
+      legal : IsLegal s.program s.room s.history.items;
+      held : IsHeld s.program
+          (system_run s.program s.history.items) s.kernel.state s.places.items s.generators.items s.spent;
+      generators : vec_len s.generators ≡ s.program.limits.processors;
+      wide : s.is_wide ≡ is_some s.program.duration;
+      past : (system_run s.program s.history.items).history ≡ s.history.items;
+      spent : s.spent ≡ count_by (λ actor. actor == 0) s.history.items;
+      counts : vec_len s.counts ≡ s.program.limits.processors + 1;
+      each_counted : AreCounts (turns_made s.program s.history.items) (length s.history.items) s.counts.items;
+      total_counted : IsCount (turns_made s.program s.history.items) (length s.history.items) s.total;
+      threads : s.program.limits.threads ≤ vec_capacity s.places;
+      room : s.room ≤ vec_capacity s.history;
+    } };
+}
+
+impl System {
+    /// A system of this program with room for this many turns. It allocates all the memory that the system will ever
+    /// use, and fails only if out of memory.
+    pub fn open(alloc: Global, program: &Program, room: u32) -> Result<System, AllocError>
+        ensures { IfOk result (λ s. s
+            ≡ record { setting = record { program = program.now; room = room }; history = [] }) }
+    {
+        let limits = program.limits();
+        Ok(System {
+            kernel: Kernel::new(alloc, limits)?,
+            program: program.copied(alloc)?,
+            spent: 0,
+            generators: generators_of(alloc, program)?,
+            is_wide: program.format().draws_wide_numbers(),
+            places: places_for(alloc, limits.threads)?,
+            history: Vec::with_capacity(alloc, room as usize)?,
+            counts: no_counts(alloc, limits.processors as usize + 1)?,
+            total: Counts::NONE,
+            room,
+        })
+    }
+
+    /// The number of processors.
+    pub fn processors(&self) -> u32
+        ensures program { result ≡ self.now.setting.program.limits.processors }
+        ensures world { result ≡ (world_of self.now).state.limits.processors }
+    {
+        self.program.limits().processors
+    }
+
+    /// The actors of the turns so far.
+    pub fn history(&self) -> &[u8]
+        ensures items { result.now ≡ self.now.history }
+        ensures legal { IsLegal self.now.setting.program self.now.setting.room self.now.history }
+        ensures room { self.now.setting.room < 2 ^ 32 }
+    {
+        let _room = self.room;
+        &self.history
+    }
+
+    /// The next work of the thread on the processor, if one runs there. The console has none.
+    #[inline(always)]
+    pub fn work(&self, actor: u32) -> Option<Work>
+        ensures work { IsWorkOf self.now actor result }
+        ensures legal { IsLegal self.now.setting.program self.now.setting.room self.now.history }
+    {
+        let _ = &self.spent;
+        Some(self.kept_work(actor)?.copied())
+    }
+
+    /// The next work of the thread on the processor, if one runs there, with its place where the system keeps it.
+    #[inline(always)]
+    pub(crate) fn kept_work(&self, actor: u32) -> Option<KeptWork<'_>>
+        ensures { IsWorkOf self.now actor result }
+    {
+        if actor == 0 {
+            return None;
+        }
+        let runner = self.kernel.runner(actor)?;
+        let script = self.kernel.script_of(runner.thread).unwrap();
+        let _lines = script_numbered(&self.program, script);
+        Some(KeptWork {
+            thread: runner.thread,
+            script,
+            place: &self.places[runner.thread as usize - 1],
+            budget: self.kernel.limits().quantum - runner.used,
+        })
+    }
+
+    /// One turn of an actor: the console's next command, a draw of a processor without a thread, or the slice of the
+    /// thread on a processor. A fault changes nothing. It allocates no memory.
+    #[inline(always)]
+    pub fn turn(&mut self, actor: u32, slice: Option<Slice>) -> Result<Answer, TurnFault>
+        requires { actor ≤ self.old.setting.program.limits.processors }
+        ensures ok { IfOk result (λ answer. Goes self.old actor slice.entry × (self.new ≡ after_turn self.old actor)
+            × Answers self.old actor answer) }
+        ensures err { IfErr result (λ fault. Faults self.old actor slice.entry fault × (self.new ≡ self.old)) }
+        ensures stale { IfErr result (λ fault. IfStale fault (¬ IsFresh self.old actor slice.entry)) }
+        ensures legal { IsLegal self.new.setting.program self.new.setting.room self.new.history }
+    {
+        let mut event = Event::Expire(actor);
+        match self.try_turn(actor, &slice, &mut event) {
+            Ok(reply) => Ok(Answer {
+                event,
+                reply,
+                next: self.work(actor),
+            }),
+            Err(Unmade::Stale) => Err(TurnFault::Stale(self.work(actor))),
+            Err(Unmade::Ended) => Err(TurnFault::Ended),
+            Err(Unmade::HistoryFull) => Err(TurnFault::HistoryFull),
+        }
+    }
+
+    /// `turn` for callers that need neither the actor's next work nor the work in a Stale fault. It stores the event
+    /// in `event`: as a part of the result it would be copied at each return.
+    #[inline(always)]
+    pub(crate) fn try_turn(
+        &mut self,
+        actor: u32,
+        slice: &Option<Slice>,
+        event: &mut Event,
+    ) -> Result<Reply, Unmade>
+        requires { actor ≤ self.old.setting.program.limits.processors }
+        ensures ok { IfOk result (λ reply. Goes self.old actor slice.now × (self.new ≡ after_turn self.old actor)
+            × ((system_turn self.old.setting.program (world_of self.old) actor).answer ≡ Answered event.new reply)) }
+        ensures err { IfErr result (λ why. Prevents self.old actor slice.now why × (self.new ≡ self.old)) }
+        ensures legal { IsLegal self.new.setting.program self.new.setting.room self.new.history }
+    {
+        let work = self.kept_work(actor);
+        if !matches_work(&self.program, &work, slice) {
+            return Err(Unmade::Stale);
+        }
+        if self.is_ended(actor) {
+            return Err(Unmade::Ended);
+        }
+        if self.is_full() {
+            return Err(Unmade::HistoryFull);
+        }
+        let mut reply = Reply::Idle;
+        self.make_turn(actor, slice, event, &mut reply);
+        Ok(reply)
+    }
+
+    /// The turn with the slice of the actor's own work, while the history has room: `None` if the actor is the
+    /// console and no command is left. Then nothing changes.
+    #[inline(always)]
+    pub(crate) fn fresh_turn(&mut self, actor: u32, event: &mut Event) -> Option<Reply>
+        requires there { actor ≤ self.old.setting.program.limits.processors }
+        requires room { length self.old.history < self.old.setting.room }
+        ensures made { IfSome result (λ reply. (self.new ≡ after_turn self.old actor)
+            × ((system_turn self.old.setting.program (world_of self.old) actor).answer ≡ Answered event.new reply)) }
+        ensures ended { IfNone result (IsEnded self.old actor × (self.new ≡ self.old)) }
+        ensures played { IsPlayed self.old actor self.new }
+    {
+        if self.is_ended(actor) {
+            return None;
+        }
+        let mut reply = Reply::Idle;
+        self.own_turn(actor, event, &mut reply);
+        Some(reply)
+    }
+
+    /// Whether the actor is the console, and no command is left.
+    #[inline(always)]
+    pub(crate) fn is_ended(&self, actor: u32) -> bool
+        ensures { IsTrue result ↔ IsEnded self.now actor }
+    {
+        actor == 0 && self.spent >= self.program.commands().len()
+    }
+
+    /// Whether there is no room for one more turn.
+    #[inline(always)]
+    pub(crate) fn is_full(&self) -> bool
+        ensures { IsTrue result ↔ (self.now.setting.room ≤ length self.now.history) }
+    {
+        self.history.len() >= self.room as usize
+    }
+
+    /// The actor's turn with the slice of its own work. It advances the thread's place where the system keeps it, and
+    /// stores the event and the kernel's reply where the caller keeps them.
+    #[inline(always)]
+    pub(crate) fn own_turn(&mut self, actor: u32, event: &mut Event, reply: &mut Reply)
+        requires there { actor ≤ self.old.setting.program.limits.processors }
+        requires left { ¬ IsEnded self.old actor }
+        requires room { length self.old.history < self.old.setting.room }
+        ensures seen { self.new ≡ after_turn self.old actor }
+        ensures answer { (system_turn self.old.setting.program (world_of self.old) actor).answer
+            ≡ Answered event.new reply.new }
+    {
+        match self.kept_work(actor) {
+            None => self.make_turn(actor, &None, event, reply),
+            Some(work) => {
+                let running = work.running();
+                self.run_turn(actor, running, event, reply);
+            }
+        }
+    }
+
+    /// Makes a turn, and stores its event and the kernel's reply where the caller keeps them.
+    #[inline(always)]
+    pub(crate) fn make_turn(
+        &mut self,
+        actor: u32,
+        slice: &Option<Slice>,
+        event: &mut Event,
+        reply: &mut Reply,
+    )
+        requires actor { actor ≤ self.old.setting.program.limits.processors }
+        requires goes { Goes self.old actor slice.now }
+        ensures seen { self.new ≡ after_turn self.old actor }
+        ensures answer { (system_turn self.old.setting.program (world_of self.old) actor).answer
+            ≡ Answered event.new reply.new }
+    {
+        if actor == 0 {
+            *reply = self.console_turn(event);
+        } else {
+            self.processor_turn(actor, slice, event, reply);
+        }
+    }
+
+    /// The console's next command.
+    fn console_turn(&mut self, event: &mut Event) -> Reply
+        requires left { ¬ IsEnded self.old 0 }
+        requires room { length self.old.history < self.old.setting.room }
+        ensures seen { self.new ≡ after_turn self.old 0 }
+        ensures answer { (system_turn self.old.setting.program (world_of self.old) 0).answer
+            ≡ Answered event.new result }
+    {
+        *event = Event::Command(self.program.commands()[self.spent].copied());
+        let reply = self.kernel.event(event);
+        self.spent += 1;
+        follow_command(&mut self.places, &self.program, &self.kernel, reply);
+        count_turn(&mut self.counts, 0, reply);
+        self.total = self.total.with_turn(reply);
+        remember(&mut self.history, 0);
+        reply
+    }
+
+    /// A processor's draw, or the slice of the thread that runs there.
+    #[inline(always)]
+    fn processor_turn(
+        &mut self,
+        actor: u32,
+        slice: &Option<Slice>,
+        event: &mut Event,
+        reply: &mut Reply,
+    )
+        requires actor { IsBetween 1 self.old.setting.program.limits.processors actor }
+        requires fresh { IsFresh self.old actor slice.now }
+        requires room { length self.old.history < self.old.setting.room }
+        ensures seen { self.new ≡ after_turn self.old actor }
+        ensures answer { (system_turn self.old.setting.program (world_of self.old) actor).answer
+            ≡ Answered event.new reply.new }
+    {
+        let done = done_in(slice);
+        next_event(&mut self.generators, actor, self.is_wide, done, event);
+        *reply = self.kernel.event(event);
+        follow_turn(&mut self.places, slice, *reply);
+        count_turn(&mut self.counts, actor, *reply);
+        self.total = self.total.with_turn(*reply);
+        remember(&mut self.history, actor);
+    }
+
+    /// The slice of the thread that runs on the processor. It advances the thread's place where the system keeps it.
+    #[inline(always)]
+    fn run_turn(&mut self, actor: u32, running: Running, event: &mut Event, reply: &mut Reply)
+        requires actor { IsBetween 1 self.old.setting.program.limits.processors actor }
+        requires runs { (place : PlaceRecord) × IsWorkOf self.old actor (Some (work_at running place)) }
+        requires room { length self.old.history < self.old.setting.room }
+        ensures seen { self.new ≡ after_turn self.old actor }
+        ensures answer { (system_turn self.old.setting.program (world_of self.old) actor).answer
+            ≡ Answered event.new reply.new }
+    {
+        let script = script_numbered(&self.program, running.script);
+        let done = pass_slice(&mut self.places, script, running.thread, running.budget);
+        next_event(&mut self.generators, actor, self.is_wide, Some(done), event);
+        *reply = self.kernel.event(event);
+        receive(&mut self.places, *reply);
+        count_turn(&mut self.counts, actor, *reply);
+        self.total = self.total.with_turn(*reply);
+        remember(&mut self.history, actor);
+    }
+
+    /// The limits of the program.
+    pub(crate) fn limits(&self) -> Limits
+        ensures { sizes_of result ≡ (world_of self.now).state.limits }
+    {
+        self.kernel.limits()
+    }
+
+    /// What the kernel shows of the ticket with this number, if it exists.
+    pub(crate) fn ticket_row(&mut self, ticket: u32) -> Option<TicketRow>
+        ensures row { result ≡ rows.ticket_row (world_of self.old).state ticket }
+        ensures state { self.new ≡ self.old }
+    {
+        self.kernel.ticket_row(ticket)
+    }
+
+    /// What the kernel shows of the currency with this number, if it exists.
+    pub(crate) fn currency_row(&mut self, currency: u32) -> Option<CurrencyRow>
+        ensures row { result ≡ rows.currency_row (world_of self.old).state currency }
+        ensures state { self.new ≡ self.old }
+    {
+        self.kernel.currency_row(currency)
+    }
+
+    /// What the kernel shows of the thread with this number, if there is one.
+    pub fn thread_row(&mut self, thread: u32) -> Option<ThreadRow>
+        ensures row { result ≡ rows.thread_row (world_of self.old).state thread }
+        ensures state { self.new ≡ self.old }
+    {
+        self.kernel.thread_row(thread)
+    }
+
+    /// Lists in `out` the threads that wait for the mutex, the one that has waited longest first; none if there is no
+    /// such mutex. It allocates no memory, since `out` has room for all threads.
+    pub fn list_waiters(&self, mutex: u32, out: &mut Vec<u32>)
+        requires { self.now.setting.program.limits.threads ≤ vec_capacity out.old }
+        ensures waiters { out.new.items ≡ (mutex_at (world_of self.now).state.mutexes mutex).waiters }
+        ensures there { All (IsBetween 1 (length (world_of self.now).state.records)) out.new.items }
+        ensures few { vec_len out.new ≤ self.now.setting.program.limits.threads }
+        ensures room { vec_capacity out.new ≡ vec_capacity out.old }
+    {
+        self.kernel.list_waiters(mutex, out);
+    }
+
+    /// The format of the program.
+    pub(crate) fn format(&self) -> Format
+        ensures { unit_of result ≡ self.now.setting.program.limits.unit }
+    {
+        self.program.format()
+    }
+
+    /// The unit of the program.
+    pub fn unit(&self) -> u32
+        ensures program { result ≡ self.now.setting.program.limits.unit }
+        ensures world { result ≡ (world_of self.now).state.limits.unit }
+        ensures some { 0 < result }
+    {
+        self.program.limits().unit
+    }
+
+    /// How many numbers of this kind were given.
+    pub(crate) fn given_count(&self, kind: Kind) -> u32
+        ensures { result ≡ given_count (world_of self.now).state kind }
+    {
+        match kind {
+            Kind::Tickets => self.kernel.ticket_count(),
+            Kind::Currencies => self.kernel.currency_count(),
+            Kind::Threads => self.thread_count(),
+        }
+    }
+
+    /// How many commands were made.
+    pub(crate) fn commands_made(&self) -> usize
+        ensures { result ≡ commands_made self.now }
+    {
+        self.spent
+    }
+
+    /// How many commands weren't made yet.
+    pub(crate) fn commands_left(&self) -> usize
+        ensures { result ≡ length (world_of self.now).commands }
+    {
+        let all = self.program.commands().len();
+        all.saturating_sub(self.spent)
+    }
+
+    /// How many threads there are.
+    pub fn thread_count(&self) -> u32
+        ensures count { result ≡ length (world_of self.now).state.records }
+        ensures within { result ≤ self.now.setting.program.limits.threads }
+    {
+        self.places.len() as u32
+    }
+
+    /// How many turns were made.
+    pub(crate) fn turn_count(&self) -> u64
+        ensures { result ≡ length (world_of self.now).history }
+    {
+        self.history.len() as u64
+    }
+
+    /// The counters of the actor's turns so far.
+    pub fn counts(&self, actor: u32) -> Counts
+        requires { actor ≤ self.now.setting.program.limits.processors }
+        ensures { result ≡ counted (turns_of actor (turns_made self.now.setting.program self.now.history)) }
+    {
+        self.counts[actor as usize]
+    }
+
+    /// The actor's own time: the ticks of its turns so far.
+    pub fn clock(&self, actor: u32) -> u64
+        requires { actor ≤ self.now.setting.program.limits.processors }
+        ensures ticks { result ≡ total_of ticks_in (turns_of actor
+            (turns_made self.now.setting.program self.now.history)) }
+        ensures small { result ≤ length self.now.history * 2 ^ 32 }
+    {
+        self.counts[actor as usize].ticks
+    }
+
+    /// The counters of all turns so far.
+    pub fn total(&self) -> Counts
+        ensures { result ≡ counted (turns_made self.now.setting.program self.now.history) }
+    {
+        self.total
+    }
+}
+
+/// Puts the actor at the end of the history, which has room for it.
+#[inline(always)]
+fn remember(history: &mut Vec<u8>, actor: u32)
+    requires small { actor < 256 }
+    requires room { vec_len history.old < vec_capacity history.old }
+    ensures items { history.new.items ≡ history.old.items ++ actor ∷ [] }
+    ensures capacity { vec_capacity history.new ≡ vec_capacity history.old }
+{
+    history.push_reserved(actor as u8);
+}

@@ -1,0 +1,207 @@
+//! An actor's work, and the result of its turn.
+ghost use Rattle.std.specs.Prelude.{◌≡◌, ◌↔◌, IfSome, IsTrue, Some, length, option_map};
+ghost use Rattle.lot_machine.specs.Bounds.{IsBetween};
+ghost use Rattle.lot_simulation.specs.World as world;
+ghost use Rattle.lot_script.specs.Slices.{IsSlice};
+ghost use Rattle.lot_engine.specs.Steps as steps;
+ghost use Rattle.lot_engine.specs.Turns.{IsSliceOf, Matches, work_at};
+
+use crate::slices::script_numbered;
+use lot_machine::{Action, Event, Reply};
+use lot_script::{Place, Slice};
+use lot_simulation::ScriptTrap;
+use lot_text::Program;
+use std::marker::Model;
+
+/// The next work of the thread on a processor.
+#[derive(Debug, PartialEq, Eq, Drop)]
+pub struct Work {
+    pub thread: u32,
+    /// The number of its script.
+    pub script: u32,
+    /// Where it is in its script.
+    pub place: Place,
+    /// The ticks that are left of its quantum.
+    pub budget: u32,
+}
+
+/// The next work of the thread on a processor, with its place where the system keeps it.
+#[derive(Drop)]
+pub(crate) struct KeptWork<'a> {
+    pub(crate) thread: u32,
+    pub(crate) script: u32,
+    pub(crate) place: &'a Place,
+    pub(crate) budget: u32,
+}
+
+/// The next work of the thread on a processor, except its place.
+#[derive(Clone, Copy, Debug)]
+pub(crate) struct Running {
+    pub(crate) thread: u32,
+    pub(crate) script: u32,
+    pub(crate) budget: u32,
+}
+
+impl<'a> Model for KeptWork<'a> {
+    ghost use Rattle.lot_engine.specs.declared.turn.Work.{Work};
+
+    ghost Value = { Work };
+
+    ghost view = { λ w. record { thread = w.thread; script = w.script; place = w.place.now; budget = w.budget } };
+}
+
+impl KeptWork<'_> {
+    /// The work except its place.
+    #[inline(always)]
+    pub(crate) fn running(&self) -> Running
+        ensures { work_at result self.now.place ≡ self.now }
+    {
+        Running {
+            thread: self.thread,
+            script: self.script,
+            budget: self.budget,
+        }
+    }
+
+    /// The work itself. It allocates no memory.
+    #[inline(always)]
+    pub(crate) fn copied(&self) -> Work
+        ensures { result ≡ self.now }
+    {
+        Work {
+            thread: self.thread,
+            script: self.script,
+            place: self.place.copied(),
+            budget: self.budget,
+        }
+    }
+}
+
+/// The result of a turn: its event, the kernel's reply, and the actor's next work.
+#[derive(Debug, PartialEq, Eq, Drop)]
+pub struct Answer {
+    pub event: Event,
+    pub reply: Reply,
+    pub next: Option<Work>,
+}
+
+/// Why a turn isn't made, as `TurnFault` says it, without the work.
+#[derive(Clone, Copy, Debug)]
+pub(crate) enum Unmade {
+    Stale,
+    Ended,
+    HistoryFull,
+}
+
+/// Whether the slice is that of the work: there is neither, or its script has the same lines, and its start and budget
+/// are the work's.
+#[inline(always)]
+pub(crate) fn matches_work(
+    program: &Program,
+    work: &Option<KeptWork<'_>>,
+    slice: &Option<Slice>,
+) -> bool
+    requires { IfSome work.now (λ w. IsBetween 1 (length program.now.scripts) w.script) }
+    ensures { IsTrue result ↔ Matches program.now work.now slice.now }
+{
+    match (work, slice) {
+        (None, None) => true,
+        (Some(work), Some(slice)) => is_slice_of(program, work, slice),
+        _ => false,
+    }
+}
+
+/// Whether it is one of the work's script, from the work's place, with the work's budget.
+#[inline(always)]
+fn is_slice_of(program: &Program, work: &KeptWork<'_>, slice: &Slice) -> bool
+    requires { IsBetween 1 (length program.now.scripts) work.now.script }
+    ensures { IsTrue result ↔ IsSliceOf program.now work.now slice.now }
+{
+    script_numbered(program, work.script).is_same(slice.script())
+        && slice.start().is_same(work.place)
+        && slice.budget() == work.budget
+}
+
+/// What a slice did, as the event of its turn says it.
+#[derive(Clone, Copy, Debug)]
+pub(crate) struct Done {
+    pub(crate) ticks: u32,
+    pub(crate) trap: Option<ScriptTrap>,
+    /// The accumulator at its end.
+    pub(crate) accumulator: u32,
+}
+
+/// What the slice did, if there is one.
+#[inline(always)]
+pub(crate) fn done_in(slice: &Option<Slice>) -> Option<Done>
+    ensures done { result ≡ option_map steps.did slice.now }
+    ensures exact { IfSome slice.now IsSlice }
+{
+    match slice {
+        None => None,
+        Some(slice) => Some(Done {
+            ticks: slice.ticks(),
+            trap: slice.trap(),
+            accumulator: slice.end().accumulator(),
+        }),
+    }
+}
+
+/// The event of a processor's turn whose slice did this, or a draw without one, if this is the processor's next number.
+#[inline(always)]
+pub(crate) fn event_of(actor: u32, done: Option<Done>, drawn: u128) -> Event
+    ensures { result ≡ steps.event_done actor drawn done }
+{
+    match done {
+        None => Event::Draw(actor, drawn),
+        Some(done) => slice_event(actor, done, drawn),
+    }
+}
+
+/// What a slice did as an event: an expiry, or its ticks and then its trap.
+#[inline(always)]
+fn slice_event(actor: u32, done: Done, drawn: u128) -> Event
+    ensures { result ≡ steps.event_done actor drawn (Some done) }
+{
+    match done.trap {
+        None => Event::Expire(actor),
+        Some(trap) => Event::Trap(actor, done.ticks, action_of(trap, done.accumulator, drawn)),
+    }
+}
+
+/// A trap of a script as the kernel takes it. Calls, replies and servings carry the accumulator, and an unlock the
+/// drawn number.
+#[inline(always)]
+fn action_of(trap: ScriptTrap, accumulator: u32, drawn: u128) -> Action
+    ensures { result ≡ world.action_of trap accumulator drawn }
+{
+    match trap {
+        ScriptTrap::Yield => Action::Yield,
+        ScriptTrap::Call(port) => Action::Call(port, accumulator),
+        ScriptTrap::Receive(port) => Action::Receive(port),
+        ScriptTrap::Reply => Action::Reply(accumulator),
+        ScriptTrap::Serve(port) => Action::Serve(port, accumulator),
+        ScriptTrap::Lock(mutex) => Action::Lock(mutex),
+        ScriptTrap::Unlock(mutex) => Action::Unlock(mutex, drawn),
+        ScriptTrap::Exit => Action::Exit,
+    }
+}
+
+/// Whether a turn whose slice did this takes a drawn number: a draw and an unlock do.
+#[inline(always)]
+pub(crate) fn needs_number(done: Option<Done>) -> bool
+    ensures { result ≡ steps.needs_number done }
+{
+    match done {
+        None => true,
+        Some(done) => unlocks(done.trap),
+    }
+}
+
+/// Whether a slice that ends so unlocks a mutex.
+#[inline(always)]
+fn unlocks(trap: Option<ScriptTrap>) -> bool
+    ensures { result ≡ steps.unlocks trap }
+{
+    matches!(trap, Some(ScriptTrap::Unlock(_)))
+}

@@ -1,9 +1,0 @@
-use Rattle.std.proofs.Common.{arith}
-use Rattle.lot_simulation.proofs.RecordCounts.{quanta-add_up, ticks-add_up}
-use Rattle.lot_system.proofs.laws.threads_add_up.Goals as goal
-
-pub returns-clause-quanta : goal.returns-clause-quanta
-returns-clause-quanta c program room history bounds legal small = quanta-add_up program history bounds (omega (arith, legal.within_room, small))
-
-pub returns-clause-ticks : goal.returns-clause-ticks
-returns-clause-ticks c program room history bounds legal small = ticks-add_up program history bounds (omega (arith, legal.within_room, small))
