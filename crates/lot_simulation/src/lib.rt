@@ -13,6 +13,7 @@ pub mod sliced;
 pub mod texts;
 mod timed;
 pub mod timed_rows;
+mod words;
 pub mod worked;
 
 pub use format::Format;
@@ -20,3 +21,4 @@ pub use input::{BodyWord, HeaderWord, InputFault, InputRefusal, ScriptWord};
 pub use manner::Manner;
 pub use script::{Line, ScriptTrap};
 pub use timed::{Clock, Due, WaitChange, Waits};
+pub use words::{BODY_WORDS, FIRST_WORD, HEADER_WORDS, SCRIPT_WORDS};

@@ -11,7 +11,7 @@ use crate::number::number_between;
 use crate::reading::Reading;
 use crate::tokens::Tokens;
 use lot_machine::Sizes;
-use lot_simulation::{Format, HeaderWord, InputRefusal};
+use lot_simulation::{FIRST_WORD, Format, HeaderWord, InputRefusal};
 use std::alloc::Global;
 
 /// The first line that isn't ignored, which says the format: `lottery 1`, `lottery 2` or `lottery 3`.
@@ -27,7 +27,7 @@ pub(crate) fn first_line(
         return Err(LineFault::Refused(InputRefusal::BadHeader));
     };
     match Format::of_word(version) {
-        Some(format) if word == b"lottery".as_slice() => Ok(Reading::new(alloc, format)),
+        Some(format) if word == FIRST_WORD => Ok(Reading::new(alloc, format)),
         _ => Err(LineFault::Refused(InputRefusal::BadHeader)),
     }
 }

@@ -14,12 +14,9 @@ use crate::header::{first_line, header_line};
 use crate::reading::{OpenScript, Reading};
 use crate::script_lines::script_line;
 use crate::tokens::{Tokens, begins_comment, is_printable, len_before};
-use crate::words::{
-    body_word, header_word, script_word, stands_alone, timed_body_word, timed_header_word,
-    timed_script_word,
-};
+use crate::words::stands_alone;
 use crate::{ParseFault, Program};
-use lot_simulation::{BodyWord, HeaderWord, InputFault, InputRefusal};
+use lot_simulation::{BodyWord, HeaderWord, InputFault, InputRefusal, ScriptWord};
 use std::alloc::Global;
 
 /// The program that the bytes of an input say, exactly. Otherwise the first line that has a fault, and the first of
@@ -112,7 +109,7 @@ fn line_inside(
     ensures { Gives reading.new result (line_inside_read (within_script reading.old script) script
         (word_in script_words word.now) tokens.entry) }
 {
-    match script_word(word) {
+    match ScriptWord::of_token(word) {
         Some(word) => script_line(reading, script, word, tokens),
         None => Err(LineFault::Refused(InputRefusal::BadLine)),
     }
@@ -149,7 +146,7 @@ fn phrase_inside(
     let Some(script) = reading.unclosed.take() else {
         return Err(LineFault::Refused(InputRefusal::BadLine));
     };
-    let Some(word) = timed_script_word(word) else {
+    let Some(word) = ScriptWord::of_timed_token(word) else {
         return Err(LineFault::Refused(InputRefusal::BadLine));
     };
     if stands_alone(word) {
@@ -163,9 +160,9 @@ fn header_word_in(reading: &Reading, token: &[u8]) -> Option<HeaderWord>
     ensures { result ≡ word_in (header_words_of reading.now) token.now }
 {
     if reading.format.is_timed() {
-        timed_header_word(token)
+        HeaderWord::of_timed_token(token)
     } else {
-        header_word(token)
+        HeaderWord::of_token(token)
     }
 }
 
@@ -174,9 +171,9 @@ fn body_word_in(reading: &Reading, token: &[u8]) -> Option<BodyWord>
     ensures { result ≡ word_in (body_words_of reading.now) token.now }
 {
     if reading.format.is_timed() {
-        timed_body_word(token)
+        BodyWord::of_timed_token(token)
     } else {
-        body_word(token)
+        BodyWord::of_token(token)
     }
 }
 

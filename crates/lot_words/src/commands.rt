@@ -1,8 +1,9 @@
 //! On which lines the commands of an input stand.
 
-use crate::forms::command_form;
 use crate::input::{OpenScript, words_of};
+use crate::keywords::{body_word, is_command};
 use crate::phrases::after_line;
+use lot_simulation::BodyWord;
 use std::alloc::{AllocError, Global};
 
 /// Commands on lines that follow one another.
@@ -34,10 +35,10 @@ impl CommandLines {
         let mut number = 0u32;
         for line in input.split(|byte| *byte == b'\n') {
             number = number.saturating_add(1);
-            if is_command(script, line) {
-                lines.add(number)?;
+            match script {
+                Some(open) => script = after_line(open, line),
+                None => script = lines.pass(number, line)?,
             }
-            script = script_after(script, number, line);
         }
         Ok(lines)
     }
@@ -55,6 +56,16 @@ impl CommandLines {
         None
     }
 
+    /// Takes up a line outside scripts, which has this number, and returns the script that it opens, if it opens one.
+    fn pass(&mut self, number: u32, line: &[u8]) -> Result<Option<OpenScript>, AllocError> {
+        match body_word(words_of(line).next().unwrap_or("")) {
+            Some(BodyWord::Script) => return Ok(Some(OpenScript::opened(number))),
+            Some(word) if is_command(word) => self.add(number)?,
+            _ => {}
+        }
+        Ok(None)
+    }
+
     /// One more command, on this line.
     fn add(&mut self, number: u32) -> Result<(), AllocError> {
         if let Some(run) = self.runs.last_mut() {
@@ -68,20 +79,5 @@ impl CommandLines {
             count: 1,
         })?;
         Ok(())
-    }
-}
-
-/// Whether the line is a command, if this script is open before it.
-fn is_command(script: Option<OpenScript>, line: &[u8]) -> bool {
-    let word = words_of(line).next().unwrap_or("");
-    script.is_none() && command_form(word).is_some()
-}
-
-/// The script that is open after the line with this number, if this one is before it.
-fn script_after(script: Option<OpenScript>, number: u32, line: &[u8]) -> Option<OpenScript> {
-    match script {
-        Some(script) => after_line(script, line),
-        None if words_of(line).next() == Some("script") => Some(OpenScript::opened(number)),
-        None => None,
     }
 }

@@ -1,15 +1,18 @@
 //! What is wrong with the refused line, as the reader finds it: first its bytes, then its first word, then how many
 //! words it has, then each of them, and then the limit that it exceeds.
 
-use crate::forms::{BODY_WORDS, Form, SCRIPT_WORDS, form_inside, form_outside, header_place};
+use crate::forms::{Form, form_outside, script_form};
 use crate::input::{OpenScript, Refused, words_of};
+use crate::keywords::{body_word, header_place, header_word, script_word};
 use crate::nearest::nearest_word;
 use crate::phrases::phrases_problem;
 use crate::problem::{
     ByteProblem, FormProblem, HeaderProblem, KeywordProblem, LimitProblem, Problem,
 };
 use crate::word::word_problem;
-use lot_simulation::{Format, InputRefusal};
+use lot_simulation::{
+    BODY_WORDS, BodyWord, FIRST_WORD, Format, HeaderWord, InputRefusal, SCRIPT_WORDS, ScriptWord,
+};
 use std::alloc::Global;
 
 /// What is wrong with a line that was refused in this way.
@@ -37,7 +40,7 @@ pub(crate) fn problem_of<'a>(
 /// last one too.
 fn is_timed_start(line: &[u8]) -> bool {
     let mut words = words_of(line);
-    let is_start = words.next() == Some("lottery");
+    let is_start = words.next().unwrap_or("").as_bytes() == FIRST_WORD;
     match Format::of_word(words.next().unwrap_or("").as_bytes()) {
         Some(format) => is_start && format.is_timed() && words.next().is_none(),
         None => false,
@@ -49,8 +52,8 @@ fn header_problem<'a>(refused: &Refused<'a>, word: &'a str) -> HeaderProblem<'a>
     if !refused.is_timed() {
         return HeaderProblem::LateHeader(word);
     }
-    let is_late = match header_place(word) {
-        Some(place) => place <= refused.place,
+    let is_late = match header_word(word) {
+        Some(header) => header_place(header) <= refused.place,
         None => false,
     };
     if is_late || refused.has_duration {
@@ -97,25 +100,25 @@ fn script_problem<'a>(
     if refused.is_timed() {
         return phrases_problem(alloc, refused, script);
     }
-    let Some(form) = form_inside(word) else {
+    let Some(keyword) = script_word(word) else {
         let problem = no_script_word(alloc, refused, script, word);
         return Some(Problem::Keyword(problem));
     };
-    if word == "serve" {
+    if keyword == ScriptWord::Serve {
         return Some(Problem::Keyword(KeywordProblem::OnlyTimed(word)));
     }
-    let problem = form_problem(alloc, refused, form);
+    let problem = form_problem(alloc, refused, script_form(keyword));
     if problem.is_some() {
         return problem;
     }
-    loop_problem(script, word)
+    loop_problem(script, keyword)
 }
 
 /// What is wrong with the end of a loop or of the script, if the word is one.
-pub(crate) fn loop_problem(script: OpenScript, word: &str) -> Option<Problem<'_>> {
+pub(crate) fn loop_problem(script: OpenScript, word: ScriptWord) -> Option<Problem<'static>> {
     match word {
-        "end" if script.loops == 0 => Some(Problem::Form(FormProblem::NoLoop)),
-        "endscript" if script.loops > 0 => Some(Problem::Form(FormProblem::OpenLoop)),
+        ScriptWord::End if script.loops == 0 => Some(Problem::Form(FormProblem::NoLoop)),
+        ScriptWord::EndScript if script.loops > 0 => Some(Problem::Form(FormProblem::OpenLoop)),
         _ => None,
     }
 }
@@ -127,7 +130,7 @@ pub(crate) fn no_script_word<'a>(
     script: OpenScript,
     word: &'a str,
 ) -> KeywordProblem<'a> {
-    if word == "lottery" || form_outside(word).is_some() {
+    if header_word(word).is_some() || body_word(word).is_some() {
         return KeywordProblem::InsideScript {
             word,
             opened: script.line,
@@ -135,7 +138,7 @@ pub(crate) fn no_script_word<'a>(
     }
     KeywordProblem::NoScriptWord {
         word,
-        nearest: nearest_word(alloc, refused.words_among(&SCRIPT_WORDS), word),
+        nearest: nearest_word(alloc, &SCRIPT_WORDS, refused.is_timed(), word),
     }
 }
 
@@ -147,21 +150,25 @@ fn body_problem<'a>(alloc: Global, refused: &Refused<'a>, word: &'a str) -> Opti
     if let Some(form) = form_outside(word) {
         return form_problem(alloc, refused, form);
     }
-    if form_inside(word).is_some() {
+    if script_word(word).is_some() {
         return Some(Problem::Keyword(KeywordProblem::OutsideScript(word)));
     }
-    let nearest = nearest_word(alloc, refused.words_among(&BODY_WORDS), word);
+    let nearest = nearest_word(alloc, &BODY_WORDS, refused.is_timed(), word);
     Some(Problem::Keyword(KeywordProblem::NoBodyLine { word, nearest }))
 }
 
 /// What is wrong with a line outside scripts that begins with this word, in an input of this format.
 fn format_problem(format: Option<Format>, word: &str) -> Option<KeywordProblem<'_>> {
-    match word {
-        "runs" if format == Some(Format::V1) => Some(KeywordProblem::RunsOfFirst),
-        "runs" | "schedule" if format == Some(Format::V3) => {
+    let is_timed = format == Some(Format::V3);
+    match body_word(word) {
+        Some(BodyWord::Runs) if format == Some(Format::V1) => Some(KeywordProblem::RunsOfFirst),
+        Some(BodyWord::Runs | BodyWord::Schedule) if is_timed => {
             Some(KeywordProblem::ScheduleOfTimed(word))
         }
-        "for" | "at" if format != Some(Format::V3) => Some(KeywordProblem::OnlyTimed(word)),
+        Some(BodyWord::At) if !is_timed => Some(KeywordProblem::OnlyTimed(word)),
+        None if !is_timed && header_word(word) == Some(HeaderWord::For) => {
+            Some(KeywordProblem::OnlyTimed(word))
+        }
         _ => None,
     }
 }
@@ -212,11 +219,11 @@ fn too_many<'a>(refused: &Refused<'a>, word: &str, refusal: InputRefusal) -> Pro
             most: 1024,
         });
     }
-    let (what, most) = match word {
-        "port" => ("port", 256),
-        "mutex" => ("mutex", 256),
-        "script" => ("script", 256),
-        "schedule" | "runs" => ("turn of the schedule", 1000000),
+    let (what, most) = match body_word(word) {
+        Some(BodyWord::Port) => ("port", 256),
+        Some(BodyWord::Mutex) => ("mutex", 256),
+        Some(BodyWord::Script) => ("script", 256),
+        Some(BodyWord::Schedule | BodyWord::Runs) => ("turn of the schedule", 1000000),
         _ => ("command", 100000),
     };
     Problem::Limit(LimitProblem::TooMany { what, most })

@@ -1,6 +1,8 @@
 //! How lines are written.
 
+use crate::keywords::{body_word, header_word};
 use crate::names::Kind;
+use lot_simulation::{BodyWord, HeaderWord, ScriptWord};
 
 /// What a word after the first is to be.
 #[derive(Clone, Copy)]
@@ -62,74 +64,45 @@ impl Form {
 }
 
 /// A line whose words after the first come once.
-fn once(shape: &'static str, expected: &'static [Expected]) -> Option<Form> {
-    Some(Form {
+fn once(shape: &'static str, expected: &'static [Expected]) -> Form {
+    Form {
         shape,
         expected,
         times: Times::Once,
-    })
+    }
 }
 
-/// The words that begin lines of the body, the last of which is for `lottery 3` alone.
-pub(crate) const BODY_WORDS: [&str; 17] = [
-    "port", "mutex", "script", "mktkt", "rmtkt", "mkcur", "rmcur", "fund", "unfund", "mkthr",
-    "fundx", "lstkt", "lscur", "lsthr", "schedule", "runs", "at",
-];
-
-/// The words that begin lines of a script, the last of which is for `lottery 3` alone.
-pub(crate) const SCRIPT_WORDS: [&str; 13] = [
-    "compute",
-    "set",
-    "add",
-    "loop",
-    "end",
-    "yield",
-    "reply",
-    "call",
-    "receive",
-    "lock",
-    "unlock",
-    "endscript",
-    "serve",
-];
+/// A line whose words after the first come at least once.
+fn repeated(shape: &'static str, expected: &'static [Expected]) -> Form {
+    Form {
+        shape,
+        expected,
+        times: Times::Repeated,
+    }
+}
 
 /// The form of a line outside scripts that begins with this word.
 pub(crate) fn form_outside(word: &str) -> Option<Form> {
-    header_form(word)
-        .or_else(|| declaring_form(word))
-        .or_else(|| command_form(word))
-        .or_else(|| schedule_form(word))
-}
-
-/// The words that begin lines of the header, in their order. `for` is for `lottery 3` alone.
-const HEADER_WORDS: [&str; 7] = [
-    "lottery",
-    "processors",
-    "quantum",
-    "turns",
-    "for",
-    "seed",
-    "limits",
-];
-
-/// Where the word's line comes in the header, from 0 on, if it is one of the header.
-pub(crate) fn header_place(word: &str) -> Option<usize> {
-    HEADER_WORDS.iter().position(|header| *header == word)
+    match header_word(word) {
+        Some(header) => header_form(header),
+        None => Some(body_form(body_word(word)?)),
+    }
 }
 
 /// The form of a line of the header after the first.
-fn header_form(word: &str) -> Option<Form> {
-    match word {
-        "processors" => once("processors P", &[Expected::Between(1, 64)]),
-        "quantum" => once("quantum Q", &[Expected::Between(1, 1000)]),
-        "turns" => once("turns T", &[Expected::Between(0, 10000)]),
-        "for" => once("for TICKS", &[Expected::Between(1, 4294967295)]),
-        "seed" => Some(Form {
+fn header_form(word: HeaderWord) -> Option<Form> {
+    let form = match word {
+        HeaderWord::Lottery => return None,
+        HeaderWord::Processors => once("processors P", &[Expected::Between(1, 64)]),
+        HeaderWord::Quantum => once("quantum Q", &[Expected::Between(1, 1000)]),
+        HeaderWord::Turns => once("turns T", &[Expected::Between(0, 10000)]),
+        HeaderWord::For => once("for TICKS", &[Expected::Between(1, 4294967295)]),
+        HeaderWord::Seed => Form {
             shape: "seed S1 .. SP, with a number for each processor",
             expected: &[Expected::Between(1, 2147483646)],
             times: Times::PerProcessor,
-        }),
-        "limits" => once(
+        },
+        HeaderWord::Limits => once(
             "limits TICKETS CURRENCIES THREADS",
             &[
                 Expected::Between(1, 65535),
@@ -137,77 +110,56 @@ fn header_form(word: &str) -> Option<Form> {
                 Expected::Between(1, 4096),
             ],
         ),
-        _ => None,
-    }
+    };
+    Some(form)
 }
 
-/// The form of a line that gives a name to a port, a mutex or a script.
-fn declaring_form(word: &str) -> Option<Form> {
-    match word {
-        "port" => once("port NAME", &[Expected::New(Kind::Port)]),
-        "mutex" => once("mutex NAME", &[Expected::New(Kind::Mutex)]),
-        "script" => once("script NAME", &[Expected::New(Kind::Script)]),
-        _ => None,
-    }
-}
-
-/// The form of a command.
-pub(crate) fn command_form(word: &str) -> Option<Form> {
+/// The form of a line of the body.
+fn body_form(word: BodyWord) -> Form {
     const NUMBER: Expected = Expected::AnyNumber;
     const NAME: Expected = Expected::AnyName;
     match word {
-        "mktkt" => once("mktkt AMOUNT CURRENCY", &[NUMBER, NAME]),
-        "rmtkt" => once("rmtkt TICKET", &[NUMBER]),
-        "mkcur" => once("mkcur NAME", &[NAME]),
-        "rmcur" => once("rmcur CURRENCY", &[NAME]),
-        "fund" => once("fund TICKET TARGET", &[NUMBER, NAME]),
-        "unfund" => once("unfund TICKET", &[NUMBER]),
-        "mkthr" => once("mkthr NAME SCRIPT", &[NAME, NAME]),
-        "fundx" => once(
+        BodyWord::Port => once("port NAME", &[Expected::New(Kind::Port)]),
+        BodyWord::Mutex => once("mutex NAME", &[Expected::New(Kind::Mutex)]),
+        BodyWord::Script => once("script NAME", &[Expected::New(Kind::Script)]),
+        BodyWord::MakeTicket => once("mktkt AMOUNT CURRENCY", &[NUMBER, NAME]),
+        BodyWord::RemoveTicket => once("rmtkt TICKET", &[NUMBER]),
+        BodyWord::MakeCurrency => once("mkcur NAME", &[NAME]),
+        BodyWord::RemoveCurrency => once("rmcur CURRENCY", &[NAME]),
+        BodyWord::Fund => once("fund TICKET TARGET", &[NUMBER, NAME]),
+        BodyWord::Unfund => once("unfund TICKET", &[NUMBER]),
+        BodyWord::MakeThread => once("mkthr NAME SCRIPT", &[NAME, NAME]),
+        BodyWord::MakeFunded => once(
             "fundx AMOUNT CURRENCY NAME SCRIPT",
             &[NUMBER, NAME, NAME, NAME],
         ),
-        "lstkt" => once("lstkt", &[]),
-        "lscur" => once("lscur", &[]),
-        "lsthr" => once("lsthr", &[]),
-        _ => None,
-    }
-}
-
-/// The form of a line of the schedule.
-fn schedule_form(word: &str) -> Option<Form> {
-    match word {
-        "schedule" => Some(Form {
-            shape: "schedule ACTOR ..",
-            expected: &[Expected::Actor],
-            times: Times::Repeated,
-        }),
-        "runs" => Some(Form {
-            shape: "runs ACTOR TURNS ..",
-            expected: &[Expected::Actor, Expected::Between(1, 1000000)],
-            times: Times::Repeated,
-        }),
-        "at" => once("at TICK", &[Expected::Later]),
-        _ => None,
+        BodyWord::ListTickets => once("lstkt", &[]),
+        BodyWord::ListCurrencies => once("lscur", &[]),
+        BodyWord::ListThreads => once("lsthr", &[]),
+        BodyWord::Schedule => repeated("schedule ACTOR ..", &[Expected::Actor]),
+        BodyWord::Runs => repeated(
+            "runs ACTOR TURNS ..",
+            &[Expected::Actor, Expected::Between(1, 1000000)],
+        ),
+        BodyWord::At => once("at TICK", &[Expected::Later]),
     }
 }
 
 /// The form of this word of a script.
-pub(crate) fn form_inside(word: &str) -> Option<Form> {
+pub(crate) fn script_form(word: ScriptWord) -> Form {
     match word {
-        "compute" => once("compute TICKS", &[Expected::Between(1, 4294967295)]),
-        "set" => once("set NUMBER", &[Expected::Between(0, 4294967295)]),
-        "add" => once("add NUMBER", &[Expected::Between(0, 4294967295)]),
-        "loop" => once("loop TIMES", &[Expected::Between(1, 65535)]),
-        "end" => once("end", &[]),
-        "yield" => once("yield", &[]),
-        "reply" => once("reply", &[]),
-        "call" => once("call PORT", &[Expected::Known(Kind::Port)]),
-        "receive" => once("receive PORT", &[Expected::Known(Kind::Port)]),
-        "serve" => once("serve PORT", &[Expected::Known(Kind::Port)]),
-        "lock" => once("lock MUTEX", &[Expected::Known(Kind::Mutex)]),
-        "unlock" => once("unlock MUTEX", &[Expected::Known(Kind::Mutex)]),
-        "endscript" => once("endscript", &[]),
-        _ => None,
+        ScriptWord::Compute => once("compute TICKS", &[Expected::Between(1, 4294967295)]),
+        ScriptWord::Set => once("set NUMBER", &[Expected::Between(0, 4294967295)]),
+        ScriptWord::Add => once("add NUMBER", &[Expected::Between(0, 4294967295)]),
+        ScriptWord::Loop => once("loop TIMES", &[Expected::Between(1, 65535)]),
+        ScriptWord::End => once("end", &[]),
+        ScriptWord::Yield => once("yield", &[]),
+        ScriptWord::Reply => once("reply", &[]),
+        ScriptWord::Call => once("call PORT", &[Expected::Known(Kind::Port)]),
+        ScriptWord::Receive => once("receive PORT", &[Expected::Known(Kind::Port)]),
+        ScriptWord::Serve => once("serve PORT", &[Expected::Known(Kind::Port)]),
+        ScriptWord::Lock => once("lock MUTEX", &[Expected::Known(Kind::Mutex)]),
+        ScriptWord::Unlock => once("unlock MUTEX", &[Expected::Known(Kind::Mutex)]),
+        ScriptWord::EndScript => once("endscript", &[]),
     }
 }

@@ -1,8 +1,8 @@
 //! The refused line, and what the lines before it say.
 
-use crate::forms::header_place;
+use crate::keywords::{body_word, header_place, header_word};
 use crate::phrases::after_line;
-use lot_simulation::Format;
+use lot_simulation::{BodyWord, Format, HeaderWord, ScriptWord};
 use std::str;
 use std::str::SplitAsciiWhitespace;
 
@@ -73,14 +73,6 @@ impl<'a> Refused<'a> {
         }
     }
 
-    /// Those of these words that the input has: the last of them is only for turns in the order of time.
-    pub(crate) fn words_among(&self, words: &'static [&'static str]) -> &'static [&'static str] {
-        if self.is_timed() {
-            return words;
-        }
-        &words[..words.len().saturating_sub(1)]
-    }
-
     /// Takes up what the line with this number says.
     fn pass(&mut self, number: u32, line: &[u8]) {
         let mut words = words_of(line);
@@ -99,13 +91,29 @@ impl<'a> Refused<'a> {
 
     /// The same of a line outside scripts that begins with these two words.
     fn pass_outside(&mut self, number: u32, word: &str, next: &str) {
-        self.place = header_place(word).unwrap_or(usize::MAX);
+        match header_word(word) {
+            Some(header) => self.pass_header(header, next),
+            None => self.pass_body(number, word, next),
+        }
+    }
+
+    /// The same of a line of the header.
+    fn pass_header(&mut self, word: HeaderWord, next: &str) {
+        self.place = header_place(word);
         match word {
-            "lottery" => self.format = Format::of_word(next.as_bytes()),
-            "for" => self.has_duration = true,
-            "at" => self.now = next.parse::<u32>().unwrap_or(0),
-            "processors" => self.processors = next.parse::<u32>().unwrap_or(1),
-            "script" => self.script = Some(OpenScript::opened(number)),
+            HeaderWord::Lottery => self.format = Format::of_word(next.as_bytes()),
+            HeaderWord::For => self.has_duration = true,
+            HeaderWord::Processors => self.processors = next.parse::<u32>().unwrap_or(1),
+            _ => {}
+        }
+    }
+
+    /// The same of a line of the body.
+    fn pass_body(&mut self, number: u32, word: &str, next: &str) {
+        self.place = usize::MAX;
+        match body_word(word) {
+            Some(BodyWord::At) => self.now = next.parse::<u32>().unwrap_or(0),
+            Some(BodyWord::Script) => self.script = Some(OpenScript::opened(number)),
             _ => {}
         }
     }
@@ -121,15 +129,15 @@ impl OpenScript {
     }
 
     /// What is open after this word of it.
-    pub(crate) fn after(self, word: &str) -> Option<OpenScript> {
+    pub(crate) fn after(self, word: ScriptWord) -> Option<OpenScript> {
         let OpenScript { line, loops } = self;
         match word {
-            "endscript" => None,
-            "loop" => Some(OpenScript {
+            ScriptWord::EndScript => None,
+            ScriptWord::Loop => Some(OpenScript {
                 line,
                 loops: loops.saturating_add(1),
             }),
-            "end" => Some(OpenScript {
+            ScriptWord::End => Some(OpenScript {
                 line,
                 loops: loops.saturating_sub(1),
             }),

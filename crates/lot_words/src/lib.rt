@@ -10,6 +10,7 @@ mod commands;
 mod explain;
 mod forms;
 mod input;
+mod keywords;
 mod leftovers;
 mod names;
 mod nearest;

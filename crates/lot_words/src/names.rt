@@ -1,6 +1,8 @@
 //! What an input declares by name.
 
 use crate::input::words_of;
+use crate::keywords::body_word;
+use lot_simulation::BodyWord;
 use std::fmt;
 
 /// What has a name of its own.
@@ -13,25 +15,29 @@ pub(crate) enum Kind {
 
 impl Kind {
     /// The word that begins the line of one.
-    pub(crate) fn word(self) -> &'static str {
+    fn keyword(self) -> BodyWord {
         match self {
-            Kind::Port => "port",
-            Kind::Mutex => "mutex",
-            Kind::Script => "script",
+            Kind::Port => BodyWord::Port,
+            Kind::Mutex => BodyWord::Mutex,
+            Kind::Script => BodyWord::Script,
         }
     }
 }
 
 impl fmt::Display for Kind {
     fn fmt<W: fmt::Write>(&self, f: &mut fmt::Formatter<W>) -> fmt::Result {
-        f.write_str(self.word())
+        f.write_str(match self {
+            Kind::Port => "port",
+            Kind::Mutex => "mutex",
+            Kind::Script => "script",
+        })
     }
 }
 
 /// The name of this kind that the line declares, if it declares one.
 pub(crate) fn name_declared(kind: Kind, line: &[u8]) -> Option<&str> {
     let mut words = words_of(line);
-    if words.next() == Some(kind.word()) {
+    if body_word(words.next().unwrap_or("")) == Some(kind.keyword()) {
         words.next()
     } else {
         None

@@ -2,7 +2,7 @@
 
 use crate::names::{Kind, name_declared};
 use std::alloc::Global;
-use std::fmt;
+use std::{fmt, str};
 use strsim::levenshtein;
 
 /// How many letters may be wrong, missing or too many.
@@ -44,17 +44,30 @@ impl fmt::Display for Nearest<'_> {
     }
 }
 
-/// The word of these that is nearest to this one.
-pub(crate) fn nearest_word(
+/// The word of this table that is nearest to this one. The table's first word is looked at last, and only if turns come
+/// in the order of time.
+pub(crate) fn nearest_word<W>(
     alloc: Global,
-    words: &'static [&'static str],
+    table: &'static [(&'static [u8], W)],
+    is_timed: bool,
     misspelt: &str,
 ) -> Nearest<'static> {
     let mut nearest = Nearest::NONE;
-    for word in words {
-        nearest = nearest.or(alloc, misspelt, word);
+    let [first, others @ ..] = table else {
+        return nearest;
+    };
+    for (spelling, _) in others {
+        nearest = nearest.or(alloc, misspelt, text_of(spelling));
+    }
+    if is_timed {
+        nearest = nearest.or(alloc, misspelt, text_of(first.0));
     }
     nearest
+}
+
+/// The spelling of a word as text.
+fn text_of(spelling: &'static [u8]) -> &'static str {
+    str::from_utf8(spelling).unwrap_or("")
 }
 
 /// The name of this kind in these lines that is nearest to this one.

@@ -1,10 +1,12 @@
 //! The words of a line inside a script, of which there may be several, each with what belongs to it.
 
 use crate::explain::{loop_problem, no_script_word};
-use crate::forms::{Form, form_inside};
+use crate::forms::{Form, script_form};
 use crate::input::{OpenScript, Refused, words_of};
+use crate::keywords::script_word;
 use crate::problem::{FormProblem, Problem};
 use crate::word::word_problem;
+use lot_simulation::ScriptWord;
 use std::alloc::Global;
 
 /// What is open after a line inside this script, which isn't refused.
@@ -17,7 +19,7 @@ pub(crate) fn after_line(script: OpenScript, line: &[u8]) -> Option<OpenScript> 
         }
         if is_argument {
             is_argument = false;
-        } else {
+        } else if let Some(word) = script_word(word) {
             open = open.after(word)?;
             is_argument = has_argument(word);
         }
@@ -26,11 +28,8 @@ pub(crate) fn after_line(script: OpenScript, line: &[u8]) -> Option<OpenScript> 
 }
 
 /// Whether another word belongs to this one.
-fn has_argument(word: &str) -> bool {
-    match form_inside(word) {
-        Some(form) => !form.expected.is_empty(),
-        None => false,
-    }
+fn has_argument(word: ScriptWord) -> bool {
+    !script_form(word).expected.is_empty()
 }
 
 /// What the words before the next one of a line leave.
@@ -81,14 +80,14 @@ impl Before {
         if word.starts_with('#') {
             return Some(Problem::Form(FormProblem::LateComment));
         }
-        let Some(form) = form_inside(word) else {
+        let Some(keyword) = script_word(word) else {
             let problem = no_script_word(alloc, refused, script, word);
             return Some(Problem::Keyword(problem));
         };
-        self.script = script.after(word);
-        if !form.expected.is_empty() {
-            self.unfinished = Some(form);
+        self.script = script.after(keyword);
+        if has_argument(keyword) {
+            self.unfinished = Some(script_form(keyword));
         }
-        loop_problem(script, word)
+        loop_problem(script, keyword)
     }
 }
