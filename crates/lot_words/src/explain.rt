@@ -1,7 +1,7 @@
 //! What is wrong with the refused line, as the reader finds it: first its bytes, then its first word, then how many
 //! words it has, then each of them, and then the limit that it exceeds.
 
-use crate::forms::{Form, form_outside, script_form};
+use crate::forms::{Form, Shape, form_outside, script_form};
 use crate::input::{OpenScript, Refused, words_of};
 use crate::keywords::{body_word, header_place, header_word, script_word};
 use crate::nearest::nearest_word;
@@ -107,7 +107,7 @@ fn script_problem<'a>(
     if keyword == ScriptWord::Serve {
         return Some(Problem::Keyword(KeywordProblem::OnlyTimed(word)));
     }
-    let problem = form_problem(alloc, refused, script_form(keyword));
+    let problem = form_problem(alloc, refused, word, script_form(keyword));
     if problem.is_some() {
         return problem;
     }
@@ -148,7 +148,7 @@ fn body_problem<'a>(alloc: Global, refused: &Refused<'a>, word: &'a str) -> Opti
         return Some(Problem::Keyword(problem));
     }
     if let Some(form) = form_outside(word) {
-        return form_problem(alloc, refused, form);
+        return form_problem(alloc, refused, word, form);
     }
     if script_word(word).is_some() {
         return Some(Problem::Keyword(KeywordProblem::OutsideScript(word)));
@@ -173,12 +173,17 @@ fn format_problem(format: Option<Format>, word: &str) -> Option<KeywordProblem<'
     }
 }
 
-/// What is wrong with a line that is to be of this form.
-fn form_problem<'a>(alloc: Global, refused: &Refused<'a>, form: Form) -> Option<Problem<'a>> {
+/// What is wrong with a line that begins with this word and is to be of this form.
+fn form_problem<'a>(
+    alloc: Global,
+    refused: &Refused<'a>,
+    word: &'a str,
+    form: Form,
+) -> Option<Problem<'a>> {
     let mut words = words_of(refused.line);
     let count = words.count().saturating_sub(1);
     if !form.has_room_for(count, refused.processors) {
-        return Some(Problem::Form(count_problem(refused, form, count)));
+        return Some(Problem::Form(count_problem(refused, form.shape_after(word), count)));
     }
     let mut words = words_of(refused.line);
     let _ = words.next();
@@ -194,13 +199,13 @@ fn form_problem<'a>(alloc: Global, refused: &Refused<'a>, form: Form) -> Option<
     None
 }
 
-/// What to say of a line of this form with this many words after the first.
-fn count_problem<'a>(refused: &Refused<'a>, form: Form, count: usize) -> FormProblem<'a> {
+/// What to say of a line that is to be like this and has this many words after the first.
+fn count_problem<'a>(refused: &Refused<'a>, shape: Shape<'a>, count: usize) -> FormProblem<'a> {
     if words_of(refused.line).any(|word| word.starts_with('#')) {
-        return FormProblem::TrailingComment(form.shape);
+        return FormProblem::TrailingComment(shape);
     }
     FormProblem::WrongCount {
-        shape: form.shape,
+        shape,
         count: count.saturating_add(1),
     }
 }

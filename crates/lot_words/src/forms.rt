@@ -3,6 +3,7 @@
 use crate::keywords::{body_word, header_word};
 use crate::names::Kind;
 use lot_simulation::{BodyWord, HeaderWord, ScriptWord};
+use std::fmt;
 
 /// What a word after the first is to be.
 #[derive(Clone, Copy)]
@@ -33,17 +34,42 @@ pub(crate) enum Times {
     Repeated,
 }
 
+/// A whole line: its first word, and what stands for the others.
+#[derive(Clone, Copy, Debug)]
+pub(crate) struct Shape<'a> {
+    word: &'a str,
+    arguments: &'static str,
+}
+
+impl fmt::Display for Shape<'_> {
+    fn fmt<W: fmt::Write>(&self, f: &mut fmt::Formatter<W>) -> fmt::Result {
+        f.write_str(self.word)?;
+        if self.arguments.is_empty() {
+            return Ok(());
+        }
+        write!(f, " {}", self.arguments)
+    }
+}
+
 /// How a line is written.
 #[derive(Clone, Copy)]
 pub(crate) struct Form {
-    /// The whole line, with what stands for its words.
-    pub(crate) shape: &'static str,
+    /// What stands for the words after the first.
+    pub(crate) arguments: &'static str,
     /// What the words after the first are to be.
     pub(crate) expected: &'static [Expected],
     pub(crate) times: Times,
 }
 
 impl Form {
+    /// The whole line, if it begins with this word.
+    pub(crate) fn shape_after<'a>(&self, word: &'a str) -> Shape<'a> {
+        Shape {
+            word,
+            arguments: self.arguments,
+        }
+    }
+
     /// What the word at this place after the first is to be. The first place is 0.
     pub(crate) fn expected_at(&self, place: usize) -> Option<Expected> {
         match self.expected.len() {
@@ -64,18 +90,18 @@ impl Form {
 }
 
 /// A line whose words after the first come once.
-fn once(shape: &'static str, expected: &'static [Expected]) -> Form {
+fn once(arguments: &'static str, expected: &'static [Expected]) -> Form {
     Form {
-        shape,
+        arguments,
         expected,
         times: Times::Once,
     }
 }
 
 /// A line whose words after the first come at least once.
-fn repeated(shape: &'static str, expected: &'static [Expected]) -> Form {
+fn repeated(arguments: &'static str, expected: &'static [Expected]) -> Form {
     Form {
-        shape,
+        arguments,
         expected,
         times: Times::Repeated,
     }
@@ -93,17 +119,17 @@ pub(crate) fn form_outside(word: &str) -> Option<Form> {
 fn header_form(word: HeaderWord) -> Option<Form> {
     let form = match word {
         HeaderWord::Lottery => return None,
-        HeaderWord::Processors => once("processors P", &[Expected::Between(1, 64)]),
-        HeaderWord::Quantum => once("quantum Q", &[Expected::Between(1, 1000)]),
-        HeaderWord::Turns => once("turns T", &[Expected::Between(0, 10000)]),
-        HeaderWord::For => once("for TICKS", &[Expected::Between(1, 4294967295)]),
+        HeaderWord::Processors => once("P", &[Expected::Between(1, 64)]),
+        HeaderWord::Quantum => once("Q", &[Expected::Between(1, 1000)]),
+        HeaderWord::Turns => once("T", &[Expected::Between(0, 10000)]),
+        HeaderWord::For => once("TICKS", &[Expected::Between(1, 4294967295)]),
         HeaderWord::Seed => Form {
-            shape: "seed S1 .. SP, with a number for each processor",
+            arguments: "S1 .. SP, with a number for each processor",
             expected: &[Expected::Between(1, 2147483646)],
             times: Times::PerProcessor,
         },
         HeaderWord::Limits => once(
-            "limits TICKETS CURRENCIES THREADS",
+            "TICKETS CURRENCIES THREADS",
             &[
                 Expected::Between(1, 65535),
                 Expected::Between(1, 4096),
@@ -119,47 +145,44 @@ fn body_form(word: BodyWord) -> Form {
     const NUMBER: Expected = Expected::AnyNumber;
     const NAME: Expected = Expected::AnyName;
     match word {
-        BodyWord::Port => once("port NAME", &[Expected::New(Kind::Port)]),
-        BodyWord::Mutex => once("mutex NAME", &[Expected::New(Kind::Mutex)]),
-        BodyWord::Script => once("script NAME", &[Expected::New(Kind::Script)]),
-        BodyWord::MakeTicket => once("mktkt AMOUNT CURRENCY", &[NUMBER, NAME]),
-        BodyWord::RemoveTicket => once("rmtkt TICKET", &[NUMBER]),
-        BodyWord::MakeCurrency => once("mkcur NAME", &[NAME]),
-        BodyWord::RemoveCurrency => once("rmcur CURRENCY", &[NAME]),
-        BodyWord::Fund => once("fund TICKET TARGET", &[NUMBER, NAME]),
-        BodyWord::Unfund => once("unfund TICKET", &[NUMBER]),
-        BodyWord::MakeThread => once("mkthr NAME SCRIPT", &[NAME, NAME]),
-        BodyWord::MakeFunded => once(
-            "fundx AMOUNT CURRENCY NAME SCRIPT",
-            &[NUMBER, NAME, NAME, NAME],
-        ),
-        BodyWord::ListTickets => once("lstkt", &[]),
-        BodyWord::ListCurrencies => once("lscur", &[]),
-        BodyWord::ListThreads => once("lsthr", &[]),
-        BodyWord::Schedule => repeated("schedule ACTOR ..", &[Expected::Actor]),
+        BodyWord::Port => once("NAME", &[Expected::New(Kind::Port)]),
+        BodyWord::Mutex => once("NAME", &[Expected::New(Kind::Mutex)]),
+        BodyWord::Script => once("NAME", &[Expected::New(Kind::Script)]),
+        BodyWord::MakeTicket => once("AMOUNT CURRENCY", &[NUMBER, NAME]),
+        BodyWord::RemoveTicket => once("TICKET", &[NUMBER]),
+        BodyWord::MakeCurrency => once("NAME", &[NAME]),
+        BodyWord::RemoveCurrency => once("CURRENCY", &[NAME]),
+        BodyWord::Fund => once("TICKET TARGET", &[NUMBER, NAME]),
+        BodyWord::Unfund => once("TICKET", &[NUMBER]),
+        BodyWord::MakeThread => once("NAME SCRIPT", &[NAME, NAME]),
+        BodyWord::MakeFunded => once("AMOUNT CURRENCY NAME SCRIPT", &[NUMBER, NAME, NAME, NAME]),
+        BodyWord::ListTickets => once("", &[]),
+        BodyWord::ListCurrencies => once("", &[]),
+        BodyWord::ListThreads => once("", &[]),
+        BodyWord::Schedule => repeated("ACTOR ..", &[Expected::Actor]),
         BodyWord::Runs => repeated(
-            "runs ACTOR TURNS ..",
+            "ACTOR TURNS ..",
             &[Expected::Actor, Expected::Between(1, 1000000)],
         ),
-        BodyWord::At => once("at TICK", &[Expected::Later]),
+        BodyWord::At => once("TICK", &[Expected::Later]),
     }
 }
 
 /// The form of this word of a script.
 pub(crate) fn script_form(word: ScriptWord) -> Form {
     match word {
-        ScriptWord::Compute => once("compute TICKS", &[Expected::Between(1, 4294967295)]),
-        ScriptWord::Set => once("set NUMBER", &[Expected::Between(0, 4294967295)]),
-        ScriptWord::Add => once("add NUMBER", &[Expected::Between(0, 4294967295)]),
-        ScriptWord::Loop => once("loop TIMES", &[Expected::Between(1, 65535)]),
-        ScriptWord::End => once("end", &[]),
-        ScriptWord::Yield => once("yield", &[]),
-        ScriptWord::Reply => once("reply", &[]),
-        ScriptWord::Call => once("call PORT", &[Expected::Known(Kind::Port)]),
-        ScriptWord::Receive => once("receive PORT", &[Expected::Known(Kind::Port)]),
-        ScriptWord::Serve => once("serve PORT", &[Expected::Known(Kind::Port)]),
-        ScriptWord::Lock => once("lock MUTEX", &[Expected::Known(Kind::Mutex)]),
-        ScriptWord::Unlock => once("unlock MUTEX", &[Expected::Known(Kind::Mutex)]),
-        ScriptWord::EndScript => once("endscript", &[]),
+        ScriptWord::Compute => once("TICKS", &[Expected::Between(1, 4294967295)]),
+        ScriptWord::Set => once("NUMBER", &[Expected::Between(0, 4294967295)]),
+        ScriptWord::Add => once("NUMBER", &[Expected::Between(0, 4294967295)]),
+        ScriptWord::Loop => once("TIMES", &[Expected::Between(1, 65535)]),
+        ScriptWord::End => once("", &[]),
+        ScriptWord::Yield => once("", &[]),
+        ScriptWord::Reply => once("", &[]),
+        ScriptWord::Call => once("PORT", &[Expected::Known(Kind::Port)]),
+        ScriptWord::Receive => once("PORT", &[Expected::Known(Kind::Port)]),
+        ScriptWord::Serve => once("PORT", &[Expected::Known(Kind::Port)]),
+        ScriptWord::Lock => once("MUTEX", &[Expected::Known(Kind::Mutex)]),
+        ScriptWord::Unlock => once("MUTEX", &[Expected::Known(Kind::Mutex)]),
+        ScriptWord::EndScript => once("", &[]),
     }
 }

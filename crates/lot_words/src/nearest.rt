@@ -44,8 +44,8 @@ impl fmt::Display for Nearest<'_> {
     }
 }
 
-/// The word of this table that is nearest to this one. The table's first word is looked at last, and only if turns come
-/// in the order of time.
+/// The word of this table that is nearest to this one. The table's first word is looked at last, and only if turns
+/// come in the order of time.
 pub(crate) fn nearest_word<W>(
     alloc: Global,
     table: &'static [(&'static [u8], W)],

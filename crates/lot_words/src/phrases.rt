@@ -32,12 +32,19 @@ fn has_argument(word: ScriptWord) -> bool {
     !script_form(word).expected.is_empty()
 }
 
+/// A word to which another one belongs.
+#[derive(Clone, Copy)]
+struct Unfinished<'a> {
+    word: &'a str,
+    form: Form,
+}
+
 /// What the words before the next one of a line leave.
 #[derive(Clone, Copy)]
-struct Before {
+struct Before<'a> {
     script: Option<OpenScript>,
-    /// The last word's form, if another word belongs to it.
-    unfinished: Option<Form>,
+    /// The last word, if another one belongs to it.
+    unfinished: Option<Unfinished<'a>>,
 }
 
 /// What is wrong with a refused line inside this script, if anything is.
@@ -57,20 +64,18 @@ pub(crate) fn phrases_problem<'a>(
         }
     }
     match before.unfinished {
-        Some(form) => Some(Problem::Form(FormProblem::Unfinished(form.shape))),
+        Some(Unfinished { word, form }) => {
+            let shape = form.shape_after(word);
+            Some(Problem::Form(FormProblem::Unfinished(shape)))
+        }
         None => None,
     }
 }
 
-impl Before {
+impl<'a> Before<'a> {
     /// Takes up the next word, and returns what is wrong with it, if anything is.
-    fn pass<'a>(
-        &mut self,
-        alloc: Global,
-        refused: &Refused<'a>,
-        word: &'a str,
-    ) -> Option<Problem<'a>> {
-        if let Some(form) = self.unfinished.take() {
+    fn pass(&mut self, alloc: Global, refused: &Refused<'a>, word: &'a str) -> Option<Problem<'a>> {
+        if let Some(Unfinished { word: _, form }) = self.unfinished.take() {
             let expected = form.expected_at(0)?;
             return word_problem(alloc, refused, word, expected);
         }
@@ -86,7 +91,10 @@ impl Before {
         };
         self.script = script.after(keyword);
         if has_argument(keyword) {
-            self.unfinished = Some(script_form(keyword));
+            self.unfinished = Some(Unfinished {
+                word,
+                form: script_form(keyword),
+            });
         }
         loop_problem(script, keyword)
     }

@@ -1,5 +1,6 @@
 //! What is wrong with a line.
 
+use crate::forms::Shape;
 use crate::names::Kind;
 use crate::nearest::Nearest;
 use lot_simulation::InputRefusal;
@@ -78,15 +79,15 @@ pub(crate) enum KeywordProblem<'a> {
 #[derive(Clone, Copy, Debug, Error)]
 pub(crate) enum FormProblem<'a> {
     #[error("a comment has a line of its own; '{0}' has no room for one")]
-    TrailingComment(&'a str),
+    TrailingComment(Shape<'a>),
     #[error("a comment has a line of its own")]
     LateComment,
     #[error("a word is missing at the end: '{0}'")]
-    Unfinished(&'a str),
+    Unfinished(Shape<'a>),
     #[error("'{0}' stands behind 'endscript', which ends its line")]
     BehindEnd(&'a str),
     #[error("this line is written '{shape}', and here are {count} words")]
-    WrongCount { shape: &'a str, count: usize },
+    WrongCount { shape: Shape<'a>, count: usize },
     #[error("'end' closes a loop, and none is open")]
     NoLoop,
     #[error("'endscript' stands inside a loop: 'end' closes it")]
