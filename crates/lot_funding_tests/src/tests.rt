@@ -7,5 +7,6 @@ mod generator;
 mod graph;
 mod lists;
 mod lottery;
+mod same;
 mod tree;
 mod value;

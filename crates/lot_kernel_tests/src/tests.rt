@@ -4,6 +4,7 @@ mod mutexes;
 mod ports;
 mod queues;
 mod reads;
+mod same;
 mod threads;
 mod traps;
 
@@ -12,9 +13,9 @@ use lot_kernel::{
     Action, Command, CurrencyRow, Event, Kernel, Kind, Limits, Name, Outcome, Refusal, Reply,
     Sizes, Status, ThreadRow, TicketRow, TrapRefusal,
 };
+use same::{check_same, check_same_at};
 use std::alloc::Global;
 use std::process::Abort;
-use std::test::Fail;
 
 /// A command with its names as texts.
 #[derive(Clone, Copy, Debug)]
@@ -63,59 +64,55 @@ type CurrencyShown<'a> = (u32, &'a str, u32, u32, u64, u64);
 /// A thread's number, name, status, value, weight, quanta and ticks.
 type ThreadShown<'a> = (u32, &'a str, Status, u64, u128, u64, u64);
 
-fn name(text: &str) -> Result<Name, Fail> {
-    Ok(Name::new(text).ok_or("name")?)
+fn name(rt: &impl Abort, text: &str) -> Name {
+    Name::new(text).expect(rt, "name")
 }
 
-fn command(line: Line<'_>) -> Result<Command, Fail> {
-    Ok(match line {
+fn command(rt: &impl Abort, line: Line<'_>) -> Command {
+    match line {
         Line::Mktkt(amount, text) => {
-            let currency = name(text)?;
+            let currency = name(rt, text);
             Command::MakeTicket { amount, currency }
         }
         Line::Rmtkt(ticket) => Command::RemoveTicket { ticket },
-        Line::Mkcur(text) => Command::MakeCurrency { name: name(text)? },
+        Line::Mkcur(text) => Command::MakeCurrency {
+            name: name(rt, text),
+        },
         Line::Rmcur(text) => Command::RemoveCurrency {
-            currency: name(text)?,
+            currency: name(rt, text),
         },
         Line::Fund(ticket, text) => {
-            let target = name(text)?;
+            let target = name(rt, text);
             Command::Fund { ticket, target }
         }
         Line::Unfund(ticket) => Command::Unfund { ticket },
         Line::Mkthr(text, script) => {
-            let name = name(text)?;
+            let name = name(rt, text);
             Command::MakeThread { name, script }
         }
         Line::Fundx(amount, issuer, text, script) => Command::MakeFunded {
             amount,
-            currency: name(issuer)?,
-            name: name(text)?,
+            currency: name(rt, issuer),
+            name: name(rt, text),
             script,
         },
         Line::List(kind) => Command::List(kind),
-    })
+    }
 }
 
 /// The kernel's answer to a command.
-fn answer(kernel: &mut Kernel, line: Line<'_>) -> Result<Reply, Fail> {
-    Ok(kernel.event(&Event::Command(command(line)?)))
+fn answer(rt: &impl Abort, kernel: &mut Kernel, line: Line<'_>) -> Reply {
+    kernel.event(&Event::Command(command(rt, line)))
 }
 
 /// Gives a command, and compares the answer.
-fn check_answer(
-    rt: &impl Abort,
-    kernel: &mut Kernel,
-    line: Line<'_>,
-    reply: Reply,
-) -> Result<(), Fail> {
-    assert_eq!(rt; answer(kernel, line)?, reply, "{line:?}");
-    Ok(())
+fn check_answer(rt: &impl Abort, kernel: &mut Kernel, line: Line<'_>, reply: Reply) {
+    check_same_at(rt, &line, &answer(rt, kernel, line), &reply);
 }
 
 /// Gives an event, and compares the answer.
 fn check_event(rt: &impl Abort, kernel: &mut Kernel, event: Event, reply: Reply) {
-    assert_eq!(rt; kernel.event(&event), reply, "{event:?}");
+    check_same_at(rt, &event, &kernel.event(&event), &reply);
 }
 
 /// Gives these events at once, at most ten, and compares the answers.
@@ -124,63 +121,63 @@ fn check_run(rt: &impl Abort, kernel: &mut Kernel, events: &[Event], replies: &[
     assert!(rt; events.len() <= 10);
     let out = &mut room[..events.len()];
     kernel.run(events, out);
-    assert_eq!(rt; &*out, replies);
+    check_same(rt, &&*out, &replies);
 }
 
 /// The target of a ticket, which is shown as `-` if there is none.
-fn target_of(text: &str) -> Result<Option<Name>, Fail> {
+fn target_of(rt: &impl Abort, text: &str) -> Option<Name> {
     if text == "-" {
-        return Ok(None);
+        return None;
     }
-    Ok(Some(name(text)?))
+    Some(name(rt, text))
 }
 
-fn ticket_row(shown: TicketShown<'_>) -> Result<TicketRow, Fail> {
+fn ticket_row(rt: &impl Abort, shown: TicketShown<'_>) -> TicketRow {
     let (_, amount, issuer, target, is_active, value) = shown;
-    let issuer = name(issuer)?;
-    let target = target_of(target)?;
-    Ok(TicketRow {
+    let issuer = name(rt, issuer);
+    let target = target_of(rt, target);
+    TicketRow {
         amount,
         issuer,
         target,
         is_active,
         value,
-    })
+    }
 }
 
 fn check_ticket(rt: &impl Abort, kernel: &mut Kernel, number: u32, row: Option<TicketRow>) {
-    assert_eq!(rt; kernel.ticket_row(number), row, "ticket {number}");
+    check_same_at(rt, &number, &kernel.ticket_row(number), &row);
 }
 
-fn currency_row(shown: CurrencyShown<'_>) -> Result<CurrencyRow, Fail> {
+fn currency_row(rt: &impl Abort, shown: CurrencyShown<'_>) -> CurrencyRow {
     let (_, text, backing, issued, active_amount, value) = shown;
-    Ok(CurrencyRow {
-        name: name(text)?,
+    CurrencyRow {
+        name: name(rt, text),
         backing,
         issued,
         active_amount,
         value,
-    })
+    }
 }
 
 fn check_currency(rt: &impl Abort, kernel: &mut Kernel, number: u32, row: Option<CurrencyRow>) {
-    assert_eq!(rt; kernel.currency_row(number), row, "currency {number}");
+    check_same_at(rt, &number, &kernel.currency_row(number), &row);
 }
 
-fn thread_row(shown: ThreadShown<'_>) -> Result<ThreadRow, Fail> {
+fn thread_row(rt: &impl Abort, shown: ThreadShown<'_>) -> ThreadRow {
     let (_, text, status, value, weight, quanta, ticks) = shown;
-    Ok(ThreadRow {
-        name: name(text)?,
+    ThreadRow {
+        name: name(rt, text),
         status,
         value,
         weight,
         quanta,
         ticks,
-    })
+    }
 }
 
 fn check_thread(rt: &impl Abort, kernel: &mut Kernel, number: u32, row: Option<ThreadRow>) {
-    assert_eq!(rt; kernel.thread_row(number), row, "thread {number}");
+    check_same_at(rt, &number, &kernel.thread_row(number), &row);
 }
 
 /// Compares what a thread is worth.
@@ -189,11 +186,11 @@ fn check_value(rt: &impl Abort, kernel: &mut Kernel, thread: u32, value: u64) {
         Some(row) => Some(row.value),
         None => None,
     };
-    assert_eq!(rt; found, Some(value), "thread {thread}");
+    check_same_at(rt, &thread, &found, &Some(value));
 }
 
 /// Takes a step.
-fn take(rt: &impl Abort, kernel: &mut Kernel, step: Step<'_>) -> Result<(), Fail> {
+fn take(rt: &impl Abort, kernel: &mut Kernel, step: Step<'_>) {
     match step {
         Step::Gives(line, reply) => return check_answer(rt, kernel, line, reply),
         Step::Wins(processor, d, winner, delivered) => {
@@ -211,38 +208,35 @@ fn take(rt: &impl Abort, kernel: &mut Kernel, step: Step<'_>) -> Result<(), Fail
             let event = Event::Trap(processor, 0, action);
             check_event(rt, kernel, event, trapped(thread, outcome));
         }
-        Step::Ticket(shown) => check_ticket(rt, kernel, shown.0, Some(ticket_row(shown)?)),
-        Step::Currency(shown) => check_currency(rt, kernel, shown.0, Some(currency_row(shown)?)),
-        Step::Thread(shown) => check_thread(rt, kernel, shown.0, Some(thread_row(shown)?)),
+        Step::Ticket(shown) => check_ticket(rt, kernel, shown.0, Some(ticket_row(rt, shown))),
+        Step::Currency(shown) => check_currency(rt, kernel, shown.0, Some(currency_row(rt, shown))),
+        Step::Thread(shown) => check_thread(rt, kernel, shown.0, Some(thread_row(rt, shown))),
         Step::Value(thread, value) => check_value(rt, kernel, thread, value),
         Step::NoTicket(number) => check_ticket(rt, kernel, number, None),
         Step::NoCurrency(number) => check_currency(rt, kernel, number, None),
         Step::NoThread(number) => check_thread(rt, kernel, number, None),
     }
-    Ok(())
 }
 
 /// Takes the steps in turn.
-fn take_all(rt: &impl Abort, kernel: &mut Kernel, steps: &[Step<'_>]) -> Result<(), Fail> {
+fn take_all(rt: &impl Abort, kernel: &mut Kernel, steps: &[Step<'_>]) {
     for step in steps {
-        take(rt, kernel, *step)?;
+        take(rt, kernel, *step);
     }
-    Ok(())
 }
 
 /// Takes the steps in a new kernel of the largest tables.
-fn play(rt: &impl Abort, alloc: Global, steps: &[Step<'_>]) -> Result<(), Fail> {
-    let mut kernel = largest(alloc, 1)?;
+fn play(rt: &impl Abort, alloc: Global, steps: &[Step<'_>]) {
+    let mut kernel = largest(rt, alloc, 1);
     take_all(rt, &mut kernel, steps)
 }
 
 /// Makes this many threads with 1 of base each: `t1`, `t2` and so on.
-fn make_threads(kernel: &mut Kernel, alloc: Global, count: u32) -> Result<(), Fail> {
+fn make_threads(rt: &impl Abort, kernel: &mut Kernel, alloc: Global, count: u32) {
     for number in 1..=count {
-        let text = format!(in alloc; "t{number}")?;
-        answer(kernel, Line::Fundx(1, "base", text.as_str(), 1))?;
+        let text = format!(in alloc; "t{number}").expect(rt, "memory");
+        answer(rt, kernel, Line::Fundx(1, "base", text.as_str(), 1));
     }
-    Ok(())
 }
 
 /// The limits of the largest tables with this quantum and unit, two processors, ports and mutexes, and one script.
@@ -261,13 +255,13 @@ fn largest_limits(quantum: u32, unit: u32) -> Option<Limits> {
 }
 
 /// A kernel of the largest tables with quantum 100, two processors, ports and mutexes, and one script.
-fn largest(alloc: Global, unit: u32) -> Result<Kernel, Fail> {
-    let limits = largest_limits(100, unit).ok_or("limits")?;
-    Ok(Kernel::new(alloc, limits)?)
+fn largest(rt: &impl Abort, alloc: Global, unit: u32) -> Kernel {
+    let limits = largest_limits(100, unit).expect(rt, "limits");
+    Kernel::new(alloc, limits).expect(rt, "memory")
 }
 
 /// A kernel of this many tickets, currencies and threads.
-fn small(alloc: Global, tickets: u32, currencies: u32, threads: u32) -> Result<Kernel, Fail> {
+fn small(rt: &impl Abort, alloc: Global, tickets: u32, currencies: u32, threads: u32) -> Kernel {
     let limits = Limits::new(Sizes {
         tickets,
         currencies,
@@ -276,8 +270,8 @@ fn small(alloc: Global, tickets: u32, currencies: u32, threads: u32) -> Result<K
         quantum: 100,
         ..Sizes::SMALLEST
     })
-    .ok_or("limits")?;
-    Ok(Kernel::new(alloc, limits)?)
+    .expect(rt, "limits");
+    Kernel::new(alloc, limits).expect(rt, "memory")
 }
 
 /// A draw with this winner of a row, and what is delivered to the thread.
@@ -286,23 +280,21 @@ fn winning((thread, number, total): Winner, delivered: Option<u32>) -> Reply {
 }
 
 /// Makes a thread of this name with a new ticket of base, which has this number.
-fn fund_thread(kernel: &mut Kernel, number: u64, amount: u64, name: &str) -> Result<(), Fail> {
-    answer(kernel, Line::Mkthr(name, 1))?;
-    answer(kernel, Line::Mktkt(amount, "base"))?;
-    answer(kernel, Line::Fund(number, name))?;
-    Ok(())
+fn fund_thread(rt: &impl Abort, kernel: &mut Kernel, number: u64, amount: u64, name: &str) {
+    answer(rt, kernel, Line::Mkthr(name, 1));
+    answer(rt, kernel, Line::Mktkt(amount, "base"));
+    answer(rt, kernel, Line::Fund(number, name));
 }
 
 /// Makes threads of these names, funded with this much base, in order.
-fn fund(kernel: &mut Kernel, threads: &[(u64, &str)]) -> Result<(), Fail> {
+fn fund(rt: &impl Abort, kernel: &mut Kernel, threads: &[(u64, &str)]) {
     for (amount, name) in threads {
-        answer(kernel, Line::Fundx(*amount, "base", name, 1))?;
+        answer(rt, kernel, Line::Fundx(*amount, "base", name, 1));
     }
-    Ok(())
 }
 
 /// Five threads with 10, 2, 5, 1 and 2 of base.
-fn fund_five(kernel: &mut Kernel) -> Result<(), Fail> {
+fn fund_five(rt: &impl Abort, kernel: &mut Kernel) {
     for (number, amount, name) in [
         (1, 10, "a"),
         (2, 2, "b"),
@@ -310,9 +302,8 @@ fn fund_five(kernel: &mut Kernel) -> Result<(), Fail> {
         (4, 1, "d"),
         (5, 2, "e"),
     ] {
-        fund_thread(kernel, number, amount, name)?;
+        fund_thread(rt, kernel, number, amount, name);
     }
-    Ok(())
 }
 
 /// A draw of 20 that the thread wins, and the end of its quantum.
@@ -347,17 +338,17 @@ fn check_draws(rt: &impl Abort, kernel: &mut Kernel) {
 }
 
 #[test]
-fn list_lottery(rt: HostRuntime) -> Result<(), Fail> {
-    let mut kernel = largest(rt.alloc(), 1)?;
-    fund_five(&mut kernel)?;
+fn list_lottery(rt: HostRuntime) {
+    let mut kernel = largest(&rt, rt.alloc(), 1);
+    fund_five(&rt, &mut kernel);
     check_draws(&rt, &mut kernel);
-    let mut funded = largest(rt.alloc(), 1)?;
+    let mut funded = largest(&rt, rt.alloc(), 1);
     fund(
+        &rt,
         &mut funded,
         &[(10, "a"), (2, "b"), (5, "c"), (1, "d"), (2, "e")],
-    )?;
+    );
     check_draws(&rt, &mut funded);
-    Ok(())
 }
 
 const ONE_FUNDED: [Step<'_>; 4] = [
@@ -415,9 +406,9 @@ const OUT_OF_PLACE_REPLIES: [Reply; 10] = [
 ];
 
 #[test]
-fn events_out_of_place(rt: HostRuntime) -> Result<(), Fail> {
-    let mut kernel = largest(rt.alloc(), 1)?;
-    take_all(&rt, &mut kernel, &ONE_FUNDED)?;
+fn events_out_of_place(rt: HostRuntime) {
+    let mut kernel = largest(&rt, rt.alloc(), 1);
+    take_all(&rt, &mut kernel, &ONE_FUNDED);
     for (event, refusal) in NO_THREAD_RUNS {
         check_event(&rt, &mut kernel, event, Reply::Refused(refusal));
     }
@@ -427,13 +418,12 @@ fn events_out_of_place(rt: HostRuntime) -> Result<(), Fail> {
 }
 
 /// Gives one thread all the tickets that there may be, of the largest amount.
-fn fund_fully(kernel: &mut Kernel) -> Result<(), Fail> {
-    answer(kernel, Line::Mkthr("a", 1))?;
+fn fund_fully(rt: &impl Abort, kernel: &mut Kernel) {
+    answer(rt, kernel, Line::Mkthr("a", 1));
     for ticket in 1..=65535 {
-        answer(kernel, Line::Mktkt(4294967295, "base"))?;
-        answer(kernel, Line::Fund(ticket, "a"))?;
+        answer(rt, kernel, Line::Mktkt(4294967295, "base"));
+        answer(rt, kernel, Line::Fund(ticket, "a"));
     }
-    Ok(())
 }
 
 const NO_MORE_TICKETS: [Step<'_>; 3] = [
@@ -446,17 +436,16 @@ const NO_MORE_TICKETS: [Step<'_>; 3] = [
 ];
 
 /// All the tickets that there may be, of the largest amount.
-fn all_tickets(rt: &impl Abort, alloc: Global, unit: u32, total: u128) -> Result<(), Fail> {
-    let mut kernel = largest(alloc, unit)?;
-    fund_fully(&mut kernel)?;
-    take_all(rt, &mut kernel, &NO_MORE_TICKETS)?;
+fn all_tickets(rt: &impl Abort, alloc: Global, unit: u32, total: u128) {
+    let mut kernel = largest(rt, alloc, unit);
+    fund_fully(rt, &mut kernel);
+    take_all(rt, &mut kernel, &NO_MORE_TICKETS);
     check_event(rt, &mut kernel, Event::Draw(1, 7), won(1, 7, total, None));
-    Ok(())
 }
 
 #[test]
-fn largest_totals(rt: HostRuntime) -> Result<(), Fail> {
-    all_tickets(&rt, rt.alloc(), 1, 281470681677825)?;
+fn largest_totals(rt: HostRuntime) {
+    all_tickets(&rt, rt.alloc(), 1, 281470681677825);
     all_tickets(&rt, rt.alloc(), 256, 72056494509523200)
 }
 
@@ -474,13 +463,12 @@ fn third_reply(kernel: &mut Kernel) -> Reply {
 
 /// The largest total of all: every ticket, the finer unit, and the largest compensation.
 #[test]
-fn largest_compensated_total(rt: HostRuntime) -> Result<(), Fail> {
-    let limits = largest_limits(1000, 256).ok_or("limits")?;
-    let mut kernel = Kernel::new(rt.alloc(), limits)?;
-    fund_fully(&mut kernel)?;
+fn largest_compensated_total(rt: HostRuntime) {
+    let limits = largest_limits(1000, 256).expect(&rt, "limits");
+    let mut kernel = Kernel::new(rt.alloc(), limits).expect(&rt, "memory");
+    fund_fully(&rt, &mut kernel);
     let last = won(1, 18446744073709551615, 72056494509523200000, None);
-    assert_eq!(rt; third_reply(&mut kernel), last);
-    Ok(())
+    check_same(&rt, &third_reply(&mut kernel), &last);
 }
 
 const PAPERS_GRAPH: [Step<'_>; 38] = [
@@ -543,7 +531,7 @@ const PAPERS_GRAPH: [Step<'_>; 38] = [
 ];
 
 #[test]
-fn papers_graph(rt: HostRuntime) -> Result<(), Fail> {
+fn papers_graph(rt: HostRuntime) {
     play(&rt, rt.alloc(), &PAPERS_GRAPH)
 }
 
@@ -569,37 +557,41 @@ const ROWS_OF_NOTHING: [Step<'_>; 18] = [
 ];
 
 #[test]
-fn rows_of_nothing(rt: HostRuntime) -> Result<(), Fail> {
+fn rows_of_nothing(rt: HostRuntime) {
     play(&rt, rt.alloc(), &ROWS_OF_NOTHING)
 }
 
 /// Gives the commands in turn.
-fn answer_all(kernel: &mut Kernel, lines: &[Line<'_>]) -> Result<(), Fail> {
+fn answer_all(rt: &impl Abort, kernel: &mut Kernel, lines: &[Line<'_>]) {
     for line in lines {
-        answer(kernel, *line)?;
+        answer(rt, kernel, *line);
     }
-    Ok(())
 }
 
 /// Gives currency `g` a thread for each of these amounts.
-fn share(kernel: &mut Kernel, amounts: &[(u64, &str)]) -> Result<(), Fail> {
+fn share(rt: &impl Abort, kernel: &mut Kernel, amounts: &[(u64, &str)]) {
     for (amount, thread) in amounts {
-        answer(kernel, Line::Fundx(*amount, "g", thread, 1))?;
+        answer(rt, kernel, Line::Fundx(*amount, "g", thread, 1));
     }
-    Ok(())
 }
 
 /// A base ticket funds currency `g`, whose tickets of these amounts fund a thread each.
-fn shares(alloc: Global, unit: u32, whole: u64, amounts: &[(u64, &str)]) -> Result<Kernel, Fail> {
-    let mut kernel = largest(alloc, unit)?;
+fn shares(
+    rt: &impl Abort,
+    alloc: Global,
+    unit: u32,
+    whole: u64,
+    amounts: &[(u64, &str)],
+) -> Kernel {
+    let mut kernel = largest(rt, alloc, unit);
     let lines = [
         Line::Mkcur("g"),
         Line::Mktkt(whole, "base"),
         Line::Fund(1, "g"),
     ];
-    answer_all(&mut kernel, &lines)?;
-    share(&mut kernel, amounts)?;
-    Ok(kernel)
+    answer_all(rt, &mut kernel, &lines);
+    share(rt, &mut kernel, amounts);
+    kernel
 }
 
 /// Compares what the threads with these numbers are worth.
@@ -655,9 +647,9 @@ const SHARED_AMOUNTS: [Shared<'_>; 4] = [
     },
 ];
 
-fn check_shared(rt: &impl Abort, alloc: Global, row: Shared<'_>) -> Result<(), Fail> {
+fn check_shared(rt: &impl Abort, alloc: Global, row: Shared<'_>) {
     let (thread, number, total) = row.winner;
-    let mut kernel = shares(alloc, row.unit, row.whole, row.amounts)?;
+    let mut kernel = shares(rt, alloc, row.unit, row.whole, row.amounts);
     check_values(rt, &mut kernel, row.values);
     check_event(
         rt,
@@ -665,15 +657,13 @@ fn check_shared(rt: &impl Abort, alloc: Global, row: Shared<'_>) -> Result<(), F
         Event::Draw(1, row.d),
         won(thread, number, total, None),
     );
-    Ok(())
 }
 
 #[test]
-fn rounding(rt: HostRuntime) -> Result<(), Fail> {
+fn rounding(rt: HostRuntime) {
     for row in SHARED_AMOUNTS {
-        check_shared(&rt, rt.alloc(), row)?;
+        check_shared(&rt, rt.alloc(), row);
     }
-    Ok(())
 }
 
 const NOTHING: [Step<'_>; 7] = [
@@ -693,8 +683,8 @@ const NOTHING: [Step<'_>; 7] = [
 ];
 
 #[test]
-fn rounded_to_nothing(rt: HostRuntime) -> Result<(), Fail> {
-    let mut kernel = shares(rt.alloc(), 1, 1, &[(1, "a"), (1, "b")])?;
+fn rounded_to_nothing(rt: HostRuntime) {
+    let mut kernel = shares(&rt, rt.alloc(), 1, 1, &[(1, "a"), (1, "b")]);
     take_all(&rt, &mut kernel, &NOTHING)
 }
 
@@ -748,9 +738,9 @@ const ONE_LEVEL: [Step<'_>; 9] = [
 ];
 
 #[test]
-fn two_levels(rt: HostRuntime) -> Result<(), Fail> {
-    let mut kernel = largest(rt.alloc(), 1)?;
-    take_all(&rt, &mut kernel, &TWO_LEVELS)?;
+fn two_levels(rt: HostRuntime) {
+    let mut kernel = largest(&rt, rt.alloc(), 1);
+    take_all(&rt, &mut kernel, &TWO_LEVELS);
     check_run(
         &rt,
         &mut kernel,
@@ -780,68 +770,64 @@ const CYCLES: [Step<'_>; 16] = [
 ];
 
 #[test]
-fn cycles(rt: HostRuntime) -> Result<(), Fail> {
+fn cycles(rt: HostRuntime) {
     play(&rt, rt.alloc(), &CYCLES)
 }
 
 /// Makes this many currencies: `c1`, `c2` and so on.
-fn make_currencies(kernel: &mut Kernel, alloc: Global, count: u32) -> Result<(), Fail> {
+fn make_currencies(rt: &impl Abort, kernel: &mut Kernel, alloc: Global, count: u32) {
     for number in 1..=count {
-        let made = format!(in alloc; "c{number}")?;
-        answer(kernel, Line::Mkcur(&made))?;
+        let made = format!(in alloc; "c{number}").expect(rt, "memory");
+        answer(rt, kernel, Line::Mkcur(&made));
     }
-    Ok(())
 }
 
 /// A new ticket funds the target.
-fn fund_anew(kernel: &mut Kernel, amount: u64, issuer: &str, target: &str) -> Result<(), Fail> {
-    let made = match answer(kernel, Line::Mktkt(amount, issuer))? {
+fn fund_anew(rt: &impl Abort, kernel: &mut Kernel, amount: u64, issuer: &str, target: &str) {
+    let made = match answer(rt, kernel, Line::Mktkt(amount, issuer)) {
         Reply::Ticket(ticket) => Some(ticket),
         _ => None,
     };
-    let ticket = made.ok_or("ticket")?;
-    answer(kernel, Line::Fund(u64::from(ticket), target))?;
-    Ok(())
+    let ticket = made.expect(rt, "ticket");
+    answer(rt, kernel, Line::Fund(u64::from(ticket), target));
 }
 
 /// This many tickets of this currency fund the next.
-fn link(kernel: &mut Kernel, alloc: Global, number: u32, tickets: u32) -> Result<(), Fail> {
-    let issuer = format!(in alloc; "c{number}")?;
-    let target = format!(in alloc; "c{}", number.saturating_add(1))?;
+fn link(rt: &impl Abort, kernel: &mut Kernel, alloc: Global, number: u32, tickets: u32) {
+    let issuer = format!(in alloc; "c{number}").expect(rt, "memory");
+    let target = format!(in alloc; "c{}", number.saturating_add(1)).expect(rt, "memory");
     for _ in 0..tickets {
-        fund_anew(kernel, 1, &issuer, &target)?;
+        fund_anew(rt, kernel, 1, &issuer, &target);
     }
-    Ok(())
 }
 
 /// This many tickets of each of these currencies except the last fund the next.
-fn link_all(kernel: &mut Kernel, alloc: Global, count: u32, tickets: u32) -> Result<(), Fail> {
+fn link_all(rt: &impl Abort, kernel: &mut Kernel, alloc: Global, count: u32, tickets: u32) {
     for number in (1..count).rev() {
-        link(kernel, alloc, number, tickets)?;
+        link(rt, kernel, alloc, number, tickets);
     }
-    Ok(())
 }
 
 /// Makes thread `a`, with a ticket of this currency.
-fn fund_last(kernel: &mut Kernel, alloc: Global, number: u32) -> Result<(), Fail> {
-    let last = format!(in alloc; "c{number}")?;
-    answer(kernel, Line::Fundx(1, &last, "a", 1))?;
-    Ok(())
+fn fund_last(rt: &impl Abort, kernel: &mut Kernel, alloc: Global, number: u32) {
+    let last = format!(in alloc; "c{number}").expect(rt, "memory");
+    answer(rt, kernel, Line::Fundx(1, &last, "a", 1));
 }
 
 /// Currencies `c1`, `c2` and so on: a base ticket funds the first, this many tickets of each fund the next, and a
 /// ticket of the last funds thread `a`.
 fn chain(
+    rt: &impl Abort,
     kernel: &mut Kernel,
     alloc: Global,
     base: u64,
     currencies: u32,
     tickets: u32,
-) -> Result<(), Fail> {
-    make_currencies(kernel, alloc, currencies)?;
-    fund_last(kernel, alloc, currencies)?;
-    link_all(kernel, alloc, currencies, tickets)?;
-    fund_anew(kernel, base, "base", "c1")
+) {
+    make_currencies(rt, kernel, alloc, currencies);
+    fund_last(rt, kernel, alloc, currencies);
+    link_all(rt, kernel, alloc, currencies, tickets);
+    fund_anew(rt, kernel, base, "base", "c1")
 }
 
 const DIAMONDS: [Step<'_>; 5] = [
@@ -853,9 +839,9 @@ const DIAMONDS: [Step<'_>; 5] = [
 ];
 
 #[test]
-fn chain_of_diamonds(rt: HostRuntime) -> Result<(), Fail> {
-    let mut kernel = largest(rt.alloc(), 1)?;
-    chain(&mut kernel, rt.alloc(), 7, 64, 2)?;
+fn chain_of_diamonds(rt: HostRuntime) {
+    let mut kernel = largest(&rt, rt.alloc(), 1);
+    chain(&rt, &mut kernel, rt.alloc(), 7, 64, 2);
     take_all(&rt, &mut kernel, &DIAMONDS)
 }
 
@@ -876,7 +862,7 @@ const REMOVAL: [Step<'_>; 13] = [
 ];
 
 #[test]
-fn removal_in_order(rt: HostRuntime) -> Result<(), Fail> {
+fn removal_in_order(rt: HostRuntime) {
     play(&rt, rt.alloc(), &REMOVAL)
 }
 
@@ -924,16 +910,16 @@ fn play_small(
     alloc: Global,
     (tickets, currencies, threads): (u32, u32, u32),
     steps: &[Step<'_>],
-) -> Result<(), Fail> {
-    let mut kernel = small(alloc, tickets, currencies, threads)?;
+) {
+    let mut kernel = small(rt, alloc, tickets, currencies, threads);
     take_all(rt, &mut kernel, steps)
 }
 
 #[test]
-fn full_tables(rt: HostRuntime) -> Result<(), Fail> {
-    play_small(&rt, rt.alloc(), (2, 1, 1), &TWO_TICKETS)?;
-    play_small(&rt, rt.alloc(), (1, 1, 2), &ONE_TICKET)?;
-    play_small(&rt, rt.alloc(), (2, 1, 1), &ONE_THREAD)?;
+fn full_tables(rt: HostRuntime) {
+    play_small(&rt, rt.alloc(), (2, 1, 1), &TWO_TICKETS);
+    play_small(&rt, rt.alloc(), (1, 1, 2), &ONE_TICKET);
+    play_small(&rt, rt.alloc(), (2, 1, 1), &ONE_THREAD);
     play_small(&rt, rt.alloc(), (1, 2, 1), &TWO_CURRENCIES)
 }
 
@@ -1001,18 +987,17 @@ const REFUSED: [Step<'_>; 41] = [
 
 /// In each line the reply names the least check that fails, though later ones would fail too.
 #[test]
-fn refused_commands(rt: HostRuntime) -> Result<(), Fail> {
+fn refused_commands(rt: HostRuntime) {
     play_small(&rt, rt.alloc(), (2, 1, 1), &REFUSED)
 }
 
-fn check_unit(rt: &impl Abort, alloc: Global, unit: u32) -> Result<(), Fail> {
-    let kernel = largest(alloc, unit)?;
-    assert_eq!(rt; (kernel.unit(), kernel.limits().unit), (unit, unit));
-    Ok(())
+fn check_unit(rt: &impl Abort, alloc: Global, unit: u32) {
+    let kernel = largest(rt, alloc, unit);
+    check_same(rt, &(kernel.unit(), kernel.limits().unit), &(unit, unit));
 }
 
 #[test]
-fn units(rt: HostRuntime) -> Result<(), Fail> {
-    check_unit(&rt, rt.alloc(), 1)?;
+fn units(rt: HostRuntime) {
+    check_unit(&rt, rt.alloc(), 1);
     check_unit(&rt, rt.alloc(), 256)
 }

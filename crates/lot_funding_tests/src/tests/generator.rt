@@ -1,4 +1,5 @@
 //! The generator of drawn numbers, and the seeds of processors.
+use super::same::{check_same, check_same_at};
 use lot_draw::{ParkMiller, mixed_seed};
 use std::test::Fail;
 
@@ -10,14 +11,14 @@ fn seeds(rt: HostRuntime) {
         (2147483646, true),
         (2147483647, false),
     ] {
-        assert_eq!(rt; ParkMiller::new(seed).is_some(), is_one, "{seed}");
+        check_same_at(&rt, &seed, &ParkMiller::new(seed).is_some(), &is_one);
     }
 }
 
 #[test]
 fn numbers(rt: HostRuntime) -> Result<(), Fail> {
     let mut generator = ParkMiller::new(1).ok_or("seed")?;
-    assert_eq!(rt; generator.number(), 36090892629924);
+    check_same(&rt, &generator.number(), &36090892629924);
     Ok(())
 }
 
@@ -25,8 +26,12 @@ fn numbers(rt: HostRuntime) -> Result<(), Fail> {
 #[test]
 fn wide_numbers(rt: HostRuntime) -> Result<(), Fail> {
     let mut generator = ParkMiller::new(1).ok_or("seed")?;
-    assert_eq!(rt; generator.wide_number(), 166439864623969647858139600294153);
-    assert_eq!(rt; generator.next(), 1144108930);
+    check_same(
+        &rt,
+        &generator.wide_number(),
+        &166439864623969647858139600294153,
+    );
+    check_same(&rt, &generator.next(), &1144108930);
     Ok(())
 }
 
@@ -40,7 +45,7 @@ fn mixed_seeds(rt: HostRuntime) {
         (3, 1291394886),
         (10000, 399268537),
     ] {
-        assert_eq!(rt; mixed_seed(processor), seed, "{processor}");
+        check_same_at(&rt, &processor, &mixed_seed(processor), &seed);
     }
 }
 
@@ -52,6 +57,6 @@ fn ten_thousandth(rt: HostRuntime) -> Result<(), Fail> {
     for _ in 0..10000 {
         value = generator.next();
     }
-    assert_eq!(rt; value, 1043618065);
+    check_same(&rt, &value, &1043618065);
     Ok(())
 }

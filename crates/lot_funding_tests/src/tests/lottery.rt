@@ -1,4 +1,5 @@
 //! Lotteries over lists of weights, and compensated weights.
+use super::same::{check_same, check_same_at};
 use lot_draw::{weight, winner};
 use lot_machine::Drawn;
 
@@ -19,23 +20,25 @@ fn list_lottery(rt: HostRuntime) {
     ];
     for (d, place, number) in holders {
         let drawn = winner(&[10, 2, 5, 1, 2], d);
-        assert_eq!(rt;
-            drawn,
-            Some(Drawn {
+        check_same_at(
+            &rt,
+            &d,
+            &drawn,
+            &Some(Drawn {
                 place,
                 number,
-                total: 20
+                total: 20,
             }),
-            "at {d}"
         );
     }
     // A number of more than 64 bits: 3 * 2^64 + 15.
-    assert_eq!(rt;
-        winner(&[10, 2, 5, 1, 2], 55340232221128654863).map(|drawn| drawn.number),
-        Some(3)
+    check_same(
+        &rt,
+        &winner(&[10, 2, 5, 1, 2], 55340232221128654863).map(|drawn| drawn.number),
+        &Some(3),
     );
-    assert_eq!(rt; winner(&[0, 0], 7), None);
-    assert_eq!(rt; winner(&[], 7), None);
+    check_same(&rt, &winner(&[0, 0], 7), &None);
+    check_same(&rt, &winner(&[], 7), &None);
 }
 
 #[test]
@@ -48,6 +51,6 @@ fn compensation(rt: HostRuntime) {
         (400, Some(1), 40000),
     ];
     for (value, compensation, weighs) in weights {
-        assert_eq!(rt; weight(value, compensation, 100), weighs, "{value}");
+        check_same_at(&rt, &value, &weight(value, compensation, 100), &weighs);
     }
 }

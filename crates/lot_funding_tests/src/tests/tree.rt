@@ -1,4 +1,5 @@
 //! Weights that are put into a tree of partial sums, and the places that draws find there.
+use super::same::{check_same, check_same_at};
 use lot_tree::SumTree;
 use std::alloc::{AllocError, Global};
 use std::process::Abort;
@@ -55,8 +56,8 @@ fn next_number(state: &mut u64) -> u64 {
 #[test]
 fn draws_by_running_sums(rt: HostRuntime) -> Result<(), Fail> {
     let tree = tree_of(&rt, rt.alloc(), &[10, 2, 5, 1, 2])?;
-    assert_eq!(rt; tree.len(), 5);
-    assert_eq!(rt; tree.total(), 20);
+    check_same(&rt, &tree.len(), &5);
+    check_same(&rt, &tree.total(), &20);
     for (d, place) in [
         (0, 0),
         (9, 0),
@@ -69,7 +70,7 @@ fn draws_by_running_sums(rt: HostRuntime) -> Result<(), Fail> {
         (19, 4),
     ] {
         let (found, visits) = draw(&rt, &tree, d);
-        assert_eq!(rt; found, place, "at {d}");
+        check_same_at(&rt, &d, &found, &place);
         assert!(rt; visits >= 1 && visits <= 3, "{visits} reads at {d}");
     }
     Ok(())
@@ -80,13 +81,13 @@ fn puts_one_weight_for_another(rt: HostRuntime) -> Result<(), Fail> {
     let mut tree = tree_of(&rt, rt.alloc(), &[10, 2, 5, 1, 2])?;
     put(&rt, &mut tree, 1, 0);
     put(&rt, &mut tree, 4, 7);
-    assert_eq!(rt; tree.total(), 23);
+    check_same(&rt, &tree.total(), &23);
     for (i, w) in [10, 0, 5, 1, 7].iter().enumerate() {
         assert!(rt; i < tree.len());
-        assert_eq!(rt; tree.get(i), *w, "at {i}");
+        check_same_at(&rt, &i, &tree.get(i), w);
     }
     for (d, place) in [(9, 0), (10, 2), (14, 2), (15, 3), (16, 4), (22, 4)] {
-        assert_eq!(rt; draw(&rt, &tree, d).0, place, "at {d}");
+        check_same_at(&rt, &d, &draw(&rt, &tree, d).0, &place);
     }
     Ok(())
 }
@@ -94,11 +95,11 @@ fn puts_one_weight_for_another(rt: HostRuntime) -> Result<(), Fail> {
 #[test]
 fn holds_no_place_and_one(rt: HostRuntime) -> Result<(), Fail> {
     let none = SumTree::new(rt.alloc(), 0)?;
-    assert_eq!(rt; none.len(), 0);
-    assert_eq!(rt; none.total(), 0);
+    check_same(&rt, &none.len(), &0);
+    check_same(&rt, &none.total(), &0);
     let one = tree_of(&rt, rt.alloc(), &[3])?;
-    assert_eq!(rt; draw(&rt, &one, 0), (0, 1));
-    assert_eq!(rt; draw(&rt, &one, 2), (0, 1));
+    check_same(&rt, &draw(&rt, &one, 0), &(0, 1));
+    check_same(&rt, &draw(&rt, &one, 2), &(0, 1));
     Ok(())
 }
 
@@ -113,10 +114,10 @@ fn refuses_more_places_than_memory_has(rt: HostRuntime) {
 fn holds_weights_past_64_bits(rt: HostRuntime) -> Result<(), Fail> {
     let large: u128 = 1 << 66;
     let tree = tree_of(&rt, rt.alloc(), &[large, 1, large - 2])?;
-    assert_eq!(rt; draw(&rt, &tree, large - 1).0, 0);
-    assert_eq!(rt; draw(&rt, &tree, large).0, 1);
-    assert_eq!(rt; draw(&rt, &tree, large + 1).0, 2);
-    assert_eq!(rt; draw(&rt, &tree, 2 * large - 2).0, 2);
+    check_same(&rt, &draw(&rt, &tree, large - 1).0, &0);
+    check_same(&rt, &draw(&rt, &tree, large).0, &1);
+    check_same(&rt, &draw(&rt, &tree, large + 1).0, &2);
+    check_same(&rt, &draw(&rt, &tree, 2 * large - 2).0, &2);
     Ok(())
 }
 
@@ -128,7 +129,7 @@ fn reads_a_sum_for_each_digit_at_most(rt: HostRuntime) -> Result<(), Fail> {
     }
     for i in 0..1000 {
         let (place, visits) = draw(&rt, &tree, i as u128);
-        assert_eq!(rt; place, i);
+        check_same(&rt, &place, &i);
         assert!(rt; visits >= 1 && visits <= 10, "{visits} reads at {i}");
     }
     Ok(())
@@ -140,9 +141,9 @@ fn counts_on_to_the_greatest_number(rt: HostRuntime) -> Result<(), Fail> {
     assert!(rt; tree.total() > 9);
     let mut visits = u64::MAX - 1;
     tree.find(9, &mut visits);
-    assert_eq!(rt; visits, u64::MAX);
+    check_same(&rt, &visits, &u64::MAX);
     tree.find(9, &mut visits);
-    assert_eq!(rt; visits, u64::MAX);
+    check_same(&rt, &visits, &u64::MAX);
     Ok(())
 }
 
@@ -160,7 +161,7 @@ fn draws_as_a_walk_does(rt: HostRuntime) -> Result<(), Fail> {
             put(&rt, &mut tree, i, w);
             if tree.total() > 0 {
                 let d = u128::from(next_number(&mut state)) % tree.total();
-                assert_eq!(rt; draw(&rt, &tree, d).0, walk(&weights, d), "at {d} of {n}");
+                check_same_at(&rt, &d, &draw(&rt, &tree, d).0, &walk(&weights, d));
             }
         }
     }

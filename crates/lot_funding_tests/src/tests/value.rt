@@ -2,6 +2,7 @@
 ghost use Rattle.std.specs.Prelude.{◌≡◌, ◌<◌, ◌≤◌, IfOk, IsTrue};
 ghost use Rattle.lot_graph.specs.Graphs.{IsBorrower, LendReaches};
 
+use super::same::check_same;
 use crate::{is_mutex, is_target, is_thread};
 use lot_graph::Graph;
 use lot_machine::{Lend, Limits, Node, Sizes, Target};
@@ -33,7 +34,7 @@ fn small_graph(rt: &impl Abort, alloc: Global) -> Result<Graph, Fail>
 fn touched_nodes_are_stale(rt: HostRuntime) -> Result<(), Fail> {
     let graph = small_graph(&rt, rt.alloc())?;
     let mut values = Values::new(rt.alloc(), &graph, 1)?;
-    assert_eq!(rt; values.value_of(Node::Thread(2)), 0);
+    check_same(&rt, &values.value_of(Node::Thread(2)), &0);
     assert!(rt; !values.is_stale(Node::Thread(2)));
     values.touch(&graph, Node::Thread(2));
     assert!(rt; values.is_stale(Node::Thread(2)));

@@ -109,7 +109,7 @@ const LONG_NAMES: [Step<'_>; 7] = [
 ];
 
 #[test]
-fn names_of_sixteen_bytes(rt: HostRuntime) -> Result<(), Fail> {
+fn names_of_sixteen_bytes(rt: HostRuntime) {
     assert!(rt; Name::new("abcdefghijklmnopq").is_none());
     play(&rt, rt.alloc(), &LONG_NAMES)
 }
@@ -127,8 +127,8 @@ const NO_MORE_THREADS: [Step<'_>; 5] = [
 ];
 
 #[test]
-fn all_threads(rt: HostRuntime) -> Result<(), Fail> {
-    let mut kernel = largest(rt.alloc(), 1)?;
-    make_threads(&mut kernel, rt.alloc(), 4096)?;
+fn all_threads(rt: HostRuntime) {
+    let mut kernel = largest(&rt, rt.alloc(), 1);
+    make_threads(&rt, &mut kernel, rt.alloc(), 4096);
     take_all(&rt, &mut kernel, &NO_MORE_THREADS)
 }

@@ -16,6 +16,11 @@ pub(crate) fn is_won(winner: Option<Winner>, (thread, number, total): Won) -> bo
     }
 }
 
+/// Shows which step of a row doesn't come out as the row says.
+pub(crate) fn check_step(rt: &impl Abort, number: usize, is_so: bool) {
+    assert!(rt; is_so, "step {number}");
+}
+
 /// One more thread, which this much base funds.
 pub(crate) fn add_thread(rt: &impl Abort, threads: &mut Threads, queues: &mut Queues, amount: u32) {
     let made = threads.records().len();

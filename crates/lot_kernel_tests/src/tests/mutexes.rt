@@ -1,12 +1,11 @@
 //! Locks and unlocks among a few threads, with what is lent by them.
-use super::helpers::{Won, add_thread, finish, is_won};
+use super::helpers::{Won, add_thread, check_step, finish, is_won};
 use lot_machine::{Limits, Outcome, Sizes, Status};
 use lot_mutex::{Lottery, are_waiting, have_same_owners, lock, unlock};
 use lot_queues::Queues;
 use lot_threads::{Effect, Threads};
 use std::alloc::Global;
 use std::process::Abort;
-use std::test::Fail;
 
 /// A step of a row: a trap and its outcome, or a question and its expected answer.
 #[derive(Clone, Copy)]
@@ -74,66 +73,59 @@ fn make_unlock(
     (effect, read)
 }
 
-/// Makes a trap, and compares its outcome.
-fn make_trap(rt: &impl Abort, scene: &mut Scene, step: Step) {
+/// A lock, and whether it comes out so.
+fn locks(rt: &impl Abort, scene: &mut Scene, thread: u32, mutex: u32, outcome: Outcome) -> bool {
+    let effect = make_lock(rt, &mut scene.threads, &mut scene.queues, thread, mutex);
+    finish(rt, &mut scene.threads, thread, effect.after);
+    effect.outcome == outcome
+}
+
+/// An unlock, and whether it comes out so and reads this many edges.
+fn unlocks(
+    rt: &impl Abort,
+    scene: &mut Scene,
+    (owner, mutex): (u32, u32),
+    d: u128,
+    (outcome, reads): (Outcome, u64),
+) -> bool {
+    let (effect, read) = make_unlock(rt, scene, owner, mutex, d);
+    finish(rt, &mut scene.threads, owner, effect.after);
+    effect.outcome == outcome && read == reads
+}
+
+/// Takes a step, and returns whether it comes out as the row says.
+fn take(rt: &impl Abort, scene: &mut Scene, step: Step) -> bool {
     match step {
         Step::AddThread(amount) => {
             add_thread(rt, &mut scene.threads, &mut scene.queues, amount);
+            true
         }
-        Step::Lock(thread, mutex, outcome) => {
-            let effect = make_lock(rt, &mut scene.threads, &mut scene.queues, thread, mutex);
-            assert!(rt; effect.outcome == outcome);
-            finish(rt, &mut scene.threads, thread, effect.after);
-        }
+        Step::Lock(thread, mutex, outcome) => locks(rt, scene, thread, mutex, outcome),
         Step::Unlock(owner, mutex, d, outcome, reads) => {
-            let (effect, read) = make_unlock(rt, scene, owner, mutex, d);
-            assert!(rt; effect.outcome == outcome && read == reads);
-            finish(rt, &mut scene.threads, owner, effect.after);
+            unlocks(rt, scene, (owner, mutex), d, (outcome, reads))
         }
-        _ => {}
-    }
-}
-
-/// Asks, and compares the answer.
-fn check(rt: &impl Abort, scene: &mut Scene, step: Step) {
-    match step {
-        Step::Wins(d, won) => {
-            let winner = scene.threads.draw(d);
-            assert!(rt; is_won(winner, won), "at {d}");
-        }
+        Step::Wins(d, won) => is_won(scene.threads.draw(d), won),
         Step::Stands(thread, status) => {
-            let found = scene.threads.record(thread).map(|r| r.status);
-            assert!(rt; found == Some(status), "thread {thread}");
+            scene.threads.record(thread).map(|r| r.status) == Some(status)
         }
-        Step::Owner(mutex, owner) => {
-            assert!(rt;
-                scene.threads.graph().owner(mutex) == owner,
-                "mutex {mutex}"
-            );
-        }
-        _ => {}
+        Step::Owner(mutex, owner) => scene.threads.graph().owner(mutex) == owner,
     }
 }
 
 /// Takes the steps among threads of these limits, of which none is there yet.
-fn play(
-    rt: &impl Abort,
-    alloc: Global,
-    limits: Option<Limits>,
-    steps: &[Step],
-) -> Result<(), Fail> {
-    let limits = limits.ok_or("limits")?;
+fn play(rt: &impl Abort, alloc: Global, limits: Option<Limits>, steps: &[Step]) {
+    let limits = limits.expect(rt, "limits");
     let mut scene = Scene {
-        threads: Threads::new(alloc, &limits)?,
-        queues: Queues::new(alloc, limits.ports, limits.mutexes, limits.threads)?,
-        lottery: Lottery::new(alloc, limits.threads)?,
-        waiters: Vec::with_capacity(alloc, limits.threads as usize)?,
+        threads: Threads::new(alloc, &limits).expect(rt, "memory"),
+        queues: Queues::new(alloc, limits.ports, limits.mutexes, limits.threads).expect(
+            rt, "memory",
+        ),
+        lottery: Lottery::new(alloc, limits.threads).expect(rt, "memory"),
+        waiters: Vec::with_capacity(alloc, limits.threads as usize).expect(rt, "memory"),
     };
-    for step in steps {
-        make_trap(rt, &mut scene, *step);
-        check(rt, &mut scene, *step);
+    for (i, step) in steps.iter().enumerate() {
+        check_step(rt, i, take(rt, &mut scene, *step));
     }
-    Ok(())
 }
 
 fn small_limits() -> Option<Limits> {
@@ -188,7 +180,7 @@ const PASSED: [Step; 19] = [
 // The lottery is among the waiters in the order of waiting, by their values. The others go on waiting and lend to the
 // next owner, and the last owner frees the mutex.
 #[test]
-fn a_mutex_is_passed(rt: HostRuntime) -> Result<(), Fail> {
+fn a_mutex_is_passed(rt: HostRuntime) {
     play(&rt, rt.alloc(), small_limits(), &PASSED)
 }
 
@@ -211,14 +203,14 @@ const UNSETTLED: [Step; 5] = [
 
 // An unlock reads what is stale before its lottery: two tickets, the lend and the owner.
 #[test]
-fn an_unlock_settles(rt: HostRuntime) -> Result<(), Fail> {
+fn an_unlock_settles(rt: HostRuntime) {
     play(&rt, rt.alloc(), small_limits(), &UNSETTLED)
 }
 
 const NO_MUTEX: [Step; 2] = [Step::AddThread(3), Step::Wins(2, (1, 2, 3))];
 
 #[test]
-fn the_least_size(rt: HostRuntime) -> Result<(), Fail> {
+fn the_least_size(rt: HostRuntime) {
     play(&rt, rt.alloc(), Limits::new(Sizes::SMALLEST), &NO_MUTEX)
 }
 
@@ -232,6 +224,6 @@ const LAST_MUTEX: [Step; 6] = [
 ];
 
 #[test]
-fn the_largest_size(rt: HostRuntime) -> Result<(), Fail> {
+fn the_largest_size(rt: HostRuntime) {
     play(&rt, rt.alloc(), Limits::new(Sizes::LARGEST), &LAST_MUTEX)
 }

@@ -1,12 +1,11 @@
 //! Calls, receipts and replies among a few threads, with what is lent by them.
-use super::helpers::{Won, add_thread, finish, is_won};
+use super::helpers::{Won, add_thread, check_step, finish, is_won};
 use lot_machine::{Limits, Outcome, Sizes, Status};
 use lot_ports::{call, receive, reply, serve};
 use lot_queues::Queues;
 use lot_threads::{Effect, Threads};
 use std::alloc::Global;
 use std::process::Abort;
-use std::test::Fail;
 
 /// A step of a row: a trap and its outcome, or a question and its expected answer.
 #[derive(Clone, Copy)]
@@ -85,69 +84,68 @@ fn make_serving(
     Some(serve(threads, queues, server, client, port, number))
 }
 
-/// Makes a trap, and compares its outcome.
-fn make_trap(rt: &impl Abort, threads: &mut Threads, queues: &mut Queues, step: Step) {
+/// The outcome of what a thread did at a port, after which it goes on or leaves.
+fn done(rt: &impl Abort, threads: &mut Threads, thread: u32, effect: Effect) -> Outcome {
+    finish(rt, threads, thread, effect.after);
+    effect.outcome
+}
+
+/// Makes a trap, and returns its outcome, or `None` if it was a reply to no client.
+fn make_trap(
+    rt: &impl Abort,
+    threads: &mut Threads,
+    queues: &mut Queues,
+    step: Step,
+) -> Option<Outcome> {
     match step {
-        Step::AddThread(amount) => add_thread(rt, threads, queues, amount),
-        Step::Call(caller, port, number, outcome) => {
+        Step::Call(caller, port, number, _) => {
             let effect = make_call(rt, threads, queues, caller, port, number);
-            assert!(rt; effect.outcome == outcome);
-            finish(rt, threads, caller, effect.after);
+            Some(done(rt, threads, caller, effect))
         }
-        Step::Receive(server, port, outcome) => {
+        Step::Receive(server, port, _) => {
             let effect = make_receipt(rt, threads, queues, server, port);
-            assert!(rt; effect.outcome == outcome);
-            finish(rt, threads, server, effect.after);
+            Some(done(rt, threads, server, effect))
         }
-        Step::Reply(server, number, outcome) => {
-            let effect = make_reply(rt, threads, queues, server, number);
-            assert!(rt; effect.map(|e| e.outcome) == outcome);
+        Step::Reply(server, number, _) => Some(
+            make_reply(rt, threads, queues, server, number)?.outcome,
+        ),
+        Step::Serve(server, port, number, _) => {
+            let effect = make_serving(rt, threads, queues, server, port, number)?;
+            Some(done(rt, threads, server, effect))
         }
-        Step::Serve(server, port, number, outcome) => {
-            let effect = make_serving(rt, threads, queues, server, port, number);
-            assert!(rt; effect.map(|e| e.outcome) == outcome);
-            if let Some(made) = effect {
-                finish(rt, threads, server, made.after);
-            }
-        }
-        _ => {}
+        _ => None,
     }
 }
 
-/// Asks, and compares the answer.
-fn check(rt: &impl Abort, threads: &mut Threads, step: Step) {
+/// Takes a step, and returns whether it comes out as the row says.
+fn take(rt: &impl Abort, threads: &mut Threads, queues: &mut Queues, step: Step) -> bool {
     match step {
-        Step::Wins(d, won) => {
-            let winner = threads.draw(d);
-            assert!(rt; is_won(winner, won), "at {d}");
+        Step::AddThread(amount) => {
+            add_thread(rt, threads, queues, amount);
+            true
         }
-        Step::Stands(thread, status) => {
-            let found = threads.record(thread).map(|r| r.status);
-            assert!(rt; found == Some(status), "thread {thread}");
+        Step::Call(_, _, _, outcome) | Step::Receive(_, _, outcome) => {
+            make_trap(rt, threads, queues, step) == Some(outcome)
         }
-        Step::Gets(thread, number) => {
-            let found = threads.record(thread).map(|r| r.delivered);
-            assert!(rt; found == Some(number), "thread {thread}");
+        Step::Reply(_, _, outcome) | Step::Serve(_, _, _, outcome) => {
+            make_trap(rt, threads, queues, step) == outcome
         }
-        _ => {}
+        Step::Wins(d, won) => is_won(threads.draw(d), won),
+        Step::Stands(thread, status) => threads.record(thread).map(|r| r.status) == Some(status),
+        Step::Gets(thread, number) => threads.record(thread).map(|r| r.delivered) == Some(number),
     }
 }
 
 /// Takes the steps among threads of these limits, of which none is there yet.
-fn play(
-    rt: &impl Abort,
-    alloc: Global,
-    limits: Option<Limits>,
-    steps: &[Step],
-) -> Result<(), Fail> {
-    let limits = limits.ok_or("limits")?;
-    let mut threads = Threads::new(alloc, &limits)?;
-    let mut queues = Queues::new(alloc, limits.ports, limits.mutexes, limits.threads)?;
-    for step in steps {
-        make_trap(rt, &mut threads, &mut queues, *step);
-        check(rt, &mut threads, *step);
+fn play(rt: &impl Abort, alloc: Global, limits: Option<Limits>, steps: &[Step]) {
+    let limits = limits.expect(rt, "limits");
+    let mut threads = Threads::new(alloc, &limits).expect(rt, "memory");
+    let mut queues = Queues::new(alloc, limits.ports, limits.mutexes, limits.threads).expect(
+        rt, "memory",
+    );
+    for (i, step) in steps.iter().enumerate() {
+        check_step(rt, i, take(rt, &mut threads, &mut queues, *step));
     }
-    Ok(())
 }
 
 fn small_limits() -> Option<Limits> {
@@ -178,7 +176,7 @@ const RECEIVED_FIRST: [Step; 13] = [
 
 // A server that waits is Ready at the call, and is worth what its client has too until it replies.
 #[test]
-fn a_server_waits(rt: HostRuntime) -> Result<(), Fail> {
+fn a_server_waits(rt: HostRuntime) {
     play(&rt, rt.alloc(), small_limits(), &RECEIVED_FIRST)
 }
 
@@ -244,13 +242,13 @@ const SERVED: [Step; 13] = [
 
 // A server replies and takes the next call, or waits, in one trap; with no client it does neither.
 #[test]
-fn a_server_serves(rt: HostRuntime) -> Result<(), Fail> {
+fn a_server_serves(rt: HostRuntime) {
     play(&rt, rt.alloc(), small_limits(), &SERVED)
 }
 
 // A server takes calls in the order in which clients made them, and replies in the order in which it took them.
 #[test]
-fn calls_wait(rt: HostRuntime) -> Result<(), Fail> {
+fn calls_wait(rt: HostRuntime) {
     play(&rt, rt.alloc(), small_limits(), &QUEUED_FIRST)
 }
 
@@ -261,7 +259,7 @@ const NO_PORT: [Step; 3] = [
 ];
 
 #[test]
-fn the_least_size(rt: HostRuntime) -> Result<(), Fail> {
+fn the_least_size(rt: HostRuntime) {
     play(&rt, rt.alloc(), Limits::new(Sizes::SMALLEST), &NO_PORT)
 }
 
@@ -273,6 +271,6 @@ const LAST_PORT: [Step; 4] = [
 ];
 
 #[test]
-fn the_largest_size(rt: HostRuntime) -> Result<(), Fail> {
+fn the_largest_size(rt: HostRuntime) {
     play(&rt, rt.alloc(), Limits::new(Sizes::LARGEST), &LAST_PORT)
 }

@@ -2,10 +2,10 @@
 ghost use Rattle.std.specs.Prelude.{◌≡◌, ◌↔◌, IsTrue, ◌≤◌, vec_capacity};
 ghost use Rattle.lot_queues.specs.QueueLists.{IsThere};
 
+use super::same::check_same;
 use lot_queues::{Queues, TakenCall};
-use std::alloc::{AllocError, Global};
+use std::alloc::Global;
 use std::process::Abort;
-use std::test::Fail;
 
 const PORTS: u32 = 2;
 
@@ -32,13 +32,13 @@ fn has_thread(queues: &Queues, thread: u32) -> bool
 }
 
 /// Queues with all the threads for which there is room.
-fn full(rt: &impl Abort, alloc: Global) -> Result<Queues, AllocError> {
-    let mut queues = Queues::new(alloc, PORTS, MUTEXES, THREADS)?;
+fn full(rt: &impl Abort, alloc: Global) -> Queues {
+    let mut queues = Queues::new(alloc, PORTS, MUTEXES, THREADS).expect(rt, "memory");
     for _ in 0..THREADS {
         assert!(rt; queues.threads() < queues.room());
         queues.add_thread();
     }
-    Ok(queues)
+    queues
 }
 
 /// A queue, as `Call` at a port, with its number.
@@ -80,7 +80,7 @@ fn take(rt: &impl Abort, queues: &mut Queues, queue: Queue) -> Option<u32> {
         Queue::Calls(port) => {
             assert!(rt; has_port(queues, port));
             let call = queues.take_call(port)?;
-            assert_eq!(rt; call.number, call.caller.wrapping_mul(100));
+            check_same(rt, &call.number, &call.caller.wrapping_mul(100));
             Some(call.caller)
         }
         Queue::Receivers(port) => {
@@ -91,7 +91,7 @@ fn take(rt: &impl Abort, queues: &mut Queues, queue: Queue) -> Option<u32> {
             assert!(rt; has_thread(queues, server));
             let first = queues.first_client(server);
             let taken = queues.take_client(server);
-            assert_eq!(rt; taken, first);
+            check_same(rt, &taken, &first);
             taken
         }
         Queue::Waiters(_) => None,
@@ -99,19 +99,12 @@ fn take(rt: &impl Abort, queues: &mut Queues, queue: Queue) -> Option<u32> {
 }
 
 /// Checks who waits for a mutex.
-fn check_waiters(
-    rt: &impl Abort,
-    alloc: Global,
-    queues: &Queues,
-    mutex: u32,
-    expected: &[u32],
-) -> Result<(), AllocError> {
-    let mut out = Vec::with_capacity(alloc, THREADS as usize)?;
+fn check_waiters(rt: &impl Abort, alloc: Global, queues: &Queues, mutex: u32, expected: &[u32]) {
+    let mut out = Vec::with_capacity(alloc, THREADS as usize).expect(rt, "memory");
     assert!(rt; queues.room() as usize <= out.capacity());
     assert!(rt; has_mutex(queues, mutex));
     queues.list_waiters(mutex, &mut out);
-    assert_eq!(rt; out.as_slice(), expected);
-    Ok(())
+    check_same(rt, &out.as_slice(), &expected);
 }
 
 /// Takes the waiter at a place, as a lottery picks it.
@@ -121,20 +114,20 @@ fn take_waiter_at(
     queues: &mut Queues,
     mutex: u32,
     place: usize,
-) -> Result<u32, AllocError> {
-    let mut out = Vec::with_capacity(alloc, THREADS as usize)?;
+) -> u32 {
+    let mut out = Vec::with_capacity(alloc, THREADS as usize).expect(rt, "memory");
     assert!(rt; queues.room() as usize <= out.capacity());
     assert!(rt; has_mutex(queues, mutex));
     queues.list_waiters(mutex, &mut out);
     assert!(rt; place < out.len());
     let thread = out[place];
     queues.take_waiter(thread);
-    Ok(thread)
+    thread
 }
 
 #[test]
-fn the_longest_waiting_is_taken_first(rt: HostRuntime) -> Result<(), Fail> {
-    let mut queues = full(&rt, rt.alloc())?;
+fn the_longest_waiting_is_taken_first(rt: HostRuntime) {
+    let mut queues = full(&rt, rt.alloc());
     for queue in [
         Queue::Calls(1),
         Queue::Calls(2),
@@ -147,15 +140,14 @@ fn the_longest_waiting_is_taken_first(rt: HostRuntime) -> Result<(), Fail> {
             push(&rt, &mut queues, queue, thread);
         }
         for expected in [Some(3), Some(1), Some(2), None] {
-            assert_eq!(rt; take(&rt, &mut queues, queue), expected);
+            check_same(&rt, &take(&rt, &mut queues, queue), &expected);
         }
     }
-    Ok(())
 }
 
 #[test]
-fn each_queue_has_its_own_threads(rt: HostRuntime) -> Result<(), Fail> {
-    let mut queues = full(&rt, rt.alloc())?;
+fn each_queue_has_its_own_threads(rt: HostRuntime) {
+    let mut queues = full(&rt, rt.alloc());
     for (queue, thread) in [
         (Queue::Calls(1), 4),
         (Queue::Receivers(2), 2),
@@ -166,7 +158,7 @@ fn each_queue_has_its_own_threads(rt: HostRuntime) -> Result<(), Fail> {
     }
     for (thread, expected) in [(1, false), (2, false), (3, true), (4, false), (5, false)] {
         assert!(rt; has_thread(&queues, thread));
-        assert_eq!(rt; queues.is_nowhere(thread), expected);
+        check_same(&rt, &queues.is_nowhere(thread), &expected);
     }
     for (queue, expected) in [
         (Queue::Calls(2), None),
@@ -177,44 +169,45 @@ fn each_queue_has_its_own_threads(rt: HostRuntime) -> Result<(), Fail> {
         (Queue::Receivers(2), Some(2)),
         (Queue::Clients(2), Some(5)),
     ] {
-        assert_eq!(rt; take(&rt, &mut queues, queue), expected);
+        check_same(&rt, &take(&rt, &mut queues, queue), &expected);
     }
-    check_waiters(&rt, rt.alloc(), &queues, 2, &[])?;
-    check_waiters(&rt, rt.alloc(), &queues, 3, &[1])?;
-    Ok(())
+    check_waiters(&rt, rt.alloc(), &queues, 2, &[]);
+    check_waiters(&rt, rt.alloc(), &queues, 3, &[1]);
 }
 
 #[test]
-fn a_call_has_the_number_sent_with_it(rt: HostRuntime) -> Result<(), Fail> {
-    let mut queues = full(&rt, rt.alloc())?;
+fn a_call_has_the_number_sent_with_it(rt: HostRuntime) {
+    let mut queues = full(&rt, rt.alloc());
     for (caller, number) in [(2, 7), (1, 9), (2, 8)] {
         assert!(rt; has_port(&queues, 1));
         assert!(rt; has_thread(&queues, caller));
         assert!(rt; queues.is_nowhere(caller));
         queues.push_call(1, caller, number);
-        assert_eq!(rt; queues.take_call(1), Some(TakenCall { caller, number }));
+        check_same(
+            &rt,
+            &queues.take_call(1),
+            &Some(TakenCall { caller, number }),
+        );
     }
-    Ok(())
 }
 
 #[test]
-fn a_waiter_is_taken_from_its_place(rt: HostRuntime) -> Result<(), Fail> {
-    let mut queues = full(&rt, rt.alloc())?;
+fn a_waiter_is_taken_from_its_place(rt: HostRuntime) {
+    let mut queues = full(&rt, rt.alloc());
     for thread in [2, 5, 1, 4] {
         push(&rt, &mut queues, Queue::Waiters(2), thread);
     }
-    check_waiters(&rt, rt.alloc(), &queues, 2, &[2, 5, 1, 4])?;
+    check_waiters(&rt, rt.alloc(), &queues, 2, &[2, 5, 1, 4]);
     for (place, expected) in [(1, 5), (2, 4), (0, 2), (0, 1)] {
-        let taken = take_waiter_at(&rt, rt.alloc(), &mut queues, 2, place)?;
-        assert_eq!(rt; taken, expected);
+        let taken = take_waiter_at(&rt, rt.alloc(), &mut queues, 2, place);
+        check_same(&rt, &taken, &expected);
     }
-    check_waiters(&rt, rt.alloc(), &queues, 2, &[])?;
-    Ok(())
+    check_waiters(&rt, rt.alloc(), &queues, 2, &[]);
 }
 
 #[test]
-fn a_mutex_has_an_owner_or_is_free(rt: HostRuntime) -> Result<(), Fail> {
-    let mut queues = full(&rt, rt.alloc())?;
+fn a_mutex_has_an_owner_or_is_free(rt: HostRuntime) {
+    let mut queues = full(&rt, rt.alloc());
     for (owner, expected) in [
         (Some(4), [None, Some(4), None]),
         (Some(1), [None, Some(1), None]),
@@ -222,11 +215,10 @@ fn a_mutex_has_an_owner_or_is_free(rt: HostRuntime) -> Result<(), Fail> {
     ] {
         assert!(rt; has_mutex(&queues, 2));
         queues.set_owner(2, owner);
-        assert_eq!(rt; queues.owners(), &expected[..]);
+        check_same(&rt, &queues.owners(), &&expected[..]);
         assert!(rt; has_mutex(&queues, 2));
-        assert_eq!(rt; queues.owner(2), owner);
+        check_same(&rt, &queues.owner(2), &owner);
     }
-    Ok(())
 }
 
 #[test]

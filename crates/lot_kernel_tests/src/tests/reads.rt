@@ -28,33 +28,37 @@ fn read_since(kernel: &Kernel, before: Meter) -> u64 {
 }
 
 /// Takes a step, and returns how many edges it is to read.
-fn take_step(rt: &impl Abort, kernel: &mut Kernel, step: Count<'_>) -> Result<u64, Fail> {
+fn take_step(rt: &impl Abort, kernel: &mut Kernel, step: Count<'_>) -> u64 {
     match step {
         Count::Does(line) => {
-            let reply = answer(kernel, line)?;
+            let reply = answer(rt, kernel, line);
             assert!(rt; !matches!(reply, Reply::Refused(_)));
-            Ok(0)
+            0
         }
         Count::Draws(d, winner, reads) => {
-            assert_eq!(rt; kernel.event(&Event::Draw(1, d)), winning(winner, None));
-            Ok(reads)
+            check_same(
+                rt,
+                &kernel.event(&Event::Draw(1, d)),
+                &winning(winner, None),
+            );
+            reads
         }
         Count::Expires => {
             let reply = kernel.event(&Event::Expire(1));
             assert!(rt; matches!(reply, Reply::Expired { .. }));
-            Ok(0)
+            0
         }
         Count::Traps(action, outcome, reads) => {
             take_trap(rt, kernel, action, outcome);
-            Ok(reads)
+            reads
         }
         Count::ThreadRow(thread, reads) => {
             assert!(rt; kernel.thread_row(thread).is_some());
-            Ok(reads)
+            reads
         }
         Count::TicketRow(ticket, reads) => {
             assert!(rt; kernel.ticket_row(ticket).is_some());
-            Ok(reads)
+            reads
         }
     }
 }
@@ -62,20 +66,19 @@ fn take_step(rt: &impl Abort, kernel: &mut Kernel, step: Count<'_>) -> Result<u6
 /// Makes a trap on processor 1 without work before it, and compares its outcome.
 fn take_trap(rt: &impl Abort, kernel: &mut Kernel, action: Action, wanted: Outcome) {
     match kernel.event(&Event::Trap(1, 0, action)) {
-        Reply::Trapped { outcome, .. } => assert_eq!(rt; outcome, wanted),
+        Reply::Trapped { outcome, .. } => check_same(rt, &outcome, &wanted),
         _ => panic!(rt; "a trap"),
     }
 }
 
 /// Takes the steps in a new kernel of the largest tables, and compares what each reads.
-fn count_all(rt: &impl Abort, alloc: Global, steps: &[Count<'_>]) -> Result<(), Fail> {
-    let mut kernel = largest(alloc, 1)?;
+fn count_all(rt: &impl Abort, alloc: Global, steps: &[Count<'_>]) {
+    let mut kernel = largest(rt, alloc, 1);
     for step in steps {
         let before = kernel.meter();
-        let wanted = take_step(rt, &mut kernel, *step)?;
-        assert_eq!(rt; read_since(&kernel, before), wanted);
+        let wanted = take_step(rt, &mut kernel, *step);
+        check_same(rt, &read_since(&kernel, before), &wanted);
     }
-    Ok(())
 }
 
 // 100 base fund `g`, which three threads share. A second ticket of base makes `g` and the three stale: the two tickets
@@ -137,10 +140,10 @@ const TRAPPED: &[Count<'static>] = &[
 ];
 
 #[test]
-fn what_is_read(rt: HostRuntime) -> Result<(), Fail> {
-    count_all(&rt, rt.alloc(), SHARED)?;
-    count_all(&rt, rt.alloc(), UPSTREAM)?;
-    count_all(&rt, rt.alloc(), LISTED)?;
+fn what_is_read(rt: HostRuntime) {
+    count_all(&rt, rt.alloc(), SHARED);
+    count_all(&rt, rt.alloc(), UPSTREAM);
+    count_all(&rt, rt.alloc(), LISTED);
     count_all(&rt, rt.alloc(), TRAPPED)
 }
 
@@ -155,21 +158,19 @@ fn check_visits(rt: &impl Abort, kernel: &mut Kernel, d: u128) {
 }
 
 #[test]
-fn a_draw_among_a_thousand(rt: HostRuntime) -> Result<(), Fail> {
-    let mut kernel = small(rt.alloc(), 1000, 1, 1000)?;
-    make_threads(&mut kernel, rt.alloc(), 1000)?;
+fn a_draw_among_a_thousand(rt: HostRuntime) {
+    let mut kernel = small(&rt, rt.alloc(), 1000, 1, 1000);
+    make_threads(&rt, &mut kernel, rt.alloc(), 1000);
     for d in [0, 1, 499, 500, 511, 512, 998, 999] {
         check_visits(&rt, &mut kernel, d);
     }
-    Ok(())
 }
 
 // An idle draw reads what is stale, and visits nothing.
 #[test]
-fn an_idle_draw(rt: HostRuntime) -> Result<(), Fail> {
-    let mut kernel = largest(rt.alloc(), 1)?;
-    answer(&mut kernel, Line::Mkthr("a", 1))?;
-    assert_eq!(rt; kernel.event(&Event::Draw(1, 0)), Reply::Idle);
-    assert_eq!(rt; kernel.meter(), Meter::default());
-    Ok(())
+fn an_idle_draw(rt: HostRuntime) {
+    let mut kernel = largest(&rt, rt.alloc(), 1);
+    answer(&rt, &mut kernel, Line::Mkthr("a", 1));
+    check_same(&rt, &kernel.event(&Event::Draw(1, 0)), &Reply::Idle);
+    check_same(&rt, &kernel.meter(), &Meter::default());
 }

@@ -2,14 +2,14 @@
 ghost use Rattle.std.specs.Prelude.{IsTrue};
 ghost use Rattle.lot_graph.specs.Graphs.{IsNodeOf, IsTarget};
 
-use super::helpers::{Won, is_won};
+use super::helpers::{Won, check_step, is_won};
+use super::same::check_same;
 use lot_draw::Winner;
 use lot_graph::Graph;
 use lot_machine::{Limits, Name, Node, Record, Sizes, Status, Target, Thread};
 use lot_threads::Threads;
 use std::alloc::Global;
 use std::process::Abort;
-use std::test::Fail;
 
 /// A step of a row: a change, or a question and its expected answer.
 #[derive(Clone, Copy)]
@@ -68,8 +68,12 @@ fn add_thread(rt: &impl Abort, threads: &mut Threads) {
     assert!(rt; made < threads.graph().layout().threads as usize);
     let name = Name::new("thread").expect(rt, "a name");
     let number = threads.add_thread(Thread { name, script: 1 });
-    assert_eq!(rt; number as usize, made + 1);
-    assert_eq!(rt; threads.threads().len(), made + 1);
+    check_same(rt, &(number as usize), &(made + 1));
+    check_same(rt, &threads.threads().len(), &(made + 1));
+}
+
+fn make_currency(rt: &impl Abort, threads: &mut Threads) {
+    assert!(rt; threads.make_currency().is_some());
 }
 
 fn fund(rt: &impl Abort, threads: &mut Threads, amount: u32, currency: u32, target: Target) {
@@ -164,7 +168,7 @@ fn active(rt: &impl Abort, threads: &Threads, currency: u32) -> u64 {
 fn make_change(rt: &impl Abort, threads: &mut Threads, step: Step) {
     match step {
         Step::AddThread => add_thread(rt, threads),
-        Step::MakeCurrency => assert!(rt; threads.make_currency().is_some()),
+        Step::MakeCurrency => make_currency(rt, threads),
         Step::Fund(amount, currency, target) => fund(rt, threads, amount, currency, target),
         Step::Unfund(ticket) => unfund(rt, threads, ticket),
         Step::Change(thread, status, used) => change(rt, threads, thread, status, used),
@@ -175,44 +179,42 @@ fn make_change(rt: &impl Abort, threads: &mut Threads, step: Step) {
     }
 }
 
-/// Asks, and checks the answer.
-fn check(rt: &impl Abort, threads: &mut Threads, step: Step) {
+/// Whether the thread can't change to this status.
+fn refuses(rt: &impl Abort, threads: &mut Threads, thread: u32, status: Status) -> bool {
+    let next = record_with(rt, threads, thread, status, None);
+    !threads.can_change(thread, next)
+}
+
+/// Whether this thread wins, after this many edges were read.
+fn wins(threads: &mut Threads, d: u128, won: Won, reads: u64) -> bool {
+    let (winner, read) = draw(threads, d);
+    is_won(winner, won) && read == reads
+}
+
+/// Asks, and returns whether the answer is as the row says.
+fn holds(rt: &impl Abort, threads: &mut Threads, step: Step) -> bool {
     match step {
-        Step::Refuses(thread, status) => {
-            let next = record_with(rt, threads, thread, status, None);
-            assert!(rt; !threads.can_change(thread, next), "{thread} can change");
-        }
-        Step::Wins(d, won) => assert!(rt; is_won(draw(threads, d).0, won), "at {d}"),
-        Step::Reads(d, won, reads) => {
-            let (winner, read) = draw(threads, d);
-            assert!(rt; is_won(winner, won), "at {d}");
-            assert!(rt; read == reads, "{read} at {d}");
-        }
-        Step::Idles(d) => assert!(rt; draw(threads, d).0.is_none(), "at {d}"),
+        Step::Refuses(thread, status) => refuses(rt, threads, thread, status),
+        Step::Wins(d, won) => is_won(draw(threads, d).0, won),
+        Step::Reads(d, won, reads) => wins(threads, d, won, reads),
+        Step::Idles(d) => draw(threads, d).0.is_none(),
         Step::Runs(processor, runs) => {
-            let runner = threads.runner(processor).map(|r| (r.thread, r.used));
-            assert!(rt; runner == runs, "on {processor}");
+            threads.runner(processor).map(|r| (r.thread, r.used)) == runs
         }
-        Step::Worth(node, value) => assert_eq!(rt; worth(rt, threads, node), value),
-        Step::Active(currency, amount) => assert_eq!(rt; active(rt, threads, currency), amount),
-        _ => {}
+        Step::Worth(node, value) => worth(rt, threads, node) == value,
+        Step::Active(currency, amount) => active(rt, threads, currency) == amount,
+        _ => true,
     }
 }
 
 /// Takes the steps among new threads of these limits.
-fn play(
-    rt: &impl Abort,
-    alloc: Global,
-    limits: Option<Limits>,
-    steps: &[Step],
-) -> Result<(), Fail> {
-    let limits = limits.ok_or("limits")?;
-    let mut threads = Threads::new(alloc, &limits)?;
-    for step in steps {
+fn play(rt: &impl Abort, alloc: Global, limits: Option<Limits>, steps: &[Step]) {
+    let limits = limits.expect(rt, "limits");
+    let mut threads = Threads::new(alloc, &limits).expect(rt, "memory");
+    for (i, step) in steps.iter().enumerate() {
         make_change(rt, &mut threads, *step);
-        check(rt, &mut threads, *step);
+        check_step(rt, i, holds(rt, &mut threads, *step));
     }
-    Ok(())
 }
 
 fn small_limits() -> Option<Limits> {
@@ -268,7 +270,7 @@ const RUNNING: [Step; 17] = [
 // A thread that runs is left out of draws, and another can't run there; after 20 ticks of 100 it weighs five times as
 // much.
 #[test]
-fn threads_run(rt: HostRuntime) -> Result<(), Fail> {
+fn threads_run(rt: HostRuntime) {
     play(&rt, rt.alloc(), small_limits(), &RUNNING)
 }
 
@@ -297,7 +299,7 @@ const SERVED: [Step; 20] = [
 
 // A client lends all that it is worth to its server, which its tickets stay active for; a server can't lend back.
 #[test]
-fn clients_lend(rt: HostRuntime) -> Result<(), Fail> {
+fn clients_lend(rt: HostRuntime) {
     play(&rt, rt.alloc(), small_limits(), &SERVED)
 }
 
@@ -326,7 +328,7 @@ const WAITING: [Step; 20] = [
 
 // Waiters lend to the owner of the mutex, whoever it is.
 #[test]
-fn waiters_lend(rt: HostRuntime) -> Result<(), Fail> {
+fn waiters_lend(rt: HostRuntime) {
     play(&rt, rt.alloc(), small_limits(), &WAITING)
 }
 
@@ -339,7 +341,7 @@ const LEAST: [Step; 5] = [
 ];
 
 #[test]
-fn least_size(rt: HostRuntime) -> Result<(), Fail> {
+fn least_size(rt: HostRuntime) {
     play(&rt, rt.alloc(), Limits::new(Sizes::SMALLEST), &LEAST)
 }
 
@@ -359,6 +361,6 @@ const LAST: Status = Status::Running {
 };
 
 #[test]
-fn largest_size(rt: HostRuntime) -> Result<(), Fail> {
+fn largest_size(rt: HostRuntime) {
     play(&rt, rt.alloc(), Limits::new(Sizes::LARGEST), &LARGEST)
 }

@@ -1,21 +1,16 @@
 //! Yields, ports, mutexes and exits.
+use super::same::check_same;
 use super::{
     Line, Step, check_run, check_thread, fund, largest, play, take, take_all, thread_row, won,
 };
 use lot_kernel::{Action, Event, Kernel, Outcome, Refusal, Reply, Status, TrapRefusal};
-use std::alloc::{AllocError, Global};
+use std::alloc::Global;
 use std::process::Abort;
-use std::test::Fail;
 
 /// Takes the steps in a kernel of the largest tables with threads of these names, funded with this much base, in order.
-fn play_funded(
-    rt: &impl Abort,
-    alloc: Global,
-    threads: &[(u64, &str)],
-    steps: &[Step<'_>],
-) -> Result<(), Fail> {
-    let mut kernel = largest(alloc, 1)?;
-    fund(&mut kernel, threads)?;
+fn play_funded(rt: &impl Abort, alloc: Global, threads: &[(u64, &str)], steps: &[Step<'_>]) {
+    let mut kernel = largest(rt, alloc, 1);
+    fund(rt, &mut kernel, threads);
     take_all(rt, &mut kernel, steps)
 }
 
@@ -26,19 +21,15 @@ fn run_funded(
     amount: u64,
     events: &[Event],
     replies: &[Reply],
-) -> Result<Kernel, Fail> {
-    let mut kernel = largest(alloc, 1)?;
-    fund(&mut kernel, &[(amount, "a")])?;
+) -> Kernel {
+    let mut kernel = largest(rt, alloc, 1);
+    fund(rt, &mut kernel, &[(amount, "a")]);
     check_run(rt, &mut kernel, events, replies);
-    Ok(kernel)
+    kernel
 }
 
 /// A draw, a yield after this many ticks of work, and the greatest draw of this total, by a thread with this much.
-fn check_compensation(
-    rt: &impl Abort,
-    alloc: Global,
-    (amount, ran, total): (u64, u32, u64),
-) -> Result<(), Fail> {
+fn check_compensation(rt: &impl Abort, alloc: Global, (amount, ran, total): (u64, u32, u64)) {
     let yielded = Reply::Trapped {
         thread: 1,
         ticks: ran.saturating_add(1),
@@ -60,33 +51,26 @@ fn check_compensation(
             yielded,
             won(1, u128::from(last), u128::from(total), None),
         ],
-    )?;
+    );
     check_compensated(rt, &mut kernel, amount, u64::from(ran).saturating_add(1))
 }
 
 /// Compares the thread that won a second time, after this many ticks, to what it is to be.
-fn check_compensated(
-    rt: &impl Abort,
-    kernel: &mut Kernel,
-    amount: u64,
-    ticks: u64,
-) -> Result<(), Fail> {
+fn check_compensated(rt: &impl Abort, kernel: &mut Kernel, amount: u64, ticks: u64) {
     let runs = Status::Running {
         processor: 1,
         used: 0,
     };
-    let row = thread_row((1, "a", runs, amount, u128::from(amount), 2, ticks))?;
+    let row = thread_row(rt, (1, "a", runs, amount, u128::from(amount), 2, ticks));
     check_thread(rt, kernel, 1, Some(row));
-    Ok(())
 }
 
 #[test]
-fn compensation(rt: HostRuntime) -> Result<(), Fail> {
+fn compensation(rt: HostRuntime) {
     // What one thread has, the ticks of work before it yields, and the total of the next draw.
     for row in [(400, 19, 2000), (7, 2, 233), (400, 98, 404), (400, 99, 400)] {
-        check_compensation(&rt, rt.alloc(), row)?;
+        check_compensation(&rt, rt.alloc(), row);
     }
-    Ok(())
 }
 
 const EXPIRY: [Event; 3] = [Event::Draw(1, 0), Event::Expire(1), Event::Draw(1, 0)];
@@ -113,9 +97,8 @@ const EXPIRY_REPLIES: [Reply; 3] = [
 ];
 
 #[test]
-fn an_expiry_gives_no_compensation(rt: HostRuntime) -> Result<(), Fail> {
-    run_funded(&rt, rt.alloc(), 400, &EXPIRY, &EXPIRY_REPLIES)?;
-    Ok(())
+fn an_expiry_gives_no_compensation(rt: HostRuntime) {
+    run_funded(&rt, rt.alloc(), 400, &EXPIRY, &EXPIRY_REPLIES);
 }
 
 const TWO_PROCESSORS: [Event; 4] = [
@@ -143,15 +126,14 @@ const TWO_PROCESSORS_REPLIES: [Reply; 4] = [
 ];
 
 #[test]
-fn two_processors(rt: HostRuntime) -> Result<(), Fail> {
+fn two_processors(rt: HostRuntime) {
     run_funded(
         &rt,
         rt.alloc(),
         10,
         &TWO_PROCESSORS,
         &TWO_PROCESSORS_REPLIES,
-    )?;
-    Ok(())
+    );
 }
 
 const WAITING_SERVER: [Step<'_>; 15] = [
@@ -179,7 +161,7 @@ const WAITING_SERVER: [Step<'_>; 15] = [
 ];
 
 #[test]
-fn a_call_to_a_server_that_waits(rt: HostRuntime) -> Result<(), Fail> {
+fn a_call_to_a_server_that_waits(rt: HostRuntime) {
     play(&rt, rt.alloc(), &WAITING_SERVER)
 }
 
@@ -230,7 +212,7 @@ const QUEUED_CALL: [Step<'_>; 17] = [
 ];
 
 #[test]
-fn a_queued_call(rt: HostRuntime) -> Result<(), Fail> {
+fn a_queued_call(rt: HostRuntime) {
     play(&rt, rt.alloc(), &QUEUED_CALL)
 }
 
@@ -249,7 +231,7 @@ const LENDS: [Step<'_>; 10] = [
 ];
 
 #[test]
-fn a_chain_of_lends(rt: HostRuntime) -> Result<(), Fail> {
+fn a_chain_of_lends(rt: HostRuntime) {
     play_funded(
         &rt,
         rt.alloc(),
@@ -300,16 +282,16 @@ const PASSED_TO_THIRD: [Step<'_>; 3] = [
 ];
 
 /// Takes the steps once the mutex is contended.
-fn play_contended(rt: &impl Abort, alloc: Global, steps: &[Step<'_>]) -> Result<(), Fail> {
-    let mut kernel = largest(alloc, 1)?;
-    fund(&mut kernel, &[(50, "a"), (100, "b"), (300, "c")])?;
-    take_all(rt, &mut kernel, &CONTENDED)?;
+fn play_contended(rt: &impl Abort, alloc: Global, steps: &[Step<'_>]) {
+    let mut kernel = largest(rt, alloc, 1);
+    fund(rt, &mut kernel, &[(50, "a"), (100, "b"), (300, "c")]);
+    take_all(rt, &mut kernel, &CONTENDED);
     take_all(rt, &mut kernel, steps)
 }
 
 #[test]
-fn an_unlock_passes_by_lottery(rt: HostRuntime) -> Result<(), Fail> {
-    play_contended(&rt, rt.alloc(), &PASSED_TO_SECOND)?;
+fn an_unlock_passes_by_lottery(rt: HostRuntime) {
+    play_contended(&rt, rt.alloc(), &PASSED_TO_SECOND);
     play_contended(&rt, rt.alloc(), &PASSED_TO_THIRD)
 }
 
@@ -334,7 +316,7 @@ const WORTHLESS_WAITERS: [Step<'_>; 12] = [
 ];
 
 #[test]
-fn waiters_worth_nothing(rt: HostRuntime) -> Result<(), Fail> {
+fn waiters_worth_nothing(rt: HostRuntime) {
     play_funded(
         &rt,
         rt.alloc(),
@@ -388,7 +370,7 @@ const LOCK_CYCLE: [Step<'_>; 10] = [
 ];
 
 #[test]
-fn a_lock_that_would_make_a_cycle(rt: HostRuntime) -> Result<(), Fail> {
+fn a_lock_that_would_make_a_cycle(rt: HostRuntime) {
     play_funded(&rt, rt.alloc(), &[(10, "a"), (10, "b")], &LOCK_CYCLE)
 }
 
@@ -434,9 +416,8 @@ const QUANTUM_REPLIES: [Reply; 6] = [
 ];
 
 #[test]
-fn the_end_of_a_quantum(rt: HostRuntime) -> Result<(), Fail> {
-    run_funded(&rt, rt.alloc(), 10, &QUANTUM, &QUANTUM_REPLIES)?;
-    Ok(())
+fn the_end_of_a_quantum(rt: HostRuntime) {
+    run_funded(&rt, rt.alloc(), 10, &QUANTUM, &QUANTUM_REPLIES);
 }
 
 const SERVINGS: [Step<'_>; 19] = [
@@ -482,7 +463,7 @@ const SERVINGS: [Step<'_>; 19] = [
 
 // A server replies and takes the next call in one trap, or waits for it; with no client it is refused.
 #[test]
-fn a_server_that_serves(rt: HostRuntime) -> Result<(), Fail> {
+fn a_server_that_serves(rt: HostRuntime) {
     play_funded(
         &rt,
         rt.alloc(),
@@ -531,13 +512,13 @@ const UNKNOWN_OBJECTS: [(Action, TrapRefusal); 7] = [
 ];
 
 /// A thread makes each of these traps within a quantum, and runs on.
-fn check_unknown_objects(rt: &impl Abort, alloc: Global) -> Result<(), Fail> {
-    let mut kernel = largest(alloc, 1)?;
-    fund(&mut kernel, &[(10, "a")])?;
-    take(rt, &mut kernel, Step::Wins(1, 0, (1, 0, 10), None))?;
+fn check_unknown_objects(rt: &impl Abort, alloc: Global) {
+    let mut kernel = largest(rt, alloc, 1);
+    fund(rt, &mut kernel, &[(10, "a")]);
+    take(rt, &mut kernel, Step::Wins(1, 0, (1, 0, 10), None));
     for (action, refusal) in UNKNOWN_OBJECTS {
         let refused = Outcome::Refused(refusal);
-        take(rt, &mut kernel, Step::Traps(1, action, 1, refused))?;
+        take(rt, &mut kernel, Step::Traps(1, action, 1, refused));
     }
     let runs = Status::Running {
         processor: 1,
@@ -547,8 +528,8 @@ fn check_unknown_objects(rt: &impl Abort, alloc: Global) -> Result<(), Fail> {
 }
 
 #[test]
-fn refused_traps_cost_their_ticks(rt: HostRuntime) -> Result<(), Fail> {
-    play_funded(&rt, rt.alloc(), &[(10, "a")], &REFUSED_TRAPS)?;
+fn refused_traps_cost_their_ticks(rt: HostRuntime) {
+    play_funded(&rt, rt.alloc(), &[(10, "a")], &REFUSED_TRAPS);
     check_unknown_objects(&rt, rt.alloc())
 }
 
@@ -577,7 +558,7 @@ const TWO_CLIENTS: [Step<'_>; 16] = [
 ];
 
 #[test]
-fn a_server_of_two_clients(rt: HostRuntime) -> Result<(), Fail> {
+fn a_server_of_two_clients(rt: HostRuntime) {
     play_funded(
         &rt,
         rt.alloc(),
@@ -598,23 +579,23 @@ const TWO_WAITERS: [Event; 7] = [
 ];
 
 /// The threads that wait for the mutex.
-fn waiters_for(alloc: Global, kernel: &Kernel, mutex: u32) -> Result<Vec<u32>, AllocError> {
-    let mut waiters = Vec::with_capacity(alloc, kernel.limits().threads as usize)?;
+fn waiters_for(rt: &impl Abort, alloc: Global, kernel: &Kernel, mutex: u32) -> Vec<u32> {
+    let room = kernel.limits().threads as usize;
+    let mut waiters = Vec::with_capacity(alloc, room).expect(rt, "memory");
     kernel.list_waiters(mutex, &mut waiters);
-    Ok(waiters)
+    waiters
 }
 
 #[test]
-fn waiters_stand_in_order_of_waiting(rt: HostRuntime) -> Result<(), Fail> {
-    let mut kernel = largest(rt.alloc(), 1)?;
-    fund(&mut kernel, &[(50, "a"), (300, "b"), (100, "c")])?;
-    assert!(rt; waiters_for(rt.alloc(), &kernel, 1)?.is_empty());
+fn waiters_stand_in_order_of_waiting(rt: HostRuntime) {
+    let mut kernel = largest(&rt, rt.alloc(), 1);
+    fund(&rt, &mut kernel, &[(50, "a"), (300, "b"), (100, "c")]);
+    assert!(rt; waiters_for(&rt, rt.alloc(), &kernel, 1).is_empty());
     for event in &TWO_WAITERS {
         kernel.event(event);
     }
-    let waiters = waiters_for(rt.alloc(), &kernel, 1)?;
-    assert_eq!(rt; waiters.as_slice(), [3, 2].as_slice());
-    assert!(rt; waiters_for(rt.alloc(), &kernel, 2)?.is_empty());
-    assert!(rt; waiters_for(rt.alloc(), &kernel, 300)?.is_empty());
-    Ok(())
+    let waiters = waiters_for(&rt, rt.alloc(), &kernel, 1);
+    check_same(&rt, &waiters.as_slice(), &[3, 2].as_slice());
+    assert!(rt; waiters_for(&rt, rt.alloc(), &kernel, 2).is_empty());
+    assert!(rt; waiters_for(&rt, rt.alloc(), &kernel, 300).is_empty());
 }

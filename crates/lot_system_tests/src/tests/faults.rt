@@ -1,5 +1,6 @@
 //! The texts of faults.
 
+use super::same::check_same;
 use lot_system::{PlayFault, TurnFault};
 use std::alloc::Global;
 use std::fmt::Display;
@@ -14,7 +15,7 @@ fn check_text(
     text: &str,
 ) -> Result<(), Fail> {
     let shown = format!(in alloc; "{printed}")?;
-    assert_eq!(rt; shown.as_str(), text);
+    check_same(rt, &shown.as_str(), &text);
     Ok(())
 }
 

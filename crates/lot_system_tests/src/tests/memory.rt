@@ -1,5 +1,6 @@
 //! For runs in which one allocation is refused, each in turn.
 
+use super::same::check_same;
 use super::{CALL_AND_REPLY, make_turns, program_of};
 use lot_system::{PlayFault, Played, System, play};
 use lot_text::Watched;
@@ -32,8 +33,8 @@ fn plays_or_lacks_memory(rt: HostRuntime) {
     let ended = play(rt.alloc(), &mut reader, &mut writer);
     let Counting { taken } = writer.into_inner();
     match ended {
-        Ok(Played::Done) => assert_eq!(rt; taken, 429),
-        Err(PlayFault::Memory) => assert_eq!(rt; taken, 0),
+        Ok(Played::Done) => check_same(&rt, &taken, &429),
+        Err(PlayFault::Memory) => check_same(&rt, &taken, &0),
         other => assert!(rt; false, "{other:?}"),
     }
 }
@@ -52,6 +53,6 @@ fn opens_and_has_turns(rt: HostRuntime) -> Result<(), Fail> {
     let program = program_of(rt.alloc(), CALL_AND_REPLY)?;
     let mut system = System::open(rt.alloc(), &program, 12)?;
     make_turns(&mut system, &program, program.schedule())?;
-    assert_eq!(rt; system.history(), program.schedule());
+    check_same(&rt, &system.history(), &program.schedule());
     Ok(())
 }

@@ -1,5 +1,6 @@
 //! Reports with their histories, and what those are made of.
 
+use super::same::check_same;
 use super::{SPINNER, make_turns, program_of};
 use lot_kernel::Kernel;
 use lot_machine::{Command, Event, Limits, Name, Reply, Sizes};
@@ -76,13 +77,13 @@ fn ending_fails(
         ..
     } = writer.into_inner();
     if has_failed {
-        assert_eq!(rt; (ended, calls), (Err(PlayFault::Write), fails_at));
+        check_same(rt, &(ended, calls), &(Err(PlayFault::Write), fails_at));
         assert!(rt;
             text.as_bytes().starts_with(written.as_slice()),
             "at call {fails_at}"
         );
     } else {
-        assert_eq!(rt; (ended, is_flushed), (Ok(()), true));
+        check_same(rt, &(ended, is_flushed), &(Ok(()), true));
         assert!(rt; text.as_bytes() == written.as_slice(), "at call {fails_at}");
     }
     has_failed
@@ -182,20 +183,29 @@ fn numbers_given(rt: HostRuntime) -> Result<(), Fail> {
     })
     .ok_or("limits")?;
     let mut kernel = Kernel::new(rt.alloc(), limits)?;
-    assert_eq!(rt; (kernel.ticket_count(), kernel.currency_count()), (0, 1));
+    check_same(
+        &rt,
+        &(kernel.ticket_count(), kernel.currency_count()),
+        &(0, 1),
+    );
     let base = Name::new("base").ok_or("a name")?;
     let name = Name::new("a").ok_or("a name")?;
     let made = kernel.event(&Event::Command(Command::MakeTicket {
         amount: 5,
         currency: base,
     }));
-    assert_eq!(rt; made, Reply::Ticket(1));
-    assert_eq!(rt;
-        kernel.event(&Event::Command(Command::MakeCurrency { name })),
-        Reply::Currency(1)
+    check_same(&rt, &made, &Reply::Ticket(1));
+    check_same(
+        &rt,
+        &kernel.event(&Event::Command(Command::MakeCurrency { name })),
+        &Reply::Currency(1),
     );
     let removed = kernel.event(&Event::Command(Command::RemoveTicket { ticket: 1 }));
-    assert_eq!(rt; removed, Reply::Done);
-    assert_eq!(rt; (kernel.ticket_count(), kernel.currency_count()), (1, 2));
+    check_same(&rt, &removed, &Reply::Done);
+    check_same(
+        &rt,
+        &(kernel.ticket_count(), kernel.currency_count()),
+        &(1, 2),
+    );
     Ok(())
 }

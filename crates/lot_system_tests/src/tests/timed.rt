@@ -2,6 +2,7 @@
 ghost use Rattle.std.specs.Prelude.{◌≡◌};
 
 use super::program_of;
+use super::same::check_same;
 use lot_machine::{Event, Reply};
 use lot_system::TimedRun;
 use lot_text::Program;
@@ -42,7 +43,7 @@ fn check_turns(rt: &impl Abort, program: &Program, run: &mut TimedRun, rows: &[O
     requires { run.old.setting.program ≡ program.now }
 {
     for row in rows {
-        assert_eq!(rt; next_of(program, run), *row);
+        check_same(rt, &next_of(program, run), row);
     }
 }
 
@@ -67,6 +68,6 @@ fn turns_in_time(rt: HostRuntime) -> Result<(), Fail> {
     ];
     check_turns(&rt, &program, &mut run, &rows);
     let system = run.into_system();
-    assert_eq!(rt; system.history(), [1, 0, 1, 1, 1, 1, 1].as_slice());
+    check_same(&rt, &system.history(), &[1, 0, 1, 1, 1, 1, 1].as_slice());
     Ok(())
 }

@@ -1,5 +1,6 @@
 //! Turns of small systems, in order: the result of each, and the faults.
 
+use super::same::{check_same, check_same_at};
 use super::{SPINNER, make_turns, program_of};
 use lot_machine::{Outcome, Reply};
 use lot_script::Slice;
@@ -81,16 +82,13 @@ fn check_turns(
         }
         let slice = slice_of(&system, &program, *given)?;
         let answered = system.turn(*actor, slice);
-        assert_eq!(rt;
-            came_of(&system, *actor, answered),
-            Some(*came),
-            "{actor} {given:?}"
-        );
+        let turn = (*actor, *given);
+        check_same_at(rt, &turn, &came_of(&system, *actor, answered), &Some(*came));
         if matches!(came, Came::Made(_)) {
             made = made.saturating_add(1);
         }
-        assert_eq!(rt; system.history().len(), made as usize, "{actor} {given:?}");
-        assert_eq!(rt; system.total().turns, u64::from(made), "{actor} {given:?}");
+        check_same_at(rt, &turn, &system.history().len(), &(made as usize));
+        check_same_at(rt, &turn, &system.total().turns, &u64::from(made));
     }
     Ok(())
 }
@@ -284,9 +282,9 @@ fn idle_draws(system: &mut System, draws: u32) -> u32 {
 fn last_entry(rt: HostRuntime) -> Result<(), Fail> {
     let program = program_of(rt.alloc(), "lottery 1\nlimits 1 1 1\n")?;
     let mut system = System::open(rt.alloc(), &program, 1_000_000)?;
-    assert_eq!(rt; idle_draws(&mut system, 1_000_000), 1_000_000);
-    assert_eq!(rt; idle_draws(&mut system, 1), 0);
-    assert_eq!(rt; system.history().len(), 1_000_000);
+    check_same(&rt, &idle_draws(&mut system, 1_000_000), &1_000_000);
+    check_same(&rt, &idle_draws(&mut system, 1), &0);
+    check_same(&rt, &system.history().len(), &1_000_000);
     Ok(())
 }
 
@@ -316,7 +314,7 @@ fn waiters_stand_in_order_of_waiting(rt: HostRuntime) -> Result<(), Fail> {
     let mut system = System::open(rt.alloc(), &program, 10)?;
     make_turns(&mut system, &program, program.schedule())?;
     system.list_waiters(1, &mut waiters);
-    assert_eq!(rt; waiters.as_slice(), [2, 3].as_slice());
+    check_same(&rt, &waiters.as_slice(), &[2, 3].as_slice());
     system.list_waiters(2, &mut waiters);
     assert!(rt; waiters.is_empty());
     Ok(())
