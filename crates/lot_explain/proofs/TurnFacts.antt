@@ -20,7 +20,6 @@ use Rattle.lot_simulation.specs.Texts.{front, newline, refused, reply_text}
 use Rattle.lot_simulation.specs.World.{Program, World, Answer, Turn, console_turn, opening_world, processor_event, processor_turn, system_turn}
 use Rattle.lot_simulation.specs.World.Answer.{Answered, Ended}
 use Rattle.lot_engine.specs.Seen.{Seen, world_of}
-use Rattle.lot_playback.specs.declared.turn.Answered.{Answered as Given}
 use Rattle.lot_playback.specs.declared.turn.Turn.{Turn as ATurn}
 use Rattle.lot_playback.specs.Stages.{HasJustMade, answer_in}
 use Rattle.lot_playback.specs.Texts.{manner_at}
@@ -92,28 +91,28 @@ module _ (seen : Seen) (turn : ATurn) (lots : List Lot) (made : MadeTurn) (is : 
       ∙ ap (λ (t : Turn). t.world.state.limits.unit) is.turn_is
       ∙ ap (λ (l : Sizes). l.unit) (turn-limits program made.before made.actor)
 
-  module _ (given : Given) (some : turn.answer ≡ Some given) where
-    answer-is : made.turn.answer ≡ Answered given.event given.reply
-    answer-is = is.reports.answer ∙ ap answer_in some
+  module _ (r : Reply) (some : turn.reply ≡ Some r) where
+    answer-is : made.turn.answer ≡ Answered turn.event r
+    answer-is = is.reports.answer ∙ ap (answer_in turn.event) some
 
-    system-answer : (system_turn program made.before made.actor).answer ≡ Answered given.event given.reply
+    system-answer : (system_turn program made.before made.actor).answer ≡ Answered turn.event r
     system-answer = ap (λ (t : Turn). t.answer) (sym is.turn_is) ∙ answer-is
 
-    lots-are : lots ≡ lots_of made.before.state given.event
-    lots-are = is.gathered given.event given.reply system-answer
+    lots-are : lots ≡ lots_of made.before.state turn.event
+    lots-are = is.gathered turn.event r system-answer
 
     -- if a lottery was won, its number is out of the total weight of these lots
-    pub total-is : (xs : List Lot) → xs ≡ lots → IfSome (won_in given.event given.reply) (λ won. won.total ≡ total_of xs)
+    pub total-is : (xs : List Lot) → xs ≡ lots → IfSome (won_in turn.event r) (λ won. won.total ≡ total_of xs)
     total-is xs same =
-        subst (λ (ys : List Lot). IfSome (won_in given.event given.reply) (λ won. won.total ≡ total_of ys)) (sym (same ∙ lots-are))
-        (won-total program made.before made.actor given.event given.reply system-answer)
+        subst (λ (ys : List Lot). IfSome (won_in turn.event r) (λ won. won.total ≡ total_of ys)) (sym (same ∙ lots-are))
+        (won-total program made.before made.actor turn.event r system-answer)
 
     pub answered-text : (m : Manner) (a u : ℕ) (xs : List Lot) → m ≡ manner_at turn.time → a ≡ turn.actor → u ≡ (world_of seen).state.limits.unit → xs ≡ lots
-        → won_lines m u a xs (won_in given.event given.reply) ++ (front m ++ (decimal a ++ (codes " " ++ reply_text m (world_of seen).state given.event given.reply))) ≡ explained_made made
+        → won_lines m u a xs (won_in turn.event r) ++ (front m ++ (decimal a ++ (codes " " ++ reply_text m (world_of seen).state turn.event r))) ≡ explained_made made
     answered-text m a u xs of_m of_a of_u of_xs =
-        answered-is made m a (of_m ∙ ap manner_at is.reports.time) (of_a ∙ is.reports.actor) u xs (world_of seen).state given.event given.reply
+        answered-is made m a (of_m ∙ ap manner_at is.reports.time) (of_a ∙ is.reports.actor) u xs (world_of seen).state turn.event r
         (of_u ∙ unit-is) (of_xs ∙ lots-are) (ap (λ (w : World). w.state) is.world) answer-is
 
-  pub ended-text : turn.answer ≡ None → (m : Manner) (a : ℕ) → m ≡ manner_at turn.time → a ≡ turn.actor → front m ++ (decimal a ++ (codes " " ++ (refused 41 (codes "Ended") ++ newline))) ≡ explained_made made
+  pub ended-text : turn.reply ≡ None → (m : Manner) (a : ℕ) → m ≡ manner_at turn.time → a ≡ turn.actor → front m ++ (decimal a ++ (codes " " ++ (refused 41 (codes "Ended") ++ newline))) ≡ explained_made made
   ended-text none m a of_m of_a =
-      ended-is made m a (of_m ∙ ap manner_at is.reports.time) (of_a ∙ is.reports.actor) (is.reports.answer ∙ ap answer_in none)
+      ended-is made m a (of_m ∙ ap manner_at is.reports.time) (of_a ∙ is.reports.actor) (is.reports.answer ∙ ap (answer_in turn.event) none)

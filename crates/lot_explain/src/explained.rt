@@ -128,14 +128,14 @@ fn put_explained<W: Write>(
         → Puts W.contents writer.old writer.new page.old page.new result (explained_made made) }
 {
     let heading = heading(system, turn.manner(), turn.actor);
-    match &turn.answer {
-        Some(answered) => {
-            leftovers.note(turn.actor, &answered.reply);
+    match &turn.reply {
+        Some(reply) => {
+            leftovers.note(turn.actor, reply);
             put_turn(
                 system,
                 heading,
-                &answered.event,
-                answered.reply,
+                &turn.event,
+                *reply,
                 lots.as_slice(),
                 writer,
                 page,

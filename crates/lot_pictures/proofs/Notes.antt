@@ -14,7 +14,6 @@ use Rattle.lot_curves.specs.Curves.{curves_of, names_in}
 use Rattle.lot_curves.specs.Stretches.{last_end, stretch_of}
 use Rattle.lot_curves.proofs.Ends.{last_end-push}
 use Rattle.lot_engine.specs.Seen.{Seen, world_of}
-use Rattle.lot_playback.specs.declared.turn.Answered.{Answered as Given}
 use Rattle.lot_playback.specs.declared.turn.Turn.{Turn as ATurn}
 use Rattle.lot_playback.specs.Stages.{HasJustMade, HasMade, answer_in}
 use Rattle.lot_playback.specs.Turns.{MadeTurn, counted_turn, counted_turns, program_turns, scheduled_turns, turns_by, turns_in_time}
@@ -80,19 +79,19 @@ module _ (program : Program) (turns : List MadeTurn) (made : MadeTurn) (turn : A
       ap (λ (x : Answer). map (own_stretch (counted_turns all)) (counted_turn made.actor x)) is
       ∙ ap (λ (ts : List ActorTurn). stretch_of (record { time = total_of ticks_in (turns_of made.actor ts); answer = Answered e r }) ∷ []) (sym counted-is)
 
-  pub answered-noted : (given : Given) → turn.answer ≡ Some given → (end : ℕ) → end ≡ end_in seen turn.time turn.actor → (items after : List Stretch) (s : Stretch) → s ≡ stretch_of (record { time = end; answer = Answered given.event given.reply })
+  pub answered-noted : (r : Reply) → turn.reply ≡ Some r → (end : ℕ) → end ≡ end_in seen turn.time turn.actor → (items after : List Stretch) (s : Stretch) → s ≡ stretch_of (record { time = end; answer = Answered turn.event r })
       → items ≡ stretches_in [] turns → after ≡ items ++ s ∷ [] → after ≡ stretches_in [] (turns ++ made ∷ [])
-  answered-noted given some end ends items after s of_s noted pushed =
-      let answer : made.turn.answer ≡ Answered given.event given.reply = just.reports.answer ∙ ap answer_in some in
+  answered-noted r some end ends items after s of_s noted pushed =
+      let answer : made.turn.answer ≡ Answered turn.event r = just.reports.answer ∙ ap (answer_in turn.event) some in
       let own : end ≡ end_in seen made.time made.actor = ends ∙ ap (λ (t : Option ℕ). end_in seen t turn.actor) just.reports.time ∙ ap (end_in seen made.time) just.reports.actor in
-      let stretch : s ≡ stretch_of (record { time = end_in seen made.time made.actor; answer = Answered given.event given.reply }) = of_s ∙ ap (λ t. stretch_of (record { time = t; answer = Answered given.event given.reply })) own in
-      let here : s ∷ [] ≡ stretches_of_turn turns made = ap (λ (x : Stretch). x ∷ []) stretch ∙ sym (stretch-is given.event given.reply answer made.time) in
+      let stretch : s ≡ stretch_of (record { time = end_in seen made.time made.actor; answer = Answered turn.event r }) = of_s ∙ ap (λ t. stretch_of (record { time = t; answer = Answered turn.event r })) own in
+      let here : s ∷ [] ≡ stretches_of_turn turns made = ap (λ (x : Stretch). x ∷ []) stretch ∙ sym (stretch-is turn.event r answer made.time) in
       pushed ∙ ap (λ (xs : List Stretch). xs ++ s ∷ []) noted ∙ ap (λ (ss : List Stretch). stretches_in [] turns ++ ss) here ∙ sym (stretches-one_more [] turns made)
 
   -- a turn without a command has none
-  pub ended-noted : turn.answer ≡ None → (items : List Stretch) → items ≡ stretches_in [] turns → items ≡ stretches_in [] (turns ++ made ∷ [])
+  pub ended-noted : turn.reply ≡ None → (items : List Stretch) → items ≡ stretches_in [] turns → items ≡ stretches_in [] (turns ++ made ∷ [])
   ended-noted none items noted =
-      let answer : made.turn.answer ≡ Ended = just.reports.answer ∙ ap answer_in none in
+      let answer : made.turn.answer ≡ Ended = just.reports.answer ∙ ap (answer_in turn.event) none in
       let here : stretches_of_turn turns made ≡ [] =
       ap (λ (t : Option ℕ). stretches_at t turns made) (just.ended answer) ∙ ap (λ (x : Answer). map (own_stretch (counted_turns all)) (counted_turn made.actor x)) answer in
       noted ∙ sym (append-nil (stretches_in [] turns)) ∙ ap (λ (ss : List Stretch). stretches_in [] turns ++ ss) (sym here) ∙ sym (stretches-one_more [] turns made)

@@ -48,10 +48,10 @@ impl Observer for Stretches {
         turn: &Turn,
     ) -> Result<(), AllocError> {
         let _ = program;
-        let Some(answered) = &turn.answer else {
+        let Some(reply) = turn.reply else {
             return Ok(());
         };
-        let stretch = Stretch::new(end_of(system, turn), answered.reply);
+        let stretch = Stretch::new(end_of(system, turn), reply);
         self.stretches.push(stretch)?;
         Ok(())
     }

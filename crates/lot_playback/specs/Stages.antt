@@ -1,10 +1,11 @@
 -- How far a program is played.
 use Rattle.std.specs.Prelude.{◌≡◌, ℕ, ◌≤◌, Option, Some, None, List, [], ◌∷◌, ◌++◌, drop}
+use Rattle.lot_machine.specs.declared.event.Event.{Event}
+use Rattle.lot_machine.specs.declared.reply.Reply.{Reply}
 use Rattle.lot_simulation.specs.Report.{turns_made}
 use Rattle.lot_simulation.specs.World.{Program, Answer, opening_world, system_turn}
-use Rattle.lot_simulation.specs.World.Answer.{Answered as GivenAnswer, Ended}
+use Rattle.lot_simulation.specs.World.Answer.{Answered, Ended}
 use Rattle.lot_engine.specs.Seen.{Seen, world_of}
-use Rattle.lot_playback.specs.declared.turn.Answered.{Answered}
 use Rattle.lot_playback.specs.declared.turn.NextTurn.{NextTurn}
 use Rattle.lot_playback.specs.declared.turn.Turn.{Turn}
 use Rattle.lot_playback.specs.Turns.{MadeTurn, counted_turns, program_turns, world_after_turns}
@@ -28,15 +29,15 @@ abbrev pub IsNext : Stage → NextTurn → Type 0
 IsNext stage next = (made : MadeTurn) × (others : List MadeTurn) × (turns_left stage ≡ made ∷ others) × IsOf made next
 
 -- an answer, or that no command was left
-abbrev pub answer_in : Option Answered → Answer
-answer_in (Some given) = GivenAnswer given.event given.reply
-answer_in None = Ended
+abbrev pub answer_in : Event → Option Reply → Answer
+answer_in e (Some r) = Answered e r
+answer_in e None = Ended
 
 -- it reports this turn
 pub record Reports (turn : Turn) (made : MadeTurn) : Type 0 where
   pub time : turn.time ≡ made.time
   pub actor : turn.actor ≡ made.actor
-  pub answer : made.turn.answer ≡ answer_in turn.answer
+  pub answer : made.turn.answer ≡ answer_in turn.event turn.reply
 
 -- ---- what a turn leaves
 

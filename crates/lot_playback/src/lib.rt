@@ -16,4 +16,4 @@ pub use lines::play_program;
 pub use observer::Observer;
 pub use playback::Playback;
 pub use playing::play_through;
-pub use turn::{Answered, NextTurn, Turn};
+pub use turn::{NextTurn, Turn};

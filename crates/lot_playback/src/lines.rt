@@ -87,18 +87,10 @@ fn put_made<W: Write>(
         → Puts W.contents writer.old writer.new page.old page.new result (made_text made) }
 {
     let manner = turn.manner();
-    match &turn.answer {
-        Some(answered) => {
-            leftovers.note(turn.actor, &answered.reply);
-            put_answer(
-                system,
-                manner,
-                turn.actor,
-                &answered.event,
-                &answered.reply,
-                writer,
-                page,
-            )
+    match &turn.reply {
+        Some(reply) => {
+            leftovers.note(turn.actor, reply);
+            put_answer(system, manner, turn.actor, &turn.event, reply, writer, page)
         }
         None => write_ended(writer, page, heading(system, manner, turn.actor)),
     }

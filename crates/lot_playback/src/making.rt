@@ -4,9 +4,8 @@ ghost use Rattle.lot_playback.specs.Orders.{IsAtPlace, IsAtTime};
 ghost use Rattle.lot_playback.specs.Stages.{IsNext, MakesTurn, turns_left};
 ghost use Rattle.lot_playback.specs.Turns.{MadeTurn};
 
-use crate::{Answered, NextTurn, Turn};
+use crate::{NextTurn, Turn};
 use lot_engine::{Following, System, make_due, next_turn};
-use lot_machine::Event;
 use lot_simulation::Due;
 use lot_text::Program;
 
@@ -48,52 +47,43 @@ pub(crate) fn next_in_time(
     })
 }
 
-/// Makes the turn at this place of the schedule.
+/// Makes the turn at this place of the schedule, and stores it in `turn`.
 #[inline(always)]
 pub(crate) fn make_scheduled(
     program: &Program,
     system: &mut System,
     place: &mut usize,
     next: NextTurn,
-) -> Turn
+    turn: &mut Turn,
+)
     requires program { system.old.setting.program ≡ program.now }
     requires there { IsAtPlace system.old place.old }
     requires next { IsNext (record { seen = system.old; made = place.old }) next }
     ensures there { IsAtPlace system.new place.new }
     ensures made { (made : MadeTurn) × MakesTurn (record { seen = system.old; made = place.old })
-        (record { seen = system.new; made = place.new }) result made }
+        (record { seen = system.new; made = place.new }) turn.new made }
 {
-    let actor = next.actor;
-    let mut event = Event::Expire(actor);
     *place += 1;
-    match next_turn(program, system, actor, &mut event) {
-        Some(reply) => Turn {
-            time: None,
-            actor,
-            answer: Some(Answered { event, reply }),
-        },
-        None => Turn {
-            time: None,
-            actor,
-            answer: None,
-        },
-    }
+    turn.time = None;
+    turn.actor = next.actor;
+    turn.reply = next_turn(program, system, next.actor, &mut turn.event);
 }
 
-/// Makes the turn that is due by the clocks.
+/// Makes the turn that is due by the clocks, and stores it in `turn`.
 #[inline(always)]
 pub(crate) fn make_in_time(
     program: &Program,
     system: &mut System,
     following: &mut Following,
     next: NextTurn,
-) -> Turn
+    turn: &mut Turn,
+)
     requires program { system.old.setting.program ≡ program.now }
     requires there { IsAtTime system.old following.old }
     requires next { IsNext (record { seen = system.old; made = length system.old.history }) next }
     ensures there { IsAtTime system.new following.new }
     ensures made { (made : MadeTurn) × MakesTurn (record { seen = system.old; made = length system.old.history })
-        (record { seen = system.new; made = length system.new.history }) result made }
+        (record { seen = system.new; made = length system.new.history }) turn.new made }
 {
     let Some(time) = next.time else {
         unreachable!()
@@ -102,14 +92,8 @@ pub(crate) fn make_in_time(
         time: u64::from(time),
         actor: next.actor,
     };
-    let mut event = Event::Expire(next.actor);
-    let told = make_due(program, system, following, due, &mut event);
-    Turn {
-        time: Some(told.time),
-        actor: told.actor,
-        answer: Some(Answered {
-            event,
-            reply: told.reply,
-        }),
-    }
+    let told = make_due(program, system, following, due, &mut turn.event);
+    turn.time = Some(told.time);
+    turn.actor = told.actor;
+    turn.reply = Some(told.reply);
 }

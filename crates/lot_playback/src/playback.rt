@@ -101,28 +101,32 @@ impl Playback {
         }
     }
 
-    /// Makes the turn that is next. It allocates no memory.
+    /// Makes the turn that is next, and stores it in `turn`, whose event is large: no turn of a play copies one. It
+    /// allocates no memory.
     #[inline(always)]
-    pub fn make(&mut self, program: &Program, next: NextTurn) -> Turn
+    pub(crate) fn make(&mut self, program: &Program, next: NextTurn, turn: &mut Turn)
         requires program { self.old.seen.setting.program ≡ program.now }
         requires next { IsNext self.old next }
-        ensures { (made : MadeTurn) × MakesTurn self.old self.new result made }
+        ensures { (made : MadeTurn) × MakesTurn self.old self.new turn.new made }
     {
         match &mut self.order {
-            Order::Scheduled(place) => make_scheduled(program, &mut self.system, place, next),
-            Order::InTime(following) => make_in_time(program, &mut self.system, following, next),
+            Order::Scheduled(place) => make_scheduled(program, &mut self.system, place, next, turn),
+            Order::InTime(following) => {
+                make_in_time(program, &mut self.system, following, next, turn);
+            }
         }
     }
 
     /// Makes the next turn, if there is one. It allocates no memory.
-    #[inline(always)]
     pub fn next(&mut self, program: &Program) -> Option<Turn>
         requires { self.old.seen.setting.program ≡ program.now }
         ensures none { IfNone result ((turns_left self.old ≡ []) × (self.new ≡ self.old)) }
         ensures turn { IfSome result (λ turn. (made : MadeTurn) × MakesTurn self.old self.new turn made) }
     {
         let next = self.next_due(program)?;
-        Some(self.make(program, next))
+        let mut turn = Turn::blank();
+        self.make(program, next, &mut turn);
+        Some(turn)
     }
 
     /// Has the observer see the system before the turn that is next.

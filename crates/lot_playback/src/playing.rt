@@ -3,7 +3,7 @@ ghost use Rattle.std.specs.Prelude.{◌≡◌, List, [], ◌∷◌, ◌++◌, If
 ghost use Rattle.lot_playback.specs.Stages.{HasMade, IsNext, turns_left};
 ghost use Rattle.lot_playback.specs.Turns.{MadeTurn, program_turns};
 
-use crate::{NextTurn, Observer, Playback};
+use crate::{NextTurn, Observer, Playback, Turn};
 use lot_text::Program;
 
 /// Makes all turns of a program of which none is made yet, and has the observer follow them. It stops if the observer
@@ -25,18 +25,20 @@ pub fn play_through<O: Observer>(
         × (program_turns program.now ≡ turns ++ others)
         × O.stopped program.now turns observer.old observer.new fault) }
 {
+    let mut turn = Turn::blank();
     while let Some(next) = playback.next_due(program) {
-        play_turn(program, playback, next, observer)?;
+        play_turn(program, playback, next, &mut turn, observer)?;
     }
     Ok(())
 }
 
-/// Makes the turn that is next, and has the observer follow it.
+/// Makes the turn that is next, stores it in `turn`, and has the observer follow it.
 #[inline(always)]
 fn play_turn<O: Observer>(
     program: &Program,
     playback: &mut Playback,
     next: NextTurn,
+    turn: &mut Turn,
     observer: &mut O,
 ) -> Result<(), O::Fault>
     requires next { IsNext playback.old next }
@@ -56,6 +58,6 @@ fn play_turn<O: Observer>(
         → O.stopped program.now (turns ++ made ∷ []) first observer.new fault)) }
 {
     playback.show_next(program, next, observer);
-    let turn = playback.make(program, next);
-    playback.show_made(program, &turn, observer)
+    playback.make(program, next, turn);
+    playback.show_made(program, turn, observer)
 }

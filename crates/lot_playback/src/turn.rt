@@ -14,13 +14,6 @@ pub struct NextTurn {
     pub actor: u32,
 }
 
-/// An event, and the kernel's reply to it.
-#[derive(Debug, PartialEq, Eq, Drop)]
-pub struct Answered {
-    pub event: Event,
-    pub reply: Reply,
-}
-
 /// A turn that was made.
 #[derive(Debug, PartialEq, Eq, Drop)]
 pub struct Turn {
@@ -28,11 +21,23 @@ pub struct Turn {
     pub time: Option<u32>,
     /// 0 is the console, and the others are the processors.
     pub actor: u32,
+    /// What the actor asked of the kernel; without a reply it means nothing.
+    pub event: Event,
     /// None for a turn of the console after its last command.
-    pub answer: Option<Answered>,
+    pub reply: Option<Reply>,
 }
 
 impl Turn {
+    /// Room for a turn, before one is made.
+    pub(crate) fn blank() -> Turn {
+        Turn {
+            time: None,
+            actor: 0,
+            event: Event::Expire(0),
+            reply: None,
+        }
+    }
+
     /// How it is written: with its time, if it has one.
     #[inline(always)]
     pub fn manner(&self) -> Manner

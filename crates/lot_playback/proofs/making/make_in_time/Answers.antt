@@ -24,5 +24,5 @@ returns-clause-made c =
     time-made seen c.args.following.now c.requires.there told c.make_due-told.new.event
     (subst (λ (p : Program). next_turns p seen ≡ turn_told seen told ∷ []) same made.next) made.answer c.make_due-told.new.system made.after c.make_due-told.new.following
     (subst (λ (p : Program). IsFollowed p c.make_due-told.new.system c.make_due-told.new.following) same made.followed)
-    (record { time = Some told.time; actor = told.actor; answer = Some (record { event = c.make_due-told.new.event; reply = told.reply }) })
+    (record { time = Some told.time; actor = told.actor; event = c.make_due-told.new.event; reply = Some told.reply })
     (record { time = refl; actor = refl; answer = made.answer })

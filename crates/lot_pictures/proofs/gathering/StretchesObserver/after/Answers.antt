@@ -19,8 +19,8 @@ returns-in_default-clause-ok c turns made first just noted =
 
 pub returns-clause-ok : goal.returns-clause-ok
 returns-clause-ok c turns made first just noted =
-    let given = c.in-Some.answered in
-    let stretch = c.new-stretch.ensures given.event in
+    let given = c.in-Some.reply in
+    let stretch = c.new-stretch.ensures c.args.turn.now.event in
     let items = c.args.self.now.stretches.items in
     let after = c.push.new.self.items in
     let pushed = c.in_ok-push.ensures in (
