@@ -3,10 +3,5 @@
 //! time for them.
 #![tactic(auto)]
 
-mod baton;
-mod shares;
 #[cfg(test)]
 mod tests;
-
-pub use baton::{baton_shares_of, make_turn};
-pub use shares::{Shares, shares_of};

@@ -9,15 +9,16 @@ mod racing;
 mod refusing;
 mod replaying;
 mod runs;
+mod seats;
 mod session;
 mod slicing;
 mod texts;
 mod turnstile;
 
-use crate::Shares;
 use lot_engine::{System, write_end};
 use lot_machine::Reply;
 use lot_text::{Program, Watched, parse};
+use seats::Shares;
 use std::alloc::Global;
 
 /// Two processors with two turns each, and one thread.

@@ -2,10 +2,10 @@
 ghost use Rattle.std.specs.Prelude.{◌≡◌, All, IfSome};
 ghost use Rattle.lot_station.specs.BatonSeats.{IsSameSeat, IsSeatOf};
 
+use crate::tests::seats::{baton_shares_of, make_turn};
 use crate::tests::{
     END, ENDED, EXPIRED, FIRST_DRAW, FUNDED, IDLE, SECOND_DRAW, TWO_PROCESSORS, end_of, program_of,
 };
-use crate::{baton_shares_of, make_turn};
 use lot_engine::{System, TurnFault};
 use lot_machine::Reply;
 use lot_station::{BatonSeat, BatonStation, SeatMissing};

@@ -1,10 +1,10 @@
 //! Turns by seats, one after another.
 ghost use Rattle.std.specs.Prelude.{◌≡◌, ◌+◌};
 
+use crate::tests::seats::{Shares, shares_of};
 use crate::tests::{
     END, ENDED, EXPIRED, FIRST_DRAW, FUNDED, IDLE, SECOND_DRAW, TWO_PROCESSORS, end_of, opened,
 };
-use crate::{Shares, shares_of};
 use lot_engine::{System, slice_for};
 use lot_machine::Reply;
 use lot_station::{Seat, Station, TurnLedger};

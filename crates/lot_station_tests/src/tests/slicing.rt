@@ -2,7 +2,7 @@
 ghost use Rattle.std.specs.Prelude.{◌≡◌, ◌+◌};
 
 use crate::tests::opened;
-use crate::{Shares, shares_of};
+use crate::tests::seats::{Shares, shares_of};
 use lot_engine::{System, TurnFault, Work, slice_for};
 use lot_machine::{Outcome, Reply};
 use lot_script::Place;

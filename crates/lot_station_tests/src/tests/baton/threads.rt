@@ -2,9 +2,9 @@
 ghost use Rattle.std.specs.Prelude.{All};
 ghost use Rattle.lot_station.specs.BatonSeats.{IsSeatOf};
 
-use crate::make_turn;
 use crate::tests::program_of;
 use crate::tests::replaying::{Compared, Played, compared};
+use crate::tests::seats::make_turn;
 use lot_engine::{Answer, System};
 use lot_station::{BatonSeat, BatonStation};
 use lot_text::Program;

@@ -1,15 +1,26 @@
-//! The seats of a baton station.
+//! Turns of the seats of a baton station, and what a seat has. They stand among the tests, since the crate would prove
+//! them a second time as a library.
 ghost use Rattle.std.specs.Prelude.{◌≡◌};
 ghost use Rattle.lot_station.specs.BatonSeats.{IsSameSeat, seat_counts};
 
-use crate::Shares;
 use lot_engine::{Answer, TurnFault, slice_for};
-use lot_station::{BatonSeat, BatonStation};
+use lot_station::{BatonSeat, BatonStation, Seat, TurnLedger};
 use lot_text::Program;
 use std::sync::Wait;
+use std::sync::ledger::Ledger;
+
+/// A seat's turns, quanta and ticks.
+pub(crate) type Shares = (u64, u64, u64);
+
+/// What the seat has.
+pub(crate) fn shares_of<T: TurnLedger, Q: Ledger, K: Ledger>(seat: &Seat<T, Q, K>) -> Shares
+    ensures { (result.0 ≡ seat.now.turns) × (result.1 ≡ seat.now.quanta) × (result.2 ≡ seat.now.ticks) }
+{
+    (seat.turns(), seat.quanta(), seat.ticks())
+}
 
 /// A turn of the seat, with the slice of its work in this program if it has any.
-pub fn make_turn<R: Wait>(
+pub(crate) fn make_turn<R: Wait>(
     rt: &R,
     station: &BatonStation,
     program: &Program,
@@ -23,8 +34,8 @@ pub fn make_turn<R: Wait>(
     station.turn(rt, seat, slice)
 }
 
-/// What the seat has.
-pub fn baton_shares_of(seat: &BatonSeat) -> Shares
+/// The same of the seat of a baton station.
+pub(crate) fn baton_shares_of(seat: &BatonSeat) -> Shares
     ensures { (result.0 ≡ (seat_counts seat.now).turns) × (result.1 ≡ (seat_counts seat.now).quanta)
         × (result.2 ≡ (seat_counts seat.now).ticks) }
 {
