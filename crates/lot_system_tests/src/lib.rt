@@ -2,8 +2,5 @@
 //! their own, so that `lot_system` is not proved a second time for them.
 #![tactic(auto)]
 
-mod moves;
 #[cfg(test)]
 mod tests;
-
-pub use moves::make_turn;

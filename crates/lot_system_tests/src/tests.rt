@@ -4,14 +4,15 @@ ghost use Rattle.std.specs.Prelude.{◌≡◌};
 
 mod faults;
 mod memory;
+mod moves;
 mod reports;
 mod same;
 mod timed;
 mod turns;
 
-use crate::make_turn;
 use lot_system::System;
 use lot_text::{Program, parse};
+use moves::make_turn;
 use std::alloc::Global;
 use std::test::Fail;
 

@@ -1,4 +1,5 @@
-//! A turn of a system, with the slice of its actor's work.
+//! A turn of a system, with the slice of its actor's work. It stands among the tests, since the crate would prove it a
+//! second time as a library.
 ghost use Rattle.std.specs.Prelude.{◌≡◌, ◌≤◌, ◌⊎◌, IfErr, IfOk, Option};
 ghost use Rattle.lot_script.specs.Slices.{Parts};
 ghost use Rattle.lot_engine.specs.Fitting.{IsStale};
@@ -11,7 +12,7 @@ use lot_text::Program;
 
 /// Makes the actor's turn, with the slice of its work in this program if it has any. A fault changes nothing: Stale
 /// if the work doesn't fit the program, otherwise the fault of `System::turn` with that slice.
-pub fn make_turn(system: &mut System, program: &Program, actor: u32) -> Result<(), TurnFault>
+pub(crate) fn make_turn(system: &mut System, program: &Program, actor: u32) -> Result<(), TurnFault>
     requires { actor ≤ system.old.setting.program.limits.processors }
     ensures made { IfOk result (λ _. system.new ≡ after_turn system.old actor) }
     ensures unmade { IfErr result (λ _. system.new ≡ system.old) }
