@@ -1,10 +1,10 @@
 //! The exit status of the words, the input and the outputs.
 
 use crate::command_line::{Request, request_of};
+use crate::diagnostics::Diagnostics;
 use crate::explain::explain;
 use crate::play::play;
 use crate::run::run;
-use crate::told::Told;
 use clap::Error;
 use clap::error::ErrorKind;
 use lot_io::Watched;
@@ -85,27 +85,41 @@ fn request_status<H: Threads + Wait + Sync, R: Read + Drop, W: Write + Drop, E: 
     };
     let mut reader = Watched::new(reader);
     let mut writer = Watched::new(buffered);
-    let Ok(mut told) = Told::nothing(alloc) else {
+    let Ok(mut diagnostics) = Diagnostics::nothing(alloc) else {
         return FAILED;
     };
     let played = match request {
-        Request::Play => play(alloc, &mut told, &mut reader, &mut writer).ok(),
-        Request::Explain => explain(alloc, &mut told, &mut reader, &mut writer).ok(),
-        Request::Run => run(rt, alloc, &mut told, &mut reader, &mut writer).ok(),
+        Request::Play => play(alloc, &mut diagnostics, &mut reader, &mut writer).ok(),
+        Request::Explain => explain(alloc, &mut diagnostics, &mut reader, &mut writer).ok(),
+        Request::Run => run(rt, alloc, &mut diagnostics, &mut reader, &mut writer).ok(),
         Request::Shares(measure) => {
-            shares(alloc, measure, &mut told.input, &mut reader, &mut writer).ok()
+            shares(
+                alloc,
+                measure,
+                &mut diagnostics.input,
+                &mut reader,
+                &mut writer,
+            )
+            .ok()
         }
         Request::Chart(title) => {
-            chart(alloc, title, &mut told.input, &mut reader, &mut writer).ok()
+            chart(
+                alloc,
+                title,
+                &mut diagnostics.input,
+                &mut reader,
+                &mut writer,
+            )
+            .ok()
         }
     };
     match played {
         Some(Played::Done) => {
-            told.say_leftovers(alloc, &mut errors);
+            diagnostics.say_warnings(alloc, &mut errors);
             DONE
         }
         Some(Played::Refused) => {
-            told.say_why(alloc, &mut errors);
+            diagnostics.say_why(alloc, &mut errors);
             REFUSED
         }
         None => FAILED,

@@ -6,7 +6,7 @@ ghost use Rattle.lot_simulation.specs.Grammar.{program_in};
 ghost use Rattle.lot_engine.specs.Played.{Leaves, came_of};
 ghost use Rattle.lot_io.specs.Reading.{Reads};
 
-use crate::told::Told;
+use crate::diagnostics::Diagnostics;
 use lot_explain::explain_bytes;
 use lot_io::{IoFault, Watched, read_input};
 use lot_system::Played;
@@ -15,10 +15,10 @@ use std::io::{Read, Write};
 
 /// Reads an input, makes its turns, and writes the output of `play`, with the lots of each lottery that was won
 /// before its line; or one line, if the input is refused, as `explain` of `lot_explain` does. Diagnostics are stored
-/// in `told`.
+/// in `diagnostics`.
 pub(crate) fn explain<R: Read, W: Write>(
     alloc: Global,
-    told: &mut Told,
+    diagnostics: &mut Diagnostics,
     reader: &mut Watched<R>,
     writer: &mut Watched<W>,
 ) -> Result<Played, IoFault>
@@ -31,6 +31,11 @@ pub(crate) fn explain<R: Read, W: Write>(
         (λ fault. Leaves explained_output R.remaining reader.old reader.new W.contents writer.old writer.new fault) }
 {
     let input = read_input(alloc, reader)?;
-    told.take_up(alloc, input);
-    explain_bytes(alloc, &mut told.input, &mut told.leftovers, writer)
+    diagnostics.take_up(alloc, input);
+    explain_bytes(
+        alloc,
+        &mut diagnostics.input,
+        &mut diagnostics.warnings,
+        writer,
+    )
 }

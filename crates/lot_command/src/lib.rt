@@ -3,11 +3,11 @@
 #![tactic(auto)]
 
 mod command_line;
+mod diagnostics;
 mod exit_status;
 mod explain;
 mod play;
 mod run;
-mod told;
 
 pub use exit_status::{status, unread_status};
 pub use run::{RunStop, run_bytes};

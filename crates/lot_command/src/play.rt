@@ -6,17 +6,17 @@ ghost use Rattle.lot_simulation.specs.Output.{output};
 ghost use Rattle.lot_engine.specs.Played.{Leaves, came_of};
 ghost use Rattle.lot_io.specs.Reading.{Reads};
 
-use crate::told::Told;
+use crate::diagnostics::Diagnostics;
 use lot_io::{IoFault, Watched, read_input};
 use lot_system::{Played, play_bytes};
 use std::alloc::Global;
 use std::io::{Read, Write};
 
 /// Reads an input, makes the turns of its schedule, and writes a line for each turn and then the report; or one line,
-/// if the input is refused, as `play` of `lot_system` does. Diagnostics are stored in `told`.
+/// if the input is refused, as `play` of `lot_system` does. Diagnostics are stored in `diagnostics`.
 pub(crate) fn play<R: Read, W: Write>(
     alloc: Global,
-    told: &mut Told,
+    diagnostics: &mut Diagnostics,
     reader: &mut Watched<R>,
     writer: &mut Watched<W>,
 ) -> Result<Played, IoFault>
@@ -29,6 +29,11 @@ pub(crate) fn play<R: Read, W: Write>(
         (λ fault. Leaves output R.remaining reader.old reader.new W.contents writer.old writer.new fault) }
 {
     let input = read_input(alloc, reader)?;
-    told.take_up(alloc, input);
-    play_bytes(alloc, &mut told.input, &mut told.leftovers, writer)
+    diagnostics.take_up(alloc, input);
+    play_bytes(
+        alloc,
+        &mut diagnostics.input,
+        &mut diagnostics.warnings,
+        writer,
+    )
 }

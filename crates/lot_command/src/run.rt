@@ -5,10 +5,10 @@ ghost use Rattle.lot_io.specs.Reading.{Reads};
 ghost use Rattle.lot_engine.specs.declared.inputs.Played.TheVariants.{Done};
 ghost use Rattle.lot_command.specs.Running.{HasRun, RunLeaves, Runs};
 
-use crate::told::Told;
+use crate::diagnostics::Diagnostics;
 use lot_io::{IoFault, Watched, read_input};
 use lot_processors::{FreeRunFault, OpenGate, free_run};
-use lot_system::{Leftovers, Played, System, refuse, write_end};
+use lot_system::{Played, System, Warnings, refuse, write_end};
 use lot_text::{ParseFault, Program, parse};
 use std::alloc::Global;
 use std::io::{Read, Write};
@@ -28,12 +28,12 @@ pub enum RunStop {
 }
 
 /// Reads an input, lets workers run its commands and make its processors' turns, and writes the report and the
-/// history; or one line, if the input is refused. Its schedule is ignored. Diagnostics are stored in `told`. It may
-/// block.
+/// history; or one line, if the input is refused. Its schedule is ignored. Diagnostics are stored in `diagnostics`. It
+/// may block.
 pub(crate) fn run<R: Read, W: Write, H: Threads + Wait + Sync>(
     rt: &H,
     alloc: Global,
-    told: &mut Told,
+    diagnostics: &mut Diagnostics,
     reader: &mut Watched<R>,
     writer: &mut Watched<W>,
 ) -> Result<Played, RunStop>
@@ -46,12 +46,12 @@ pub(crate) fn run<R: Read, W: Write, H: Threads + Wait + Sync>(
 {
     match read_input(alloc, reader) {
         Ok(bytes) => {
-            told.take_up(alloc, bytes);
+            diagnostics.take_up(alloc, bytes);
             run_bytes(
                 rt,
                 alloc,
-                told.input.as_slice(),
-                &mut told.leftovers,
+                diagnostics.input.as_slice(),
+                &mut diagnostics.warnings,
                 writer,
             )
         }
@@ -61,7 +61,7 @@ pub(crate) fn run<R: Read, W: Write, H: Threads + Wait + Sync>(
 
 /// Lets workers run the commands of the input in `bytes` and make its processors' turns, and writes the report and the
 /// history; or one line, if the input is refused. Its schedule is ignored. The warnings of the run are stored in
-/// `leftovers`. It may block.
+/// `warnings`. It may block.
 ///
 /// `RunStop::Play` if memory runs out before the workers start, or if the writer fails, and `RunStop::Workers` if
 /// memory runs out for them, or they stop early. Nothing was written unless the writer has failed.
@@ -69,7 +69,7 @@ pub fn run_bytes<W: Write, H: Threads + Wait + Sync>(
     rt: &H,
     alloc: Global,
     bytes: &[u8],
-    leftovers: &mut Leftovers,
+    warnings: &mut Warnings,
     writer: &mut Watched<W>,
 ) -> Result<Played, RunStop>
     requires { writer.old.failed ≡ false }
@@ -77,7 +77,7 @@ pub fn run_bytes<W: Write, H: Threads + Wait + Sync>(
     ensures run { Runs (program_in bytes.now) W.contents writer.old writer.new result }
 {
     match parse(alloc, bytes) {
-        Ok(program) => run_program(rt, alloc, &program, leftovers, writer),
+        Ok(program) => run_program(rt, alloc, &program, warnings, writer),
         Err(ParseFault::Memory) => Err(RunStop::Play(IoFault::Memory)),
         Err(ParseFault::Input(fault)) => match refuse(fault, writer) {
             Ok(played) => Ok(played),
@@ -91,7 +91,7 @@ fn run_program<W: Write, H: Threads + Wait + Sync>(
     rt: &H,
     alloc: Global,
     program: &Program,
-    leftovers: &mut Leftovers,
+    warnings: &mut Warnings,
     writer: &mut Watched<W>,
 ) -> Result<Played, RunStop>
     requires { writer.old.failed ≡ false }
@@ -103,15 +103,15 @@ fn run_program<W: Write, H: Threads + Wait + Sync>(
         Err(fault) => return Err(RunStop::Workers(fault)),
     };
     match write_end(&mut system, writer) {
-        Ok(()) => Ok(noted(&mut system, leftovers)),
+        Ok(()) => Ok(noted(&mut system, warnings)),
         Err(fault) => Err(RunStop::Play(fault)),
     }
 }
 
 /// Notes the warnings of the run, which is done.
-fn noted(system: &mut System, leftovers: &mut Leftovers) -> Played
+fn noted(system: &mut System, warnings: &mut Warnings) -> Played
     ensures { result ≡ Done }
 {
-    leftovers.note_end(system);
+    warnings.note_end(system);
     Played::Done
 }

@@ -4,10 +4,6 @@ pub mod Runs
 pub mod PlaceFacts
 pub mod TurnFacts
 pub mod RunFacts
-pub mod TimeFacts
-pub mod WaitFacts
-pub mod FollowFacts
-pub mod TimedReportFacts
 pub mod CountFacts
 pub mod WritingFacts
 pub mod ListingFacts

@@ -1,7 +1,6 @@
 pub mod Seen
 pub mod Steps
 pub mod Held
-pub mod InTime
 pub mod Turns
 pub mod Counted
 pub mod Listing

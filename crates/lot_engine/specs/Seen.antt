@@ -1,5 +1,5 @@
 -- A system as contracts see it.
-use Rattle.std.specs.Prelude.{ℕ, List, [], ◌∷◌, ◌++◌}
+use Rattle.std.specs.Prelude.{ℕ, ◌==◌, List, [], ◌∷◌, ◌++◌, count_by}
 use Rattle.lot_simulation.specs.World.{Program, World, system_run}
 
 -- the program that a system was opened with, and how many turns it has room for
@@ -15,6 +15,10 @@ pub record Seen : Type 0 where
 -- the world to which the program's run over the history led
 abbrev pub world_of : Seen → World
 world_of seen = system_run seen.setting.program seen.history
+
+-- how many commands a system has made
+abbrev pub commands_made : Seen → ℕ
+commands_made seen = count_by (λ actor. actor == 0) seen.history
 
 -- the same system after one more turn
 abbrev pub after_turn : Seen → ℕ → Seen

@@ -1,6 +1,6 @@
 //! The system.
-ghost use Rattle.std.specs.Prelude.{◌≡◌, ◌↔◌, ◌<◌, ◌≤◌, ◌*◌, ◌^◌, [], ◌∷◌, ◌++◌, All, IfOk, IfErr, IfNone, IfSome};
-ghost use Rattle.std.specs.Prelude.{IsTrue, Some, length, vec_len, vec_capacity};
+ghost use Rattle.std.specs.Prelude.{◌≡◌, ◌↔◌, ◌<◌, ◌≤◌, ◌*◌, ◌^◌, [], ◌∷◌, ◌++◌, All, IfOk, IfErr};
+ghost use Rattle.std.specs.Prelude.{IsFalse, IsTrue, Some, length, vec_len, vec_capacity};
 ghost use Rattle.lot_machine.specs.Bounds.{IsBetween};
 ghost use Rattle.lot_machine.specs.Mutexes.{mutex_at};
 ghost use Rattle.lot_machine.specs.Rows as rows;
@@ -11,9 +11,8 @@ ghost use Rattle.lot_simulation.specs.World.{IsLegal, system_turn};
 ghost use Rattle.lot_simulation.specs.Report.{ticks_in, total_of, turns_made, turns_of};
 ghost use Rattle.lot_engine.specs.Counted.{counted};
 ghost use Rattle.lot_engine.specs.Listing.{given_count};
-ghost use Rattle.lot_engine.specs.InTime.{commands_made};
-ghost use Rattle.lot_engine.specs.Playing.{IsPlayed};
-ghost use Rattle.lot_engine.specs.Seen.{after_turn, world_of};
+ghost use Rattle.lot_engine.specs.Playing.{IsPlayed, turn_in};
+ghost use Rattle.lot_engine.specs.Seen.{after_turn, commands_made, world_of};
 ghost use Rattle.lot_script.specs.Places.{Place as PlaceRecord};
 ghost use Rattle.lot_engine.specs.Turns.{Answers, Faults, Goes, IfStale, IsEnded, IsFresh, IsWorkOf, Prevents, work_at};
 
@@ -226,23 +225,24 @@ impl System {
         Ok(reply)
     }
 
-    /// The turn with the slice of the actor's own work, while the history has room: `None` if the actor is the
-    /// console and no command is left. Then nothing changes.
+    /// Makes the actor's next turn with the slice of its own work, while the history has room, and stores its event
+    /// and the kernel's reply where the caller keeps them: as parts of the result they would be copied at each return.
+    /// Returns whether a turn was made. None is if the actor is the console and no command is left; then the system
+    /// doesn't change. It allocates no memory.
     #[inline(always)]
-    pub(crate) fn fresh_turn(&mut self, actor: u32, event: &mut Event) -> Option<Reply>
+    pub fn next_turn(&mut self, actor: u32, event: &mut Event, reply: &mut Reply) -> bool
         requires there { actor ≤ self.old.setting.program.limits.processors }
         requires room { length self.old.history < self.old.setting.room }
-        ensures made { IfSome result (λ reply. (self.new ≡ after_turn self.old actor)
-            × ((system_turn self.old.setting.program (world_of self.old) actor).answer ≡ Answered event.new reply)) }
-        ensures ended { IfNone result (IsEnded self.old actor × (self.new ≡ self.old)) }
+        ensures made { IsTrue result → (self.new ≡ after_turn self.old actor)
+            × ((turn_in self.old actor).answer ≡ Answered event.new reply.new) }
+        ensures ended { IsFalse result → IsEnded self.old actor × (self.new ≡ self.old) }
         ensures played { IsPlayed self.old actor self.new }
     {
         if self.is_ended(actor) {
-            return None;
+            return false;
         }
-        let mut reply = Reply::Idle;
-        self.own_turn(actor, event, &mut reply);
-        Some(reply)
+        self.own_turn(actor, event, reply);
+        true
     }
 
     /// Whether the actor is the console, and no command is left.
@@ -255,7 +255,7 @@ impl System {
 
     /// Whether there is no room for one more turn.
     #[inline(always)]
-    pub(crate) fn is_full(&self) -> bool
+    pub fn is_full(&self) -> bool
         ensures { IsTrue result ↔ (self.now.setting.room ≤ length self.now.history) }
     {
         self.history.len() >= self.room as usize
@@ -437,14 +437,14 @@ impl System {
     }
 
     /// How many commands were made.
-    pub(crate) fn commands_made(&self) -> usize
+    pub fn commands_made(&self) -> usize
         ensures { result ≡ commands_made self.now }
     {
         self.spent
     }
 
     /// How many commands weren't made yet.
-    pub(crate) fn commands_left(&self) -> usize
+    pub fn commands_left(&self) -> usize
         ensures { result ≡ length (world_of self.now).commands }
     {
         let all = self.program.commands().len();

@@ -91,9 +91,12 @@ module _ (seen : Seen) (turn : ATurn) (lots : List Lot) (made : MadeTurn) (is : 
       ∙ ap (λ (t : Turn). t.world.state.limits.unit) is.turn_is
       ∙ ap (λ (l : Sizes). l.unit) (turn-limits program made.before made.actor)
 
-  module _ (r : Reply) (some : turn.reply ≡ Some r) where
+  module _ (answered : turn.has_ended ≡ false) where
+    abbrev r : Reply
+    r = turn.reply
+
     answer-is : made.turn.answer ≡ Answered turn.event r
-    answer-is = is.reports.answer ∙ ap (answer_in turn.event) some
+    answer-is = is.reports.answer ∙ ap (λ ended. answer_in ended turn.event turn.reply) answered
 
     system-answer : (system_turn program made.before made.actor).answer ≡ Answered turn.event r
     system-answer = ap (λ (t : Turn). t.answer) (sym is.turn_is) ∙ answer-is
@@ -113,6 +116,6 @@ module _ (seen : Seen) (turn : ATurn) (lots : List Lot) (made : MadeTurn) (is : 
         answered-is made m a (of_m ∙ ap manner_at is.reports.time) (of_a ∙ is.reports.actor) u xs (world_of seen).state turn.event r
         (of_u ∙ unit-is) (of_xs ∙ lots-are) (ap (λ (w : World). w.state) is.world) answer-is
 
-  pub ended-text : turn.reply ≡ None → (m : Manner) (a : ℕ) → m ≡ manner_at turn.time → a ≡ turn.actor → front m ++ (decimal a ++ (codes " " ++ (refused 41 (codes "Ended") ++ newline))) ≡ explained_made made
-  ended-text none m a of_m of_a =
-      ended-is made m a (of_m ∙ ap manner_at is.reports.time) (of_a ∙ is.reports.actor) (is.reports.answer ∙ ap (answer_in turn.event) none)
+  pub ended-text : turn.has_ended ≡ true → (m : Manner) (a : ℕ) → m ≡ manner_at turn.time → a ≡ turn.actor → front m ++ (decimal a ++ (codes " " ++ (refused 41 (codes "Ended") ++ newline))) ≡ explained_made made
+  ended-text ended m a of_m of_a =
+      ended-is made m a (of_m ∙ ap manner_at is.reports.time) (of_a ∙ is.reports.actor) (is.reports.answer ∙ ap (λ b. answer_in b turn.event turn.reply) ended)

@@ -12,7 +12,7 @@ ghost use Rattle.lot_explain.specs.MadeTurns.{HasLots, IsExplained, explained_ma
 
 use crate::gathering::Lots;
 use crate::lines::put_lots;
-use lot_engine::{Leftovers, System, heading, put_answer};
+use lot_engine::{System, Warnings, heading, put_answer};
 use lot_io::{IoFault, Watched};
 use lot_machine::{Event, Reply};
 use lot_playback::{Observer, Playback, Turn, play_through};
@@ -27,7 +27,7 @@ struct Explained<'a, W> {
     /// Those of the lottery that the next turn may hold.
     lots: &'a mut Lots,
     page: Page,
-    leftovers: &'a mut Leftovers,
+    warnings: &'a mut Warnings,
     writer: &'a mut Watched<W>,
 }
 
@@ -68,7 +68,7 @@ impl<'a, W: Write> Observer for Explained<'a, W> {
             system,
             turn,
             self.lots,
-            self.leftovers,
+            self.warnings,
             self.writer,
             &mut self.page,
         )
@@ -91,7 +91,7 @@ pub(crate) fn explain_turns<W: Write>(
     program: &Program,
     playback: &mut Playback,
     lots: &mut Lots,
-    leftovers: &mut Leftovers,
+    warnings: &mut Warnings,
     writer: &mut Watched<W>,
 ) -> Result<(), IoFault>
     requires none { playback.old.made ≡ 0 }
@@ -105,7 +105,7 @@ pub(crate) fn explain_turns<W: Write>(
     let mut explained = Explained {
         lots,
         page: Page::new(),
-        leftovers,
+        warnings,
         writer,
     };
     play_through(program, playback, &mut explained)?;
@@ -117,7 +117,7 @@ fn put_explained<W: Write>(
     system: &mut System,
     turn: &Turn,
     lots: &Lots,
-    leftovers: &mut Leftovers,
+    warnings: &mut Warnings,
     writer: &mut Watched<W>,
     page: &mut Page,
 ) -> Result<(), IoFault>
@@ -128,21 +128,19 @@ fn put_explained<W: Write>(
         → Puts W.contents writer.old writer.new page.old page.new result (explained_made made) }
 {
     let heading = heading(system, turn.manner(), turn.actor);
-    match &turn.reply {
-        Some(reply) => {
-            leftovers.note(turn.actor, reply);
-            put_turn(
-                system,
-                heading,
-                &turn.event,
-                *reply,
-                lots.as_slice(),
-                writer,
-                page,
-            )
-        }
-        None => write_ended(writer, page, heading),
+    if turn.has_ended {
+        return write_ended(writer, page, heading);
     }
+    warnings.note(turn.actor, &turn.reply);
+    put_turn(
+        system,
+        heading,
+        &turn.event,
+        turn.reply,
+        lots.as_slice(),
+        writer,
+        page,
+    )
 }
 
 /// Puts the lines of a turn on the page, after the lots of its lottery, if it was won.

@@ -11,7 +11,7 @@ ghost use Rattle.lot_explain.specs.Explained.{explained_output, explained_progra
 
 use crate::explained::explain_turns;
 use crate::gathering::Lots;
-use lot_engine::{Leftovers, Played, program_of, refuse};
+use lot_engine::{Played, Warnings, program_of, refuse};
 use lot_io::{IoFault, Watched, flush, read_input};
 use lot_playback::Playback;
 use lot_text::{ParseFault, Program};
@@ -36,19 +36,19 @@ pub fn explain<R: Read, W: Write>(
         (λ fault. Leaves explained_output R.remaining reader.old reader.new W.contents writer.old writer.new fault) }
 {
     let mut bytes = read_input(alloc, reader)?;
-    let Ok(mut leftovers) = Leftovers::none(alloc) else {
+    let Ok(mut warnings) = Warnings::none(alloc) else {
         return Err(IoFault::Memory);
     };
-    explain_bytes(alloc, &mut bytes, &mut leftovers, writer)
+    explain_bytes(alloc, &mut bytes, &mut warnings, writer)
 }
 
 /// Explains the input in `bytes`, or writes why it is refused, as `explain` does, for callers that report more. If it
 /// is refused, `bytes` keeps it; otherwise its memory is freed before the first turn, and the run's warnings are
-/// stored in `leftovers`. It allocates all its memory before the first turn.
+/// stored in `warnings`. It allocates all its memory before the first turn.
 pub fn explain_bytes<W: Write>(
     alloc: Global,
     bytes: &mut Vec<u8>,
-    leftovers: &mut Leftovers,
+    warnings: &mut Warnings,
     writer: &mut Watched<W>,
 ) -> Result<Played, IoFault>
     requires { writer.old.failed ≡ false }
@@ -57,7 +57,7 @@ pub fn explain_bytes<W: Write>(
         (explained_output bytes.old.items) }
 {
     match program_of(alloc, bytes) {
-        Ok(program) => explain_program(alloc, &program, leftovers, writer),
+        Ok(program) => explain_program(alloc, &program, warnings, writer),
         Err(ParseFault::Memory) => Err(IoFault::Memory),
         Err(ParseFault::Input(fault)) => refuse(fault, writer),
     }
@@ -67,7 +67,7 @@ pub fn explain_bytes<W: Write>(
 fn explain_program<W: Write>(
     alloc: Global,
     program: &Program,
-    leftovers: &mut Leftovers,
+    warnings: &mut Warnings,
     writer: &mut Watched<W>,
 ) -> Result<Played, IoFault>
     requires { writer.old.failed ≡ false }
@@ -81,8 +81,8 @@ fn explain_program<W: Write>(
     let Ok(mut lots) = Lots::open(alloc, program.limits().threads) else {
         return Err(IoFault::Memory);
     };
-    explain_all(program, &mut playback, &mut lots, leftovers, writer)?;
-    playback.note_end(leftovers);
+    explain_all(program, &mut playback, &mut lots, warnings, writer)?;
+    playback.note_end(warnings);
     Ok(Played::Done)
 }
 
@@ -91,7 +91,7 @@ fn explain_all<W: Write>(
     program: &Program,
     playback: &mut Playback,
     lots: &mut Lots,
-    leftovers: &mut Leftovers,
+    warnings: &mut Warnings,
     writer: &mut Watched<W>,
 ) -> Result<(), IoFault>
     requires none { playback.old.made ≡ 0 }
@@ -101,7 +101,7 @@ fn explain_all<W: Write>(
     ensures flushed { OnOk result (writer.new.flushed ≡ true) }
     ensures text { Writes W.contents writer.old writer.new result (explained_program program.now program.now.duration) }
 {
-    explain_turns(program, playback, lots, leftovers, writer)?;
+    explain_turns(program, playback, lots, warnings, writer)?;
     playback.write_report(program, writer)?;
     flush(writer)
 }

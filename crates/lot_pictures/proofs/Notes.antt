@@ -1,5 +1,5 @@
 -- Stretches that are noted turn by turn.
-use Rattle.std.proofs.Common.{◌≡◌, ℕ, suc, ◌+◌, ◌*◌, ◌^◌, ◌<◌, ◌≤◌, Option, Some, None, List, [], ◌∷◌, ◌++◌, length, map, refl, sym, ◌∙◌, ap, arith, append_assoc, append-nil, length-append, lit<}
+use Rattle.std.proofs.Common.{◌≡◌, ℕ, suc, ◌+◌, ◌*◌, ◌^◌, ◌<◌, ◌≤◌, true, false, Option, Some, None, List, [], ◌∷◌, ◌++◌, length, map, refl, sym, ◌∙◌, ap, arith, append_assoc, append-nil, length-append, lit<}
 use Rattle.lot_machine.specs.declared.event.Event.{Event}
 use Rattle.lot_machine.specs.declared.reply.Reply.{Reply}
 use Rattle.lot_simulation.specs.Report.{ActorTurn, ticks_in, total_of, turns_made, turns_of}
@@ -79,19 +79,19 @@ module _ (program : Program) (turns : List MadeTurn) (made : MadeTurn) (turn : A
       ap (λ (x : Answer). map (own_stretch (counted_turns all)) (counted_turn made.actor x)) is
       ∙ ap (λ (ts : List ActorTurn). stretch_of (record { time = total_of ticks_in (turns_of made.actor ts); answer = Answered e r }) ∷ []) (sym counted-is)
 
-  pub answered-noted : (r : Reply) → turn.reply ≡ Some r → (end : ℕ) → end ≡ end_in seen turn.time turn.actor → (items after : List Stretch) (s : Stretch) → s ≡ stretch_of (record { time = end; answer = Answered turn.event r })
+  pub answered-noted : turn.has_ended ≡ false → (end : ℕ) → end ≡ end_in seen turn.time turn.actor → (items after : List Stretch) (s : Stretch) → s ≡ stretch_of (record { time = end; answer = Answered turn.event turn.reply })
       → items ≡ stretches_in [] turns → after ≡ items ++ s ∷ [] → after ≡ stretches_in [] (turns ++ made ∷ [])
-  answered-noted r some end ends items after s of_s noted pushed =
-      let answer : made.turn.answer ≡ Answered turn.event r = just.reports.answer ∙ ap (answer_in turn.event) some in
+  answered-noted answered end ends items after s of_s noted pushed =
+      let answer : made.turn.answer ≡ Answered turn.event turn.reply = just.reports.answer ∙ ap (λ b. answer_in b turn.event turn.reply) answered in
       let own : end ≡ end_in seen made.time made.actor = ends ∙ ap (λ (t : Option ℕ). end_in seen t turn.actor) just.reports.time ∙ ap (end_in seen made.time) just.reports.actor in
-      let stretch : s ≡ stretch_of (record { time = end_in seen made.time made.actor; answer = Answered turn.event r }) = of_s ∙ ap (λ t. stretch_of (record { time = t; answer = Answered turn.event r })) own in
-      let here : s ∷ [] ≡ stretches_of_turn turns made = ap (λ (x : Stretch). x ∷ []) stretch ∙ sym (stretch-is turn.event r answer made.time) in
+      let stretch : s ≡ stretch_of (record { time = end_in seen made.time made.actor; answer = Answered turn.event turn.reply }) = of_s ∙ ap (λ t. stretch_of (record { time = t; answer = Answered turn.event turn.reply })) own in
+      let here : s ∷ [] ≡ stretches_of_turn turns made = ap (λ (x : Stretch). x ∷ []) stretch ∙ sym (stretch-is turn.event turn.reply answer made.time) in
       pushed ∙ ap (λ (xs : List Stretch). xs ++ s ∷ []) noted ∙ ap (λ (ss : List Stretch). stretches_in [] turns ++ ss) here ∙ sym (stretches-one_more [] turns made)
 
   -- a turn without a command has none
-  pub ended-noted : turn.reply ≡ None → (items : List Stretch) → items ≡ stretches_in [] turns → items ≡ stretches_in [] (turns ++ made ∷ [])
-  ended-noted none items noted =
-      let answer : made.turn.answer ≡ Ended = just.reports.answer ∙ ap (answer_in turn.event) none in
+  pub ended-noted : turn.has_ended ≡ true → (items : List Stretch) → items ≡ stretches_in [] turns → items ≡ stretches_in [] (turns ++ made ∷ [])
+  ended-noted ended items noted =
+      let answer : made.turn.answer ≡ Ended = just.reports.answer ∙ ap (λ b. answer_in b turn.event turn.reply) ended in
       let here : stretches_of_turn turns made ≡ [] =
       ap (λ (t : Option ℕ). stretches_at t turns made) (just.ended answer) ∙ ap (λ (x : Answer). map (own_stretch (counted_turns all)) (counted_turn made.actor x)) answer in
       noted ∙ sym (append-nil (stretches_in [] turns)) ∙ ap (λ (ss : List Stretch). stretches_in [] turns ++ ss) (sym here) ∙ sym (stretches-one_more [] turns made)

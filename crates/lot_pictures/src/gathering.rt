@@ -48,10 +48,10 @@ impl Observer for Stretches {
         turn: &Turn,
     ) -> Result<(), AllocError> {
         let _ = program;
-        let Some(reply) = turn.reply else {
+        if turn.has_ended {
             return Ok(());
-        };
-        let stretch = Stretch::new(end_of(system, turn), reply);
+        }
+        let stretch = Stretch::new(end_of(system, turn), turn.reply);
         self.stretches.push(stretch)?;
         Ok(())
     }

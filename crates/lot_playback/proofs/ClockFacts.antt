@@ -2,17 +2,17 @@
 use Rattle.std.proofs.Common.{◌≡◌, ℕ, zero, suc, ◌+◌, ◌-◌, ◌<◌, ◌≤◌, ◌^◌, true, false, Option, None, Some, List, [], ◌∷◌, ◌++◌, length, take, drop, refl, sym, ◌∙◌, ap, subst, arith, length-append}
 use Rattle.std.specs.Prelude.{IsSome, is_some}
 use Rattle.lot_machine.specs.declared.event.Event.{Event}
+use Rattle.lot_machine.specs.declared.reply.Reply.{Reply}
 use Rattle.lot_simulation.specs.declared.timed.Due.{Due}
 use Rattle.lot_simulation.specs.Timed.{Moment, TimedTurn, due_first, moment_after, next_due, opening_moment, timed_room, timed_turns, turn_due, turns_from}
 use Rattle.lot_simulation.specs.World.{Program, World, opening_world}
 use Rattle.lot_simulation.specs.World.Answer.{Answered, Ended}
 use Rattle.lot_simulation.proofs.TimedRuns.{due-there}
-use Rattle.lot_engine.specs.InTime.{IsAtEnd, IsDue, IsFollowed, moment_in, next_turns, turn_told, turns_done}
+use Rattle.lot_playback.specs.InTime.{IsAtEnd, IsDue, IsFollowed, due_turn, moment_in, next_turns, turns_done}
 use Rattle.lot_engine.specs.Playing.{turn_in}
 use Rattle.lot_engine.specs.Seen.{Seen, Setting, after_turn, world_of}
-use Rattle.lot_engine.specs.declared.following.Following.{Following}
-use Rattle.lot_engine.specs.declared.following.TimedReply.{TimedReply}
-use Rattle.lot_engine.proofs.FollowFacts.{all-done, one-next}
+use Rattle.lot_playback.specs.declared.timekeeper.Timekeeper.{Timekeeper}
+use Rattle.lot_playback.proofs.FollowFacts.{all-done, one-next}
 use Rattle.lot_engine.proofs.PlayingFacts.{played-after}
 use Rattle.lot_playback.specs.declared.turn.NextTurn.{NextTurn}
 use Rattle.lot_playback.specs.declared.turn.Turn.{Turn as ATurn}
@@ -66,8 +66,8 @@ timed-turns program None wrong = absurd (let e : false ≡ true = wrong in cc)
 timed-turns program (Some duration) is = refl
 
 -- they are those that the clocks give
-pub time-left : (seen : Seen) (following : Following) → IsAtTime seen following → turns_left (stage seen) ≡ turns_in_time (world_of seen) (drop (length seen.history) (timed_turns seen.setting.program))
-time-left seen following is =
+pub time-left : (seen : Seen) (timekeeper : Timekeeper) → IsAtTime seen timekeeper → turns_left (stage seen) ≡ turns_in_time (world_of seen) (drop (length seen.history) (timed_turns seen.setting.program))
+time-left seen timekeeper is =
     let program = seen.setting.program in
     let n = length seen.history in
     let world : world_after_timed (opening_world program) (take n (timed_turns program)) ≡ world_of seen =
@@ -76,22 +76,22 @@ time-left seen following is =
     ∙ drop-timed (opening_world program) (timed_turns program) n
     ∙ ap (λ (w : World). turns_in_time w (drop n (timed_turns program))) world
 
-module _ (seen : Seen) (following : Following) (is : IsAtTime seen following) where
+module _ (seen : Seen) (timekeeper : Timekeeper) (is : IsAtTime seen timekeeper) where
   abbrev program : Program
   program = seen.setting.program
 
   left : turns_left (stage seen) ≡ turns_in_time (world_of seen) (drop (length seen.history) (timed_turns program))
-  left = time-left seen following is
+  left = time-left seen timekeeper is
 
   pub time-none : next_turns program seen ≡ [] → turns_left (stage seen) ≡ []
   time-none none = left ∙ ap (turns_in_time (world_of seen)) (next-none (drop (length seen.history) (timed_turns program)) none)
 
   -- the turn that is due is next
-  pub time-next : (due : Due) (next : NextTurn) → IsDue program seen following due → next.time ≡ Some due.time → next.actor ≡ due.actor → IsNext (stage seen) next
+  pub time-next : (due : Due) (next : NextTurn) → IsDue program seen timekeeper due → next.time ≡ Some due.time → next.actor ≡ due.actor → IsNext (stage seen) next
   time-next due next its time actor =
-      let turn = turn_due program (moment_in seen following) due in
+      let turn = turn_due program (moment_in seen timekeeper) due in
       let room : length seen.history < timed_room = omega (arith, its.room, is.followed.room_is) in
-      let goes = next-some (timed_turns program) (length seen.history) turn (one-next program seen following is.followed due its.first room) in (
+      let goes = next-some (timed_turns program) (length seen.history) turn (one-next program seen timekeeper is.followed due its.first room) in (
         turn_in_time (world_of seen) turn,
         turns_in_time turn.turn.world (drop (length seen.history + 1) (timed_turns program)),
         left ∙ ap (turns_in_time (world_of seen)) goes,
@@ -99,10 +99,10 @@ module _ (seen : Seen) (following : Following) (is : IsAtTime seen following) wh
       )
 
   -- if none is left, all are made
-  pub time-end : turns_left (stage seen) ≡ [] → IsAtEnd seen following
+  pub time-end : turns_left (stage seen) ≡ [] → IsAtEnd seen timekeeper
   time-end none =
       let nothing : drop (length seen.history) (timed_turns program) ≡ [] = none-timed (world_of seen) (drop (length seen.history) (timed_turns program)) (sym left ∙ none) in
-      record { followed = is.followed; all = all-done program seen following is.followed (ap (take 1) nothing) }
+      record { followed = is.followed; all = all-done program seen timekeeper is.followed (ap (take 1) nothing) }
 
   -- ---- the turn that is next
 
@@ -121,13 +121,13 @@ module _ (seen : Seen) (following : Following) (is : IsAtTime seen following) wh
         let some : next.time ≡ Some goes.0.time = its.3.time ∙ ap (λ (m : MadeTurn). m.time) (sym goes.2) in
         absurd (let wrong : Some goes.0.time ≡ None = sym some ∙ none in cc)
 
-    pub time-due : (time : ℕ) → next.time ≡ Some time → time < 2 ^ 32 → IsDue program seen following (record { time = time; actor = next.actor })
+    pub time-due : (time : ℕ) → next.time ≡ Some time → time < 2 ^ 32 → IsDue program seen timekeeper (record { time = time; actor = next.actor })
     time-due time some early =
         let goes = time-goes in
         let turn = goes.0 in
-        let first : take 1 (turns_from program (timed_room - length seen.history) (moment_in seen following)) ≡ turn ∷ [] =
-        ap (take 1) (sym (rest-is (timed_turns program) (turns_from program (timed_room - length seen.history) (moment_in seen following)) (length seen.history) is.followed.rest)) ∙ goes.1 in
-        let due = due-first program (timed_room - length seen.history) (moment_in seen following) turn first in
+        let first : take 1 (turns_from program (timed_room - length seen.history) (moment_in seen timekeeper)) ≡ turn ∷ [] =
+        ap (take 1) (sym (rest-is (timed_turns program) (turns_from program (timed_room - length seen.history) (moment_in seen timekeeper)) (length seen.history) is.followed.rest)) ∙ goes.1 in
+        let due = due-first program (timed_room - length seen.history) (moment_in seen timekeeper) turn first in
         let at : Some turn.time ≡ Some time = ap (λ (m : MadeTurn). m.time) goes.2 ∙ sym its.3.time ∙ some in
         let same : turn.time ≡ time = cc in
         let actor : turn.actor ≡ next.actor = ap (λ (m : MadeTurn). m.actor) goes.2 ∙ sym its.3.actor in
@@ -139,7 +139,7 @@ module _ (seen : Seen) (following : Following) (is : IsAtTime seen following) wh
 
 -- ---- the turn that was made
 
-module _ (seen : Seen) (following : Following) (is : IsAtTime seen following) (told : TimedReply) (e : Event) (next : next_turns seen.setting.program seen ≡ turn_told seen told ∷ []) (answer : (turn_in seen told.actor).answer ≡ Answered e told.reply) (now : Seen) (after : now ≡ after_turn seen told.actor) (then_following : Following) (followed : IsFollowed seen.setting.program now then_following) where
+module _ (seen : Seen) (timekeeper : Timekeeper) (is : IsAtTime seen timekeeper) (due : Due) (e : Event) (r : Reply) (next : next_turns seen.setting.program seen ≡ due_turn seen due ∷ []) (answer : (turn_in seen due.actor).answer ≡ Answered e r) (now : Seen) (after : now ≡ after_turn seen due.actor) (then_following : Timekeeper) (followed : IsFollowed seen.setting.program now then_following) where
   abbrev its : Program
   its = seen.setting.program
 
@@ -152,46 +152,46 @@ module _ (seen : Seen) (following : Following) (is : IsAtTime seen following) (t
     followed = subst (λ (s : Setting). IsFollowed s.program now then_following) (sym same-setting) followed;
   }
 
-  world-now : world_of now ≡ (turn_in seen told.actor).world
-  world-now = ap world_of after ∙ (played-after seen told.actor e told.reply answer).world
+  world-now : world_of now ≡ (turn_in seen due.actor).world
+  world-now = ap world_of after ∙ (played-after seen due.actor e r answer).world
 
   longer : length now.history ≡ length seen.history + 1
-  longer = ap (λ (s : Seen). length s.history) after ∙ length-append seen.history (told.actor ∷ [])
+  longer = ap (λ (s : Seen). length s.history) after ∙ length-append seen.history (due.actor ∷ [])
 
-  left-next : turns_left (stage seen) ≡ turn_in_time (world_of seen) (turn_told seen told) ∷ turns_left (stage now)
+  left-next : turns_left (stage seen) ≡ turn_in_time (world_of seen) (due_turn seen due) ∷ turns_left (stage now)
   left-next =
-      let turn = turn_told seen told in
+      let turn = due_turn seen due in
       let n = length seen.history in
       let rest : turns_in_time turn.turn.world (drop (n + 1) (timed_turns its)) ≡ turns_left (stage now) =
       ap (λ (w : World). turns_in_time w (drop (n + 1) (timed_turns its))) (sym world-now)
       ∙ ap (λ k. turns_in_time (world_of now) (drop k (timed_turns its))) (sym longer)
       ∙ ap (λ (s : Setting). turns_in_time (world_of now) (drop (length now.history) (timed_turns s.program))) (sym same-setting)
       ∙ sym (time-left now then_following time-more) in
-      time-left seen following is ∙ ap (turns_in_time (world_of seen)) (next-some (timed_turns its) n turn next) ∙ ap (λ ts. turn_in_time (world_of seen) turn ∷ ts) rest
+      time-left seen timekeeper is ∙ ap (turns_in_time (world_of seen)) (next-some (timed_turns its) n turn next) ∙ ap (λ ts. turn_in_time (world_of seen) turn ∷ ts) rest
 
   -- its actor is one of the program's
-  there : told.actor ≤ its.limits.processors
+  there : due.actor ≤ its.limits.processors
   there =
       let room = timed_room - length seen.history in
-      let m = moment_in seen following in
-      let turn = turn_told seen told in
+      let m = moment_in seen timekeeper in
+      let turn = due_turn seen due in
       let goes : take 1 (turns_from its room m) ≡ turn ∷ [] = ap (take 1) (sym (rest-is (timed_turns its) (turns_from its room m) (length seen.history) is.followed.rest)) ∙ next in
-      let due = due-first its room m turn goes in
-      let is_there = due-there its m (record { time = told.time; actor = told.actor }) due.1 in
+      let first = due-first its room m turn goes in
+      let is_there = due-there its m due first.1 in
       is_there.0
 
   -- and it has a command, if it is the console's
-  goes-on : (P : Type 0) → (turn_in seen told.actor).answer ≡ Ended → P
-  goes-on P none = absurd (let wrong : Answered e told.reply ≡ Ended = sym answer ∙ none in cc)
+  goes-on : (P : Type 0) → (turn_in seen due.actor).answer ≡ Ended → P
+  goes-on P none = absurd (let wrong : Answered e r ≡ Ended = sym answer ∙ none in cc)
 
-  pub time-made : (turn : ATurn) → Reports turn (turn_in_time (world_of seen) (turn_told seen told)) → (made : MadeTurn) × MakesTurn (stage seen) (stage now) turn made
+  pub time-made : (turn : ATurn) → Reports turn (turn_in_time (world_of seen) (due_turn seen due)) → (made : MadeTurn) × MakesTurn (stage seen) (stage now) turn made
   time-made turn reports =
-      let made = turn_in_time (world_of seen) (turn_told seen told) in (
+      let made = turn_in_time (world_of seen) (due_turn seen due) in (
         made,
         record {
           setting = same-setting;
           left = left-next;
           before = refl;
-          just = λ turns has. record { turn_is = refl; actor = there; ended = λ none. goes-on (made.time ≡ None) none; reports = reports; has = made-more seen now told.actor same-setting world-now made refl refl (counted-answered seen now told.actor e told.reply after answer) its turns has };
+          just = λ turns has. record { turn_is = refl; actor = there; ended = λ none. goes-on (made.time ≡ None) none; reports = reports; has = made-more seen now due.actor same-setting world-now made refl refl (counted-answered seen now due.actor e r after answer) its turns has };
         },
       )

@@ -1,3 +1,7 @@
+pub mod TimeFacts
+pub mod WaitFacts
+pub mod FollowFacts
+pub mod TimedReportFacts
 pub mod TurnFacts
 pub mod TextFacts
 pub mod MadeFacts

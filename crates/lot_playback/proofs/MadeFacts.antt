@@ -1,13 +1,15 @@
 -- A system that has made turns of its program, and one turn more.
 use Rattle.std.proofs.Common.{◌≡◌, ℕ, List, [], ◌∷◌, ◌++◌, refl, sym, ◌∙◌, ap, append-nil}
 use Rattle.std.proofs.lemmas.Grind.{flat_map-append}
+use Rattle.lot_machine.specs.declared.command.Command.{Command}
 use Rattle.lot_machine.specs.declared.event.Event.{Event}
 use Rattle.lot_machine.specs.declared.reply.Reply.{Reply}
 use Rattle.lot_simulation.specs.Report.{ActorTurn, turns_made}
-use Rattle.lot_simulation.specs.World.{Program, World, Answer, Turn, opening_world}
+use Rattle.lot_simulation.specs.World.{Program, World, Answer, Turn, console_turn, opening_world}
 use Rattle.lot_simulation.specs.World.Answer.{Answered, Ended}
 use Rattle.lot_engine.specs.Playing.{turn_in}
 use Rattle.lot_engine.specs.Seen.{Seen, Setting, after_turn, world_of}
+use Rattle.lot_engine.specs.Turns.{IsEnded}
 use Rattle.lot_engine.proofs.CountFacts.{turns_made-answered}
 use Rattle.lot_playback.specs.Turns.{MadeTurn, counted_turn, counted_turns, world_after_turns}
 use Rattle.lot_playback.specs.Stages.{HasMade}
@@ -44,6 +46,12 @@ counted-answered old now actor e r next is =
     ap (λ (s : Seen). turns_made old.setting.program s.history) next
     ∙ turns_made-answered old.setting.program old.history actor e r is
     ∙ ap (λ (a : Answer). turns_made old.setting.program old.history ++ counted_turn actor a) (sym is)
+
+-- a turn of the console after its last command has no answer
+pub ended-answer : (seen : Seen) (actor : ℕ) → IsEnded seen actor → (turn_in seen actor).answer ≡ Ended
+ended-answer seen actor is =
+    ap (λ a. (turn_in seen a).answer) is.0
+    ∙ ap (λ (commands : List Command). (console_turn seen.setting.program (world_of seen) commands).answer) is.1
 
 -- one without a command isn't
 pub counted-ended : (old now : Seen) (actor : ℕ) → now ≡ old → (turn_in old actor).answer ≡ Ended

@@ -4,5 +4,7 @@ pub mod Turns
 pub mod Texts
 -- How far a program is played.
 pub mod Stages
+-- Turns in the order of time.
+pub mod InTime
 -- Whose turn is next.
 pub mod Orders

@@ -1,17 +1,17 @@
 -- Whose turn is next.
 use Rattle.std.specs.Prelude.{◌≡◌, ℕ, ◌≤◌, None, IsSome, length, take}
 use Rattle.lot_text.specs.Programs.{IsProgram}
-use Rattle.lot_engine.specs.InTime.{IsFollowed}
+use Rattle.lot_playback.specs.InTime.{IsFollowed}
 use Rattle.lot_engine.specs.Playing.{HasPlayed}
 use Rattle.lot_engine.specs.Seen.{Seen}
-use Rattle.lot_engine.specs.declared.following.Following.{Following}
+use Rattle.lot_playback.specs.declared.timekeeper.Timekeeper.{Timekeeper}
 use Rattle.lot_playback.specs.declared.playback.Order.{Order}
 use Rattle.lot_playback.specs.declared.playback.Order.TheVariants.{Scheduled, InTime}
 
 -- how many turns a system has made that has come this far
 abbrev pub made_in : Seen → Order → ℕ
 made_in seen (Scheduled place) = place
-made_in seen (InTime following) = length seen.history
+made_in seen (InTime timekeeper) = length seen.history
 
 -- the system has played its program's schedule up to this place, and has room for the rest
 pub record IsAtPlace (seen : Seen) (place : ℕ) : Type 0 where
@@ -21,11 +21,11 @@ pub record IsAtPlace (seen : Seen) (place : ℕ) : Type 0 where
   pub played : HasPlayed seen.setting.program (take place seen.setting.program.schedule) seen
 
 -- the system has made turns of its program in the order of time, and these are its clocks
-pub record IsAtTime (seen : Seen) (following : Following) : Type 0 where
+pub record IsAtTime (seen : Seen) (timekeeper : Timekeeper) : Type 0 where
   pub timed : IsSome seen.setting.program.duration
-  pub followed : IsFollowed seen.setting.program seen following
+  pub followed : IsFollowed seen.setting.program seen timekeeper
 
 -- one of both
 abbrev pub IsInOrder : Seen → Order → Type 0
 IsInOrder seen (Scheduled place) = IsAtPlace seen place
-IsInOrder seen (InTime following) = IsAtTime seen following
+IsInOrder seen (InTime timekeeper) = IsAtTime seen timekeeper

@@ -1,5 +1,5 @@
 -- How far a program is played.
-use Rattle.std.specs.Prelude.{◌≡◌, ℕ, ◌≤◌, Option, Some, None, List, [], ◌∷◌, ◌++◌, drop}
+use Rattle.std.specs.Prelude.{◌≡◌, ℕ, ◌≤◌, Bool, true, false, None, List, [], ◌∷◌, ◌++◌, drop}
 use Rattle.lot_machine.specs.declared.event.Event.{Event}
 use Rattle.lot_machine.specs.declared.reply.Reply.{Reply}
 use Rattle.lot_simulation.specs.Report.{turns_made}
@@ -28,16 +28,16 @@ pub record IsOf (made : MadeTurn) (next : NextTurn) : Type 0 where
 abbrev pub IsNext : Stage → NextTurn → Type 0
 IsNext stage next = (made : MadeTurn) × (others : List MadeTurn) × (turns_left stage ≡ made ∷ others) × IsOf made next
 
--- an answer, or that no command was left
-abbrev pub answer_in : Event → Option Reply → Answer
-answer_in e (Some r) = Answered e r
-answer_in e None = Ended
+-- that no command was left, or an answer
+abbrev pub answer_in : Bool → Event → Reply → Answer
+answer_in true e r = Ended
+answer_in false e r = Answered e r
 
 -- it reports this turn
 pub record Reports (turn : Turn) (made : MadeTurn) : Type 0 where
   pub time : turn.time ≡ made.time
   pub actor : turn.actor ≡ made.actor
-  pub answer : made.turn.answer ≡ answer_in turn.event turn.reply
+  pub answer : made.turn.answer ≡ answer_in turn.has_ended turn.event turn.reply
 
 -- ---- what a turn leaves
 

@@ -8,7 +8,7 @@ ghost use Rattle.lot_io.specs.Reading.{Reads};
 ghost use Rattle.lot_io.specs.Writing.{IsFaultOf};
 
 use crate::play_program;
-use lot_engine::{Leftovers, Played, program_of, refuse};
+use lot_engine::{Played, Warnings, program_of, refuse};
 use lot_io::{IoFault, Watched, read_input};
 use lot_text::ParseFault;
 use std::alloc::Global;
@@ -32,19 +32,19 @@ pub fn play<R: Read, W: Write>(
         (λ fault. Leaves output R.remaining reader.old reader.new W.contents writer.old writer.new fault) }
 {
     let mut bytes = read_input(alloc, reader)?;
-    let Ok(mut leftovers) = Leftovers::none(alloc) else {
+    let Ok(mut warnings) = Warnings::none(alloc) else {
         return Err(IoFault::Memory);
     };
-    play_bytes(alloc, &mut bytes, &mut leftovers, writer)
+    play_bytes(alloc, &mut bytes, &mut warnings, writer)
 }
 
 /// Plays the input in `bytes`, or writes why it is refused, as `play` does, for callers that report more. If it is
 /// refused, `bytes` keeps it; otherwise its memory is freed before the first turn, and the run's warnings are stored
-/// in `leftovers`. It allocates all its memory before the first turn.
+/// in `warnings`. It allocates all its memory before the first turn.
 pub fn play_bytes<W: Write>(
     alloc: Global,
     bytes: &mut Vec<u8>,
-    leftovers: &mut Leftovers,
+    warnings: &mut Warnings,
     writer: &mut Watched<W>,
 ) -> Result<Played, IoFault>
     requires { writer.old.failed ≡ false }
@@ -53,7 +53,7 @@ pub fn play_bytes<W: Write>(
         (output bytes.old.items) }
 {
     match program_of(alloc, bytes) {
-        Ok(program) => play_program(alloc, &program, leftovers, writer),
+        Ok(program) => play_program(alloc, &program, warnings, writer),
         Err(ParseFault::Memory) => Err(IoFault::Memory),
         Err(ParseFault::Input(fault)) => refuse(fault, writer),
     }

@@ -1,6 +1,7 @@
 //! A program's turns, one after another, whichever order they come in, and what observers make of them.
 #![tactic(auto)]
 
+mod clocks;
 mod inputs;
 pub mod laws;
 mod lines;
@@ -9,7 +10,10 @@ mod observer;
 mod playback;
 mod playing;
 mod reports;
+mod timed_report;
+mod timekeeper;
 mod turn;
+mod waits;
 
 pub use inputs::{play, play_bytes};
 pub use lines::play_program;

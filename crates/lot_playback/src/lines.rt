@@ -11,7 +11,7 @@ ghost use Rattle.lot_playback.specs.Texts.{made_text, made_texts};
 ghost use Rattle.lot_playback.specs.Turns.{MadeTurn, program_turns};
 
 use crate::{Observer, Playback, Turn, play_through};
-use lot_engine::{Leftovers, Played, System, heading, put_answer};
+use lot_engine::{Played, System, Warnings, heading, put_answer};
 use lot_io::{IoFault, Watched, flush};
 use lot_print::{Page, write_ended};
 use lot_text::Program;
@@ -22,7 +22,7 @@ use std::io::Write;
 #[derive(Drop)]
 struct Lines<'a, W> {
     page: Page,
-    leftovers: &'a mut Leftovers,
+    warnings: &'a mut Warnings,
     writer: &'a mut Watched<W>,
 }
 
@@ -57,7 +57,7 @@ impl<'a, W: Write> Observer for Lines<'a, W> {
         turn: &Turn,
     ) -> Result<(), IoFault> {
         let _ = program;
-        put_made(system, turn, self.leftovers, self.writer, &mut self.page)
+        put_made(system, turn, self.warnings, self.writer, &mut self.page)
     }
 }
 
@@ -77,7 +77,7 @@ impl<'a, W: Write> Lines<'a, W> {
 fn put_made<W: Write>(
     system: &mut System,
     turn: &Turn,
-    leftovers: &mut Leftovers,
+    warnings: &mut Warnings,
     writer: &mut Watched<W>,
     page: &mut Page,
 ) -> Result<(), IoFault>
@@ -87,20 +87,26 @@ fn put_made<W: Write>(
         → Puts W.contents writer.old writer.new page.old page.new result (made_text made) }
 {
     let manner = turn.manner();
-    match &turn.reply {
-        Some(reply) => {
-            leftovers.note(turn.actor, reply);
-            put_answer(system, manner, turn.actor, &turn.event, reply, writer, page)
-        }
-        None => write_ended(writer, page, heading(system, manner, turn.actor)),
+    if turn.has_ended {
+        return write_ended(writer, page, heading(system, manner, turn.actor));
     }
+    warnings.note(turn.actor, &turn.reply);
+    put_answer(
+        system,
+        manner,
+        turn.actor,
+        &turn.event,
+        &turn.reply,
+        writer,
+        page,
+    )
 }
 
 /// Makes the program's turns, and writes their lines.
 fn write_turns<W: Write>(
     program: &Program,
     playback: &mut Playback,
-    leftovers: &mut Leftovers,
+    warnings: &mut Warnings,
     writer: &mut Watched<W>,
 ) -> Result<(), IoFault>
     requires none { playback.old.made ≡ 0 }
@@ -112,7 +118,7 @@ fn write_turns<W: Write>(
 {
     let mut lines = Lines {
         page: Page::new(),
-        leftovers,
+        warnings,
         writer,
     };
     play_through(program, playback, &mut lines)?;
@@ -124,7 +130,7 @@ fn write_turns<W: Write>(
 pub fn play_program<W: Write>(
     alloc: Global,
     program: &Program,
-    leftovers: &mut Leftovers,
+    warnings: &mut Warnings,
     writer: &mut Watched<W>,
 ) -> Result<Played, IoFault>
     requires { writer.old.failed ≡ false }
@@ -135,8 +141,8 @@ pub fn play_program<W: Write>(
     let Ok(mut playback) = Playback::open(alloc, program) else {
         return Err(IoFault::Memory);
     };
-    write_all(program, &mut playback, leftovers, writer)?;
-    playback.note_end(leftovers);
+    write_all(program, &mut playback, warnings, writer)?;
+    playback.note_end(warnings);
     Ok(Played::Done)
 }
 
@@ -144,7 +150,7 @@ pub fn play_program<W: Write>(
 fn write_all<W: Write>(
     program: &Program,
     playback: &mut Playback,
-    leftovers: &mut Leftovers,
+    warnings: &mut Warnings,
     writer: &mut Watched<W>,
 ) -> Result<(), IoFault>
     requires none { playback.old.made ≡ 0 }
@@ -153,7 +159,7 @@ fn write_all<W: Write>(
     ensures flushed { OnOk result (writer.new.flushed ≡ true) }
     ensures text { Writes W.contents writer.old writer.new result (played_output program.now program.now.duration) }
 {
-    write_turns(program, playback, leftovers, writer)?;
+    write_turns(program, playback, warnings, writer)?;
     playback.write_report(program, writer)?;
     flush(writer)
 }

@@ -4,8 +4,9 @@ ghost use Rattle.lot_playback.specs.Orders.{IsAtPlace, IsAtTime};
 ghost use Rattle.lot_playback.specs.Stages.{IsNext, MakesTurn, turns_left};
 ghost use Rattle.lot_playback.specs.Turns.{MadeTurn};
 
+use crate::timekeeper::{Timekeeper, make_due};
 use crate::{NextTurn, Turn};
-use lot_engine::{Following, System, make_due, next_turn};
+use lot_engine::System;
 use lot_simulation::Due;
 use lot_text::Program;
 
@@ -33,14 +34,14 @@ pub(crate) fn next_scheduled(program: &Program, system: &System, place: usize) -
 pub(crate) fn next_in_time(
     program: &Program,
     system: &System,
-    following: &Following,
+    timekeeper: &Timekeeper,
 ) -> Option<NextTurn>
     requires program { system.now.setting.program ≡ program.now }
-    requires there { IsAtTime system.now following.now }
+    requires there { IsAtTime system.now timekeeper.now }
     ensures none { IfNone result (turns_left (record { seen = system.now; made = length system.now.history }) ≡ []) }
     ensures next { IfSome result (IsNext (record { seen = system.now; made = length system.now.history })) }
 {
-    let due = following.next_due(program, system)?;
+    let due = timekeeper.next_due(program, system)?;
     Some(NextTurn {
         time: Some(due.time as u32),
         actor: due.actor,
@@ -63,10 +64,11 @@ pub(crate) fn make_scheduled(
     ensures made { (made : MadeTurn) × MakesTurn (record { seen = system.old; made = place.old })
         (record { seen = system.new; made = place.new }) turn.new made }
 {
+    let _ = program;
     *place += 1;
     turn.time = None;
     turn.actor = next.actor;
-    turn.reply = next_turn(program, system, next.actor, &mut turn.event);
+    turn.has_ended = !system.next_turn(next.actor, &mut turn.event, &mut turn.reply);
 }
 
 /// Makes the turn that is due by the clocks, and stores it in `turn`.
@@ -74,14 +76,14 @@ pub(crate) fn make_scheduled(
 pub(crate) fn make_in_time(
     program: &Program,
     system: &mut System,
-    following: &mut Following,
+    timekeeper: &mut Timekeeper,
     next: NextTurn,
     turn: &mut Turn,
 )
     requires program { system.old.setting.program ≡ program.now }
-    requires there { IsAtTime system.old following.old }
+    requires there { IsAtTime system.old timekeeper.old }
     requires next { IsNext (record { seen = system.old; made = length system.old.history }) next }
-    ensures there { IsAtTime system.new following.new }
+    ensures there { IsAtTime system.new timekeeper.new }
     ensures made { (made : MadeTurn) × MakesTurn (record { seen = system.old; made = length system.old.history })
         (record { seen = system.new; made = length system.new.history }) turn.new made }
 {
@@ -92,8 +94,15 @@ pub(crate) fn make_in_time(
         time: u64::from(time),
         actor: next.actor,
     };
-    let told = make_due(program, system, following, due, &mut turn.event);
-    turn.time = Some(told.time);
-    turn.actor = told.actor;
-    turn.reply = Some(told.reply);
+    turn.time = next.time;
+    turn.actor = next.actor;
+    turn.has_ended = false;
+    make_due(
+        program,
+        system,
+        timekeeper,
+        due,
+        &mut turn.event,
+        &mut turn.reply,
+    );
 }

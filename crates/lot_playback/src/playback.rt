@@ -8,8 +8,9 @@ ghost use Rattle.lot_io.specs.Writing.{Writes};
 
 use crate::making::{make_in_time, make_scheduled, next_in_time, next_scheduled};
 use crate::reports::{report_in_time, report_scheduled};
+use crate::timekeeper::{MOST_TURNS, Timekeeper};
 use crate::{NextTurn, Observer, Turn};
-use lot_engine::{Following, Leftovers, System, TimedRun};
+use lot_engine::{System, Warnings};
 use lot_io::{IoFault, Watched};
 use lot_text::Program;
 use std::alloc::{AllocError, Global};
@@ -32,7 +33,7 @@ pub(crate) enum Order {
     /// That of the actor at this place of the schedule.
     Scheduled(usize),
     /// That which is due first, by these clocks.
-    InTime(Following),
+    InTime(Timekeeper),
 }
 
 impl Model for Playback {
@@ -80,11 +81,11 @@ impl Playback {
         ensures none { IfOk result (λ playback. playback.made ≡ 0) }
         ensures made { IfOk result (λ playback. HasMade program.now [] playback.seen) }
     {
-        let run = TimedRun::open(alloc, program)?;
-        let TimedRun { system, following } = run;
+        let system = System::open(alloc, program, MOST_TURNS)?;
+        let timekeeper = Timekeeper::open(alloc, program)?;
         Ok(Playback {
             system,
-            order: Order::InTime(following),
+            order: Order::InTime(timekeeper),
         })
     }
 
@@ -97,7 +98,7 @@ impl Playback {
     {
         match &self.order {
             Order::Scheduled(place) => next_scheduled(program, &self.system, *place),
-            Order::InTime(following) => next_in_time(program, &self.system, following),
+            Order::InTime(timekeeper) => next_in_time(program, &self.system, timekeeper),
         }
     }
 
@@ -111,8 +112,8 @@ impl Playback {
     {
         match &mut self.order {
             Order::Scheduled(place) => make_scheduled(program, &mut self.system, place, next, turn),
-            Order::InTime(following) => {
-                make_in_time(program, &mut self.system, following, next, turn);
+            Order::InTime(timekeeper) => {
+                make_in_time(program, &mut self.system, timekeeper, next, turn);
             }
         }
     }
@@ -185,10 +186,10 @@ impl Playback {
     {
         match &self.order {
             Order::Scheduled(place) => report_scheduled(program, &mut self.system, *place, writer),
-            Order::InTime(following) => report_in_time(
+            Order::InTime(timekeeper) => report_in_time(
                 program,
                 &mut self.system,
-                following,
+                timekeeper,
                 writer,
             ),
         }
@@ -202,9 +203,9 @@ impl Playback {
     }
 
     /// Records in the warnings how the system ended.
-    pub fn note_end(&mut self, leftovers: &mut Leftovers)
+    pub fn note_end(&mut self, warnings: &mut Warnings)
         ensures { self.new ≡ self.old }
     {
-        leftovers.note_end(&mut self.system);
+        warnings.note_end(&mut self.system);
     }
 }

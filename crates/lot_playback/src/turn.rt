@@ -14,17 +14,19 @@ pub struct NextTurn {
     pub actor: u32,
 }
 
-/// A turn that was made.
+/// A turn that was made. Its event and reply are large, so that each turn of a play is stored over the one before.
 #[derive(Debug, PartialEq, Eq, Drop)]
 pub struct Turn {
     /// When it was made, in ticks, if the program's turns come in the order of time.
     pub time: Option<u32>,
     /// 0 is the console, and the others are the processors.
     pub actor: u32,
-    /// What the actor asked of the kernel; without a reply it means nothing.
+    /// Whether it is one of the console after its last command. Then its event and reply mean nothing.
+    pub has_ended: bool,
+    /// What the actor asked of the kernel.
     pub event: Event,
-    /// None for a turn of the console after its last command.
-    pub reply: Option<Reply>,
+    /// What the kernel replied.
+    pub reply: Reply,
 }
 
 impl Turn {
@@ -33,8 +35,9 @@ impl Turn {
         Turn {
             time: None,
             actor: 0,
+            has_ended: true,
             event: Event::Expire(0),
-            reply: None,
+            reply: Reply::Idle,
         }
     }
 

@@ -1,7 +1,6 @@
 pub use Rattle.lot_engine.specs.Seen
 pub use Rattle.lot_engine.specs.Steps
 pub use Rattle.lot_engine.specs.Held
-pub use Rattle.lot_engine.specs.InTime
 pub use Rattle.lot_engine.specs.Turns
 pub use Rattle.lot_engine.specs.Counted
 pub use Rattle.lot_engine.specs.Listing

@@ -3,9 +3,8 @@
 #![tactic(auto)]
 
 pub use lot_engine::{
-    Answer, Counts, Few, Following, Leftovers, PlayFault, Played, RefusedCommand, StuckThread,
-    System, TimedReply, TimedRun, Timeline, TurnFault, WaitTable, Work, laws, make_due, next_turn,
-    program_of, put_answer, read_input, refuse, slice_for, slice_in, write_end, write_report,
-    write_timed_report,
+    Answer, Counts, FirstFew, PlayFault, Played, RefusedCommand, StuckThread, System, TurnFault,
+    Warnings, Work, laws, program_of, put_answer, read_input, refuse, slice_for, slice_in,
+    write_end, write_report,
 };
 pub use lot_playback::{play, play_bytes};

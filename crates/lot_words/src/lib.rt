@@ -11,21 +11,21 @@ mod explain;
 mod forms;
 mod input;
 mod keywords;
-mod leftovers;
 mod names;
 mod nearest;
 mod phrases;
 mod problem;
+mod warnings;
 mod word;
 
 use crate::explain::problem_of;
 use crate::input::Refused;
 pub use commands::CommandLines;
-pub use leftovers::write_leftovers;
 use lot_simulation::InputFault;
 use std::alloc::Global;
 use std::io;
 use std::io::Write;
+pub use warnings::write_warnings;
 
 /// Writes why this input is refused with this fault, as one line. It fails if the writer does. If there is no memory,
 /// it leaves out what may have been meant.

@@ -3,8 +3,8 @@ ghost use Rattle.std.specs.Prelude.{◌≡◌};
 
 use super::program_of;
 use super::same::check_same;
-use lot_machine::{Event, Reply};
-use lot_system::TimedRun;
+use lot_machine::Reply;
+use lot_playback::Playback;
 use lot_text::Program;
 use std::process::Abort;
 use std::test::Fail;
@@ -24,26 +24,25 @@ fundx 1 base a s
 type Row = (u32, u32, u32, u32);
 
 /// What the next turn was, if there is one.
-fn next_of(program: &Program, run: &mut TimedRun) -> Option<Row>
-    requires { run.old.setting.program ≡ program.now }
-    ensures { run.new.setting.program ≡ program.now }
+fn next_of(program: &Program, playback: &mut Playback) -> Option<Row>
+    requires { playback.old.seen.setting.program ≡ program.now }
+    ensures { playback.new.seen.setting.program ≡ program.now }
 {
-    let mut event = Event::Expire(0);
-    let told = run.next_turn(program, &mut event)?;
-    let (thread, ticks) = match told.reply {
+    let turn = playback.next(program)?;
+    let (thread, ticks) = match turn.reply {
         Reply::Funded { thread, .. } | Reply::Winner { thread, .. } => (thread, 0),
         Reply::Expired { thread, ticks } | Reply::Trapped { thread, ticks, .. } => (thread, ticks),
         _ => (0, 0),
     };
-    Some((told.time, told.actor, thread, ticks))
+    Some((turn.time?, turn.actor, thread, ticks))
 }
 
 /// Makes the turns, and compares what each was.
-fn check_turns(rt: &impl Abort, program: &Program, run: &mut TimedRun, rows: &[Option<Row>])
-    requires { run.old.setting.program ≡ program.now }
+fn check_turns(rt: &impl Abort, program: &Program, playback: &mut Playback, rows: &[Option<Row>])
+    requires { playback.old.seen.setting.program ≡ program.now }
 {
     for row in rows {
-        check_same(rt, &next_of(program, run), row);
+        check_same(rt, &next_of(program, playback), row);
     }
 }
 
@@ -51,10 +50,7 @@ fn check_turns(rt: &impl Abort, program: &Program, run: &mut TimedRun, rows: &[O
 #[test]
 fn turns_in_time(rt: HostRuntime) -> Result<(), Fail> {
     let program = program_of(rt.alloc(), COMES_LATER)?;
-    if program.duration().is_none() {
-        return Err("a duration".into());
-    }
-    let mut run = TimedRun::open(rt.alloc(), &program)?;
+    let mut playback = Playback::open(rt.alloc(), &program)?;
     let rows = [
         Some((0, 1, 0, 0)),
         Some((2, 0, 1, 0)),
@@ -66,8 +62,8 @@ fn turns_in_time(rt: HostRuntime) -> Result<(), Fail> {
         None,
         None,
     ];
-    check_turns(&rt, &program, &mut run, &rows);
-    let system = run.into_system();
+    check_turns(&rt, &program, &mut playback, &rows);
+    let system = playback.into_system();
     check_same(&rt, &system.history(), &[1, 0, 1, 1, 1, 1, 1].as_slice());
     Ok(())
 }

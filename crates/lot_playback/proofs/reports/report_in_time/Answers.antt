@@ -8,7 +8,7 @@ use Rattle.lot_playback.proofs.ClockFacts.{time-end}
 use Rattle.lot_playback.proofs.reports.report_in_time.Goals as goal
 
 pub write_timed_report-requires-clause-end : goal.write_timed_report-requires-clause-end
-write_timed_report-requires-clause-end g c = time-end c.args.system.now c.args.following.now c.requires.there c.requires.ended
+write_timed_report-requires-clause-end g c = time-end c.args.system.now c.args.timekeeper.now c.requires.there c.requires.ended
 
 report-of : (program : Program) (d : Option ℕ) → IsSome d → timed_report program ≡ last_report program d
 report-of program None wrong = absurd (let e : false ≡ true = wrong in cc)

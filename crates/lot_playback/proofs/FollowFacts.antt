@@ -1,0 +1,207 @@
+-- One more of a program's turns in time.
+use Rattle.std.proofs.Common.{◌≡◌, ℕ, zero, suc, ◌+◌, ◌-◌, ◌<◌, ◌≤◌, ◌==◌, Bool, true, false, Some, None, List, [], ◌∷◌, ◌++◌, length, take, drop, refl, sym, ◌∙◌, ap, subst, arith, append_assoc, append-nil, length-append, length-drop, ne_eqb}
+use Rattle.std.specs.Prelude.{map, count_by, replicate, if◌then◌else◌, Result, Ok, Err, IsErr, IfOk}
+use Rattle.std.proofs.lemmas.List.{length-map, map-append}
+use Rattle.std.proofs.Math.Seq.{take-append_seam, drop-append_seam}
+use Rattle.lot_machine.specs.declared.command.Command.{Command}
+use Rattle.lot_machine.specs.declared.event.Event.{Event}
+use Rattle.lot_machine.specs.declared.reply.Reply.{Reply}
+use Rattle.lot_simulation.specs.declared.timed.Due.{Due}
+use Rattle.std.proofs.lemmas.List.Sums.{sum_by_push}
+use Rattle.lot_simulation.specs.Report.{ActorTurn, count_in, total_of}
+use Rattle.lot_simulation.specs.Timed.{Moment, TimedTurn, turns_from, timed_turns, timed_room, next_due, due_first, turn_due, moment_after, moment_after_all, opening_moment, clocks_after, is_idle_draw}
+use Rattle.lot_simulation.specs.TimedReport.{actor_turns, refusals_in}
+use Rattle.lot_simulation.specs.World.{Program, World, Answer, console_turn, system_turn}
+use Rattle.lot_simulation.specs.World.Answer.{Answered}
+use Rattle.lot_simulation.proofs.TimedRuns.{turns-few}
+use Rattle.lot_playback.specs.declared.timekeeper.Timekeeper.{Timekeeper}
+use Rattle.lot_playback.specs.InTime.{HasFollowed, HasRoomFor, IsFollowed, moment_in, next_turns, turns_done}
+use Rattle.lot_engine.specs.Seen.{Seen, after_turn, commands_made, world_of}
+use Rattle.lot_engine.proofs.Runs.{system_run-one_more}
+use Rattle.lot_engine.proofs.TurnFacts.{count-console, count-processor}
+
+-- ---- turns from a moment on
+
+pub next-made : (program : Program) (room : ℕ) (m : Moment) (due : Due) → next_due program m ≡ Some due → turns_from program (suc room) m ≡ turn_due program m due ∷ turns_from program room (moment_after m (turn_due program m due))
+next-made program room m due is = ap (due_first program m (λ done. turns_from program room (moment_after m done))) is
+
+pub none-made : (program : Program) (room : ℕ) (m : Moment) → next_due program m ≡ None → turns_from program room m ≡ []
+none-made program zero m is = refl
+none-made program (suc room) m is = ap (due_first program m (λ done. turns_from program room (moment_after m done))) is
+
+pub moment-one_more : (m : Moment) (turns : List TimedTurn) (turn : TimedTurn) → moment_after_all m (turns ++ turn ∷ []) ≡ moment_after (moment_after_all m turns) turn
+moment-one_more m [] turn = refl
+moment-one_more m (t ∷ turns) turn = moment-one_more (moment_after m t) turns turn
+
+-- a turn of the console takes the first command that is left
+commands-turn : (program : Program) (w : World) (actor : ℕ) → length (system_turn program w actor).world.commands ≡ (if actor == 0 then length w.commands - 1 else length w.commands)
+commands-turn program w zero = from w.commands refl
+  where
+    from : (cs : List Command) → w.commands ≡ cs → length (console_turn program w cs).world.commands ≡ length w.commands - 1
+    from [] none = rw none refl
+    from (c ∷ cs) some = let more : length w.commands ≡ suc (length cs) = ap length some in omega (arith, more)
+commands-turn program w (suc n) =
+    let no : (suc n == 0) ≡ false = ne_eqb (suc n) 0 (λ e. omega arith) in
+    rw no refl
+
+drop-one_more : {A : Type 0} (xs : List A) (k : ℕ) → drop (k + 1) xs ≡ drop 1 (drop k xs)
+drop-one_more xs k = let e : k + 1 ≡ suc k = omega arith in ap (λ n. drop n xs) e ∙ from xs k
+  where
+    from : {A : Type 0} (xs : List A) (k : ℕ) → drop (suc k) xs ≡ drop 1 (drop k xs)
+    from [] zero = refl
+    from [] (suc k) = refl
+    from (x ∷ xs) zero = refl
+    from (x ∷ xs) (suc k) = from xs k
+
+-- one turn's refusal more is counted
+pub refusals-more : (done : List TimedTurn) (turn : TimedTurn) (e : Event) (r : Reply) → turn.turn.answer ≡ Answered e r → total_of refusals_in (actor_turns (done ++ turn ∷ [])) ≡ total_of refusals_in (actor_turns done) + refusals_in r
+refusals-more done turn e r answered =
+    let counted : ActorTurn → ℕ = λ t. count_in refusals_in t.answer in
+    let beside : TimedTurn → ActorTurn = λ t. record { actor = t.actor; answer = t.turn.answer } in
+    ap (λ ts. total_of refusals_in ts) (map-append beside done (turn ∷ []))
+    ∙ sum_by_push counted (actor_turns done) (beside turn)
+    ∙ ap (λ (a : Answer). total_of refusals_in (actor_turns done) + count_in refusals_in a) answered
+
+-- ---- a system that is followed
+
+module _ (program : Program) (seen : Seen) (timekeeper : Timekeeper) (is : IsFollowed program seen timekeeper) where
+  abbrev done : List TimedTurn
+  done = turns_done program seen
+
+  abbrev now : Moment
+  now = moment_in seen timekeeper
+
+  done-length : length done ≡ length seen.history
+  done-length = sym (ap length is.history ∙ length-map done (λ (turn : TimedTurn). turn.actor))
+
+  -- it has made no more turns than there is room for
+  pub within-room : length seen.history ≤ timed_room
+  within-room =
+      let all = turns-few program timed_room (opening_moment program) in
+      let parts : length (timed_turns program) ≡ length done + length (turns_from program (timed_room - length seen.history) now) = ap length is.rest ∙ length-append done (turns_from program (timed_room - length seen.history) now) in
+      omega (arith, all, parts, done-length)
+
+  -- what is made next follows what was made
+  next-is : (rest : List TimedTurn) → timed_turns program ≡ done ++ rest → next_turns program seen ≡ take 1 rest
+  next-is rest e =
+      let seam : drop (length seen.history) (done ++ rest) ≡ rest = ap (λ n. drop n (done ++ rest)) (sym done-length) ∙ drop-append_seam done rest in
+      ap (λ ts. take 1 (drop (length seen.history) ts)) e ∙ ap (take 1) seam
+
+  -- no turn is next if there is no room
+  pub full-next : timed_room ≤ length seen.history → turns_from program (timed_room - length seen.history) now ≡ []
+  full-next full =
+      let k : timed_room - length seen.history ≡ 0 = omega arith in
+      ap (λ n. turns_from program n now) k
+
+  -- if nothing is left, all turns are made, and none is next
+  pub none-next : turns_from program (timed_room - length seen.history) now ≡ [] → next_turns program seen ≡ []
+  none-next none = next-is (turns_from program (timed_room - length seen.history) now) is.rest ∙ ap (take 1) none
+
+  -- if none is next, all turns are made
+  pub all-done : next_turns program seen ≡ [] → done ≡ timed_turns program
+  all-done none = from (turns_from program (timed_room - length seen.history) now) is.rest
+    where
+      from : (rest : List TimedTurn) → timed_turns program ≡ done ++ rest → done ≡ timed_turns program
+      from [] e = sym (e ∙ append-nil done)
+      from (t ∷ ts) e = absurd (let is : t ∷ [] ≡ [] = sym (next-is (t ∷ ts) e) ∙ none in cc)
+
+  -- a turn that is due is the next
+  module _ (due : Due) (first : next_due program now ≡ Some due) (room : length seen.history < timed_room) where
+    abbrev turn : TimedTurn
+    turn = turn_due program now due
+
+    abbrev others : List TimedTurn
+    others = turns_from program (timed_room - (length seen.history + 1)) (moment_after now turn)
+
+    rest-is : timed_turns program ≡ done ++ (turn ∷ others)
+    rest-is =
+        let k : timed_room - length seen.history ≡ suc (timed_room - (length seen.history + 1)) = omega arith in
+        is.rest ∙ ap (λ n. done ++ turns_from program n now) k ∙ ap (λ ts. done ++ ts) (next-made program (timed_room - (length seen.history + 1)) now due first)
+
+    pub one-next : next_turns program seen ≡ turn ∷ []
+    one-next = next-is (turn ∷ others) rest-is
+
+    rest-more : timed_turns program ≡ (done ++ turn ∷ []) ++ others
+    rest-more = rest-is ∙ sym (append_assoc done (turn ∷ []) others)
+
+    abbrev after : Seen
+    after = after_turn seen due.actor
+
+    longer : length after.history ≡ length seen.history + 1
+    longer = length-append seen.history (due.actor ∷ [])
+
+    done-more : turns_done program after ≡ done ++ turn ∷ []
+    done-more =
+        let n : length after.history ≡ length (done ++ turn ∷ []) = omega (arith, longer, length-append done (turn ∷ []), done-length) in
+        ap (λ k. take k (timed_turns program)) n ∙ ap (take (length (done ++ turn ∷ []))) rest-more ∙ take-append_seam (done ++ turn ∷ []) others
+
+    world-more : world_of after ≡ turn.turn.world
+    world-more = system_run-one_more seen.setting.program seen.history due.actor ∙ ap (λ (p : Program). (system_turn p (world_of seen) due.actor).world) is.program_is
+
+    times-more : drop (commands_made after) seen.setting.program.times ≡ (if due.actor == 0 then drop 1 now.times else now.times)
+    times-more = from due.actor
+      where
+        from : (a : ℕ) → drop (count_by (λ actor. actor == 0) (seen.history ++ a ∷ [])) seen.setting.program.times ≡ (if a == 0 then drop 1 (drop (commands_made seen) seen.setting.program.times) else drop (commands_made seen) seen.setting.program.times)
+        from zero = ap (λ n. drop n seen.setting.program.times) (count-console seen.history) ∙ drop-one_more seen.setting.program.times (commands_made seen)
+        from (suc a) =
+            let no : (suc a == 0) ≡ false = ne_eqb (suc a) 0 (λ e. omega arith) in
+            rw no (ap (λ n. drop n seen.setting.program.times) (count-processor seen.history (suc a) (omega arith)))
+
+    left-more : length (world_of after).commands ≡ length (drop (commands_made after) seen.setting.program.times)
+    left-more = ap (λ (w : World). length w.commands) world-more ∙ commands-turn program (world_of seen) due.actor ∙ from (due.actor == 0) ∙ ap length (sym times-more)
+      where
+        from : (b : Bool) → (if b then length (world_of seen).commands - 1 else length (world_of seen).commands) ≡ length (if b then drop 1 now.times else now.times)
+        from true = omega (arith, is.left, length-drop 1 now.times)
+        from false = is.left
+
+    module _ (e : Event) (r : Reply) (answer : (system_turn seen.setting.program (world_of seen) due.actor).answer ≡ Answered e r) (next : Timekeeper) (time : next.clocks.time ≡ due.time) (clocks : next.clocks.processors.items ≡ clocks_after timekeeper.clocks.processors.items (record { time = due.time; actor = due.actor }) (is_idle_draw (Answered e r))) where
+      pub answer-is : turn.turn.answer ≡ Answered e r
+      answer-is = sym (ap (λ (p : Program). (system_turn p (world_of seen) due.actor).answer) is.program_is) ∙ answer
+
+      moment-more : moment_in after next ≡ moment_after now turn
+      moment-more =
+          let clocks-are : next.clocks.processors.items ≡ clocks_after timekeeper.clocks.processors.items (record { time = due.time; actor = due.actor }) (is_idle_draw turn.turn.answer) =
+          clocks ∙ ap (λ (a : Answer). clocks_after timekeeper.clocks.processors.items (record { time = due.time; actor = due.actor }) (is_idle_draw a)) (sym answer-is) in
+          λ i. record { world = world-more i; time = time i; clocks = clocks-are i; times = times-more i }
+
+      -- the system with this turn is followed
+      pub followed-more : HasFollowed (done ++ turn ∷ []) (length seen.history + 1) next → HasRoomFor program next → IsFollowed program after next
+      followed-more followed fits = record {
+        program_is = is.program_is;
+        room_is = is.room_is;
+        history = ap (λ h. h ++ due.actor ∷ []) is.history ∙ sym (map-append (λ (t : TimedTurn). t.actor) done (turn ∷ [])) ∙ ap (map (λ (t : TimedTurn). t.actor)) (sym done-more);
+        moment = moment-more ∙ ap (λ m. moment_after m turn) is.moment ∙ sym (moment-one_more (opening_moment program) done turn) ∙ ap (moment_after_all (opening_moment program)) (sym done-more);
+        rest = rest-more ∙ ap (λ ts. ts ++ others) (sym done-more) ∙ ap (λ n. turns_done program after ++ turns_from program (timed_room - n) (moment_after now turn)) (sym longer) ∙ ap (λ m. turns_done program after ++ turns_from program (timed_room - length after.history) m) (sym moment-more);
+        left = left-more;
+        room = fits;
+        followed = subst (λ ts. HasFollowed ts (length after.history) next) (sym done-more) (subst (λ n. HasFollowed (done ++ turn ∷ []) n next) (sym longer) followed);
+      }
+
+-- ---- before the first turn
+
+room-is : 1000000 ≡ timed_room
+unfolding timed_room
+room-is = refl
+
+-- a system that was opened has made none of the program's turns
+pub opened-followed : (program : Program) (timekeeper : Timekeeper) → length program.times ≡ length program.commands → timekeeper.clocks.time ≡ 0 → timekeeper.clocks.processors.items ≡ replicate program.limits.processors (record { time = 0; waits = false; idle = 0 }) → HasRoomFor program timekeeper → HasFollowed [] 0 timekeeper
+    → IsFollowed program (record { setting = record { program = program; room = 1000000 }; history = [] }) timekeeper
+opened-followed program timekeeper as_many time clocks fits followed =
+    let seen : Seen = record { setting = record { program = program; room = 1000000 }; history = [] } in
+    let moment : moment_in seen timekeeper ≡ opening_moment program = λ i. record { world = world_of seen; time = time i; clocks = clocks i; times = program.times } in
+    let none : timed_room - 0 ≡ timed_room = omega arith in
+    record {
+      program_is = refl;
+      room_is = room-is;
+      history = refl;
+      moment = moment;
+      rest = ap (λ n. turns_from program n (opening_moment program)) (sym none) ∙ ap (turns_from program (timed_room - 0)) (sym moment);
+      left = sym as_many;
+      room = fits;
+      followed = followed;
+    }
+
+-- what a result that is an error says of its value
+pub if-ok-none : {A E : Type 0} (r : Result A E) (P : A → Type 0) → IsErr r → IfOk r P
+if-ok-none (Ok x) P is = cc
+if-ok-none (Err e) P is = tt

@@ -1,0 +1,124 @@
+-- What the report of turns in time shows is what the definitions say of all of the program's turns.
+use Rattle.std.proofs.Common.{◌≡◌, ℕ, zero, suc, ◌+◌, ◌^◌, ◌<◌, cond, Bool, true, false, Option, Some, None, List, [], ◌∷◌, length, filter, refl, sym, ◌∙◌, ap, subst, arith}
+use Rattle.std.specs.Prelude.{map, sum_by, if◌then◌else◌}
+use Rattle.std.specs.List.{range_with_len}
+use Rattle.std.specs.Option.{option_map, option_map_or}
+use Rattle.std.proofs.lemmas.List.Sums.{sum_by-cons}
+use Rattle.lot_machine.specs.declared.record.Record.{Record}
+use Rattle.lot_machine.specs.declared.row.ThreadRow.{ThreadRow}
+use Rattle.lot_machine.specs.Facts.{live_value}
+use Rattle.lot_machine.specs.Lends.{is_live}
+use Rattle.lot_machine.specs.Numbered.{at_number}
+use Rattle.lot_machine.specs.Rows.{row_of_thread, thread_row}
+use Rattle.lot_machine.specs.State.{State, live_of, value_of}
+use Rattle.lot_print.specs.Totals.{timed_processor_line, timed_thread_line, timed_total_line}
+use Rattle.lot_simulation.specs.declared.timed.Waits.{Waits}
+use Rattle.lot_simulation.specs.Report.{ActorTurn, ticks_in, total_of, turns_made, turns_of}
+use Rattle.lot_simulation.specs.Timed.{Moment, TimedTurn, clock_of, ended_at, last_moment, moment_after_all, opening_moment, timed_turns}
+use Rattle.lot_simulation.specs.TimedReport.{actor_turns, idle_until, live_part, mutex_change, refusals_in, reply_change, timed_processor_total, timed_report, timed_report_of, timed_thread_total, timed_whole_total, waits_in}
+use Rattle.lot_simulation.specs.World.{Program}
+use Rattle.lot_engine.specs.declared.counts.Counts.{Counts}
+use Rattle.lot_playback.specs.declared.timekeeper.Timekeeper.{Timekeeper}
+use Rattle.lot_engine.specs.Counted.{counted}
+use Rattle.lot_playback.specs.InTime.{AreWaits, IsAtEnd, moment_in}
+use Rattle.lot_engine.specs.Seen.{Seen, world_of}
+use Rattle.lot_simulation.proofs.TimedRuns.{room-small, timed-made}
+use Rattle.lot_playback.proofs.FollowFacts.{within-room}
+
+-- ---- all of the program's turns
+
+module _ (seen : Seen) (timekeeper : Timekeeper) (end : IsAtEnd seen timekeeper) where
+  abbrev all : List TimedTurn
+  all = timed_turns seen.setting.program
+
+  pub history-short : length seen.history < 2 ^ 31
+  history-short = omega (arith, room-small, within-room seen.setting.program seen timekeeper end.followed)
+
+  history-is : seen.history ≡ map (λ (turn : TimedTurn). turn.actor) all
+  history-is = end.followed.history ∙ ap (map (λ (turn : TimedTurn). turn.actor)) end.all
+
+  -- the turns that the system has made are the program's
+  pub turns-are : turns_made seen.setting.program seen.history ≡ actor_turns all
+  turns-are = ap (turns_made seen.setting.program) history-is ∙ sym (timed-made seen.setting.program)
+
+  -- so many commands were refused
+  pub refused-are : timekeeper.refused ≡ total_of refusals_in (actor_turns all)
+  refused-are = end.followed.followed.refused ∙ ap (λ ts. total_of refusals_in (actor_turns ts)) end.all
+
+  -- how the threads have waited
+  pub mutexes-are : AreWaits mutex_change all (length seen.history) timekeeper.mutexes.threads.items
+  mutexes-are = subst (λ ts. AreWaits mutex_change ts (length seen.history) timekeeper.mutexes.threads.items) end.all end.followed.followed.mutexes
+
+  pub replies-are : AreWaits reply_change all (length seen.history) timekeeper.replies.threads.items
+  replies-are = subst (λ ts. AreWaits reply_change ts (length seen.history) timekeeper.replies.threads.items) end.all end.followed.followed.replies
+
+  -- the moment after the last turn
+  pub last-is : moment_in seen timekeeper ≡ last_moment seen.setting.program
+  last-is = end.followed.moment ∙ ap (moment_after_all (opening_moment seen.setting.program)) end.all
+
+  -- the report of what the system has come to is the program's
+  pub report-is : (program : Program) (ended : ℕ) → seen.setting.program ≡ program → ended ≡ ended_at program (moment_in seen timekeeper) → timed_report_of (moment_in seen timekeeper) ended all ≡ timed_report program
+  report-is program ended same is =
+      ap (λ n. timed_report_of (moment_in seen timekeeper) n all) is ∙ ap (λ (m : Moment). timed_report_of m (ended_at program m) all) last-is
+      ∙ ap (λ (p : Program). timed_report_of (last_moment p) (ended_at program (last_moment p)) (timed_turns p)) same
+
+-- ---- lines by the numbers that they show
+
+pub total-line : (c : Counts) (turns : List ActorTurn) (refused left : ℕ) (m : Moment) → c ≡ counted turns → refused ≡ total_of refusals_in turns → left ≡ length m.world.commands
+    → timed_total_line c.turns c.quanta c.ticks refused left ≡ timed_whole_total m turns
+total-line c turns refused left m is refusals rest = rw (is, refusals, rest) refl
+
+pub processor-line : (c : Counts) (turns : List ActorTurn) (p end idle : ℕ) (m : Moment) → c ≡ counted (turns_of p turns) → idle ≡ idle_until end (clock_of m.clocks p)
+    → timed_processor_line p c.quanta c.idles c.ticks idle ≡ timed_processor_total m end turns p
+processor-line c turns p end idle m is unused = rw (is, unused) refl
+
+-- a thread's row shows its value
+row-value : (s : State) (t : ℕ) (row : ThreadRow) (o : Option Record) → option_map (row_of_thread s t) o ≡ Some row → row.value ≡ value_of s t
+row-value s t row None is = absurd (cc)
+row-value s t row (Some r) is = let e : row_of_thread s t r ≡ row = cc in sym (ap (λ (x : ThreadRow). x.value) e)
+
+pub thread-line : (s : State) (turns : List TimedTurn) (t : ℕ) (row : ThreadRow) (all live values : ℕ) (mutexes replies : Waits) → thread_row s t ≡ Some row
+    → all ≡ total_of ticks_in (actor_turns turns) → live ≡ live_part s t (value_of s t) → values ≡ live_value s → mutexes ≡ waits_in mutex_change turns t → replies ≡ waits_in reply_change turns t
+    → timed_thread_line t row all live values mutexes replies ≡ option_map_or (timed_thread_total s turns (total_of ticks_in (actor_turns turns)) t) (thread_row s t) []
+thread-line s turns t row all live values mutexes replies is ticks own whole for_mutex for_reply =
+    let value = row-value s t row (at_number s.records t) is in
+    let part : live ≡ live_part s t row.value = own ∙ ap (live_part s t) (sym value) in
+    rw (is, ticks, part, whole, for_mutex, for_reply) (refl {a = timed_thread_total s turns (total_of ticks_in (actor_turns turns)) t row})
+
+-- a thread's line by what was asked of the system, which stays as it is
+pub asked-line : (seen mid last : Seen) (timekeeper : Timekeeper) (t : ℕ) (row : ThreadRow) (c : Counts) (live values : ℕ) (mutexes replies : Waits) → IsAtEnd seen timekeeper → mid ≡ seen → last ≡ mid
+    → Some row ≡ thread_row (world_of mid).state t → c ≡ counted (turns_made last.setting.program last.history) → live ≡ live_part (world_of seen).state t (value_of (world_of seen).state t) → values ≡ live_value (world_of seen).state
+    → mutexes ≡ waits_in mutex_change (timed_turns seen.setting.program) t → replies ≡ waits_in reply_change (timed_turns seen.setting.program) t
+    → timed_thread_line t row c.ticks live values mutexes replies ≡ option_map_or (timed_thread_total (world_of seen).state (timed_turns seen.setting.program) (total_of ticks_in (actor_turns (timed_turns seen.setting.program))) t) (thread_row (world_of seen).state t) []
+asked-line seen mid last timekeeper t row c live values mutexes replies end same still is counts own whole for_mutex for_reply =
+    let there : thread_row (world_of seen).state t ≡ Some row = ap (λ (x : Seen). thread_row (world_of x).state t) (sym same) ∙ sym is in
+    let ticks : c.ticks ≡ total_of ticks_in (actor_turns (timed_turns seen.setting.program)) =
+    ap (λ (x : Counts). x.ticks) counts ∙ ap (λ (x : Seen). total_of ticks_in (turns_made x.setting.program x.history)) (still ∙ same) ∙ ap (total_of ticks_in) (turns-are seen timekeeper end) in
+    thread-line (world_of seen).state (timed_turns seen.setting.program) t row c.ticks live values mutexes replies there ticks own whole for_mutex for_reply
+
+-- ---- the value of live threads
+
+-- one number more counts if it passes
+passed-push : (f : ℕ → ℕ) (test : ℕ → Bool) (a k : ℕ) → sum_by f (filter test (range_with_len a (suc k))) ≡ sum_by f (filter test (range_with_len a k)) + (if test (a + k) then f (a + k) else 0)
+passed-push f test a zero = let e : a + 0 ≡ a = omega arith in rw e (from (test a))
+  where
+    from : (b : Bool) → sum_by f (cond b (a ∷ []) []) ≡ 0 + (if b then f a else 0)
+    from true = refl
+    from false = refl
+passed-push f test a (suc k) =
+    let e : a + 1 + k ≡ a + suc k = omega arith in
+    let more = subst (λ n. sum_by f (filter test (range_with_len (a + 1) (suc k))) ≡ sum_by f (filter test (range_with_len (a + 1) k)) + (if test n then f n else 0)) e (passed-push f test (a + 1) k) in
+    from (test a) (filter test (range_with_len (a + 1) (suc k))) (filter test (range_with_len (a + 1) k)) (if test (a + suc k) then f (a + suc k) else 0) more
+  where
+    from : (b : Bool) (longer shorter : List ℕ) (last : ℕ) → sum_by f longer ≡ sum_by f shorter + last → sum_by f (cond b (a ∷ longer) longer) ≡ sum_by f (cond b (a ∷ shorter) shorter) + last
+    from true longer shorter last is = let one : sum_by f (a ∷ longer) ≡ sum_by f (a ∷ shorter) + last = omega (arith, is, sum_by-cons f a longer, sum_by-cons f a shorter) in one
+    from false longer shorter last is = is
+
+-- the value of one thread more
+pub value-more : (s : State) (k j value : ℕ) → j ≡ k + 1 → value ≡ live_part s j (value_of s j)
+    → sum_by (value_of s) (filter (is_live (live_of s)) (range_with_len 1 k)) + value ≡ sum_by (value_of s) (filter (is_live (live_of s)) (range_with_len 1 (k + 1)))
+value-more s k j value is own =
+    let e : k + 1 ≡ suc k = omega arith in
+    let n : j ≡ 1 + k = omega arith in
+    ap (λ v. sum_by (value_of s) (filter (is_live (live_of s)) (range_with_len 1 k)) + v) (own ∙ ap (λ i. live_part s i (value_of s i)) n)
+    ∙ sym (passed-push (value_of s) (is_live (live_of s)) 1 k) ∙ ap (λ i. sum_by (value_of s) (filter (is_live (live_of s)) (range_with_len 1 i))) (sym e)

@@ -1,0 +1,18 @@
+use Rattle.std.proofs.Common.{sym, subst}
+use Rattle.std.specs.Option.{IsSome}
+use Rattle.lot_playback.specs.InTime.{IsFollowed}
+use Rattle.lot_engine.specs.Seen.{Seen}
+use Rattle.lot_playback.proofs.FollowFacts.{opened-followed}
+use Rattle.lot_playback.proofs.playback.Playback.open_timed.Goals as goal
+
+pub invariant_of-result : goal.invariant_of-result
+invariant_of-result c =
+    let program = c.args.program.now in
+    let timekeeper = c.in_ok-timekeeper.timekeeper in
+    let opened = c.in_ok-timekeeper.ensures in
+    let system = sym c.in_ok-system.ensures in
+    record {
+      timed = subst (λ (s : Seen). IsSome s.setting.program.duration) system c.requires;
+      followed = subst (λ (s : Seen). IsFollowed s.setting.program s timekeeper) system
+          (opened-followed program timekeeper (opened.legal.time_count c.requires) opened.time opened.clocks opened.room opened.followed);
+    }

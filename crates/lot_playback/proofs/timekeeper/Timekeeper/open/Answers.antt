@@ -1,0 +1,71 @@
+use Rattle.std.proofs.Common.{refl, sym, subst, ap, ◌∙◌, arith, false}
+use Rattle.std.specs.Prelude.{replicate}
+use Rattle.lot_machine.specs.declared.sizes.Sizes.{Sizes}
+use Rattle.lot_simulation.specs.declared.timed.Clock.{Clock}
+use Rattle.lot_simulation.specs.TimedReport.{mutex_change, reply_change}
+use Rattle.lot_playback.specs.InTime.{HaveIdled}
+use Rattle.lot_playback.proofs.FollowFacts.{if-ok-none}
+use Rattle.lot_playback.proofs.TimeFacts.{none-idled}
+use Rattle.lot_playback.proofs.timekeeper.Timekeeper.open.Goals as goal
+
+pub returns-clause-followed : goal.returns-clause-followed
+returns-clause-followed c = record {
+  idled = subst (HaveIdled 0) (sym (c.in_ok-open.ensures.clocks)) (none-idled c.limits-limits.result.processors);
+  mutexes = c.in_ok-open-2.ensures.none mutex_change;
+  replies = c.in_ok-open-3.ensures.none reply_change;
+  refused = refl;
+  few = omega arith;
+}
+
+pub open-requires : goal.open-requires
+open-requires c = tt
+
+pub open-requires-2 : goal.open-requires-2
+open-requires-2 c = tt
+
+pub open-requires-3 : goal.open-requires-3
+open-requires-3 c = tt
+
+pub returns-in_err-open : goal.returns-in_err-open
+returns-in_err-open c =
+    let failed = c.from_residual.ensures.0 in
+    record {
+      time = if-ok-none c.from_residual.result _ failed;
+      clocks = if-ok-none c.from_residual.result _ failed;
+      room = if-ok-none c.from_residual.result _ failed;
+      followed = if-ok-none c.from_residual.result _ failed;
+      legal = c.limits-limits.ensures.legal;
+    }
+
+pub returns-in_err-open-2 : goal.returns-in_err-open-2
+returns-in_err-open-2 c =
+    let failed = c.from_residual-in_err-open-2.ensures.0 in
+    record {
+      time = if-ok-none c.from_residual-in_err-open-2.result _ failed;
+      clocks = if-ok-none c.from_residual-in_err-open-2.result _ failed;
+      room = if-ok-none c.from_residual-in_err-open-2.result _ failed;
+      followed = if-ok-none c.from_residual-in_err-open-2.result _ failed;
+      legal = c.limits-limits.ensures.legal;
+    }
+
+pub returns-in_err-open-3 : goal.returns-in_err-open-3
+returns-in_err-open-3 c =
+    let failed = c.from_residual-in_err-open-3.ensures.0 in
+    record {
+      time = if-ok-none c.from_residual-in_err-open-3.result _ failed;
+      clocks = if-ok-none c.from_residual-in_err-open-3.result _ failed;
+      room = if-ok-none c.from_residual-in_err-open-3.result _ failed;
+      followed = if-ok-none c.from_residual-in_err-open-3.result _ failed;
+      legal = c.limits-limits.ensures.legal;
+    }
+
+pub returns-clause-time : goal.returns-clause-time
+returns-clause-time c = c.in_ok-open.ensures.time
+
+pub returns-clause-clocks : goal.returns-clause-clocks
+returns-clause-clocks c =
+    let clock : Clock = record { time = 0; waits = false; idle = 0 } in
+    c.in_ok-open.ensures.clocks ∙ ap (λ (s : Sizes). replicate s.processors clock) c.limits-limits.ensures.limits
+
+pub returns-clause-legal : goal.returns-clause-legal
+returns-clause-legal c = c.limits-limits.ensures.legal

@@ -1,0 +1,226 @@
+//! Whose turn is next in time.
+ghost use Rattle.std.specs.Prelude.{◌≡◌, ℕ, ◌<◌, ◌≤◌, ◌+◌, ◌^◌, List, false, map, replicate, IfOk, IfSome, vec_len};
+ghost use Rattle.lot_machine.specs.Bounds.{IsBetween};
+ghost use Rattle.lot_machine.specs.declared.event.Event.{Event as EventRecord};
+ghost use Rattle.lot_simulation.specs.Timed as timed;
+ghost use Rattle.lot_simulation.specs.Timed.{all_due, clock_of, clocks_after, is_idle_draw};
+ghost use Rattle.lot_simulation.specs.TimedReport as reports;
+ghost use Rattle.lot_simulation.specs.World.{processor_event};
+ghost use Rattle.lot_simulation.specs.World.Answer.{Answered};
+ghost use Rattle.lot_simulation.specs.declared.timed.Clock.{Clock as ClockRecord};
+ghost use Rattle.lot_engine.specs.Seen.{world_of};
+ghost use Rattle.lot_playback.specs.InTime as in_time;
+ghost use Rattle.lot_playback.specs.InTime.{HaveIdled, moment_of};
+
+use lot_engine::{System, slice_in};
+use lot_machine::Reply;
+use lot_script::Slice;
+use lot_simulation::{Clock, Due};
+use lot_text::Program;
+use std::alloc::{AllocError, Global};
+
+/// The processors' clocks.
+#[derive(Debug, Drop)]
+pub struct Clocks {
+    /// When the last turn was made.
+    pub time: u32,
+    /// Each processor's clock, the first with number 1.
+    pub processors: Vec<Clock>,
+}
+
+impl Clocks {
+    /// At the start it is 0 everywhere.
+    pub(crate) fn open(alloc: Global, processors: u32) -> Result<Clocks, AllocError>
+        ensures clocks { IfOk result (λ t. t.processors.items
+            ≡ replicate processors (record { time = 0; waits = false; idle = 0 })) }
+        ensures time { IfOk result (λ t. t.time ≡ 0) }
+    {
+        let clock = Clock {
+            time: 0,
+            waits: false,
+            idle: 0,
+        };
+        Ok(Clocks {
+            time: 0,
+            processors: vec![in alloc; clock; processors as usize]?,
+        })
+    }
+
+    /// The next turn, unless all processors wait and no command is left, or it would be made after the end.
+    pub(crate) fn next_due(&self, program: &Program, system: &System) -> Option<Due>
+        requires program { system.now.setting.program ≡ program.now }
+        requires clocks { vec_len self.now.processors ≡ program.now.limits.processors }
+        ensures due { result
+            ≡ timed.next_due program.now (moment_of system.now self.now.time self.now.processors.items) }
+        ensures within { IfSome result (λ due. due.time < 2 ^ 32) }
+    {
+        let due = self.earliest(program, system)?;
+        if u64::from(program.duration().unwrap_or(0)) < due.time {
+            return None;
+        }
+        Some(due)
+    }
+
+    /// The turn that would be made first; of turns at the same time, that of the lowest actor.
+    fn earliest(&self, program: &Program, system: &System) -> Option<Due>
+        requires program { system.now.setting.program ≡ program.now }
+        requires clocks { vec_len self.now.processors ≡ program.now.limits.processors }
+        ensures { result ≡ timed.earliest (all_due program.now
+            (moment_of system.now self.now.time self.now.processors.items)) }
+    {
+        let mut first = console_due(program, system);
+        for place in 0..program.limits().processors {
+            let due = self.processor_due(program, system, place + 1);
+            first = sooner_of(first, due);
+        }
+        first
+    }
+
+    /// The processor's turn, unless it waits.
+    fn processor_due(&self, program: &Program, system: &System, processor: u32) -> Option<Due>
+        requires program { system.now.setting.program ≡ program.now }
+        requires there { IsBetween 1 (vec_len self.now.processors) processor }
+        ensures { result ≡ timed.earliest (timed.processor_due
+            (moment_of system.now self.now.time self.now.processors.items) processor) }
+    {
+        let clock = self.clock(processor);
+        if clock.waits {
+            return None;
+        }
+        Some(due_after(clock.time, cost(program, system, processor), processor))
+    }
+
+    /// The processor's clock.
+    fn clock(&self, processor: u32) -> Clock
+        requires { IsBetween 1 (vec_len self.now.processors) processor }
+        ensures { result ≡ clock_of self.now.processors.items processor }
+    {
+        self.processors[processor as usize - 1]
+    }
+
+    /// Records a turn that this actor made at this time, with this reply: its clock afterwards, and who waits.
+    pub(crate) fn follow(&mut self, time: u32, actor: u32, reply: Reply)
+        requires there { actor ≤ vec_len self.old.processors }
+        requires idled { (turns : ℕ) × (turns < 2 ^ 31) × HaveIdled turns self.old.processors.items }
+        ensures time { self.new.time ≡ time }
+        ensures clocks { (e : EventRecord)
+            → self.new.processors.items ≡ clocks_after self.old.processors.items (record { time = time; actor = actor })
+            (is_idle_draw (Answered e reply)) }
+        ensures idled { (turns : ℕ) → HaveIdled turns self.old.processors.items
+            → HaveIdled (turns + 1) self.new.processors.items }
+        ensures count { vec_len self.new.processors ≡ vec_len self.old.processors }
+    {
+        self.time = time;
+        if actor == 0 {
+            self.wake(time);
+            return;
+        }
+        let waits = matches!(reply, Reply::Idle);
+        let idle = self.clock(actor).idle;
+        if !waits {
+            self.wake(time);
+        }
+        self.processors[actor as usize - 1] = Clock { time, waits, idle };
+    }
+
+    /// No processor waits any more, since a turn was made at this time.
+    fn wake(&mut self, time: u32)
+        requires idled { (turns : ℕ) × (turns < 2 ^ 31) × HaveIdled turns self.old.processors.items }
+        ensures time { self.new.time ≡ self.old.time }
+        ensures clocks { self.new.processors.items ≡ map (timed.woken time) self.old.processors.items }
+        ensures idled { (turns : ℕ) → HaveIdled turns self.old.processors.items
+            → HaveIdled (turns + 1) self.new.processors.items }
+        ensures count { vec_len self.new.processors ≡ vec_len self.old.processors }
+    {
+        for place in 0..self.processors.len() {
+            self.processors[place] = woken(self.processors[place], time);
+        }
+    }
+
+    /// How long the processor was idle, up to this time.
+    pub(crate) fn idle_until(&self, end: u32, processor: u32) -> u64
+        requires there { IsBetween 1 (vec_len self.now.processors) processor }
+        requires idled { (turns : ℕ) × (turns < 2 ^ 31) × HaveIdled turns self.now.processors.items }
+        ensures { result ≡ reports.idle_until end (clock_of self.now.processors.items processor) }
+    {
+        woken(self.clock(processor), end).idle
+    }
+}
+
+/// The console's turn, if a command is left.
+fn console_due(program: &Program, system: &System) -> Option<Due>
+    requires { system.now.setting.program ≡ program.now }
+    ensures { (now : ℕ) (clocks : List ClockRecord)
+        → result ≡ timed.earliest (timed.console_due (moment_of system.now now clocks)) }
+{
+    let time = program.times().get(system.commands_made())?;
+    Some(Due {
+        time: u64::from(*time),
+        actor: 0,
+    })
+}
+
+/// The turn of an actor that is made so many ticks after this time.
+fn due_after(time: u32, cost: u32, actor: u32) -> Due
+    ensures { result ≡ record { time = time + cost; actor = actor } }
+{
+    Due {
+        time: u64::from(time) + u64::from(cost),
+        actor,
+    }
+}
+
+/// The cost of the processor's next turn: nothing for a draw, the rest of the quantum for an expiry, the work and one
+/// tick more for a trap.
+fn cost(program: &Program, system: &System, processor: u32) -> u32
+    requires program { system.now.setting.program ≡ program.now }
+    requires there { 0 < processor }
+    ensures { result ≡ timed.cost_of (world_of system.now) (processor_event (world_of system.now) processor) }
+{
+    match slice_in(system, program, processor) {
+        Some(slice) => cost_of_slice(&slice),
+        None => 0,
+    }
+}
+
+/// The cost of the slice: its work and one tick for its trap, or all of its budget if the quantum ends with it.
+fn cost_of_slice(slice: &Slice) -> u32
+    ensures { result ≡ in_time.cost_of_slice slice.now }
+{
+    match slice.trap() {
+        Some(_) => slice.ticks() + 1,
+        None => slice.budget(),
+    }
+}
+
+/// The clock of a processor that waits no more, since another turn was made at this time.
+fn woken(clock: Clock, time: u32) -> Clock
+    requires { clock.idle < 2 ^ 63 }
+    ensures { result ≡ timed.woken time clock }
+{
+    if !clock.waits {
+        return clock;
+    }
+    Clock {
+        time,
+        waits: false,
+        idle: clock.idle + u64::from(time.saturating_sub(clock.time)),
+    }
+}
+
+/// Of two turns that may come next, if there are any, the one that is made first; of two at the same time the first.
+fn sooner_of(first: Option<Due>, second: Option<Due>) -> Option<Due>
+    ensures { result ≡ in_time.sooner_of first second }
+{
+    match (first, second) {
+        (None, other) => other,
+        (Some(due), None) => Some(due),
+        (Some(due), Some(other)) => {
+            if due.time <= other.time {
+                Some(due)
+            } else {
+                Some(other)
+            }
+        }
+    }
+}

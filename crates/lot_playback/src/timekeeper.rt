@@ -1,0 +1,122 @@
+//! Making a program's turns in the order of time, and tracking what the report needs in addition to the system.
+ghost use Rattle.std.specs.Prelude.{◌≡◌, ℕ, ◌<◌, ◌≤◌, ◌+◌, ◌^◌, ◌++◌, List, [], ◌∷◌, Some, false, replicate, vec_len};
+ghost use Rattle.std.specs.Prelude.{IfNone, IfOk, IfSome};
+ghost use Rattle.lot_simulation.specs.TimedReport as reports;
+ghost use Rattle.lot_simulation.specs.Timed.{TimedTurn, clocks_after, is_idle_draw};
+ghost use Rattle.lot_simulation.specs.World.{Program as ProgramRecord};
+ghost use Rattle.lot_simulation.specs.World.Answer.{Answered};
+ghost use Rattle.lot_playback.specs.InTime.{HasFollowed, HasRoomFor, IsDue, IsFollowed, due_turn, next_turns};
+ghost use Rattle.lot_engine.specs.Playing.{turn_in};
+ghost use Rattle.lot_engine.specs.Seen.{after_turn};
+ghost use Rattle.lot_text.specs.Programs.{IsProgram};
+
+use crate::clocks::Clocks;
+use crate::waits::{WaitTable, mutex_change, reply_change};
+use lot_engine::System;
+use lot_machine::{Event, Reply};
+use lot_simulation::Due;
+use lot_text::Program;
+use std::alloc::{AllocError, Global};
+
+/// The most turns that a program makes in the order of time.
+pub const MOST_TURNS: u32 = 1000000;
+
+/// What is tracked from turn to turn, in addition to the system, when turns are made in the order of time.
+#[derive(Debug, Drop)]
+pub struct Timekeeper {
+    /// The processors' clocks.
+    pub clocks: Clocks,
+    /// How each thread has waited for mutexes.
+    pub mutexes: WaitTable,
+    /// How each thread has waited for replies.
+    pub replies: WaitTable,
+    /// How many commands were refused.
+    pub refused: u64,
+}
+
+impl Timekeeper {
+    /// Before the program's first turn. It allocates all the memory that it will ever use, and fails only if out of
+    /// memory.
+    pub fn open(alloc: Global, program: &Program) -> Result<Timekeeper, AllocError>
+        ensures time { IfOk result (λ timekeeper. timekeeper.clocks.time ≡ 0) }
+        ensures clocks { IfOk result (λ timekeeper. timekeeper.clocks.processors.items
+            ≡ replicate program.now.limits.processors (record { time = 0; waits = false; idle = 0 })) }
+        ensures room { IfOk result (HasRoomFor program.now) }
+        ensures followed { IfOk result (HasFollowed [] 0) }
+        ensures legal { IsProgram program.now }
+    {
+        let limits = program.limits();
+        Ok(Timekeeper {
+            clocks: Clocks::open(alloc, limits.processors)?,
+            mutexes: WaitTable::open(alloc, limits.threads)?,
+            replies: WaitTable::open(alloc, limits.threads)?,
+            refused: 0,
+        })
+    }
+
+    /// The turn that comes next, if there is one: when it will be made, and by which actor.
+    pub fn next_due(&self, program: &Program, system: &System) -> Option<Due>
+        requires { IsFollowed program.now system.now self.now }
+        ensures none { IfNone result (next_turns program.now system.now ≡ []) }
+        ensures due { IfSome result (IsDue program.now system.now self.now) }
+    {
+        if system.is_full() {
+            return None;
+        }
+        self.clocks.next_due(program, system)
+    }
+
+    /// Records a turn that this actor made at this time, with its event and reply.
+    fn follow(&mut self, time: u32, actor: u32, event: &Event, reply: Reply)
+        requires there { actor ≤ vec_len self.old.clocks.processors }
+        requires followed { (done : List TimedTurn) × (n : ℕ) × (n < 2 ^ 31) × HasFollowed done n self.old }
+        ensures time { self.new.clocks.time ≡ time }
+        ensures clocks { self.new.clocks.processors.items
+            ≡ clocks_after self.old.clocks.processors.items (record { time = time; actor = actor })
+            (is_idle_draw (Answered event.now reply)) }
+        ensures followed { (done : List TimedTurn) (n : ℕ) (turn : TimedTurn) → turn.time ≡ time
+            → turn.turn.answer ≡ Answered event.now reply → HasFollowed done n self.old
+            → HasFollowed (done ++ turn ∷ []) (n + 1) self.new }
+        ensures room { (program : ProgramRecord) → HasRoomFor program self.old → HasRoomFor program self.new }
+    {
+        self.clocks.follow(time, actor, reply);
+        self.mutexes.follow(time, mutex_change(event, reply));
+        self.replies.follow(time, reply_change(reply));
+        self.refused += refusals_in(reply);
+    }
+}
+
+/// 1 if the kernel refused a command, otherwise 0.
+fn refusals_in(reply: Reply) -> u64
+    ensures refusals { result ≡ reports.refusals_in reply }
+    ensures few { result ≤ 1 }
+{
+    match reply {
+        Reply::Refused(_) => 1,
+        _ => 0,
+    }
+}
+
+/// Makes the turn that is due, and stores its event and the kernel's reply where the caller keeps them. It allocates
+/// no memory.
+pub fn make_due(
+    program: &Program,
+    system: &mut System,
+    timekeeper: &mut Timekeeper,
+    due: Due,
+    event: &mut Event,
+    reply: &mut Reply,
+)
+    requires followed { IsFollowed program.now system.old timekeeper.old }
+    requires due { IsDue program.now system.old timekeeper.old due }
+    ensures followed { IsFollowed program.now system.new timekeeper.new }
+    ensures next { next_turns program.now system.old ≡ due_turn system.old due ∷ [] }
+    ensures answer { (turn_in system.old due.actor).answer ≡ Answered event.new reply.new }
+    ensures after { system.new ≡ after_turn system.old due.actor }
+{
+    let _ = program;
+    if !system.next_turn(due.actor, event, reply) {
+        unreachable!()
+    }
+    timekeeper.follow(due.time as u32, due.actor, event, *reply);
+}
