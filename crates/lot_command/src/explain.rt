@@ -5,6 +5,7 @@ ghost use Rattle.lot_explain.specs.Explained.{explained_output};
 ghost use Rattle.lot_simulation.specs.Grammar.{program_in};
 ghost use Rattle.lot_engine.specs.Played.{Leaves, came_of};
 ghost use Rattle.lot_io.specs.Reading.{Reads};
+ghost use Rattle.lot_io.specs.Writing.{IsFaultOf};
 
 use crate::diagnostics::Diagnostics;
 use lot_explain::explain_bytes;
@@ -23,7 +24,9 @@ pub(crate) fn explain<R: Read, W: Write>(
     writer: &mut Watched<W>,
 ) -> Result<Played, IoFault>
     requires { (reader.old.failed ≡ false) × (writer.old.failed ≡ false) }
+    ensures ok { OnOk result ((reader.new.failed ≡ false) × (writer.new.failed ≡ false)) }
     ensures flushed { OnOk result (writer.new.flushed ≡ true) }
+    ensures err { IfErr result (λ fault. IsFaultOf fault reader.new.failed writer.new.failed) }
     ensures output { IfOk result (λ played. (bytes : List ℕ) × Reads R.remaining reader.old reader.new bytes
         × (played ≡ came_of (program_in bytes))
         × Appends (W.contents writer.old.inner) (W.contents writer.new.inner) (explained_output bytes)) }

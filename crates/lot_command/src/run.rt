@@ -3,7 +3,7 @@ ghost use Rattle.std.specs.Prelude.{◌≡◌, ℕ, List, false, true, IfErr, If
 ghost use Rattle.lot_simulation.specs.Grammar.{program_in};
 ghost use Rattle.lot_io.specs.Reading.{Reads};
 ghost use Rattle.lot_engine.specs.declared.inputs.Played.TheVariants.{Done};
-ghost use Rattle.lot_command.specs.Running.{HasRun, RunLeaves, Runs};
+ghost use Rattle.lot_command.specs.Running.{HasRun, IsStopOf, RunLeaves, Runs};
 
 use crate::diagnostics::Diagnostics;
 use lot_io::{IoFault, Watched, read_input};
@@ -38,7 +38,9 @@ pub(crate) fn run<R: Read, W: Write, H: Threads + Wait + Sync>(
     writer: &mut Watched<W>,
 ) -> Result<Played, RunStop>
     requires { (reader.old.failed ≡ false) × (writer.old.failed ≡ false) }
+    ensures ok { OnOk result ((reader.new.failed ≡ false) × (writer.new.failed ≡ false)) }
     ensures flushed { OnOk result (writer.new.flushed ≡ true) }
+    ensures stop { IfErr result (λ stop. IsStopOf stop reader.new.failed writer.new.failed) }
     ensures output { IfOk result (λ played. (bytes : List ℕ) × Reads R.remaining reader.old reader.new bytes
         × HasRun (program_in bytes) (W.contents writer.old.inner) (W.contents writer.new.inner) played) }
     ensures fault { IfErr result
