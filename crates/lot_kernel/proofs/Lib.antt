@@ -3,6 +3,7 @@ pub mod Untouched
 pub mod Leaving
 pub mod Finishing
 pub mod Trapping
+pub mod PortTraps
 pub mod Metering
 pub mod TrapEnds
 pub mod Drawing

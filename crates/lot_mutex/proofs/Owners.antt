@@ -11,7 +11,7 @@ use Rattle.lot_machine.specs.declared.record.Status.TheVariants as status
 use Rattle.lot_machine.specs.declared.reply.Outcome.TheVariants.{Passed}
 use Rattle.lot_machine.specs.Lottery.{winner}
 use Rattle.lot_machine.specs.Numbered.{at_number, set_number}
-use Rattle.lot_machine.specs.Mutexes.{mutex_at, lock, unlock}
+use Rattle.lot_machine.specs.Mutexes.{MutexTrap, mutex_at, lock, unlock}
 use Rattle.lot_machine.specs.State.{Mutex, change_record}
 use Rattle.lot_machine.proofs.Changes.{number-kept}
 use Rattle.lot_machine.proofs.Tickets.{at_number-suc, some-injective}
@@ -58,20 +58,27 @@ module _ (v : Threaded) (mutexes : List Mutex) (t m : ℕ) (there : IsThere mute
 
 -- ---- an unlock
 
+-- the place of who was drawn, or the first
+abbrev pub place_of : Option Drawn → ℕ
+place_of drawn = unwrap_or (option_map (λ (w : Drawn). w.place) drawn) 0
+
+-- the waiter at that place owns the mutex, is Ready and waits no more
+abbrev pub passing : List Record → List Mutex → ℕ → List ℕ → Option Drawn → MutexTrap
+passing records mutexes m waiters drawn = record {
+  records = change_record (λ (r : Record). record r { status = status.Ready }) records (slice_index waiters (place_of drawn));
+  mutexes = set_number mutexes m (record { owner = Some (slice_index waiters (place_of drawn)); waiters = remove waiters (place_of drawn) });
+  outcome = Passed (slice_index waiters (place_of drawn)) (option_map (λ w. (w.number, w.total)) drawn);
+  after = Leaves status.Ready;
+}
+
 -- with waiters the mutex passes to the one that the lottery picks
 pub unlock-passes : (records : List Record) (mutexes : List Mutex) (value : ℕ → ℕ) (m d : ℕ) (waiters : List ℕ) → (mutex_at mutexes m).waiters ≡ waiters → waiters ≢ []
-    → (drawn : Option Drawn) → drawn ≡ winner (map value waiters) d
-    → unlock records mutexes value m d ≡ record {
-      records = change_record (λ (r : Record). record r { status = status.Ready }) records (slice_index waiters (unwrap_or (option_map (λ w. w.place) drawn) 0));
-      mutexes = set_number mutexes m (record { owner = Some (slice_index waiters (unwrap_or (option_map (λ w. w.place) drawn) 0)); waiters = remove waiters (unwrap_or (option_map (λ w. w.place) drawn) 0) });
-      outcome = Passed (slice_index waiters (unwrap_or (option_map (λ w. w.place) drawn) 0)) (option_map (λ w. (w.number, w.total)) drawn);
-      after = Leaves status.Ready;
-    }
+    → (drawn : Option Drawn) → drawn ≡ winner (map value waiters) d → unlock records mutexes value m d ≡ passing records mutexes m waiters drawn
 unlock-passes records mutexes value m d [] is some drawn won = absurd (some refl)
 unlock-passes records mutexes value m d (w ∷ ws) is some drawn won = rw (is, won) refl
 
 -- the place of who is picked is one of the list
-pub place-below : (waiters : List ℕ) (drawn : Option Drawn) → waiters ≢ [] → IfSome drawn (λ w. w.place < length waiters) → unwrap_or (option_map (λ (w : Drawn). w.place) drawn) 0 < length waiters
+pub place-below : (waiters : List ℕ) (drawn : Option Drawn) → waiters ≢ [] → IfSome drawn (λ w. w.place < length waiters) → place_of drawn < length waiters
 place-below [] drawn some within = absurd (some refl)
 place-below (w ∷ ws) None some within = omega arith
 place-below (w ∷ ws) (Some drawn) some within = within

@@ -5,4 +5,5 @@ pub mod Changed
 pub mod Holds
 pub mod Pushed
 pub mod Taken
+pub mod FirstTaken
 pub mod Callers

@@ -3,6 +3,7 @@ pub mod TwoChanges
 pub mod Lending
 pub mod Running
 pub mod Together
+pub mod OnlyGraph
 pub mod Adding
 pub mod Moving
 pub mod Leads

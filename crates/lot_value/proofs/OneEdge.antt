@@ -1,6 +1,5 @@
 -- What is kept together follows an edge that comes or goes.
-use Rattle.std.proofs.Common.{◌≡◌, ℕ, ◌⊎◌, inl, inr, Bool, Some, None, List, [], length, ap, sym, ◌∙◌, refl, subst, arith}
-use Rattle.std.proofs.lemmas.Bool.{cases_eq}
+use Rattle.std.proofs.Common.{◌≡◌, ◌⊎◌, inl, inr, Bool, Some, None, List, [], length, ap, sym, ◌∙◌, refl, subst, arith}
 use Rattle.lot_machine.specs.declared.funding.Node.{Node}
 use Rattle.lot_machine.specs.declared.funding.Node.TheVariants.{Currency, Thread, Mutex}
 use Rattle.lot_machine.specs.declared.funding.Edge.{Edge}
@@ -18,37 +17,35 @@ use Rattle.lot_value.specs.Caches.{Known, IsStale, IsRight, TouchesListed}
 use Rattle.lot_value.specs.Touched.{Touched, IsListed}
 use Rattle.lot_value.specs.Valued.{StandsFor}
 use Rattle.lot_value.proofs.Ends.{edge-there, there-edge, to-is}
+use Rattle.lot_value.proofs.Nodes.{same-or-not as same-node}
 use Rattle.lot_value.proofs.Rightness.{has-not-base}
 use Rattle.lot_value.proofs.Following.{right-follows, listed-downstream, reach-path}
 
-abbrev edge-number : Edge → ℕ
-edge-number (OfTicket n) = n
-edge-number (OfLender n) = n
-edge-number (OfMutex n) = n
+-- an edge as a node: which kind of the three it is, and its number
+abbrev edge-node : Edge → Node
+edge-node (OfTicket n) = Currency n
+edge-node (OfLender n) = Thread n
+edge-node (OfMutex n) = Mutex n
+
+-- and back
+abbrev node-edge : Node → Edge
+node-edge (Currency n) = OfTicket n
+node-edge (Thread n) = OfLender n
+node-edge (Mutex n) = OfMutex n
+
+-- nothing is lost on the way
+edge-again : (edge : Edge) → node-edge (edge-node edge) ≡ edge
+edge-again (OfTicket n) = refl
+edge-again (OfLender n) = refl
+edge-again (OfMutex n) = refl
 
 -- two edges are the same or not
 pub same-or-not : (a b : Edge) → (a ≡ b) ⊎ (¬ (a ≡ b))
-same-or-not (OfTicket m) (OfTicket n) = by (cases_eq m n)
+same-or-not a b = by (same-node (edge-node a) (edge-node b))
   where
-    by : (m ≡ n) ⊎ (¬ (m ≡ n)) → (OfTicket m ≡ OfTicket n) ⊎ (¬ (OfTicket m ≡ OfTicket n))
-    by (inl same) = inl (ap OfTicket same)
-    by (inr off) = inr (λ same. off (ap edge-number same))
-same-or-not (OfTicket m) (OfLender n) = inr (λ same. cc)
-same-or-not (OfTicket m) (OfMutex n) = inr (λ same. cc)
-same-or-not (OfLender m) (OfTicket n) = inr (λ same. cc)
-same-or-not (OfLender m) (OfLender n) = by (cases_eq m n)
-  where
-    by : (m ≡ n) ⊎ (¬ (m ≡ n)) → (OfLender m ≡ OfLender n) ⊎ (¬ (OfLender m ≡ OfLender n))
-    by (inl same) = inl (ap OfLender same)
-    by (inr off) = inr (λ same. off (ap edge-number same))
-same-or-not (OfLender m) (OfMutex n) = inr (λ same. cc)
-same-or-not (OfMutex m) (OfTicket n) = inr (λ same. cc)
-same-or-not (OfMutex m) (OfLender n) = inr (λ same. cc)
-same-or-not (OfMutex m) (OfMutex n) = by (cases_eq m n)
-  where
-    by : (m ≡ n) ⊎ (¬ (m ≡ n)) → (OfMutex m ≡ OfMutex n) ⊎ (¬ (OfMutex m ≡ OfMutex n))
-    by (inl same) = inl (ap OfMutex same)
-    by (inr off) = inr (λ same. off (ap edge-number same))
+    by : (edge-node a ≡ edge-node b) ⊎ (¬ (edge-node a ≡ edge-node b)) → (a ≡ b) ⊎ (¬ (a ≡ b))
+    by (inl same) = inl (sym (edge-again a) ∙ ap node-edge same ∙ edge-again b)
+    by (inr off) = inr (λ same. off (ap edge-node same))
 
 pub has-same : (f g : Funding) → length g.lends ≡ length f.lends → (node : Node) → HasEquation f node → HasEquation g node
 has-same f g same (Currency c) has = has

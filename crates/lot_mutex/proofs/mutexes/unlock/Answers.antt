@@ -1,4 +1,4 @@
-use Rattle.std.proofs.Common.{◌≡◌, ◌≢◌, ◌∙◌, Some, [], map, remove, slice_get, slice_index, unwrap_or, option_map, ◌<◌, length, ap, sym, subst, refl}
+use Rattle.std.proofs.Common.{◌≡◌, ◌≢◌, ◌∙◌, Some, [], map, remove, slice_get, slice_index, ◌<◌, length, ap, sym, subst, refl}
 use Rattle.std.specs.Option.{IfSome}
 use Rattle.std.proofs.lemmas.Option.{slice_get-get_or}
 use Rattle.lot_machine.specs.declared.drawn.Drawn.{Drawn}
@@ -11,39 +11,58 @@ use Rattle.lot_machine.specs.State.{status_of}
 use Rattle.lot_value.specs.declared.meter.Meter.{Meter}
 use Rattle.lot_threads.specs.Threaded.{Threaded, IsLiveIn, IsStaleIn, MakesStaleIn, worth_in}
 use Rattle.lot_mutex.specs.Listed.{Listed, with_mutexes}
-use Rattle.lot_mutex.proofs.Owners.{owners-after, place-below, unlock-passes}
+use Rattle.lot_mutex.proofs.Owners.{owners-after, passing, place-below, place_of, unlock-passes}
 use Rattle.lot_mutex.proofs.Passing.{next-owner, pass-threads, settled-makes}
 use Rattle.lot_mutex.proofs.mutexes.unlock.Goals as goal
+use Rattle.lot_mutex.proofs.mutexes.unlock.Goals.{After-picked-next}
+
+-- the lottery has the mutex's waiters
+listed : (c : After-picked-next) → c.list.new.self.waiters ≡ (mutex_at c.args.queues.now.mutexes c.args.mutex).waiters
+listed c = ap (λ (l : Listed). l.waiters) c.list.ensures
+
+-- somebody waits
+some : (c : After-picked-next) → (mutex_at c.args.queues.now.mutexes c.args.mutex).waiters ≢ []
+some c none = let empty = c.if-is_empty.ensures.1 (listed c ∙ none) in cc
+
+-- the mutex passes to who was drawn
+step : (c : After-picked-next)
+    → unlock c.args.threads.now.records c.args.queues.now.mutexes (worth_in c.args.threads.now) c.args.mutex c.args.d ≡ passing c.args.threads.now.records c.args.queues.now.mutexes c.args.mutex (mutex_at c.args.queues.now.mutexes c.args.mutex).waiters c.hold-drawn.result
+step c =
+    let v = c.args.threads.now in
+    let ws = (mutex_at c.args.queues.now.mutexes c.args.mutex).waiters in
+    let drawn : c.hold-drawn.result ≡ winner (map (worth_in v) ws) c.args.d =
+    c.hold-drawn.ensures.drawn ∙ ap (λ (x : Threaded). winner (map (worth_in x) c.list.new.self.waiters) c.args.d) c.settle.ensures.settled ∙ ap (λ xs. winner (map (worth_in v) xs) c.args.d) (listed c) in
+    unlock-passes v.records c.args.queues.now.mutexes (worth_in v) c.args.mutex c.args.d ws refl (some c) c.hold-drawn.result drawn
+
+-- who is picked is the waiter at that place
+next : (c : After-picked-next) → c.picked-next.result ≡ slice_index (mutex_at c.args.queues.now.mutexes c.args.mutex).waiters (place_of c.hold-drawn.result)
+next c =
+    let place = place_of c.hold-drawn.result in
+    c.picked-next.ensures ∙ ap (λ (l : Listed). slice_index l.waiters place) c.hold-drawn.ensures.same ∙ ap (λ xs. slice_index xs place) (listed c)
+
+-- and waits there
+next-at : (c : After-picked-next) → slice_get (mutex_at c.args.queues.now.mutexes c.args.mutex).waiters (place_of c.hold-drawn.result) ≡ Some c.picked-next.result
+next-at c =
+    let ws = (mutex_at c.args.queues.now.mutexes c.args.mutex).waiters in
+    let below = place-below ws c.hold-drawn.result (some c) (subst (λ xs. IfSome c.hold-drawn.result (λ (w : Drawn). w.place < length xs)) (listed c) c.hold-drawn.ensures.within) in
+    slice_get-get_or ws (place_of c.hold-drawn.result) 0 below ∙ ap Some (sym (next c))
 
 pub returns-clause-outcome : goal.returns-clause-outcome
 returns-clause-outcome c =
-    let v = c.args.threads.now in
-    let mutexes = c.args.queues.now.mutexes in
-    let ws = (mutex_at mutexes c.args.mutex).waiters in
-    let place = unwrap_or (option_map (λ (w : Drawn). w.place) c.hold-drawn.result) 0 in
-    let listed : c.list.new.self.waiters ≡ ws = ap (λ (l : Listed). l.waiters) c.list.ensures in
-    let some : ws ≢ [] = λ none. let empty = c.if-is_empty.ensures.1 (listed ∙ none) in cc in
-    let drawn : c.hold-drawn.result ≡ winner (map (worth_in v) ws) c.args.d =
-    c.hold-drawn.ensures.drawn ∙ ap (λ (x : Threaded). winner (map (worth_in x) c.list.new.self.waiters) c.args.d) c.settle.ensures.settled ∙ ap (λ xs. winner (map (worth_in v) xs) c.args.d) listed in
-    let step = unlock-passes v.records mutexes (worth_in v) c.args.mutex c.args.d ws refl some c.hold-drawn.result drawn in
-    let next : c.picked-next.result ≡ slice_index ws place = c.picked-next.ensures ∙ ap (λ (l : Listed). slice_index l.waiters place) c.hold-drawn.ensures.same ∙ ap (λ xs. slice_index xs place) listed in
-    ap (λ t. Passed t c.drawn_numbers.result) next ∙ ap (Passed (slice_index ws place)) c.drawn_numbers.ensures ∙ sym (ap (λ (e : MutexTrap). e.outcome) step)
+    let done = (goal.at.returns-clause-outcome c).After-picked-next in
+    let ws = (mutex_at c.args.queues.now.mutexes c.args.mutex).waiters in
+    ap (λ t. Passed t c.drawn_numbers.result) (next done) ∙ ap (Passed (slice_index ws (place_of c.hold-drawn.result))) c.drawn_numbers.ensures ∙ sym (ap (λ (e : MutexTrap). e.outcome) (step done))
 
 pub returns-clause-threads : goal.returns-clause-threads
 returns-clause-threads c =
+    let done = (goal.at.returns-clause-threads c).After-picked-next in
     let v = c.args.threads.now in
     let mutexes = c.args.queues.now.mutexes in
     let ws = (mutex_at mutexes c.args.mutex).waiters in
-    let place = unwrap_or (option_map (λ (w : Drawn). w.place) c.hold-drawn.result) 0 in
-    let listed : c.list.new.self.waiters ≡ ws = ap (λ (l : Listed). l.waiters) c.list.ensures in
-    let some : ws ≢ [] = λ none. let empty = c.if-is_empty.ensures.1 (listed ∙ none) in cc in
-    let drawn : c.hold-drawn.result ≡ winner (map (worth_in v) ws) c.args.d =
-    c.hold-drawn.ensures.drawn ∙ ap (λ (x : Threaded). winner (map (worth_in x) c.list.new.self.waiters) c.args.d) c.settle.ensures.settled ∙ ap (λ xs. winner (map (worth_in v) xs) c.args.d) listed in
-    let step = unlock-passes v.records mutexes (worth_in v) c.args.mutex c.args.d ws refl some c.hold-drawn.result drawn in
-    let next : c.picked-next.result ≡ slice_index ws place = c.picked-next.ensures ∙ ap (λ (l : Listed). slice_index l.waiters place) c.hold-drawn.ensures.same ∙ ap (λ xs. slice_index xs place) listed in
+    let place = place_of c.hold-drawn.result in
     let after = owners-after mutexes v.owners c.args.mutex (record { owner = Some (slice_index ws place); waiters = remove ws place }) c.requires.owners in
-    let passes = pass-threads v c.settle.new.self c.pass.new.threads c.picked-next.result (slice_index ws place) c.args.mutex _ c.settle.ensures.settled next after c.pass.ensures.threads in
-    passes ∙ sym (ap (λ (e : MutexTrap). record (with_mutexes v e c.pass.new.threads.stale) { meter = c.pass.new.threads.meter }) step)
+    let passes = pass-threads v c.settle.new.self c.pass.new.threads c.picked-next.result (slice_index ws place) c.args.mutex _ c.settle.ensures.settled (next done) after c.pass.ensures.threads in
+    passes ∙ sym (ap (λ (e : MutexTrap). record (with_mutexes v e c.pass.new.threads.stale) { meter = c.pass.new.threads.meter }) (step done))
 
 pub returns-then-is_empty-clause-threads : goal.returns-then-is_empty-clause-threads
 returns-then-is_empty-clause-threads c =
@@ -60,21 +79,13 @@ returns-clause-counted c some = ap (λ (x : Threaded). x.meter) c.pass.ensures.t
 
 pub returns-clause-queues : goal.returns-clause-queues
 returns-clause-queues c =
-    let v = c.args.threads.now in
+    let done = (goal.at.returns-clause-queues c).After-picked-next in
     let mutexes = c.args.queues.now.mutexes in
     let ws = (mutex_at mutexes c.args.mutex).waiters in
-    let place = unwrap_or (option_map (λ (w : Drawn). w.place) c.hold-drawn.result) 0 in
-    let listed : c.list.new.self.waiters ≡ ws = ap (λ (l : Listed). l.waiters) c.list.ensures in
-    let some : ws ≢ [] = λ none. let empty = c.if-is_empty.ensures.1 (listed ∙ none) in cc in
-    let drawn : c.hold-drawn.result ≡ winner (map (worth_in v) ws) c.args.d =
-    c.hold-drawn.ensures.drawn ∙ ap (λ (x : Threaded). winner (map (worth_in x) c.list.new.self.waiters) c.args.d) c.settle.ensures.settled ∙ ap (λ xs. winner (map (worth_in v) xs) c.args.d) listed in
-    let step = unlock-passes v.records mutexes (worth_in v) c.args.mutex c.args.d ws refl some c.hold-drawn.result drawn in
-    let next : c.picked-next.result ≡ slice_index ws place = c.picked-next.ensures ∙ ap (λ (l : Listed). slice_index l.waiters place) c.hold-drawn.ensures.same ∙ ap (λ xs. slice_index xs place) listed in
-    let below = place-below ws c.hold-drawn.result some (subst (λ xs. IfSome c.hold-drawn.result (λ (w : Drawn). w.place < length xs)) listed c.hold-drawn.ensures.within) in
-    let at : slice_get ws place ≡ Some c.picked-next.result = slice_get-get_or ws place 0 below ∙ ap Some (sym next) in
-    c.pass.ensures.queues place at
-    ∙ ap (λ t. record c.args.queues.now { mutexes = set_number mutexes c.args.mutex (record { owner = Some t; waiters = remove ws place }) }) next
-    ∙ sym (ap (λ (e : MutexTrap). record c.args.queues.now { mutexes = e.mutexes }) step)
+    let place = place_of c.hold-drawn.result in
+    c.pass.ensures.queues place (next-at done)
+    ∙ ap (λ t. record c.args.queues.now { mutexes = set_number mutexes c.args.mutex (record { owner = Some t; waiters = remove ws place }) }) (next done)
+    ∙ sym (ap (λ (e : MutexTrap). record c.args.queues.now { mutexes = e.mutexes }) (step done))
 
 pub returns-clause-stale : goal.returns-clause-stale
 returns-clause-stale c = settled-makes c.args.threads.now c.pass.new.threads (subst (λ (x : Threaded). MakesStaleIn x c.pass.new.threads) c.settle.ensures.settled c.pass.ensures.stale)
@@ -86,29 +97,13 @@ pub returns-clause-owners : goal.returns-clause-owners
 returns-clause-owners c next draw passed = (c.pass.ensures.owners.0, subst (λ t. IsStaleIn c.pass.new.threads (Thread t)) (ap next-owner passed) c.pass.ensures.owners.1)
 
 pub returns-clause-after : goal.returns-clause-after
-returns-clause-after c =
-    let v = c.args.threads.now in
-    let mutexes = c.args.queues.now.mutexes in
-    let ws = (mutex_at mutexes c.args.mutex).waiters in
-    let place = unwrap_or (option_map (λ (w : Drawn). w.place) c.hold-drawn.result) 0 in
-    let listed : c.list.new.self.waiters ≡ ws = ap (λ (l : Listed). l.waiters) c.list.ensures in
-    let some : ws ≢ [] = λ none. let empty = c.if-is_empty.ensures.1 (listed ∙ none) in cc in
-    let drawn : c.hold-drawn.result ≡ winner (map (worth_in v) ws) c.args.d =
-    c.hold-drawn.ensures.drawn ∙ ap (λ (x : Threaded). winner (map (worth_in x) c.list.new.self.waiters) c.args.d) c.settle.ensures.settled ∙ ap (λ xs. winner (map (worth_in v) xs) c.args.d) listed in
-    let step = unlock-passes v.records mutexes (worth_in v) c.args.mutex c.args.d ws refl some c.hold-drawn.result drawn in
-    sym (ap (λ (e : MutexTrap). e.after) step)
+returns-clause-after c = sym (ap (λ (e : MutexTrap). e.after) (step (goal.at.returns-clause-after c).After-picked-next))
 
 pub returns-clause-kept : goal.returns-clause-kept
-returns-clause-kept c none =
-    let listed : c.list.new.self.waiters ≡ (mutex_at c.args.queues.now.mutexes c.args.mutex).waiters = ap (λ (l : Listed). l.waiters) c.list.ensures in
-    let empty = c.if-is_empty.ensures.1 (listed ∙ none) in
-    cc
+returns-clause-kept c none = absurd (some (goal.at.returns-clause-kept c).After-picked-next none)
 
 pub returns-clause-uncounted : goal.returns-clause-uncounted
-returns-clause-uncounted c none =
-    let listed : c.list.new.self.waiters ≡ (mutex_at c.args.queues.now.mutexes c.args.mutex).waiters = ap (λ (l : Listed). l.waiters) c.list.ensures in
-    let empty = c.if-is_empty.ensures.1 (listed ∙ none) in
-    cc
+returns-clause-uncounted c none = absurd (some (goal.at.returns-clause-uncounted c).After-picked-next none)
 
 pub returns-clause-once : goal.returns-clause-once
 returns-clause-once c some = c.settle.ensures.once
@@ -124,13 +119,4 @@ pass-requires-clause-owners c = c.requires.owners ∙ sym (ap (λ (x : Threaded)
 
 pub pass-requires-clause-waits : goal.pass-requires-clause-waits
 pass-requires-clause-waits c =
-    let v = c.args.threads.now in
-    let mutexes = c.args.queues.now.mutexes in
-    let ws = (mutex_at mutexes c.args.mutex).waiters in
-    let place = unwrap_or (option_map (λ (w : Drawn). w.place) c.hold-drawn.result) 0 in
-    let listed : c.list.new.self.waiters ≡ ws = ap (λ (l : Listed). l.waiters) c.list.ensures in
-    let some : ws ≢ [] = λ none. let empty = c.if-is_empty.ensures.1 (listed ∙ none) in cc in
-    let next : c.picked-next.result ≡ slice_index ws place = c.picked-next.ensures ∙ ap (λ (l : Listed). slice_index l.waiters place) c.hold-drawn.ensures.same ∙ ap (λ xs. slice_index xs place) listed in
-    let below = place-below ws c.hold-drawn.result some (subst (λ xs. IfSome c.hold-drawn.result (λ (w : Drawn). w.place < length xs)) listed c.hold-drawn.ensures.within) in
-    let at : slice_get ws place ≡ Some c.picked-next.result = slice_get-get_or ws place 0 below ∙ ap Some (sym next) in
-    ap (λ (x : Threaded). status_of x.records c.picked-next.result) c.settle.ensures.settled ∙ c.requires.waiters.each place c.picked-next.result at
+    ap (λ (x : Threaded). status_of x.records c.picked-next.result) c.settle.ensures.settled ∙ c.requires.waiters.each (place_of c.hold-drawn.result) c.picked-next.result (next-at (goal.at.pass-requires-clause-waits c).After-picked-next)

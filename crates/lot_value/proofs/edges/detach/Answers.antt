@@ -1,4 +1,4 @@
-use Rattle.std.proofs.Common.{◌≡◌, ◌⊎◌, inl, inr, refl}
+use Rattle.std.proofs.Common.{◌≡◌, ◌⊎◌, ◌∙◌, inl, inr, refl}
 use Rattle.lot_machine.specs.declared.funding.Node.{Node}
 use Rattle.lot_value.specs.Touched.{IsListed}
 use Rattle.lot_value.specs.Valued.{live_of}
@@ -7,25 +7,18 @@ use Rattle.lot_value.proofs.GraphCalls.{follows-one}
 use Rattle.lot_value.proofs.Touches.{touched-one, touched-then, listed-more}
 use Rattle.lot_value.proofs.edges.detach.Goals as goal
 
-pub touch_listed-requires-clause-kept : goal.touch_listed-requires-clause-kept
-touch_listed-requires-clause-kept c =
+pub touch_listed-requires : goal.touch_listed-requires
+touch_listed-requires c =
     let (before, edge, adds, stands, together) = c.requires.before in
-    (live_of before c.args.active.now, c.detach.ensures.kept before edge (live_of before c.args.active.now) adds together.kept)
-
-pub touch_listed-requires-clause-switched : goal.touch_listed-requires-clause-switched
-touch_listed-requires-clause-switched c node listed =
-    let (before, edge, adds, stands, together) = c.requires.before in
-    ((c.detach.ensures.changes before edge (live_of before c.args.active.now) adds together.kept).switched.each node listed).0
-
-pub touch_listed-requires-clause-adjusted : goal.touch_listed-requires-clause-adjusted
-touch_listed-requires-clause-adjusted c node listed =
-    let (before, edge, adds, stands, together) = c.requires.before in
-    ((c.detach.ensures.changes before edge (live_of before c.args.active.now) adds together.kept).adjusted.each node listed).0
-
-pub touch_listed-requires-clause-ends : goal.touch_listed-requires-clause-ends
-touch_listed-requires-clause-ends c =
-    let (before, edge, adds, stands, together) = c.requires.before in
-    ends-have before c.args.graph.now edge c.args.ends (inr adds) stands together.right.ends
+    let live = live_of before c.args.active.now in
+    let changes = c.detach.ensures.changes before edge live adds together.kept in
+    record {
+      layout = together.right.layout ∙ adds.layout;
+      kept = (live, c.detach.ensures.kept before edge live adds together.kept);
+      switched = λ node listed. (changes.switched.each node listed).0;
+      adjusted = λ node listed. (changes.adjusted.each node listed).0;
+      ends = ends-have before c.args.graph.now edge c.args.ends (inr adds) stands together.right.ends;
+    }
 
 pub returns-clause-follows : goal.returns-clause-follows
 returns-clause-follows c before edge adds stands together =

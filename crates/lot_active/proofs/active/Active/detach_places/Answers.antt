@@ -1,100 +1,81 @@
-use Rattle.std.proofs.Common.{◌≡◌, ◌<◌, length, ap, sym, ◌∙◌, arith, ℕ, false}
+use Rattle.std.proofs.Common.{◌≡◌, ◌<◌, length, ap, sym, ◌∙◌, arith, ℕ, false, true}
 use Rattle.lot_active.specs.Fundings.{graph_net}
 use Rattle.lot_active.specs.Activity.{Activity}
-use Rattle.lot_active.proofs.Local.{kept-local}
+use Rattle.lot_active.specs.Held.{Adjusts, Held, on_at}
+use Rattle.lot_active.specs.Spread.{Spreading}
+use Rattle.lot_active.proofs.Local.{IsLocal, kept-local}
 use Rattle.lot_active.proofs.Calls.{detach-spreads, detach-none, detach-may, local-by, end-kept, end-changes_from, net-less}
 use Rattle.lot_active.proofs.Steps.{adjust-length}
 use Rattle.lot_active.proofs.active.Active.detach_places.Goals as goal
+use Rattle.lot_active.proofs.active.Active.detach_places.Goals.{After-clear}
+
+-- the call begins with the marks that were there
+same-awake : (c : After-clear) → c.clear.new.self.awake ≡ c.args.self.now.awake
+same-awake c = c.clear.ensures.awake ∙ ap (λ (v : Activity). v.awake) c.self.view_is
+
+-- and with the amounts that were there
+same-amounts : (c : After-clear) → c.clear.new.self.amounts ≡ c.args.self.now.amounts
+same-amounts c = c.clear.ensures.amounts ∙ ap (λ (v : Activity). v.amounts) c.self.view_is
+
+-- there are as many amounts as nodes
+size : (c : After-clear) → length c.clear.new.self.amounts ≡ (graph_net c.args.graph.now).nodes
+size c = let (before, edge, adds, net, kept) = c.requires.kept in ap (length {A = ℕ}) (same-amounts c) ∙ kept.amounts_length ∙ adds.nodes
+
+-- the node that the edge led from has an amount
+low : (c : After-clear) → c.args.places.from < length c.clear.new.self.amounts
+low c =
+    let (before, edge, adds, net, kept) = c.requires.kept in
+    let from = net.from edge c.args.places adds.here in
+    omega (arith, from, size c, adds.nodes)
+
+-- the marks and amounts agree, with the edge
+local : (c : After-clear) → IsLocal c.requires.kept.0 c.clear.new.self.awake c.clear.new.self.amounts
+local c = let (before, edge, adds, net, kept) = c.requires.kept in local-by before c.args.self.now c.clear.new.self (same-awake c) (same-amounts c) (kept-local before c.args.self.now kept)
+
+-- the change spreads from that node, where the edge led to one that is active
+spreads : (c : After-clear) (new : Held) → on_at c.clear.new.self c.args.places.to ≡ true → Adjusts c.clear.new.self new c.args.places.from c.args.places.amount false → Spreading (graph_net c.args.graph.now) c.args.places.from false c.clear.new.self new
+spreads c new on adjusts =
+    let (before, edge, adds, net, kept) = c.requires.kept in
+    detach-spreads (graph_net c.args.graph.now) before edge c.args.places adds c.clear.new.self c.clear.ensures.empty net new c.clear.ensures.sized (low c) on (local c) adjusts
+
+-- and nothing changes where it didn't
+stays : (c : After-clear) → on_at c.clear.new.self c.args.places.to ≡ false → Spreading (graph_net c.args.graph.now) c.args.places.from false c.clear.new.self c.clear.new.self
+stays c off = let (before, edge, adds, net, kept) = c.requires.kept in detach-none (graph_net c.args.graph.now) before edge c.args.places adds c.clear.new.self c.clear.ensures.empty (local c) off
 
 pub adjust-requires-clause-may : goal.adjust-requires-clause-may
 adjust-requires-clause-may c =
-    let g = graph_net c.args.graph.now in
-    let now = c.args.self.now in
-    let h = c.clear.new.self in
-    let a = c.args.places in
+    let begun = (goal.at.adjust-requires-clause-may c).After-clear in
     let (before, edge, adds, net, kept) = c.requires.kept in
-    let awake : h.awake ≡ now.awake = c.clear.ensures.awake ∙ ap (λ (v : Activity). v.awake) c.self.view_is in
-    let amounts : h.amounts ≡ now.amounts = c.clear.ensures.amounts ∙ ap (λ (v : Activity). v.amounts) c.self.view_is in
-    let size = ap (length {A = ℕ}) amounts in
-    let from = net.from edge a adds.here in
-    let low : a.from < length h.amounts = omega (arith, from, kept.amounts_length, size) in
-    let local = local-by before now h awake amounts (kept-local before now kept) in
-    detach-may g before edge a adds h c.clear.ensures.empty net h c.clear.ensures.sized low (sym c.is_on.ensures.mark ∙ c.if-is_on.true) local
+    detach-may (graph_net c.args.graph.now) before edge c.args.places adds c.clear.new.self c.clear.ensures.empty net c.clear.new.self c.clear.ensures.sized (low begun) (sym c.is_on.ensures.mark ∙ c.if-is_on.true) (local begun)
 
 pub propagate-requires-clause-spreading : goal.propagate-requires-clause-spreading
 propagate-requires-clause-spreading c =
-    let g = graph_net c.args.graph.now in
-    let now = c.args.self.now in
-    let h = c.clear.new.self in
-    let a = c.args.places in
-    let (before, edge, adds, net, kept) = c.requires.kept in
-    let awake : h.awake ≡ now.awake = c.clear.ensures.awake ∙ ap (λ (v : Activity). v.awake) c.self.view_is in
-    let amounts : h.amounts ≡ now.amounts = c.clear.ensures.amounts ∙ ap (λ (v : Activity). v.amounts) c.self.view_is in
-    let size = ap (length {A = ℕ}) amounts in
-    let from = net.from edge a adds.here in
-    let low : a.from < length h.amounts = omega (arith, from, kept.amounts_length, size) in
-    let local = local-by before now h awake amounts (kept-local before now kept) in
-    (a.from, h, detach-spreads g before edge a adds h c.clear.ensures.empty net c.adjust.new.self c.clear.ensures.sized low (sym c.is_on.ensures.mark ∙ c.if-is_on.true) local c.adjust.ensures.adjusts)
+    (c.args.places.from, c.clear.new.self, spreads (goal.at.propagate-requires-clause-spreading c).After-clear c.adjust.new.self (sym c.is_on.ensures.mark ∙ c.if-is_on.true) c.adjust.ensures.adjusts)
 
 pub returns-then-is_on-clause-kept : goal.returns-then-is_on-clause-kept
 returns-then-is_on-clause-kept c =
-    let g = graph_net c.args.graph.now in
-    let now = c.args.self.now in
-    let h = c.clear.new.self in
-    let a = c.args.places in
+    let begun = (goal.at.returns-then-is_on-clause-kept c).After-clear in
     let (before, edge, adds, net, kept) = c.requires.kept in
-    let awake : h.awake ≡ now.awake = c.clear.ensures.awake ∙ ap (λ (v : Activity). v.awake) c.self.view_is in
-    let amounts : h.amounts ≡ now.amounts = c.clear.ensures.amounts ∙ ap (λ (v : Activity). v.amounts) c.self.view_is in
-    let size = ap (length {A = ℕ}) amounts in
-    let from = net.from edge a adds.here in
-    let low : a.from < length h.amounts = omega (arith, from, kept.amounts_length, size) in
-    let local = local-by before now h awake amounts (kept-local before now kept) in
-    let start = detach-spreads g before edge a adds h c.clear.ensures.empty net c.adjust.new.self c.clear.ensures.sized low (sym c.is_on.ensures.mark ∙ c.if-is_on.true) local c.adjust.ensures.adjusts in
-    end-kept g a.from false h c.propagate.new.self (c.propagate.ensures.spreads a.from h start) c.propagate.ensures.pending c.propagate.ensures.sized c.self.inside.layout (net-less g before edge a adds net) c.requires.no_cycle
-    (c.propagate.ensures.size ∙ adjust-length h c.adjust.new.self a.from a.amount false c.adjust.ensures.adjusts ∙ size ∙ kept.amounts_length ∙ adds.nodes)
+    let start = spreads begun c.adjust.new.self (sym c.is_on.ensures.mark ∙ c.if-is_on.true) c.adjust.ensures.adjusts in
+    end-kept (graph_net c.args.graph.now) c.args.places.from false c.clear.new.self c.propagate.new.self (c.propagate.ensures.spreads _ _ start) c.propagate.ensures.pending c.propagate.ensures.sized c.self.inside.layout
+    (net-less (graph_net c.args.graph.now) before edge c.args.places adds net) c.requires.no_cycle
+    (c.propagate.ensures.size ∙ adjust-length c.clear.new.self c.adjust.new.self c.args.places.from c.args.places.amount false c.adjust.ensures.adjusts ∙ size begun)
 
 pub returns-then-is_on-clause-changes : goal.returns-then-is_on-clause-changes
 returns-then-is_on-clause-changes c =
-    let g = graph_net c.args.graph.now in
-    let now = c.args.self.now in
-    let h = c.clear.new.self in
-    let a = c.args.places in
-    let (before, edge, adds, net, kept) = c.requires.kept in
-    let awake : h.awake ≡ now.awake = c.clear.ensures.awake ∙ ap (λ (v : Activity). v.awake) c.self.view_is in
-    let amounts : h.amounts ≡ now.amounts = c.clear.ensures.amounts ∙ ap (λ (v : Activity). v.amounts) c.self.view_is in
-    let size = ap (length {A = ℕ}) amounts in
-    let from = net.from edge a adds.here in
-    let low : a.from < length h.amounts = omega (arith, from, kept.amounts_length, size) in
-    let local = local-by before now h awake amounts (kept-local before now kept) in
-    let start = detach-spreads g before edge a adds h c.clear.ensures.empty net c.adjust.new.self c.clear.ensures.sized low (sym c.is_on.ensures.mark ∙ c.if-is_on.true) local c.adjust.ensures.adjusts in
-    end-changes_from g a.from false h c.propagate.new.self (c.propagate.ensures.spreads a.from h start) c.propagate.ensures.pending c.propagate.ensures.sized c.self.inside.layout now awake amounts
+    let begun = (goal.at.returns-then-is_on-clause-changes c).After-clear in
+    let start = spreads begun c.adjust.new.self (sym c.is_on.ensures.mark ∙ c.if-is_on.true) c.adjust.ensures.adjusts in
+    end-changes_from (graph_net c.args.graph.now) c.args.places.from false c.clear.new.self c.propagate.new.self (c.propagate.ensures.spreads _ _ start) c.propagate.ensures.pending c.propagate.ensures.sized c.self.inside.layout c.args.self.now (same-awake begun) (same-amounts begun)
 
 pub returns-else-is_on-clause-kept : goal.returns-else-is_on-clause-kept
 returns-else-is_on-clause-kept c =
-    let g = graph_net c.args.graph.now in
-    let now = c.args.self.now in
-    let h = c.clear.new.self in
-    let a = c.args.places in
+    let begun = (goal.at.returns-else-is_on-clause-kept c).After-clear in
     let (before, edge, adds, net, kept) = c.requires.kept in
-    let awake : h.awake ≡ now.awake = c.clear.ensures.awake ∙ ap (λ (v : Activity). v.awake) c.self.view_is in
-    let amounts : h.amounts ≡ now.amounts = c.clear.ensures.amounts ∙ ap (λ (v : Activity). v.amounts) c.self.view_is in
-    let size = ap (length {A = ℕ}) amounts in
-    let from = net.from edge a adds.here in
-    let low : a.from < length h.amounts = omega (arith, from, kept.amounts_length, size) in
-    let local = local-by before now h awake amounts (kept-local before now kept) in
-    end-kept g a.from false h h (detach-none g before edge a adds h c.clear.ensures.empty local (sym c.is_on.ensures.mark ∙ c.if-is_on.false)) (c.clear.ensures.empty 0) c.clear.ensures.sized c.self.inside.layout (net-less g before edge a adds net) c.requires.no_cycle (size ∙ kept.amounts_length ∙ adds.nodes)
+    let same = stays begun (sym c.is_on.ensures.mark ∙ c.if-is_on.false) in
+    end-kept (graph_net c.args.graph.now) c.args.places.from false c.clear.new.self c.clear.new.self same (c.clear.ensures.empty 0) c.clear.ensures.sized c.self.inside.layout (net-less (graph_net c.args.graph.now) before edge c.args.places adds net) c.requires.no_cycle (size begun)
 
 pub returns-else-is_on-clause-changes : goal.returns-else-is_on-clause-changes
 returns-else-is_on-clause-changes c =
-    let g = graph_net c.args.graph.now in
-    let now = c.args.self.now in
-    let h = c.clear.new.self in
-    let a = c.args.places in
-    let (before, edge, adds, net, kept) = c.requires.kept in
-    let awake : h.awake ≡ now.awake = c.clear.ensures.awake ∙ ap (λ (v : Activity). v.awake) c.self.view_is in
-    let amounts : h.amounts ≡ now.amounts = c.clear.ensures.amounts ∙ ap (λ (v : Activity). v.amounts) c.self.view_is in
-    let size = ap (length {A = ℕ}) amounts in
-    let from = net.from edge a adds.here in
-    let low : a.from < length h.amounts = omega (arith, from, kept.amounts_length, size) in
-    let local = local-by before now h awake amounts (kept-local before now kept) in
-    end-changes_from g a.from false h h (detach-none g before edge a adds h c.clear.ensures.empty local (sym c.is_on.ensures.mark ∙ c.if-is_on.false)) (c.clear.ensures.empty 0) c.clear.ensures.sized c.self.inside.layout now awake amounts
+    let begun = (goal.at.returns-else-is_on-clause-changes c).After-clear in
+    let same = stays begun (sym c.is_on.ensures.mark ∙ c.if-is_on.false) in
+    end-changes_from (graph_net c.args.graph.now) c.args.places.from false c.clear.new.self c.clear.new.self same (c.clear.ensures.empty 0) c.clear.ensures.sized c.self.inside.layout c.args.self.now (same-awake begun) (same-amounts begun)

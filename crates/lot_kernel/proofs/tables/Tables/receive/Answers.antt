@@ -1,54 +1,12 @@
-use Rattle.std.proofs.Common.{Contains, ap, arith, rules, sym, ◌∙◌}
-use Rattle.lot_machine.specs.Step.{Effect}
-use Rattle.lot_threads.specs.Threaded.{Threaded}
-use Rattle.lot_queues.specs.QueueLists.{IsThere}
-use Rattle.lot_kernel.proofs.Holding.{makes-held}
-use Rattle.lot_kernel.proofs.Trapping.{ports-held, ports-state, receive-done, receive-keeps, running-nowhere}
-use Rattle.lot_machine.specs.Ports.{receive}
+use Rattle.std.proofs.Common.{arith, rules, sym}
 use Rattle.lot_machine.specs.State.{sizes_of}
+use Rattle.lot_kernel.proofs.PortTraps.{port-leaves, port-shows, runner-nowhere}
+use Rattle.lot_kernel.proofs.Trapping.{receive-done, receive-keeps}
 use Rattle.lot_kernel.specs.contracts.tables.Tables.{the_view}
 use Rattle.lot_kernel.proofs.tables.Tables.receive.Goals as goal
-use Rattle.lot_kernel.specs.contracts.tables.Tables.{the_view}
 
 pub receive-requires-clause-nowhere : goal.receive-requires-clause-nowhere
-receive-requires-clause-nowhere c =
-    let i = c.self.inside in
-    let order = rw (← c.self.view_is) at c.requires.order in
-    let runs = rw (← c.self.view_is) at c.requires.runs in
-    running-nowhere (sizes_of i.limits) i.currencies.items i.threads i.queues c.args.thread order runs
-
-pub invariant_of-self : goal.invariant_of-self
-invariant_of-self c =
-    let i = c.self.inside in
-    let trap = receive i.threads.records i.queues.clients i.queues.ports c.args.thread c.args.port in
-    let keeps = receive-keeps i.threads.records i.queues.clients i.queues.ports c.args.thread c.args.port in
-    let threads = ports-held (sizes_of i.limits) i.currencies.items i.threads c.receive.new.threads i.queues c.receive.new.queues c.self.invariant.threads trap c.receive.ensures.threads c.receive.ensures.queues in
-    search (rules, threads, keeps.records, keeps.clients)
-
-pub returns-clause-outcome : goal.returns-clause-outcome
-returns-clause-outcome c =
-    let there : IsThere c.self.inside.queues.ports c.args.port = (omega (arith, c.if-port-eq0.false), omega (arith, c.if-port-ports.false, c.ports.ensures)) in
-    rw (← c.self.view_is) (c.receive.ensures.outcome ∙ sym (ap (λ (e : Effect). e.outcome) (receive-done (the_view c.self.inside).state c.args.thread c.args.port there)))
-
-pub returns-clause-after : goal.returns-clause-after
-returns-clause-after c =
-    let there : IsThere c.self.inside.queues.ports c.args.port = (omega (arith, c.if-port-eq0.false), omega (arith, c.if-port-ports.false, c.ports.ensures)) in
-    rw (← c.self.view_is) (c.receive.ensures.after ∙ sym (ap (λ (e : Effect). e.after) (receive-done (the_view c.self.inside).state c.args.thread c.args.port there)))
-
-pub returns-clause-state : goal.returns-clause-state
-returns-clause-state c =
-    let i = c.self.inside in
-    let trap = receive i.threads.records i.queues.clients i.queues.ports c.args.thread c.args.port in
-    let there : IsThere i.queues.ports c.args.port = (omega (arith, c.if-port-eq0.false), omega (arith, c.if-port-ports.false, c.ports.ensures)) in
-    rw (← c.self.view_is) (ports-state (sizes_of i.limits) i.currencies.items i.threads c.receive.new.threads i.queues c.receive.new.queues c.self.invariant.threads trap c.receive.ensures.threads c.receive.ensures.queues
-    ∙ sym (ap (λ (e : Effect). e.state) (receive-done (the_view i).state c.args.thread c.args.port there)))
-
-pub returns-clause-stale : goal.returns-clause-stale
-returns-clause-stale c =
-    let i = c.self.inside in
-    let trap = receive i.threads.records i.queues.clients i.queues.ports c.args.thread c.args.port in
-    let threads = ports-held (sizes_of i.limits) i.currencies.items i.threads c.receive.new.threads i.queues c.receive.new.queues c.self.invariant.threads trap c.receive.ensures.threads c.receive.ensures.queues in
-    rw (← c.self.view_is) (makes-held (sizes_of i.limits) i.currencies.items i.currencies.items i.threads c.receive.new.threads i.queues c.receive.new.queues c.self.invariant.threads threads c.receive.ensures.stale)
+receive-requires-clause-nowhere c = runner-nowhere (sizes_of c.self.inside.limits) c.self.inside.currencies.items c.self.inside.threads c.self.inside.queues c.args.self.now c.args.thread c.self.view_is c.requires.order c.requires.runs
 
 pub receive-requires-clause-port : goal.receive-requires-clause-port
 receive-requires-clause-port c = (omega (arith, c.if-port-eq0.false), omega (arith, c.if-port-ports.false, c.ports.ensures))
@@ -56,10 +14,9 @@ receive-requires-clause-port c = (omega (arith, c.if-port-eq0.false), omega (ari
 pub receive-requires-clause-same : goal.receive-requires-clause-same
 receive-requires-clause-same c = sym c.self.invariant.clients
 
-pub returns-clause-kept : goal.returns-clause-kept
-returns-clause-kept c x stale =
-    let here : Contains (the_view c.self.inside).stale x = rw (← c.self.view_is) at stale in
-    c.receive.ensures.kept x here
+pub invariant_of-self : goal.invariant_of-self
+invariant_of-self c = let left = port-leaves (sizes_of c.self.inside.limits) c.self.inside.currencies.items c.self.inside.threads c.self.inside.queues c.receive.new.threads c.receive.new.queues _ c.self.invariant.threads (receive-keeps c.self.inside.threads.records c.self.inside.queues.clients c.self.inside.queues.ports c.args.thread c.args.port) c.receive.ensures.threads c.receive.ensures.queues in search (rules, left.0, left.1, left.2)
 
-pub returns-clause-meter : goal.returns-clause-meter
-returns-clause-meter c = rw (← c.self.view_is) (ap (λ (v : Threaded). v.meter) c.receive.ensures.threads)
+pub returns : goal.returns
+returns c = let shown = port-shows (sizes_of c.self.inside.limits) c.self.inside.currencies.items c.self.inside.threads c.self.inside.queues c.receive.new.threads c.receive.new.queues _ _ _ _ c.self.invariant.threads (receive-done (the_view c.self.inside).state c.args.thread c.args.port (omega (arith, c.if-port-eq0.false), omega (arith, c.if-port-ports.false, c.ports.ensures))) c.receive.ensures.outcome c.receive.ensures.after c.receive.ensures.threads c.receive.ensures.queues c.receive.ensures.stale c.receive.ensures.kept in
+    rw (← c.self.view_is) (record { outcome = shown.outcome; after = shown.after; state = shown.state; stale = shown.stale; kept = shown.kept; meter = shown.meter })

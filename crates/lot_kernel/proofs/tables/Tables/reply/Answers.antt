@@ -1,9 +1,7 @@
-use Rattle.std.proofs.Common.{ap, arith, rules, sym, ◌∙◌}
-use Rattle.lot_machine.specs.Step.{Effect}
-use Rattle.lot_kernel.proofs.Holding.{makes-held}
-use Rattle.lot_kernel.proofs.Trapping.{ports-held, ports-state, reply-done, reply-keeps, running-there}
-use Rattle.lot_machine.specs.Ports.{reply}
+use Rattle.std.proofs.Common.{arith, rules, sym}
 use Rattle.lot_machine.specs.State.{sizes_of}
+use Rattle.lot_kernel.proofs.PortTraps.{port-leaves, port-shows}
+use Rattle.lot_kernel.proofs.Trapping.{reply-done, reply-keeps, running-there}
 use Rattle.lot_kernel.specs.contracts.tables.Tables.{the_view}
 use Rattle.lot_kernel.proofs.tables.Tables.reply.Goals as goal
 
@@ -13,31 +11,8 @@ reply-requires-clause-server c =
     (there.0, omega (arith, there.1, c.self.invariant.clients))
 
 pub invariant_of-self : goal.invariant_of-self
-invariant_of-self c =
-    let i = c.self.inside in
-    let left = reply i.threads.records i.queues.clients i.queues.ports c.args.thread c.args.number in
-    let keeps = reply-keeps i.threads.records i.queues.clients i.queues.ports c.args.thread c.args.number in
-    let threads = ports-held (sizes_of i.limits) i.currencies.items i.threads c.reply.new.threads i.queues c.reply.new.queues c.self.invariant.threads left c.reply.ensures.threads c.reply.ensures.queues in
-    search (rules, threads, keeps.records, keeps.clients)
+invariant_of-self c = let left = port-leaves (sizes_of c.self.inside.limits) c.self.inside.currencies.items c.self.inside.threads c.self.inside.queues c.reply.new.threads c.reply.new.queues _ c.self.invariant.threads (reply-keeps c.self.inside.threads.records c.self.inside.queues.clients c.self.inside.queues.ports c.args.thread c.args.number) c.reply.ensures.threads c.reply.ensures.queues in search (rules, left.0, left.1, left.2)
 
-pub returns-clause-outcome : goal.returns-clause-outcome
-returns-clause-outcome c =
-    rw (← c.self.view_is) (c.reply.ensures.outcome ∙ sym (ap (λ (e : Effect). e.outcome) (reply-done (the_view c.self.inside).state c.args.thread c.in-Some.client c.args.number (sym c.in-Some.ensures))))
-
-pub returns-clause-after : goal.returns-clause-after
-returns-clause-after c =
-    rw (← c.self.view_is) (c.reply.ensures.after ∙ sym (ap (λ (e : Effect). e.after) (reply-done (the_view c.self.inside).state c.args.thread c.in-Some.client c.args.number (sym c.in-Some.ensures))))
-
-pub returns-clause-state : goal.returns-clause-state
-returns-clause-state c =
-    let i = c.self.inside in
-    let left = reply i.threads.records i.queues.clients i.queues.ports c.args.thread c.args.number in
-    rw (← c.self.view_is) (ports-state (sizes_of i.limits) i.currencies.items i.threads c.reply.new.threads i.queues c.reply.new.queues c.self.invariant.threads left c.reply.ensures.threads c.reply.ensures.queues
-    ∙ sym (ap (λ (e : Effect). e.state) (reply-done (the_view i).state c.args.thread c.in-Some.client c.args.number (sym c.in-Some.ensures))))
-
-pub returns-clause-stale : goal.returns-clause-stale
-returns-clause-stale c =
-    let i = c.self.inside in
-    let left = reply i.threads.records i.queues.clients i.queues.ports c.args.thread c.args.number in
-    let threads = ports-held (sizes_of i.limits) i.currencies.items i.threads c.reply.new.threads i.queues c.reply.new.queues c.self.invariant.threads left c.reply.ensures.threads c.reply.ensures.queues in
-    rw (← c.self.view_is) (makes-held (sizes_of i.limits) i.currencies.items i.currencies.items i.threads c.reply.new.threads i.queues c.reply.new.queues c.self.invariant.threads threads c.reply.ensures.stale)
+pub returns : goal.returns
+returns c = let shown = port-shows (sizes_of c.self.inside.limits) c.self.inside.currencies.items c.self.inside.threads c.self.inside.queues c.reply.new.threads c.reply.new.queues _ _ _ _ c.self.invariant.threads (reply-done (the_view c.self.inside).state c.args.thread c.in-Some.client c.args.number (sym c.in-Some.ensures)) c.reply.ensures.outcome c.reply.ensures.after c.reply.ensures.threads c.reply.ensures.queues c.reply.ensures.stale c.reply.ensures.kept in
+    rw (← c.self.view_is) (record { outcome = shown.outcome; after = shown.after; state = shown.state; stale = shown.stale; kept = shown.kept; meter = shown.meter })

@@ -1,55 +1,12 @@
-use Rattle.std.proofs.Common.{Contains, ap, arith, rules, sym, ◌∙◌}
-use Rattle.lot_machine.specs.Step.{Effect}
-use Rattle.lot_queues.specs.QueueLists.{IsThere}
-use Rattle.lot_kernel.proofs.Holding.{makes-held}
-use Rattle.lot_kernel.proofs.Trapping.{ports-held, ports-state, running-nowhere, serve-done, serve-keeps}
-use Rattle.lot_threads.specs.Threaded.{Threaded}
-use Rattle.lot_machine.specs.Ports.{serve}
+use Rattle.std.proofs.Common.{arith, rules, sym, ◌∙◌}
 use Rattle.lot_machine.specs.State.{sizes_of}
+use Rattle.lot_kernel.proofs.PortTraps.{port-leaves, port-shows, runner-nowhere}
+use Rattle.lot_kernel.proofs.Trapping.{serve-done, serve-keeps}
 use Rattle.lot_kernel.specs.contracts.tables.Tables.{the_view}
 use Rattle.lot_kernel.proofs.tables.Tables.serve.Goals as goal
 
 pub serve-requires-clause-nowhere : goal.serve-requires-clause-nowhere
-serve-requires-clause-nowhere c =
-    let i = c.self.inside in
-    let order = rw (← c.self.view_is) at c.requires.order in
-    let runs = rw (← c.self.view_is) at c.requires.runs in
-    running-nowhere (sizes_of i.limits) i.currencies.items i.threads i.queues c.args.thread order runs
-
-pub invariant_of-self : goal.invariant_of-self
-invariant_of-self c =
-    let i = c.self.inside in
-    let left = serve i.threads.records i.queues.clients i.queues.ports c.args.thread c.args.port c.args.number in
-    let keeps = serve-keeps i.threads.records i.queues.clients i.queues.ports c.args.thread c.args.port c.args.number in
-    let threads = ports-held (sizes_of i.limits) i.currencies.items i.threads c.serve.new.threads i.queues c.serve.new.queues c.self.invariant.threads left c.serve.ensures.threads c.serve.ensures.queues in
-    search (rules, threads, keeps.records, keeps.clients)
-
-pub returns-clause-outcome : goal.returns-clause-outcome
-returns-clause-outcome c =
-    let there : IsThere c.self.inside.queues.ports c.args.port = (omega (arith, c.if-port-eq0.false), omega (arith, c.if-port-ports.false, c.ports.ensures)) in
-    rw (← c.self.view_is)
-    (c.serve.ensures.outcome ∙ sym (ap (λ (e : Effect). e.outcome) (serve-done (the_view c.self.inside).state c.args.thread c.args.port c.in-Some.client c.args.number there (sym c.in-Some.ensures))))
-
-pub returns-clause-after : goal.returns-clause-after
-returns-clause-after c =
-    let there : IsThere c.self.inside.queues.ports c.args.port = (omega (arith, c.if-port-eq0.false), omega (arith, c.if-port-ports.false, c.ports.ensures)) in
-    rw (← c.self.view_is)
-    (c.serve.ensures.after ∙ sym (ap (λ (e : Effect). e.after) (serve-done (the_view c.self.inside).state c.args.thread c.args.port c.in-Some.client c.args.number there (sym c.in-Some.ensures))))
-
-pub returns-clause-state : goal.returns-clause-state
-returns-clause-state c =
-    let i = c.self.inside in
-    let left = serve i.threads.records i.queues.clients i.queues.ports c.args.thread c.args.port c.args.number in
-    let there : IsThere i.queues.ports c.args.port = (omega (arith, c.if-port-eq0.false), omega (arith, c.if-port-ports.false, c.ports.ensures)) in
-    rw (← c.self.view_is) (ports-state (sizes_of i.limits) i.currencies.items i.threads c.serve.new.threads i.queues c.serve.new.queues c.self.invariant.threads left c.serve.ensures.threads c.serve.ensures.queues
-    ∙ sym (ap (λ (e : Effect). e.state) (serve-done (the_view i).state c.args.thread c.args.port c.in-Some.client c.args.number there (sym c.in-Some.ensures))))
-
-pub returns-clause-stale : goal.returns-clause-stale
-returns-clause-stale c =
-    let i = c.self.inside in
-    let left = serve i.threads.records i.queues.clients i.queues.ports c.args.thread c.args.port c.args.number in
-    let threads = ports-held (sizes_of i.limits) i.currencies.items i.threads c.serve.new.threads i.queues c.serve.new.queues c.self.invariant.threads left c.serve.ensures.threads c.serve.ensures.queues in
-    rw (← c.self.view_is) (makes-held (sizes_of i.limits) i.currencies.items i.currencies.items i.threads c.serve.new.threads i.queues c.serve.new.queues c.self.invariant.threads threads c.serve.ensures.stale)
+serve-requires-clause-nowhere c = runner-nowhere (sizes_of c.self.inside.limits) c.self.inside.currencies.items c.self.inside.threads c.self.inside.queues c.args.self.now c.args.thread c.self.view_is c.requires.order c.requires.runs
 
 pub serve-requires-clause-port : goal.serve-requires-clause-port
 serve-requires-clause-port c = (omega (arith, c.if-port-eq0.false), omega (arith, c.if-port-ports.false, c.ports.ensures))
@@ -60,10 +17,9 @@ serve-requires-clause-client c = sym c.first_client.ensures ∙ c.in-Some.is
 pub serve-requires-clause-same : goal.serve-requires-clause-same
 serve-requires-clause-same c = sym c.self.invariant.clients
 
-pub returns-clause-kept : goal.returns-clause-kept
-returns-clause-kept c x stale =
-    let here : Contains (the_view c.self.inside).stale x = rw (← c.self.view_is) at stale in
-    c.serve.ensures.kept x here
+pub invariant_of-self : goal.invariant_of-self
+invariant_of-self c = let left = port-leaves (sizes_of c.self.inside.limits) c.self.inside.currencies.items c.self.inside.threads c.self.inside.queues c.serve.new.threads c.serve.new.queues _ c.self.invariant.threads (serve-keeps c.self.inside.threads.records c.self.inside.queues.clients c.self.inside.queues.ports c.args.thread c.args.port c.args.number) c.serve.ensures.threads c.serve.ensures.queues in search (rules, left.0, left.1, left.2)
 
-pub returns-clause-meter : goal.returns-clause-meter
-returns-clause-meter c = rw (← c.self.view_is) (ap (λ (v : Threaded). v.meter) c.serve.ensures.threads)
+pub returns : goal.returns
+returns c = let shown = port-shows (sizes_of c.self.inside.limits) c.self.inside.currencies.items c.self.inside.threads c.self.inside.queues c.serve.new.threads c.serve.new.queues _ _ _ _ c.self.invariant.threads (serve-done (the_view c.self.inside).state c.args.thread c.args.port c.in-Some.client c.args.number (omega (arith, c.if-port-eq0.false), omega (arith, c.if-port-ports.false, c.ports.ensures)) (sym c.in-Some.ensures)) c.serve.ensures.outcome c.serve.ensures.after c.serve.ensures.threads c.serve.ensures.queues c.serve.ensures.stale c.serve.ensures.kept in
+    rw (← c.self.view_is) (record { outcome = shown.outcome; after = shown.after; state = shown.state; stale = shown.stale; kept = shown.kept; meter = shown.meter })

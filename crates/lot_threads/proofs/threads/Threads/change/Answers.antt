@@ -19,8 +19,10 @@ use Rattle.lot_threads.specs.Timely.{IsTimely}
 use Rattle.lot_threads.proofs.Lending.{number-read}
 use Rattle.lot_threads.proofs.Running.{runner-within}
 use Rattle.lot_threads.proofs.Together.{changed-of, graph-is, stale-of}
+use Rattle.lot_threads.proofs.OnlyGraph.{funding-is}
 use Rattle.lot_threads.specs.Threaded.{funding_in}
 use Rattle.lot_threads.proofs.threads.Threads.change.Goals as goal
+use Rattle.lot_threads.proofs.threads.Threads.change.Goals.{After-set_competitor}
 
 -- who runs may run there
 run-on : (v : Threaded) (t : ℕ) (s : Status) (p used : ℕ) → s ≡ Running p used → CanRun v t s → IsBetween 1 v.processors p × ((u more : ℕ) → status_of v.records u ≡ Some (Running p more) → u ≡ t)
@@ -52,22 +54,28 @@ move_runner-requires-clause-before c p used is =
     let there : at_number i.records.items c.args.thread ≡ Some c.index.result.now = number-read i.records.items c.args.thread c.index.result.now thread.0 thread.1 c.index.ensures in
     runner-within i.runners.items p c.args.thread (c.self.invariant.together.runs.all c.args.thread p used (ap (λ (o : Option Record). option_map (λ (r : Record). r.status) o) there ∙ ap Some is))
 
-pub invariant_of-self : goal.invariant_of-self
-invariant_of-self c =
+-- what is kept together after the change
+kept-after : (c : After-set_competitor)
+    → AreOf c.follow_status.new.graph c.set_competitor.new.self c.self.inside.threads.items (set_number c.self.inside.records.items c.args.thread c.args.next) (with_runner c.args.thread c.args.next.status (without_runner c.index.result.now.status c.self.inside.runners.items))
+kept-after c =
     let i = c.self.inside in
     let t = c.args.thread in
     let next = c.args.next in
-    let after = set_number i.records.items t next in
     let thread = subst (λ (x : Threaded). IsThreadOf x t) (sym c.self.view_is) c.requires.there in
     let timely = subst (λ (x : Threaded). IsTimely x.quantum next) (sym c.self.view_is) c.requires.timely in
     let there = number-read i.records.items t c.index.result.now thread.0 thread.1 c.index.ensures in
-    let now = c.follow_status.ensures.now in
-    let live = c.follow_status.ensures.live in
     let set = c.set_competitor.ensures.set ∙ ap (λ (o : Option Competitor). record i.queue { competitors = set_number i.queue.competitors t o; changed = c.set_competitor.new.self.changed }) c.competitor_of.ensures in
-    let together = changed-of i.graph c.follow_status.new.graph i.queue c.set_competitor.new.self i.threads.items i.records.items i.runners.items t next c.self.invariant.together thread.0 thread.1 c.index.result.now there now live c.follow_status.ensures.known c.follow_status.ensures.kept set c.set_competitor.ensures.weights timely
-    (λ p used is. subst (λ (x : Threaded). IsBetween 1 x.processors p × ((u more : ℕ) → status_of x.records u ≡ Some (Running p more) → u ≡ t)) (sym c.self.view_is) (run-on c.args.self.now t next.status p used is c.requires.run)) in
+    let follows = c.follow_status.ensures in
+    changed-of i.graph c.follow_status.new.graph i.queue c.set_competitor.new.self i.threads.items i.records.items i.runners.items t next c.self.invariant.together thread.0 thread.1 c.index.result.now there follows.now follows.live follows.known follows.kept set c.set_competitor.ensures.weights timely
+    (λ p used is. subst (λ (x : Threaded). IsBetween 1 x.processors p × ((u more : ℕ) → status_of x.records u ≡ Some (Running p more) → u ≡ t)) (sym c.self.view_is) (run-on c.args.self.now t next.status p used is c.requires.run))
+
+pub invariant_of-self : goal.invariant_of-self
+invariant_of-self c =
+    let i = c.self.inside in
+    let now = c.follow_status.ensures.now in
+    let together = kept-after (goal.at.invariant_of-self c).After-set_competitor in
     record {
-      together = subst (λ (rs : List (Option ℕ)). AreOf c.follow_status.new.graph c.set_competitor.new.self i.threads.items after rs) (sym c.move_runner.ensures.table) together;
+      together = subst (λ (rs : List (Option ℕ)). AreOf c.follow_status.new.graph c.set_competitor.new.self i.threads.items (set_number i.records.items c.args.thread c.args.next) rs) (sym c.move_runner.ensures.table) together;
       thread_room = subst (λ (w : LimitedFunding). w.thread_limit ≤ vec_capacity i.threads) (sym now) c.self.invariant.thread_room;
       record_room = subst (λ (w : LimitedFunding). w.thread_limit ≤ vec_capacity i.records) (sym now) c.self.invariant.record_room;
     }
@@ -75,26 +83,15 @@ invariant_of-self c =
 pub returns-clause-stale : goal.returns-clause-stale
 returns-clause-stale c =
     let i = c.self.inside in
-    let t = c.args.thread in
-    let next = c.args.next in
-    let after = set_number i.records.items t next in
-    let thread = subst (λ (x : Threaded). IsThreadOf x t) (sym c.self.view_is) c.requires.there in
-    let timely = subst (λ (x : Threaded). IsTimely x.quantum next) (sym c.self.view_is) c.requires.timely in
-    let there = number-read i.records.items t c.index.result.now thread.0 thread.1 c.index.ensures in
-    let now = c.follow_status.ensures.now in
-    let live = c.follow_status.ensures.live in
-    let set = c.set_competitor.ensures.set ∙ ap (λ (o : Option Competitor). record i.queue { competitors = set_number i.queue.competitors t o; changed = c.set_competitor.new.self.changed }) c.competitor_of.ensures in
-    let together = changed-of i.graph c.follow_status.new.graph i.queue c.set_competitor.new.self i.threads.items i.records.items i.runners.items t next c.self.invariant.together thread.0 thread.1 c.index.result.now there now live c.follow_status.ensures.known c.follow_status.ensures.kept set c.set_competitor.ensures.weights timely
-    (λ p used is. subst (λ (x : Threaded). IsBetween 1 x.processors p × ((u more : ℕ) → status_of x.records u ≡ Some (Running p more) → u ≡ t)) (sym c.self.view_is) (run-on c.args.self.now t next.status p used is c.requires.run)) in
+    let after = set_number i.records.items c.args.thread c.args.next in
+    let together = kept-after (goal.at.returns-clause-stale c).After-set_competitor in
     let was = graph-is i.graph i.queue i.threads.items i.records.items i.runners.items c.self.invariant.together in
-    let then = graph-is c.follow_status.new.graph c.set_competitor.new.self i.threads.items after (with_runner t next.status (without_runner c.index.result.now.status i.runners.items)) together in
+    let then = graph-is c.follow_status.new.graph c.set_competitor.new.self i.threads.items after (with_runner c.args.thread c.args.next.status (without_runner c.index.result.now.status i.runners.items)) together in
     rw (← c.self.view_is) (stale-of i.graph c.follow_status.new.graph (with_lends i.graph.now (lends_in i.records.items)) (with_lends c.follow_status.new.graph.now (lends_in after)) (live_in i.records.items) (live_in after) was then c.self.invariant.together.live together.live c.follow_status.ensures.stale)
 
 pub follow_status-requires-clause-lend : goal.follow_status-requires-clause-lend
 follow_status-requires-clause-lend c =
-    let i = c.self.inside in
-    let was = graph-is i.graph i.queue i.threads.items i.records.items i.runners.items c.self.invariant.together in
-    let same : i.graph.now.funding ≡ funding_in c.args.self.now = ap (λ (w : LimitedFunding). w.funding) was ∙ ap funding_in c.self.view_is in
+    let same = funding-is _ _ _ _ _ c.self.invariant.together ∙ ap funding_in c.self.view_is in
     subst (λ (f : Funding). CanLend f c.args.thread (lend_of c.args.next.status)) (sym same) c.requires.lend
 
 pub follow_status-requires-clause-lent : goal.follow_status-requires-clause-lent

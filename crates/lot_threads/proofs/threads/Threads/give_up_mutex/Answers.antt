@@ -1,32 +1,11 @@
-use Rattle.std.proofs.Common.{◌∙◌, ◌≤◌, ap, sym, subst}
-use Rattle.std.specs.Vec.{vec_capacity}
-use Rattle.lot_machine.specs.State.{live_in}
-use Rattle.lot_graph.specs.Graphs.{LimitedFunding}
-use Rattle.lot_graph.specs.Changes.{with_lends}
-use Rattle.lot_threads.specs.Threaded.{lends_in}
-use Rattle.lot_threads.proofs.Together.{graph-is, graph-of, stale-of}
+use Rattle.lot_threads.proofs.OnlyGraph.{graph-room, graph-stale, graph-together}
 use Rattle.lot_threads.proofs.threads.Threads.give_up_mutex.Goals as goal
 
 pub invariant_of-self : goal.invariant_of-self
 invariant_of-self c =
-    let i = c.self.inside in
-    let new = c.give_up_mutex.new.self in
-    let lends = ap (λ (w : LimitedFunding). w.funding.lends) c.give_up_mutex.ensures.freed in
-    let limit = ap (λ (w : LimitedFunding). w.thread_limit) c.give_up_mutex.ensures.freed in
-    record {
-      together = graph-of i.graph new i.queue i.threads.items i.records.items i.runners.items c.self.invariant.together lends limit c.give_up_mutex.ensures.live c.give_up_mutex.ensures.known c.give_up_mutex.ensures.kept;
-      thread_room = subst (λ n. n ≤ vec_capacity i.threads) (sym limit) c.self.invariant.thread_room;
-      record_room = subst (λ n. n ≤ vec_capacity i.records) (sym limit) c.self.invariant.record_room;
-    }
+    let done = c.give_up_mutex.ensures in
+    let room = graph-room _ c.give_up_mutex.new.self _ _ _ _ c.self.invariant.together _ _ done.freed done.live done.known done.kept in
+    record { together = graph-together _ _ _ _ _ _ c.self.invariant.together _ _ done.freed done.live done.known done.kept; thread_room = room _ c.self.invariant.thread_room; record_room = room _ c.self.invariant.record_room }
 
 pub returns-clause-stale : goal.returns-clause-stale
-returns-clause-stale c =
-    let i = c.self.inside in
-    let new = c.give_up_mutex.new.self in
-    let lends = ap (λ (w : LimitedFunding). w.funding.lends) c.give_up_mutex.ensures.freed in
-    let limit = ap (λ (w : LimitedFunding). w.thread_limit) c.give_up_mutex.ensures.freed in
-    let together = graph-of i.graph new i.queue i.threads.items i.records.items i.runners.items c.self.invariant.together lends limit c.give_up_mutex.ensures.live c.give_up_mutex.ensures.known c.give_up_mutex.ensures.kept in
-    let live = c.self.invariant.together.live in
-    let was = graph-is i.graph i.queue i.threads.items i.records.items i.runners.items c.self.invariant.together in
-    let now = graph-is new i.queue i.threads.items i.records.items i.runners.items together in
-    rw (← c.self.view_is) (stale-of i.graph new (with_lends i.graph.now (lends_in i.records.items)) (with_lends new.now (lends_in i.records.items)) (live_in i.records.items) (live_in i.records.items) was now live (c.give_up_mutex.ensures.live ∙ live) c.give_up_mutex.ensures.stale)
+returns-clause-stale c = let done = c.give_up_mutex.ensures in rw (← c.self.view_is) (graph-stale _ _ _ _ _ _ c.self.invariant.together _ _ done.freed done.live done.known done.kept done.stale)

@@ -1,28 +1,23 @@
 use Rattle.std.proofs.Common.{◌∙◌, sym}
 use Rattle.lot_machine.specs.declared.funding.Edge.TheVariants.{OfTicket}
+use Rattle.lot_active.specs.Fundings.{AddsEdge}
+use Rattle.lot_value.specs.Valued.{StandsFor}
 use Rattle.lot_value.proofs.GraphCalls.{unfund-went}
 use Rattle.lot_value.proofs.valued_graph.ValuedGraph.unfund.Goals as goal
+use Rattle.lot_value.proofs.valued_graph.ValuedGraph.unfund.Goals.{After-unfund}
+
+-- the edge went, and where it led stands for it
+went : (c : After-unfund) → AddsEdge c.unfund.new.self c.self.inside.graph (OfTicket c.args.ticket) c.in-Some.ends × StandsFor c.self.inside.graph c.unfund.new.self c.in-Some.ends
+went c = unfund-went c.self.inside.graph c.unfund.new.self c.self.inside.active c.self.inside.values c.self.invariant c.args.ticket c.in-Some.ends (sym c.ends_of_edge.ensures.ends ∙ c.in-Some.is) c.unfund.ensures.unfunded
 
 pub detach-requires-clause-before : goal.detach-requires-clause-before
-detach-requires-clause-before c =
-    let inv = c.self.invariant in
-    let (adds, stands) = unfund-went c.self.inside.graph c.unfund.new.self c.self.inside.active c.self.inside.values inv c.args.ticket c.in-Some.ends (sym c.ends_of_edge.ensures.ends ∙ c.in-Some.is) c.unfund.ensures.unfunded in
-    (c.self.inside.graph, OfTicket c.args.ticket, adds, stands, inv)
+detach-requires-clause-before c = let (adds, stands) = went (goal.at.detach-requires-clause-before c).After-unfund in (c.self.inside.graph, OfTicket c.args.ticket, adds, stands, c.self.invariant)
 
 pub invariant_of-self : goal.invariant_of-self
-invariant_of-self c =
-    let inv = c.self.invariant in
-    let (adds, stands) = unfund-went c.self.inside.graph c.unfund.new.self c.self.inside.active c.self.inside.values inv c.args.ticket c.in-Some.ends (sym c.ends_of_edge.ensures.ends ∙ c.in-Some.is) c.unfund.ensures.unfunded in
-    (c.detach.ensures.follows c.self.inside.graph (OfTicket c.args.ticket) adds stands inv).together
+invariant_of-self c = let (adds, stands) = went (goal.at.invariant_of-self c).After-unfund in (c.detach.ensures.follows c.self.inside.graph (OfTicket c.args.ticket) adds stands c.self.invariant).together
 
 pub returns-clause-live : goal.returns-clause-live
-returns-clause-live c =
-    let inv = c.self.invariant in
-    let (adds, stands) = unfund-went c.self.inside.graph c.unfund.new.self c.self.inside.active c.self.inside.values inv c.args.ticket c.in-Some.ends (sym c.ends_of_edge.ensures.ends ∙ c.in-Some.is) c.unfund.ensures.unfunded in
-    rw (← c.self.view_is) (c.detach.ensures.follows c.self.inside.graph (OfTicket c.args.ticket) adds stands inv).live
+returns-clause-live c = let (adds, stands) = went (goal.at.returns-clause-live c).After-unfund in rw (← c.self.view_is) (c.detach.ensures.follows c.self.inside.graph (OfTicket c.args.ticket) adds stands c.self.invariant).live
 
 pub returns-clause-stale : goal.returns-clause-stale
-returns-clause-stale c =
-    let inv = c.self.invariant in
-    let (adds, stands) = unfund-went c.self.inside.graph c.unfund.new.self c.self.inside.active c.self.inside.values inv c.args.ticket c.in-Some.ends (sym c.ends_of_edge.ensures.ends ∙ c.in-Some.is) c.unfund.ensures.unfunded in
-    rw (← c.self.view_is) (c.detach.ensures.follows c.self.inside.graph (OfTicket c.args.ticket) adds stands inv).stale
+returns-clause-stale c = let (adds, stands) = went (goal.at.returns-clause-stale c).After-unfund in rw (← c.self.view_is) (c.detach.ensures.follows c.self.inside.graph (OfTicket c.args.ticket) adds stands c.self.invariant).stale

@@ -1,28 +1,23 @@
 use Rattle.std.proofs.Common.{◌∙◌, sym}
 use Rattle.lot_machine.specs.declared.funding.Edge.TheVariants.{OfLender}
+use Rattle.lot_active.specs.Fundings.{AddsEdge}
+use Rattle.lot_value.specs.Valued.{StandsFor}
 use Rattle.lot_value.proofs.GraphCalls.{unlend-went}
 use Rattle.lot_value.proofs.valued_graph.ValuedGraph.unlend.Goals as goal
+use Rattle.lot_value.proofs.valued_graph.ValuedGraph.unlend.Goals.{After-unlend}
+
+-- the edge went, and where it led stands for it
+went : (c : After-unlend) → AddsEdge c.unlend.new.self c.self.inside.graph (OfLender c.args.thread) c.in-Some.ends × StandsFor c.self.inside.graph c.unlend.new.self c.in-Some.ends
+went c = unlend-went c.self.inside.graph c.unlend.new.self c.self.inside.active c.self.inside.values c.self.invariant c.args.thread c.in-Some.ends (sym c.ends_of_edge.ensures.ends ∙ c.in-Some.is) c.unlend.ensures.unlent
 
 pub detach-requires-clause-before : goal.detach-requires-clause-before
-detach-requires-clause-before c =
-    let inv = c.self.invariant in
-    let (adds, stands) = unlend-went c.self.inside.graph c.unlend.new.self c.self.inside.active c.self.inside.values inv c.args.thread c.in-Some.ends (sym c.ends_of_edge.ensures.ends ∙ c.in-Some.is) c.unlend.ensures.unlent in
-    (c.self.inside.graph, OfLender c.args.thread, adds, stands, inv)
+detach-requires-clause-before c = let (adds, stands) = went (goal.at.detach-requires-clause-before c).After-unlend in (c.self.inside.graph, OfLender c.args.thread, adds, stands, c.self.invariant)
 
 pub invariant_of-self : goal.invariant_of-self
-invariant_of-self c =
-    let inv = c.self.invariant in
-    let (adds, stands) = unlend-went c.self.inside.graph c.unlend.new.self c.self.inside.active c.self.inside.values inv c.args.thread c.in-Some.ends (sym c.ends_of_edge.ensures.ends ∙ c.in-Some.is) c.unlend.ensures.unlent in
-    (c.detach.ensures.follows c.self.inside.graph (OfLender c.args.thread) adds stands inv).together
+invariant_of-self c = let (adds, stands) = went (goal.at.invariant_of-self c).After-unlend in (c.detach.ensures.follows c.self.inside.graph (OfLender c.args.thread) adds stands c.self.invariant).together
 
 pub returns-clause-live : goal.returns-clause-live
-returns-clause-live c =
-    let inv = c.self.invariant in
-    let (adds, stands) = unlend-went c.self.inside.graph c.unlend.new.self c.self.inside.active c.self.inside.values inv c.args.thread c.in-Some.ends (sym c.ends_of_edge.ensures.ends ∙ c.in-Some.is) c.unlend.ensures.unlent in
-    rw (← c.self.view_is) (c.detach.ensures.follows c.self.inside.graph (OfLender c.args.thread) adds stands inv).live
+returns-clause-live c = let (adds, stands) = went (goal.at.returns-clause-live c).After-unlend in rw (← c.self.view_is) (c.detach.ensures.follows c.self.inside.graph (OfLender c.args.thread) adds stands c.self.invariant).live
 
 pub returns-clause-stale : goal.returns-clause-stale
-returns-clause-stale c =
-    let inv = c.self.invariant in
-    let (adds, stands) = unlend-went c.self.inside.graph c.unlend.new.self c.self.inside.active c.self.inside.values inv c.args.thread c.in-Some.ends (sym c.ends_of_edge.ensures.ends ∙ c.in-Some.is) c.unlend.ensures.unlent in
-    rw (← c.self.view_is) (c.detach.ensures.follows c.self.inside.graph (OfLender c.args.thread) adds stands inv).stale
+returns-clause-stale c = let (adds, stands) = went (goal.at.returns-clause-stale c).After-unlend in rw (← c.self.view_is) (c.detach.ensures.follows c.self.inside.graph (OfLender c.args.thread) adds stands c.self.invariant).stale
