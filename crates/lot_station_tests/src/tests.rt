@@ -9,6 +9,7 @@ mod racing;
 mod refusing;
 mod replaying;
 mod runs;
+mod same;
 mod seats;
 mod session;
 mod slicing;

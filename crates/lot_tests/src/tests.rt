@@ -3,4 +3,6 @@ mod generated;
 mod histories;
 mod inputs;
 mod kernels;
+mod reads;
+mod same;
 mod sizes;

@@ -1,4 +1,5 @@
 mod printing;
+mod same;
 mod slices;
 
 use crate::fault_of;
@@ -6,13 +7,13 @@ use lot_machine::{Command, Kind, Limits, Name, Sizes};
 use lot_script::Script;
 use lot_simulation::{InputFault, InputRefusal, Line};
 use lot_text::{ParseFault, Program, parse};
-use std::alloc::{AllocError, Global};
+use same::{check_same, check_same_at};
+use std::alloc::Global;
 use std::fmt::Debug;
 use std::process::Abort;
-use std::test::Fail;
 
 /// A command with its names as texts.
-#[derive(Clone, Copy, Debug)]
+#[derive(Clone, Copy)]
 enum Asked<'a> {
     MakeTicket(u64, &'a str),
     RemoveTicket(u64),
@@ -73,10 +74,6 @@ fn command(rt: &impl Abort, asked: Asked<'_>) -> Command {
     }
 }
 
-fn read(alloc: Global, text: &str) -> Result<Program, ParseFault> {
-    parse(alloc, text.as_bytes())
-}
-
 fn sizes_of(limits: Limits) -> Sizes {
     Sizes {
         tickets: limits.tickets,
@@ -92,11 +89,11 @@ fn sizes_of(limits: Limits) -> Sizes {
 }
 
 fn check_limits(rt: &impl Abort, limits: Limits, wanted: Sizes) {
-    assert_eq!(rt; sizes_of(limits), wanted);
+    check_same(rt, &sizes_of(limits), &wanted);
 }
 
 fn check_items<T: PartialEq + Debug>(rt: &impl Abort, found: &[T], wanted: &[T]) {
-    assert_eq!(rt; found, wanted);
+    check_same(rt, &found, &wanted);
 }
 
 /// Compares the limits, the seeds, the turns and the schedule.
@@ -104,29 +101,28 @@ fn check_numbers(rt: &impl Abort, program: &Program, said: &Said<'_>) {
     check_limits(rt, program.limits(), said.sizes);
     check_items(rt, program.seeds(), said.seeds);
     check_items(rt, program.schedule(), said.schedule);
-    assert_eq!(rt; program.turns(), said.turns);
+    check_same(rt, &program.turns(), &said.turns);
 }
 
 /// Compares how long it runs, and when its commands are made.
 fn check_times(rt: &impl Abort, program: &Program, said: &Said<'_>) {
     check_items(rt, program.times(), said.times);
-    assert_eq!(rt; program.duration(), said.duration);
+    check_same(rt, &program.duration(), &said.duration);
 }
 
 fn check_scripts(rt: &impl Abort, scripts: &[Script], wanted: &[&[Line]]) {
-    assert_eq!(rt; scripts.len(), wanted.len());
+    check_same(rt, &scripts.len(), &wanted.len());
     for (script, lines) in scripts.iter().zip(wanted) {
         check_items(rt, script.lines(), lines);
     }
 }
 
 fn check_command(rt: &impl Abort, found: &Command, asked: Asked<'_>) {
-    let wanted = command(rt, asked);
-    assert_eq!(rt; found, &wanted, "{asked:?}");
+    check_same(rt, found, &command(rt, asked));
 }
 
 fn check_commands(rt: &impl Abort, commands: &[Command], wanted: &[Asked<'_>]) {
-    assert_eq!(rt; commands.len(), wanted.len());
+    check_same(rt, &commands.len(), &wanted.len());
     for (found, asked) in commands.iter().zip(wanted) {
         check_command(rt, found, *asked);
     }
@@ -140,10 +136,9 @@ fn check_program(rt: &impl Abort, program: &Program, said: &Said<'_>) {
 }
 
 /// Reads the text, and compares the program with what it says.
-fn check_said(rt: &impl Abort, alloc: Global, text: &str, said: &Said<'_>) -> Result<(), Fail> {
-    let program = read(alloc, text)?;
+fn check_said(rt: &impl Abort, alloc: Global, text: &str, said: &Said<'_>) {
+    let program = parse(alloc, text.as_bytes()).expect(rt, "it is read");
     check_program(rt, &program, said);
-    Ok(())
 }
 
 const FIRST_RUN: &str =
@@ -179,8 +174,8 @@ const FIRST_RUN_SAYS: Said<'_> = Said {
 };
 
 #[test]
-fn reads_the_first_run(rt: HostRuntime) -> Result<(), Fail> {
-    check_said(&rt, rt.alloc(), FIRST_RUN, &FIRST_RUN_SAYS)
+fn reads_the_first_run(rt: HostRuntime) {
+    check_said(&rt, rt.alloc(), FIRST_RUN, &FIRST_RUN_SAYS);
 }
 
 const HEADERS: &str =
@@ -208,8 +203,8 @@ const HEADERS_SAY: Said<'_> = Said {
 };
 
 #[test]
-fn reads_headers(rt: HostRuntime) -> Result<(), Fail> {
-    check_said(&rt, rt.alloc(), HEADERS, &HEADERS_SAY)
+fn reads_headers(rt: HostRuntime) {
+    check_said(&rt, rt.alloc(), HEADERS, &HEADERS_SAY);
 }
 
 /// Every kind of line of inputs whose turns follow a schedule. Two names have 16 bytes, the longest.
@@ -269,8 +264,8 @@ const WHOLE_GRAMMAR_SAYS: Said<'_> = Said {
 };
 
 #[test]
-fn reads_the_whole_grammar(rt: HostRuntime) -> Result<(), Fail> {
-    check_said(&rt, rt.alloc(), WHOLE_GRAMMAR, &WHOLE_GRAMMAR_SAYS)
+fn reads_the_whole_grammar(rt: HostRuntime) {
+    check_said(&rt, rt.alloc(), WHOLE_GRAMMAR, &WHOLE_GRAMMAR_SAYS);
 }
 
 /// What only inputs have whose turns come in the order of time.
@@ -306,8 +301,8 @@ const TIMED_SAYS: Said<'_> = Said {
 };
 
 #[test]
-fn reads_turns_in_the_order_of_time(rt: HostRuntime) -> Result<(), Fail> {
-    check_said(&rt, rt.alloc(), TIMED, &TIMED_SAYS)
+fn reads_turns_in_the_order_of_time(rt: HostRuntime) {
+    check_said(&rt, rt.alloc(), TIMED, &TIMED_SAYS);
 }
 
 // For runs in which one allocation is refused: the tests above fail in those that refuse one of these.
@@ -326,40 +321,28 @@ struct Refusals<'a> {
     ends: &'a [&'a str],
 }
 
-/// The line and the refusal of an input that is refused.
-fn refused(alloc: Global, text: &str) -> Option<(u32, InputRefusal)> {
-    let fault = fault_of(alloc, text.as_bytes()).ok()??;
+/// The line and the refusal of an input, if it is refused.
+fn refused(rt: &impl Abort, alloc: Global, text: &str) -> Option<(u32, InputRefusal)> {
+    let fault = fault_of(alloc, text.as_bytes()).expect(rt, "memory")?;
     Some((fault.line, fault.refusal))
 }
 
 fn check_refused(rt: &impl Abort, alloc: Global, text: &str, line: u32, refusal: InputRefusal) {
-    assert_eq!(rt; refused(alloc, text), Some((line, refusal)), "of {text:?}");
+    check_same_at(rt, &text, &refused(rt, alloc, text), &Some((line, refusal)));
 }
 
 /// Checks that this beginning is refused with each of these ends.
-fn check_ends(
-    rt: &impl Abort,
-    alloc: Global,
-    beginning: &str,
-    wanted: &Refusals<'_>,
-) -> Result<(), Fail> {
+fn check_ends(rt: &impl Abort, alloc: Global, beginning: &str, wanted: &Refusals<'_>) {
     for end in wanted.ends {
-        let text = format!(in alloc; "{beginning}{end}")?;
+        let text = format!(in alloc; "{beginning}{end}").expect(rt, "memory");
         check_refused(rt, alloc, text.as_str(), wanted.line, wanted.refusal);
     }
-    Ok(())
 }
 
-fn check_table(
-    rt: &impl Abort,
-    alloc: Global,
-    beginning: &str,
-    table: &[Refusals<'_>],
-) -> Result<(), Fail> {
+fn check_table(rt: &impl Abort, alloc: Global, beginning: &str, table: &[Refusals<'_>]) {
     for wanted in table {
-        check_ends(rt, alloc, beginning, wanted)?;
+        check_ends(rt, alloc, beginning, wanted);
     }
-    Ok(())
 }
 
 const FIRST_LINES: [Refusals<'_>; 3] = [
@@ -389,8 +372,8 @@ const FIRST_LINES: [Refusals<'_>; 3] = [
 ];
 
 #[test]
-fn refuses_first_lines(rt: HostRuntime) -> Result<(), Fail> {
-    check_table(&rt, rt.alloc(), "", &FIRST_LINES)
+fn refuses_first_lines(rt: HostRuntime) {
+    check_table(&rt, rt.alloc(), "", &FIRST_LINES);
 }
 
 const REFUSED_HEADERS: [Refusals<'_>; 6] = [
@@ -442,8 +425,8 @@ const REFUSED_HEADERS: [Refusals<'_>; 6] = [
 ];
 
 #[test]
-fn refuses_headers(rt: HostRuntime) -> Result<(), Fail> {
-    check_table(&rt, rt.alloc(), "lottery 1\n", &REFUSED_HEADERS)
+fn refuses_headers(rt: HostRuntime) {
+    check_table(&rt, rt.alloc(), "lottery 1\n", &REFUSED_HEADERS);
 }
 
 const REFUSED_BODIES: [Refusals<'_>; 8] = [
@@ -521,8 +504,8 @@ const REFUSED_BODIES: [Refusals<'_>; 8] = [
 ];
 
 #[test]
-fn refuses_bodies(rt: HostRuntime) -> Result<(), Fail> {
-    check_table(&rt, rt.alloc(), "lottery 1\n", &REFUSED_BODIES)
+fn refuses_bodies(rt: HostRuntime) {
+    check_table(&rt, rt.alloc(), "lottery 1\n", &REFUSED_BODIES);
 }
 
 /// The call and its reply, up to a line of the server's script.
@@ -574,8 +557,8 @@ const REFUSED_SCRIPTS: [Refusals<'_>; 7] = [
 ];
 
 #[test]
-fn refuses_scripts(rt: HostRuntime) -> Result<(), Fail> {
-    check_table(&rt, rt.alloc(), CALL, &REFUSED_SCRIPTS)
+fn refuses_scripts(rt: HostRuntime) {
+    check_table(&rt, rt.alloc(), CALL, &REFUSED_SCRIPTS);
 }
 
 const REFUSED_RUNS: [Refusals<'_>; 4] = [
@@ -602,8 +585,8 @@ const REFUSED_RUNS: [Refusals<'_>; 4] = [
 ];
 
 #[test]
-fn refuses_runs(rt: HostRuntime) -> Result<(), Fail> {
-    check_table(&rt, rt.alloc(), "lottery 2\n", &REFUSED_RUNS)
+fn refuses_runs(rt: HostRuntime) {
+    check_table(&rt, rt.alloc(), "lottery 2\n", &REFUSED_RUNS);
 }
 
 /// Header lines of an input whose turns come in the order of time.
@@ -680,110 +663,100 @@ const REFUSED_PHRASES: [Refusals<'_>; 4] = [
 ];
 
 #[test]
-fn refuses_phrases(rt: HostRuntime) -> Result<(), Fail> {
+fn refuses_phrases(rt: HostRuntime) {
     let opened = "lottery 3\nfor 5\nmutex m\nscript s\n";
-    check_table(&rt, rt.alloc(), opened, &REFUSED_PHRASES)
+    check_table(&rt, rt.alloc(), opened, &REFUSED_PHRASES);
 }
 
 #[test]
-fn refuses_durations(rt: HostRuntime) -> Result<(), Fail> {
-    check_table(&rt, rt.alloc(), "lottery 3\n", &REFUSED_DURATIONS)
+fn refuses_durations(rt: HostRuntime) {
+    check_table(&rt, rt.alloc(), "lottery 3\n", &REFUSED_DURATIONS);
 }
 
 #[test]
-fn refuses_times(rt: HostRuntime) -> Result<(), Fail> {
-    check_table(&rt, rt.alloc(), "lottery 3\nfor 5\n", &REFUSED_TIMES)
+fn refuses_times(rt: HostRuntime) {
+    check_table(&rt, rt.alloc(), "lottery 3\nfor 5\n", &REFUSED_TIMES);
 }
 
 /// A first line, and then a line of this many bytes.
-fn long_line(alloc: Global, first: &str, count: usize) -> Result<String, AllocError> {
-    let mut text = String::from_str(alloc, "lottery 1\n")?;
-    text.push_str(first)?;
+fn long_line(rt: &impl Abort, alloc: Global, first: &str, count: usize) -> String {
+    let mut text = format!(in alloc; "lottery 1\n{first}").expect(rt, "memory");
     for _ in first.len()..count {
-        text.push('x')?;
+        text.push('x').expect(rt, "memory");
     }
-    Ok(text)
+    text
 }
 
 /// A script of this many lines.
-fn long_script(alloc: Global, count: u32) -> Result<String, AllocError> {
-    let mut text = String::from_str(alloc, "lottery 1\nscript s\n")?;
+fn long_script(rt: &impl Abort, alloc: Global, count: u32) -> String {
+    let mut text = String::from_str(alloc, "lottery 1\nscript s\n").expect(rt, "memory");
     for _ in 0..count {
-        text.push_str("compute 1\n")?;
+        text.push_str("compute 1\n").expect(rt, "memory");
     }
-    text.push_str("endscript\n")?;
-    Ok(text)
+    text.push_str("endscript\n").expect(rt, "memory");
+    text
 }
 
 /// A script of this many words, with 500 on a line.
-fn long_phrases(alloc: Global, count: u32) -> Result<String, AllocError> {
-    let mut text = String::from_str(alloc, "lottery 3\nfor 5\nscript s\n")?;
+fn long_phrases(rt: &impl Abort, alloc: Global, count: u32) -> String {
+    let mut text = String::from_str(alloc, "lottery 3\nfor 5\nscript s\n").expect(rt, "memory");
     for number in 1..count.saturating_add(1) {
-        text.push_str(if number % 500 == 0 {
+        let word = if number % 500 == 0 {
             "yield\n"
         } else {
             "yield "
-        })?;
+        };
+        text.push_str(word).expect(rt, "memory");
     }
-    text.push_str("endscript\n")?;
-    Ok(text)
+    text.push_str("endscript\n").expect(rt, "memory");
+    text
 }
 
-/// Compares the line and the refusal of a long input, if it is refused.
+/// Compares the line and the refusal of a long input, if it is refused, and shows how many bytes it has.
 fn check_long(rt: &impl Abort, alloc: Global, text: &str, wanted: Option<(u32, InputRefusal)>) {
-    assert_eq!(rt; refused(alloc, text), wanted, "of {} bytes", text.len());
+    check_same_at(rt, &text.len(), &refused(rt, alloc, text), &wanted);
 }
 
 #[test]
-fn meets_limits_of_lines(rt: HostRuntime) -> Result<(), Fail> {
+fn meets_limits_of_lines(rt: HostRuntime) {
     for (first, count, wanted) in [
         ("#", 4096, None),
         ("#", 4097, Some((2, InputRefusal::TooLong))),
         ("x", 4096, Some((2, InputRefusal::BadLine))),
         ("x", 4097, Some((2, InputRefusal::TooLong))),
     ] {
-        let text = long_line(rt.alloc(), first, count)?;
+        let text = long_line(&rt, rt.alloc(), first, count);
         check_long(&rt, rt.alloc(), text.as_str(), wanted);
     }
-    Ok(())
 }
 
 #[test]
-fn meets_limits_of_scripts(rt: HostRuntime) -> Result<(), Fail> {
+fn meets_limits_of_scripts(rt: HostRuntime) {
     for (count, wanted) in [(1024, None), (1025, Some((1027, InputRefusal::TooLong)))] {
-        let text = long_script(rt.alloc(), count)?;
+        let text = long_script(&rt, rt.alloc(), count);
         check_long(&rt, rt.alloc(), text.as_str(), wanted);
     }
-    Ok(())
 }
 
 #[test]
-fn meets_limits_of_phrases(rt: HostRuntime) -> Result<(), Fail> {
+fn meets_limits_of_phrases(rt: HostRuntime) {
     for (count, wanted) in [(1024, None), (1025, Some((6, InputRefusal::TooLong)))] {
-        let text = long_phrases(rt.alloc(), count)?;
+        let text = long_phrases(&rt, rt.alloc(), count);
         check_long(&rt, rt.alloc(), text.as_str(), wanted);
     }
-    Ok(())
 }
 
-fn check_text(
-    rt: &impl Abort,
-    alloc: Global,
-    fault: ParseFault,
-    text: &str,
-) -> Result<(), AllocError> {
-    let shown = format!(in alloc; "{fault}")?;
-    assert_eq!(rt; shown.as_str(), text);
-    Ok(())
+fn check_text(rt: &impl Abort, alloc: Global, fault: ParseFault, text: &str) {
+    let shown = format!(in alloc; "{fault}").expect(rt, "memory");
+    check_same(rt, &shown.as_str(), &text);
 }
 
 #[test]
-fn texts_of_faults(rt: HostRuntime) -> Result<(), Fail> {
+fn texts_of_faults(rt: HostRuntime) {
     let refused = ParseFault::Input(InputFault {
         line: 3,
         refusal: InputRefusal::BadLine,
     });
-    check_text(&rt, rt.alloc(), ParseFault::Memory, "out of memory")?;
-    check_text(&rt, rt.alloc(), refused, "line 3 is refused: BadLine")?;
-    Ok(())
+    check_text(&rt, rt.alloc(), ParseFault::Memory, "out of memory");
+    check_text(&rt, rt.alloc(), refused, "line 3 is refused: BadLine");
 }

@@ -2,6 +2,7 @@
 ghost use Rattle.std.specs.Prelude.{◌≡◌, All, IfSome};
 ghost use Rattle.lot_station.specs.BatonSeats.{IsSameSeat, IsSeatOf};
 
+use crate::tests::same::check_same;
 use crate::tests::seats::{baton_shares_of, make_turn};
 use crate::tests::{
     END, ENDED, EXPIRED, FIRST_DRAW, FUNDED, IDLE, SECOND_DRAW, TWO_PROCESSORS, end_of, program_of,
@@ -170,7 +171,7 @@ fn turns_after<R: Wait>(rt: &R, alloc: Global) -> Option<(bool, bool)> {
 
 #[test]
 fn turns_after_meetings(rt: HostRuntime) {
-    assert_eq!(rt; turns_after(&rt, rt.alloc()), Some((true, true)));
+    check_same(&rt, &turns_after(&rt, rt.alloc()), &Some((true, true)));
 }
 
 /// The turns of the actors 0, 1, 2, 1 and 2.
@@ -252,5 +253,5 @@ fn plays_the_row<R: Wait>(rt: &R, alloc: Global) -> Option<[bool; 4]> {
 // The row of the station under a lock: the same replies, the same numbers of the seats, and the same end.
 #[test]
 fn write_then_read(rt: HostRuntime) {
-    assert_eq!(rt; plays_the_row(&rt, rt.alloc()), Some([true; 4]));
+    check_same(&rt, &plays_the_row(&rt, rt.alloc()), &Some([true; 4]));
 }

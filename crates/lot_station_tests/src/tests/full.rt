@@ -1,6 +1,7 @@
 //! A history that is full before all turns are made.
 ghost use Rattle.std.specs.Prelude.{◌≡◌, ◌+◌};
 
+use crate::tests::same::{check_same, check_same_at};
 use crate::tests::turnstile::Turnstile;
 use crate::tests::{TWO_PROCESSORS, program_of};
 use lot_engine::{System, TurnFault};
@@ -104,7 +105,7 @@ fn stopped<R: Threads + Wait + Sync>(rt: &R, alloc: Global) -> Option<(bool, u64
 // The run says why it stopped, and the seats have the turns of the history.
 #[test]
 fn stops_where_the_history_is_full(rt: HostRuntime) {
-    assert_eq!(rt; stopped(&rt, rt.alloc()), Some((true, 3, 3)));
+    check_same(&rt, &stopped(&rt, rt.alloc()), &Some((true, 3, 3)));
 }
 
 /// Whether this processor's worker, held until the others have come by twice, gave up in a history with room for two
@@ -124,9 +125,7 @@ fn stopped_after<R: Threads + Wait + Sync>(
 #[test]
 fn stops_after_gates(rt: HostRuntime) {
     for held in [1, 2] {
-        assert_eq!(rt;
-            stopped_after(&rt, rt.alloc(), held),
-            Some((false, true, 2))
-        );
+        let found = stopped_after(&rt, rt.alloc(), held);
+        check_same_at(&rt, &held, &found, &Some((false, true, 2)));
     }
 }

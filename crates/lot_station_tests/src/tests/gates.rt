@@ -4,6 +4,7 @@ ghost use Rattle.std.specs.Prelude.{All};
 ghost use Rattle.lot_station.specs.BatonSeats.{IsSeatOf};
 
 use crate::tests::full::is_stopped;
+use crate::tests::same::{check_same, check_same_at};
 use crate::tests::turnstile::Turnstile;
 use crate::tests::{TWO_PROCESSORS, program_of};
 use lot_engine::System;
@@ -78,10 +79,8 @@ fn held_in_free_run<R: Threads + Wait + Sync>(
 #[test]
 fn workers_run_at_once(rt: HostRuntime) {
     for held in [1, 2] {
-        assert_eq!(rt;
-            held_in_free_run(&rt, rt.alloc(), TWO_PROCESSORS, held, 2),
-            waited(5)
-        );
+        let seen = held_in_free_run(&rt, rt.alloc(), TWO_PROCESSORS, held, 2);
+        check_same_at(&rt, &held, &seen, &waited(5));
     }
 }
 
@@ -89,10 +88,8 @@ fn workers_run_at_once(rt: HostRuntime) {
 #[test]
 fn three_workers_run_at_once(rt: HostRuntime) {
     for held in [1, 2, 3] {
-        assert_eq!(rt;
-            held_in_free_run(&rt, rt.alloc(), THREE_PROCESSORS, held, 4),
-            waited(7)
-        );
+        let seen = held_in_free_run(&rt, rt.alloc(), THREE_PROCESSORS, held, 4);
+        check_same_at(&rt, &held, &seen, &waited(7));
     }
 }
 
@@ -150,7 +147,7 @@ fn held_in_baton_run<R: Threads + Wait + Sync>(
 fn baton_workers_run_at_once(rt: HostRuntime) {
     for held in [1, 2] {
         let seen = held_in_baton_run(&rt, rt.alloc(), TWO_PROCESSORS, held, 2, 5);
-        assert_eq!(rt; seen, waited(5).map(|seen| (false, seen)));
+        check_same_at(&rt, &held, &seen, &waited(5).map(|seen| (false, seen)));
     }
 }
 
@@ -158,7 +155,7 @@ fn baton_workers_run_at_once(rt: HostRuntime) {
 fn three_baton_workers_run_at_once(rt: HostRuntime) {
     for held in [1, 2, 3] {
         let seen = held_in_baton_run(&rt, rt.alloc(), THREE_PROCESSORS, held, 4, 7);
-        assert_eq!(rt; seen, waited(7).map(|seen| (false, seen)));
+        check_same_at(&rt, &held, &seen, &waited(7).map(|seen| (false, seen)));
     }
 }
 
@@ -167,10 +164,8 @@ fn three_baton_workers_run_at_once(rt: HostRuntime) {
 fn baton_workers_stop_where_the_history_is_full(rt: HostRuntime) {
     for (held, room) in [(1, 2), (2, 2), (0, 3)] {
         let seen = held_in_baton_run(&rt, rt.alloc(), TWO_PROCESSORS, held, 2, room);
-        assert_eq!(rt;
-            seen.map(|(full, seen)| (full, seen.gave_up, seen.turns)),
-            Some((true, false, room as usize))
-        );
+        let found = seen.map(|(full, seen)| (full, seen.gave_up, seen.turns));
+        check_same_at(&rt, &held, &found, &Some((true, false, room as usize)));
     }
 }
 
@@ -236,6 +231,7 @@ fn passes_of_baton_run<R: Threads + Wait + Sync>(
 // Each processor's worker passes with its number and the turns 1 and 2, in order; the console's passes no gate.
 #[test]
 fn gates_are_passed_in_order(rt: HostRuntime) {
-    assert_eq!(rt; passes_of_free_run(&rt, rt.alloc()), Some((2, 2, false)));
-    assert_eq!(rt; passes_of_baton_run(&rt, rt.alloc()), Some((2, 2, false)));
+    let wanted = Some((2, 2, false));
+    check_same(&rt, &passes_of_free_run(&rt, rt.alloc()), &wanted);
+    check_same(&rt, &passes_of_baton_run(&rt, rt.alloc()), &wanted);
 }

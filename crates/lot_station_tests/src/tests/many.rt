@@ -2,6 +2,7 @@
 
 use crate::tests::gates::baton_run;
 use crate::tests::program_of;
+use crate::tests::same::check_same;
 use crate::tests::turnstile::TRIES;
 use lot_processors::{Gate, free_run};
 use std::alloc::Global;
@@ -80,10 +81,18 @@ fn baton_run_of_many<R: Threads + Wait + Sync>(rt: &R, alloc: Global) -> Option<
 // 64 workers wait for each other before their turns, so each has a thread of its own.
 #[test]
 fn many_workers_meet(rt: HostRuntime) {
-    assert_eq!(rt; free_run_of_many(&rt, rt.alloc()), Some((false, true)));
+    check_same(
+        &rt,
+        &free_run_of_many(&rt, rt.alloc()),
+        &Some((false, true)),
+    );
 }
 
 #[test]
 fn many_baton_workers_meet(rt: HostRuntime) {
-    assert_eq!(rt; baton_run_of_many(&rt, rt.alloc()), Some((false, true)));
+    check_same(
+        &rt,
+        &baton_run_of_many(&rt, rt.alloc()),
+        &Some((false, true)),
+    );
 }

@@ -2,6 +2,7 @@
 ghost use Rattle.std.specs.Prelude.{◌≡◌, ◌+◌};
 
 use crate::tests::replaying::{Compared, Played, compared};
+use crate::tests::same::check_same;
 use crate::tests::{TWO_PROCESSORS, program_of};
 use lot_engine::{Answer, System, slice_for};
 use lot_station::{Seat, Station, TurnLedger};
@@ -145,5 +146,5 @@ fn are_replayed<R: Threads + Wait + Sync>(rt: &R, alloc: Global, rounds: u32) ->
 // Whatever the order in which three threads got the lock, each result is the one of the closed history.
 #[test]
 fn answers_replay(rt: HostRuntime) {
-    assert_eq!(rt; are_replayed(&rt, rt.alloc(), 100), Some(true));
+    check_same(&rt, &are_replayed(&rt, rt.alloc(), 100), &Some(true));
 }

@@ -1,6 +1,7 @@
 //! Seats that aren't one for each actor, in order.
 ghost use Rattle.std.specs.Prelude.{◌≡◌, ◌+◌, IfSome};
 
+use crate::tests::same::check_same;
 use crate::tests::{TWO_PROCESSORS, opened};
 use lot_engine::System;
 use lot_station::{CloseFault, Seat, Station, TurnLedger};
@@ -140,5 +141,5 @@ fn hands_back(rt: &impl Wait, alloc: Global) -> Option<(usize, usize, bool)> {
 // A station that isn't closed is handed back with its seats, and can be used and closed.
 #[test]
 fn seats_are_handed_back(rt: HostRuntime) {
-    assert_eq!(rt; hands_back(&rt, rt.alloc()), Some((2, 3, true)));
+    check_same(&rt, &hands_back(&rt, rt.alloc()), &Some((2, 3, true)));
 }

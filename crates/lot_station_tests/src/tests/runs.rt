@@ -1,5 +1,6 @@
 //! Free runs.
 
+use crate::tests::same::check_same;
 use crate::tests::{TWO_PROCESSORS, program_of};
 use lot_processors::{FreeRunFault, OpenGate, free_run};
 use lot_text::Program;
@@ -38,7 +39,7 @@ fn have_turns<R: Threads + Wait + Sync>(rt: &R, alloc: Global, rounds: u32) -> O
 // Each processor has its turns, and the console one for each command.
 #[test]
 fn each_actor_has_its_turns(rt: HostRuntime) {
-    assert_eq!(rt; have_turns(&rt, rt.alloc(), 50), Some(true));
+    check_same(&rt, &have_turns(&rt, rt.alloc(), 50), &Some(true));
 }
 
 // For runs in which one allocation fails: it returns out of memory, and nothing else.

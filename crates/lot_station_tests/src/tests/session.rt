@@ -1,6 +1,7 @@
 //! Turns by seats, one after another.
 ghost use Rattle.std.specs.Prelude.{◌≡◌, ◌+◌};
 
+use crate::tests::same::check_same;
 use crate::tests::seats::{Shares, shares_of};
 use crate::tests::{
     END, ENDED, EXPIRED, FIRST_DRAW, FUNDED, IDLE, SECOND_DRAW, TWO_PROCESSORS, end_of, opened,
@@ -131,7 +132,7 @@ fn plays_the_row(rt: &impl Wait, alloc: Global) -> Option<(bool, bool)> {
 // A draw that a seat makes is of what another seat's command made.
 #[test]
 fn write_then_read(rt: HostRuntime) {
-    assert_eq!(rt; plays_the_row(&rt, rt.alloc()), Some((true, true)));
+    check_same(&rt, &plays_the_row(&rt, rt.alloc()), &Some((true, true)));
 }
 
 /// The same in two stations, one after the other; what was seen of the second.

@@ -2,6 +2,7 @@
 ghost use Rattle.std.specs.Prelude.{◌≡◌, ◌+◌};
 
 use crate::tests::opened;
+use crate::tests::same::check_same;
 use crate::tests::seats::{Shares, shares_of};
 use lot_engine::{System, TurnFault, Work, slice_for};
 use lot_machine::{Outcome, Reply};
@@ -195,5 +196,6 @@ fn refuses_twice(rt: &impl Wait, alloc: Global) -> Option<((bool, bool), bool)> 
 // A slice that was used is stale: the work is then after its trap, and neither history nor shares change.
 #[test]
 fn a_slice_twice(rt: HostRuntime) {
-    assert_eq!(rt; refuses_twice(&rt, rt.alloc()), Some(((true, true), true)));
+    let found = refuses_twice(&rt, rt.alloc());
+    check_same(&rt, &found, &Some(((true, true), true)));
 }

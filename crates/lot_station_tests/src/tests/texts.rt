@@ -1,46 +1,39 @@
 //! The texts of faults.
 
+use crate::tests::same::check_same;
 use lot_engine::TurnFault;
 use lot_processors::{FreeRunFault, RunFault};
+use std::alloc::Global;
+use std::fmt::Display;
+use std::process::Abort;
 use std::test::*;
 
+/// Compares how a fault is shown.
+fn check_text(rt: &impl Abort, alloc: Global, fault: &impl Display, text: &str) {
+    let shown = format!(in alloc; "{fault}").expect(rt, "memory");
+    check_same(rt, &shown.as_str(), &text);
+}
+
 #[test]
-fn of_a_run(rt: HostRuntime) -> Result<(), Fail> {
+fn of_a_run(rt: HostRuntime) {
     let fault = RunFault::Turn(TurnFault::HistoryFull);
-    let text = format!(in rt.alloc(); "{fault}")?;
-    assert_eq!(rt;
-        text.as_str(),
-        "a worker's turn wasn't made: the history is full"
-    );
-    Ok(())
+    let text = "a worker's turn wasn't made: the history is full";
+    check_text(&rt, rt.alloc(), &fault, text);
 }
 
 #[test]
-fn of_memory(rt: HostRuntime) -> Result<(), Fail> {
-    let fault = FreeRunFault::Memory;
-    let text = format!(in rt.alloc(); "{fault}")?;
-    assert_eq!(rt; text.as_str(), "out of memory");
-    Ok(())
-}
-
-#[test]
-fn of_a_free_run(rt: HostRuntime) -> Result<(), Fail> {
-    let fault = FreeRunFault::Run(RunFault::Turn(TurnFault::Ended));
-    let text = format!(in rt.alloc(); "{fault}")?;
-    assert_eq!(rt;
-        text.as_str(),
-        "a worker's turn wasn't made: no command is left"
-    );
-    Ok(())
-}
-
-#[test]
-fn of_counts(rt: HostRuntime) -> Result<(), Fail> {
-    let fault = FreeRunFault::CountsDiffer;
-    let text = format!(in rt.alloc(); "{fault}")?;
-    assert_eq!(rt;
-        text.as_str(),
-        "what the seats count isn't what the history has"
-    );
-    Ok(())
+fn of_free_runs(rt: HostRuntime) {
+    for (fault, text) in [
+        (FreeRunFault::Memory, "out of memory"),
+        (
+            FreeRunFault::Run(RunFault::Turn(TurnFault::Ended)),
+            "a worker's turn wasn't made: no command is left",
+        ),
+        (
+            FreeRunFault::CountsDiffer,
+            "what the seats count isn't what the history has",
+        ),
+    ] {
+        check_text(&rt, rt.alloc(), &fault, text);
+    }
 }

@@ -1,9 +1,9 @@
 //! The kernel that README shows, embedded.
 use lot_kernel::{Command, Event, Kernel, Limits, Name, Reply, Sizes};
 use std::alloc::Global;
-use std::test::Fail;
+use std::process::Abort;
 
-fn first_winner(alloc: Global) -> Result<Reply, Fail> {
+fn first_winner(rt: &impl Abort, alloc: Global) -> Reply {
     let limits = Limits::new(Sizes {
         tickets: 64,
         currencies: 16,
@@ -14,25 +14,25 @@ fn first_winner(alloc: Global) -> Result<Reply, Fail> {
         scripts: 1,
         quantum: 100,
         unit: 1,
-    })
-    .ok_or("limits")?;
-    let mut kernel = Kernel::new(alloc, limits)?;
+    });
+    let limits = limits.expect(rt, "limits");
+    let mut kernel = Kernel::new(alloc, limits).expect(rt, "memory");
     for (name, amount) in [("first", 10), ("second", 5)] {
         let command = Command::MakeFunded {
             amount,
-            currency: Name::new("base").ok_or("name")?,
-            name: Name::new(name).ok_or("name")?,
+            currency: Name::new("base").expect(rt, "a name"),
+            name: Name::new(name).expect(rt, "a name"),
             script: 1,
         };
         kernel.event(&Event::Command(command));
     }
     // Number 9 of 15 is the first thread's: it has 0 to 9.
-    Ok(kernel.event(&Event::Draw(1, 9)))
+    kernel.event(&Event::Draw(1, 9))
 }
 
 #[test]
-fn an_embedded_kernel(rt: HostRuntime) -> Result<(), Fail> {
-    let reply = first_winner(rt.alloc())?;
+fn an_embedded_kernel(rt: HostRuntime) {
+    let reply = first_winner(&rt, rt.alloc());
     assert!(rt;
         matches!(
             reply,
@@ -44,5 +44,4 @@ fn an_embedded_kernel(rt: HostRuntime) -> Result<(), Fail> {
             }
         )
     );
-    Ok(())
 }

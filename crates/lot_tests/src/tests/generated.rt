@@ -1,12 +1,12 @@
 //! Events of all kinds from a fixed generator, over the largest tables: a kernel that was asked for its rows again
 //! and again shows what a kernel shows that got the same events at once.
 
-use crate::may_read;
+use super::reads::may_read;
+use super::same::check_same;
 use lot_draw::ParkMiller;
 use lot_kernel::{Action, Command, Event, Kernel, Kind, Limits, Meter, Name, Sizes};
 use std::alloc::Global;
 use std::process::Abort;
-use std::test::Fail;
 
 /// How many events there are between two comparisons.
 const PART: u32 = 1000;
@@ -15,69 +15,73 @@ const PART: u32 = 1000;
 const PARTS: u32 = 100;
 
 /// The generator of the events: it always begins with the same seed.
-fn generator() -> Result<ParkMiller, Fail> {
-    Ok(ParkMiller::new(1).ok_or("a seed")?)
+fn generator(rt: &impl Abort) -> ParkMiller {
+    ParkMiller::new(1).expect(rt, "a seed")
 }
 
-fn new_kernel(alloc: Global) -> Result<Kernel, Fail> {
-    Ok(Kernel::new(alloc, Limits::new(Sizes::LARGEST).ok_or("limits")?)?)
+fn new_kernel(rt: &impl Abort, alloc: Global) -> Kernel {
+    let limits = Limits::new(Sizes::LARGEST).expect(rt, "limits");
+    Kernel::new(alloc, limits).expect(rt, "memory")
+}
+
+/// The name of a letter and a number.
+fn numbered(rt: &impl Abort, alloc: Global, letter: char, number: u32) -> Name {
+    let text = format!(in alloc; "{letter}{number}").expect(rt, "memory");
+    Name::new(text.as_str()).expect(rt, "a name")
 }
 
 /// The name of a currency, or base.
-fn currency_name(alloc: Global, numbers: &mut ParkMiller) -> Result<Name, Fail> {
-    let number = numbers.next() % 64;
-    if number == 0 {
-        return Ok(Name::new("base").ok_or("a name")?);
+fn currency_name(rt: &impl Abort, alloc: Global, numbers: &mut ParkMiller) -> Name {
+    match numbers.next() % 64 {
+        0 => Name::new("base").expect(rt, "a name"),
+        number => numbered(rt, alloc, 'c', number),
     }
-    let text = format!(in alloc; "c{number}")?;
-    Ok(Name::new(text.as_str()).ok_or("a name")?)
 }
 
-fn thread_name(alloc: Global, numbers: &mut ParkMiller) -> Result<Name, Fail> {
-    let text = format!(in alloc; "t{}", numbers.next() % 4096)?;
-    Ok(Name::new(text.as_str()).ok_or("a name")?)
+fn thread_name(rt: &impl Abort, alloc: Global, numbers: &mut ParkMiller) -> Name {
+    numbered(rt, alloc, 't', numbers.next() % 4096)
 }
 
 /// The name of a currency or a thread.
-fn target_name(alloc: Global, numbers: &mut ParkMiller) -> Result<Name, Fail> {
+fn target_name(rt: &impl Abort, alloc: Global, numbers: &mut ParkMiller) -> Name {
     if numbers.next() % 2 == 0 {
-        return currency_name(alloc, numbers);
+        return currency_name(rt, alloc, numbers);
     }
-    thread_name(alloc, numbers)
+    thread_name(rt, alloc, numbers)
 }
 
-fn next_command(alloc: Global, numbers: &mut ParkMiller) -> Result<Command, Fail> {
+fn next_command(rt: &impl Abort, alloc: Global, numbers: &mut ParkMiller) -> Command {
     let amount = u64::from(numbers.next() % 1000) + 1;
     let ticket = u64::from(numbers.next() % 8000);
-    Ok(match numbers.next() % 10 {
+    match numbers.next() % 10 {
         0 => Command::MakeTicket {
             amount,
-            currency: currency_name(alloc, numbers)?,
+            currency: currency_name(rt, alloc, numbers),
         },
         1 => Command::RemoveTicket { ticket },
         2 => Command::MakeCurrency {
-            name: currency_name(alloc, numbers)?,
+            name: currency_name(rt, alloc, numbers),
         },
         3 => Command::RemoveCurrency {
-            currency: currency_name(alloc, numbers)?,
+            currency: currency_name(rt, alloc, numbers),
         },
         4 | 5 => Command::Fund {
             ticket,
-            target: target_name(alloc, numbers)?,
+            target: target_name(rt, alloc, numbers),
         },
         6 => Command::Unfund { ticket },
         7 => Command::MakeThread {
-            name: thread_name(alloc, numbers)?,
+            name: thread_name(rt, alloc, numbers),
             script: 1,
         },
         8 => Command::MakeFunded {
             amount,
-            currency: currency_name(alloc, numbers)?,
-            name: thread_name(alloc, numbers)?,
+            currency: currency_name(rt, alloc, numbers),
+            name: thread_name(rt, alloc, numbers),
             script: 1,
         },
         _ => Command::List(Kind::Threads),
-    })
+    }
 }
 
 fn next_action(numbers: &mut ParkMiller) -> Action {
@@ -94,14 +98,14 @@ fn next_action(numbers: &mut ParkMiller) -> Action {
     }
 }
 
-fn next_event(alloc: Global, numbers: &mut ParkMiller) -> Result<Event, Fail> {
+fn next_event(rt: &impl Abort, alloc: Global, numbers: &mut ParkMiller) -> Event {
     let processor = numbers.next() % 16;
-    Ok(match numbers.next() % 8 {
-        0 | 1 => Event::Command(next_command(alloc, numbers)?),
+    match numbers.next() % 8 {
+        0 | 1 => Event::Command(next_command(rt, alloc, numbers)),
         2..=4 => Event::Draw(processor, numbers.wide_number()),
         5 => Event::Expire(processor),
         _ => Event::Trap(processor, numbers.next() % 64, next_action(numbers)),
-    })
+    }
 }
 
 /// Gives a kernel so many events, and returns how much draws and unlocks have read. Another event reads nothing.
@@ -111,60 +115,58 @@ fn give(
     kernel: &mut Kernel,
     numbers: &mut ParkMiller,
     count: u32,
-) -> Result<u64, Fail> {
+) -> u64 {
     let mut read: u64 = 0;
     for _ in 0..count {
-        let event = next_event(alloc, numbers)?;
+        let event = next_event(rt, alloc, numbers);
         let before = kernel.meter();
         let _ = kernel.event(&event);
         let after = kernel.meter();
         assert!(rt; may_read(&event) || after == before);
         read = read.saturating_add(after.ticket_reads.saturating_sub(before.ticket_reads));
     }
-    Ok(read)
+    read
 }
 
 /// Compares all rows of two kernels.
 fn check_rows(rt: &impl Abort, kernel: &mut Kernel, fresh: &mut Kernel) {
-    assert_eq!(rt; kernel.ticket_count(), fresh.ticket_count());
+    check_same(rt, &kernel.ticket_count(), &fresh.ticket_count());
     for ticket in 0..kernel.ticket_count() {
         let number = ticket.saturating_add(1);
-        assert_eq!(rt; kernel.ticket_row(number), fresh.ticket_row(number));
+        check_same(rt, &kernel.ticket_row(number), &fresh.ticket_row(number));
     }
-    assert_eq!(rt; kernel.currency_count(), fresh.currency_count());
+    check_same(rt, &kernel.currency_count(), &fresh.currency_count());
     for currency in 0..kernel.currency_count() {
-        assert_eq!(rt; kernel.currency_row(currency), fresh.currency_row(currency));
+        check_same(
+            rt,
+            &kernel.currency_row(currency),
+            &fresh.currency_row(currency),
+        );
     }
     for thread in 1..=4096 {
-        assert_eq!(rt; kernel.thread_row(thread), fresh.thread_row(thread));
+        check_same(rt, &kernel.thread_row(thread), &fresh.thread_row(thread));
     }
 }
 
 /// Gives a new kernel all events of so many parts at once, and compares its rows. What its draws and unlocks have
 /// read is what it counted.
-fn check_part(rt: &impl Abort, alloc: Global, kernel: &mut Kernel, parts: u32) -> Result<(), Fail> {
-    let mut fresh = new_kernel(alloc)?;
-    let read = give(
-        rt,
-        alloc,
-        &mut fresh,
-        &mut generator()?,
-        parts.saturating_mul(PART),
-    )?;
-    assert_eq!(rt; fresh.meter().ticket_reads, read);
+fn check_part(rt: &impl Abort, alloc: Global, kernel: &mut Kernel, parts: u32) {
+    let mut fresh = new_kernel(rt, alloc);
+    let mut numbers = generator(rt);
+    let count = parts.saturating_mul(PART);
+    let read = give(rt, alloc, &mut fresh, &mut numbers, count);
+    check_same(rt, &fresh.meter().ticket_reads, &read);
     check_rows(rt, kernel, &mut fresh);
-    Ok(())
 }
 
 #[test]
-fn generated_events(rt: HostRuntime) -> Result<(), Fail> {
+fn generated_events(rt: HostRuntime) {
     let alloc = rt.alloc();
-    let mut kernel = new_kernel(alloc)?;
-    let mut numbers = generator()?;
+    let mut kernel = new_kernel(&rt, alloc);
+    let mut numbers = generator(&rt);
     for part in 0..PARTS {
-        give(&rt, alloc, &mut kernel, &mut numbers, PART)?;
-        check_part(&rt, alloc, &mut kernel, part.saturating_add(1))?;
+        give(&rt, alloc, &mut kernel, &mut numbers, PART);
+        check_part(&rt, alloc, &mut kernel, part.saturating_add(1));
     }
     assert!(rt; kernel.meter() != Meter::default());
-    Ok(())
 }

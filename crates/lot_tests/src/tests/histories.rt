@@ -1,10 +1,10 @@
 //! Histories that are full.
 
+use super::same::check_same;
 use lot_engine::{System, TurnFault};
 use lot_machine::Reply;
 use lot_text::parse;
 use std::process::Abort;
-use std::test::Fail;
 
 /// The result of a draw on processor 1, on which no thread runs: a reply, or none if the history is full.
 fn draw(rt: &impl Abort, system: &mut System) -> Option<Reply> {
@@ -20,13 +20,12 @@ fn draw(rt: &impl Abort, system: &mut System) -> Option<Reply> {
 
 // A draw without a winner is a turn of the history, as any other.
 #[test]
-fn idle_draws_fill_a_history(rt: HostRuntime) -> Result<(), Fail> {
+fn idle_draws_fill_a_history(rt: HostRuntime) {
     let alloc = rt.alloc();
-    let program = parse(alloc, "lottery 1".as_bytes())?;
-    let mut system = System::open(alloc, &program, 2)?;
+    let program = parse(alloc, "lottery 1".as_bytes()).expect(&rt, "it is read");
+    let mut system = System::open(alloc, &program, 2).expect(&rt, "memory");
     for reply in [Some(Reply::Idle), Some(Reply::Idle), None, None] {
-        assert_eq!(rt; draw(&rt, &mut system), reply);
+        check_same(&rt, &draw(&rt, &mut system), &reply);
     }
-    assert_eq!(rt; system.history(), [1, 1].as_slice());
-    Ok(())
+    check_same(&rt, &system.history(), &[1, 1].as_slice());
 }

@@ -1,6 +1,7 @@
 //! Calls that allocate memory, at the least and the largest sizes.
 ghost use Rattle.std.specs.Prelude.{◌≡◌, ◌+◌};
 
+use super::same::{check_same, check_same_at};
 use lot_engine::System;
 use lot_graph::Graph;
 use lot_kernel::Kernel;
@@ -18,132 +19,109 @@ use std::sync::ledger::{Blank, Ledger};
 use std::test::*;
 
 /// The least and the largest tables.
-fn bounds() -> Result<[Limits; 2], Fail> {
-    let least = Limits::new(Sizes::SMALLEST).ok_or("the least")?;
-    let largest = Limits::new(Sizes::LARGEST).ok_or("the largest")?;
-    Ok([least, largest])
+fn bounds(rt: &impl Abort) -> [Limits; 2] {
+    let least = Limits::new(Sizes::SMALLEST).expect(rt, "the least");
+    let largest = Limits::new(Sizes::LARGEST).expect(rt, "the largest");
+    [least, largest]
 }
 
-fn check_kernel(rt: &impl Abort, alloc: Global, limits: Limits) -> Result<(), AllocError> {
-    let kernel = Kernel::new(alloc, limits)?;
-    assert_eq!(rt; (kernel.ticket_count(), kernel.currency_count()), (0, 1));
-    Ok(())
+fn check_kernel(rt: &impl Abort, alloc: Global, limits: Limits) {
+    let kernel = Kernel::new(alloc, limits).expect(rt, "memory");
+    let counts = (kernel.ticket_count(), kernel.currency_count());
+    check_same(rt, &counts, &(0, 1));
 }
 
-fn check_graph(rt: &impl Abort, alloc: Global, limits: Limits) -> Result<(), AllocError> {
-    let graph = Graph::new(alloc, &limits)?;
-    let base = graph.is_currency(0);
-    assert_eq!(rt;
-        (graph.threads(), graph.mutexes(), base),
-        (0, limits.mutexes, true)
-    );
-    Ok(())
+fn check_graph(rt: &impl Abort, alloc: Global, limits: Limits) {
+    let graph = Graph::new(alloc, &limits).expect(rt, "memory");
+    let found = (graph.threads(), graph.mutexes(), graph.is_currency(0));
+    check_same(rt, &found, &(0, limits.mutexes, true));
 }
 
 #[test]
-fn kernels_and_graphs(rt: HostRuntime) -> Result<(), Fail> {
-    for limits in bounds()? {
-        check_kernel(&rt, rt.alloc(), limits)?;
-        check_graph(&rt, rt.alloc(), limits)?;
+fn kernels_and_graphs(rt: HostRuntime) {
+    for limits in bounds(&rt) {
+        check_kernel(&rt, rt.alloc(), limits);
+        check_graph(&rt, rt.alloc(), limits);
     }
-    Ok(())
 }
 
 /// Whether the first of these lists is empty, if there is one.
-fn check_lists(
-    rt: &impl Abort,
-    alloc: Global,
-    lists: usize,
-    nodes: usize,
-) -> Result<(), AllocError> {
-    let made = Lists::new(alloc, lists, nodes)?;
+fn check_lists(rt: &impl Abort, alloc: Global, lists: usize, nodes: usize) {
+    let made = Lists::new(alloc, lists, nodes).expect(rt, "memory");
     if 0 < lists {
         assert!(rt; made.is_empty(0));
     }
-    Ok(())
 }
 
-fn check_queues(
-    rt: &impl Abort,
-    alloc: Global,
-    (ports, mutexes, threads): (u32, u32, u32),
-) -> Result<(), AllocError> {
-    let queues = Queues::new(alloc, ports, mutexes, threads)?;
-    assert_eq!(rt;
-        (
-            queues.ports(),
-            queues.mutexes(),
-            queues.room(),
-            queues.threads()
-        ),
-        (ports, mutexes, threads, 0)
+fn check_queues(rt: &impl Abort, alloc: Global, (ports, mutexes, threads): (u32, u32, u32)) {
+    let queues = Queues::new(alloc, ports, mutexes, threads).expect(rt, "memory");
+    let found = (
+        queues.ports(),
+        queues.mutexes(),
+        queues.room(),
+        queues.threads(),
     );
-    Ok(())
+    check_same(rt, &found, &(ports, mutexes, threads, 0));
 }
 
-fn check_tree(rt: &impl Abort, alloc: Global, places: usize) -> Result<(), AllocError> {
-    let tree = SumTree::new(alloc, places)?;
-    assert_eq!(rt; (tree.len(), tree.total()), (places, 0));
-    Ok(())
+fn check_tree(rt: &impl Abort, alloc: Global, places: usize) {
+    let tree = SumTree::new(alloc, places).expect(rt, "memory");
+    check_same(rt, &(tree.len(), tree.total()), &(places, 0));
 }
 
 #[test]
-fn lists_queues_and_trees(rt: HostRuntime) -> Result<(), Fail> {
+fn lists_queues_and_trees(rt: HostRuntime) {
     for (lists, nodes) in [(0, 0), (1, 1), (4865, 73983)] {
-        check_lists(&rt, rt.alloc(), lists, nodes)?;
+        check_lists(&rt, rt.alloc(), lists, nodes);
     }
     for sizes in [(0, 0, 1), (256, 256, 4096)] {
-        check_queues(&rt, rt.alloc(), sizes)?;
+        check_queues(&rt, rt.alloc(), sizes);
     }
     for places in [0, 1, 4096] {
-        check_tree(&rt, rt.alloc(), places)?;
+        check_tree(&rt, rt.alloc(), places);
     }
-    Ok(())
 }
 
 /// The shortest input.
 const LEAST: &str = "lottery 1";
 
 /// An input with the most processors and the longest script there may be.
-fn large_input(alloc: Global) -> Result<String, AllocError> {
-    let mut text = String::from_str(
-        alloc,
-        "lottery 2\nprocessors 64\nquantum 1000\nturns 10000\nscript long\n",
-    )?;
+fn large_input(rt: &impl Abort, alloc: Global) -> String {
+    let header = "lottery 2\nprocessors 64\nquantum 1000\nturns 10000\nscript long\n";
+    let mut text = String::from_str(alloc, header).expect(rt, "memory");
     for _line in 0..1024 {
-        text.push_str("compute 1\n")?;
+        text.push_str("compute 1\n").expect(rt, "memory");
     }
-    text.push_str("endscript\n")?;
-    Ok(text)
+    text.push_str("endscript\n").expect(rt, "memory");
+    text
+}
+
+/// The program of an input.
+fn program_of(rt: &impl Abort, alloc: Global, text: &str) -> Program {
+    parse(alloc, text.as_bytes()).expect(rt, "it is read")
 }
 
 /// The least and a large program, with room for the fewest and the most turns.
-fn programs(alloc: Global) -> Result<[(Program, u32); 2], Fail> {
-    let text = large_input(alloc)?;
-    let least = parse(alloc, LEAST.as_bytes())?;
-    let large = parse(alloc, text.as_bytes())?;
-    Ok([(least, 0), (large, 1000000)])
+fn programs(rt: &impl Abort, alloc: Global) -> [(Program, u32); 2] {
+    let text = large_input(rt, alloc);
+    let least = program_of(rt, alloc, LEAST);
+    let large = program_of(rt, alloc, text.as_str());
+    [(least, 0), (large, 1000000)]
 }
 
 /// Compares each script with its copy.
-fn check_scripts(rt: &impl Abort, alloc: Global, program: &Program) -> Result<(), AllocError> {
+fn check_scripts(rt: &impl Abort, alloc: Global, program: &Program) {
     for script in program.scripts() {
-        let copied = script.copied(alloc)?;
+        let copied = script.copied(alloc).expect(rt, "memory");
         assert!(rt; copied.is_same(script));
     }
-    Ok(())
 }
 
 /// A system of the program, which has its processors.
-fn checked_system(
-    rt: &impl Abort,
-    alloc: Global,
-    program: &Program,
-    room: u32,
-) -> Result<System, AllocError> {
-    let system = System::open(alloc, program, room)?;
-    assert_eq!(rt; system.processors(), program.limits().processors);
-    Ok(system)
+fn checked_system(rt: &impl Abort, alloc: Global, program: &Program, room: u32) -> System {
+    let system = System::open(alloc, program, room).expect(rt, "memory");
+    check_same(rt, &system.processors(), &program.limits().processors);
+    system
 }
 
 /// How many seats a baton station of the system has, and whether it is closed.
@@ -158,33 +136,26 @@ fn baton_seats<R: Wait>(
 }
 
 /// A copy of the program, which has as many scripts.
-fn checked_copy(rt: &impl Abort, alloc: Global, program: &Program) -> Result<Program, AllocError> {
-    let copy = program.copied(alloc)?;
-    assert_eq!(rt; copy.scripts().len(), program.scripts().len());
-    Ok(copy)
+fn checked_copy(rt: &impl Abort, alloc: Global, program: &Program) -> Program {
+    let copy = program.copied(alloc).expect(rt, "memory");
+    check_same(rt, &copy.scripts().len(), &program.scripts().len());
+    copy
 }
 
-fn check_copies<R: Abort + Wait>(
-    rt: &R,
-    alloc: Global,
-    program: &Program,
-    room: u32,
-) -> Result<(), AllocError> {
-    let copy = checked_copy(rt, alloc, program)?;
-    check_scripts(rt, alloc, program)?;
-    let system = checked_system(rt, alloc, &copy, room)?;
+fn check_copies<R: Abort + Wait>(rt: &R, alloc: Global, program: &Program, room: u32) {
+    let copy = checked_copy(rt, alloc, program);
+    check_scripts(rt, alloc, program);
+    let system = checked_system(rt, alloc, &copy, room);
+    let seats = baton_seats(rt, alloc, system).expect(rt, "memory");
     let wanted = program.limits().processors as usize + 1;
-    assert_eq!(rt; baton_seats(rt, alloc, system)?, (wanted, true));
-    Ok(())
+    check_same(rt, &seats, &(wanted, true));
 }
 
 #[test]
-fn copies_and_systems(rt: HostRuntime) -> Result<(), Fail> {
-    let alloc = rt.alloc();
-    for (program, room) in programs(alloc)? {
-        check_copies(&rt, alloc, &program, room)?;
+fn copies_and_systems(rt: HostRuntime) {
+    for (program, room) in programs(&rt, rt.alloc()) {
+        check_copies(&rt, rt.alloc(), &program, room);
     }
-    Ok(())
 }
 
 /// Opens a station of the system, and closes it again. Returns how many seats it had.
@@ -222,11 +193,10 @@ fn seats_in(alloc: Global, program: &Program, room: u32) -> Result<Option<usize>
 }
 
 #[test]
-fn stations(rt: HostRuntime) -> Result<(), Fail> {
-    let alloc = rt.alloc();
-    for (program, room) in programs(alloc)? {
+fn stations(rt: HostRuntime) {
+    for (program, room) in programs(&rt, rt.alloc()) {
         let wanted = program.limits().processors as usize + 1;
-        assert_eq!(rt; seats_in(alloc, &program, room)?, Some(wanted));
+        let seats = seats_in(rt.alloc(), &program, room).expect(&rt, "memory");
+        check_same_at(&rt, &room, &seats, &Some(wanted));
     }
-    Ok(())
 }

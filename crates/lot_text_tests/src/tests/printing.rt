@@ -1,7 +1,8 @@
 //! What is printed for replies, listings, totals, histories and refused inputs. What is expected is written out by
 //! hand.
-ghost use Rattle.std.specs.Prelude.{◌≡◌, false};
+ghost use Rattle.std.specs.Prelude.{◌≡◌, ◌<◌, ◌^◌, false};
 
+use super::same::check_same_at;
 use lot_io::{IoFault, Watched};
 use lot_machine::{
     Action, CurrencyRow, Event, Kind, Limits, Name, Outcome, Refusal, Reply, Sizes, Status,
@@ -17,17 +18,16 @@ use lot_print::{
 use lot_simulation::{Format, InputFault, InputRefusal, Manner, Waits};
 use std::alloc::Global;
 use std::process::Abort;
-use std::test::Fail;
 
 /// Checks the text written by a call that returned this.
 fn check(rt: &impl Abort, writer: Watched<Vec<u8>>, ended: Result<(), IoFault>, wanted: &str) {
     assert!(rt; ended.is_ok(), "{wanted}");
     let written = writer.into_inner();
-    assert_eq!(rt; written.as_slice(), wanted.as_bytes(), "{wanted}");
+    check_same_at(rt, &wanted, &written.as_slice(), &wanted.as_bytes());
 }
 
-fn name(text: &str) -> Result<Name, Fail> {
-    Ok(Name::new(text).ok_or("a name")?)
+fn name(rt: &impl Abort, text: &str) -> Name {
+    Name::new(text).expect(rt, "a name")
 }
 
 /// A turn of this actor, printed with whole values.
@@ -438,9 +438,9 @@ fn write_small_report(
 }
 
 #[test]
-fn prints_totals(rt: HostRuntime) -> Result<(), Fail> {
+fn prints_totals(rt: HostRuntime) {
     let row = ThreadRow {
-        name: name("a")?,
+        name: name(&rt, "a"),
         status: Status::Ready,
         value: 0,
         weight: 0,
@@ -463,11 +463,10 @@ fn prints_totals(rt: HostRuntime) -> Result<(), Fail> {
     let wanted =
         "report\nthread 1 a quanta 2 ticks 200\nprocessor 1 quanta 3 idle 0 ticks 300\ntotal turns 12 quanta 3 ticks 300\n";
     check(&rt, writer, ended, wanted);
-    Ok(())
 }
 
 /// The largest limits, with this unit.
-fn limits(unit: u32) -> Result<Limits, Fail> {
+fn limits(rt: &impl Abort, unit: u32) -> Limits {
     let limits = Limits::new(Sizes {
         tickets: 65535,
         currencies: 4096,
@@ -476,7 +475,7 @@ fn limits(unit: u32) -> Result<Limits, Fail> {
         unit,
         ..Sizes::SMALLEST
     });
-    Ok(limits.ok_or("limits")?)
+    limits.expect(rt, "limits")
 }
 
 /// What a ticket funds and whether it is active, and its line where base is worth this unit.
@@ -487,21 +486,21 @@ struct PrintedTicket<'a> {
     line: &'a str,
 }
 
-fn target_of(target: Option<&str>) -> Result<Option<Name>, Fail> {
+fn target_of(rt: &impl Abort, target: Option<&str>) -> Option<Name> {
     match target {
-        Some(text) => Ok(Some(name(text)?)),
-        None => Ok(None),
+        Some(text) => Some(name(rt, text)),
+        None => None,
     }
 }
 
-fn ticket_row(printed: &PrintedTicket<'_>) -> Result<TicketRow, Fail> {
-    Ok(TicketRow {
+fn ticket_row(rt: &impl Abort, printed: &PrintedTicket<'_>) -> TicketRow {
+    TicketRow {
         amount: 1000,
-        issuer: name("base")?,
-        target: target_of(printed.target)?,
+        issuer: name(rt, "base"),
+        target: target_of(rt, printed.target),
         is_active: printed.is_active,
         value: 1000,
-    })
+    }
 }
 
 fn check_ticket(rt: &impl Abort, alloc: Global, limits: Limits, row: &TicketRow, wanted: &str) {
@@ -532,12 +531,12 @@ const TICKETS: [PrintedTicket<'_>; 3] = [
 ];
 
 #[test]
-fn prints_tickets(rt: HostRuntime) -> Result<(), Fail> {
+fn prints_tickets(rt: HostRuntime) {
     for printed in &TICKETS {
-        let row = ticket_row(printed)?;
-        check_ticket(&rt, rt.alloc(), limits(printed.unit)?, &row, printed.line);
+        let row = ticket_row(&rt, printed);
+        let limits = limits(&rt, printed.unit);
+        check_ticket(&rt, rt.alloc(), limits, &row, printed.line);
     }
-    Ok(())
 }
 
 /// The number of a currency, and its line where base is worth this unit.
@@ -547,14 +546,14 @@ struct PrintedCurrency<'a> {
     line: &'a str,
 }
 
-fn currency_row() -> Result<CurrencyRow, Fail> {
-    Ok(CurrencyRow {
-        name: name("base")?,
+fn currency_row(rt: &impl Abort) -> CurrencyRow {
+    CurrencyRow {
+        name: name(rt, "base"),
         backing: 0,
         issued: 2,
         active_amount: 3000,
         value: 3000,
-    })
+    }
 }
 
 fn check_currency(
@@ -562,12 +561,11 @@ fn check_currency(
     alloc: Global,
     row: &CurrencyRow,
     printed: &PrintedCurrency<'_>,
-) -> Result<(), Fail> {
-    let limits = limits(printed.unit)?;
+) {
+    let limits = limits(rt, printed.unit);
     let mut writer = Watched::new(Vec::new(alloc));
     let ended = write_currency(&mut writer, Manner::Whole, limits, printed.number, row);
     check(rt, writer, ended, printed.line);
-    Ok(())
 }
 
 const CURRENCIES: [PrintedCurrency<'_>; 3] = [
@@ -589,12 +587,11 @@ const CURRENCIES: [PrintedCurrency<'_>; 3] = [
 ];
 
 #[test]
-fn prints_currencies(rt: HostRuntime) -> Result<(), Fail> {
-    let row = currency_row()?;
+fn prints_currencies(rt: HostRuntime) {
+    let row = currency_row(&rt);
     for printed in &CURRENCIES {
-        check_currency(&rt, rt.alloc(), &row, printed)?;
+        check_currency(&rt, rt.alloc(), &row, printed);
     }
-    Ok(())
 }
 
 const STATUSES: [(Status, &str); 7] = [
@@ -613,15 +610,15 @@ const STATUSES: [(Status, &str); 7] = [
     (Status::Dead, "dead"),
 ];
 
-fn thread_row(status: Status) -> Result<ThreadRow, Fail> {
-    Ok(ThreadRow {
-        name: name("thread2")?,
+fn thread_row(rt: &impl Abort, status: Status) -> ThreadRow {
+    ThreadRow {
+        name: name(rt, "thread2"),
         status,
         value: 400,
         weight: 40000,
         quanta: 5,
         ticks: 6,
-    })
+    }
 }
 
 fn check_thread(rt: &impl Abort, alloc: Global, limits: Limits, row: &ThreadRow, wanted: &str) {
@@ -631,21 +628,20 @@ fn check_thread(rt: &impl Abort, alloc: Global, limits: Limits, row: &ThreadRow,
 }
 
 /// Checks how a thread's line shows its status.
-fn check_status(rt: &impl Abort, alloc: Global, status: Status, shown: &str) -> Result<(), Fail> {
-    let row = thread_row(status)?;
+fn check_status(rt: &impl Abort, alloc: Global, status: Status, shown: &str) {
+    let row = thread_row(rt, status);
     let wanted = format!(in alloc;
         "thread 1 thread2 {shown} value 400 weight 40000 quanta 5 ticks 6\n"
-    )?;
-    check_thread(rt, alloc, limits(1)?, &row, wanted.as_str());
-    Ok(())
+    );
+    let wanted = wanted.expect(rt, "memory");
+    check_thread(rt, alloc, limits(rt, 1), &row, wanted.as_str());
 }
 
 #[test]
-fn prints_threads(rt: HostRuntime) -> Result<(), Fail> {
+fn prints_threads(rt: HostRuntime) {
     for (status, shown) in &STATUSES {
-        check_status(&rt, rt.alloc(), *status, shown)?;
+        check_status(&rt, rt.alloc(), *status, shown);
     }
-    Ok(())
 }
 
 fn check_listing_line(rt: &impl Abort, alloc: Global, kind: Kind, wanted: &str) {
@@ -734,13 +730,13 @@ fn prints_runs(rt: HostRuntime) {
 }
 
 /// 33 runs of two turns.
-fn history_of_pairs(alloc: Global) -> Result<Vec<u8>, Fail> {
+fn history_of_pairs(rt: &impl Abort, alloc: Global) -> Vec<u8> {
     let mut history = Vec::new(alloc);
     for run in 0..33u8 {
-        history.push(run)?;
-        history.push(run)?;
+        history.push(run).expect(rt, "memory");
+        history.push(run).expect(rt, "memory");
     }
-    Ok(history)
+    history
 }
 
 const LINES_OF_PAIRS: &str =
@@ -748,8 +744,8 @@ const LINES_OF_PAIRS: &str =
     24 2 25 2 26 2 27 2 28 2 29 2 30 2 31 2\nruns 32 2\n";
 
 #[test]
-fn prints_runs_after_a_line(rt: HostRuntime) -> Result<(), Fail> {
-    let history = history_of_pairs(rt.alloc())?;
+fn prints_runs_after_a_line(rt: HostRuntime) {
+    let history = history_of_pairs(&rt, rt.alloc());
     check_history(
         &rt,
         rt.alloc(),
@@ -757,80 +753,97 @@ fn prints_runs_after_a_line(rt: HostRuntime) -> Result<(), Fail> {
         history.as_slice(),
         LINES_OF_PAIRS,
     );
-    Ok(())
 }
 
-/// Checks the line of a reply to this event, with its time.
-fn check_timed(rt: &impl Abort, alloc: Global, event: Event, reply: Reply, wanted: &str) {
+/// An event, the reply to it, and its line.
+#[derive(Drop)]
+struct TimedReply<'a> {
+    event: Event,
+    reply: Reply,
+    line: &'a str,
+}
+
+/// Checks the line of a reply, with its time.
+fn check_timed(rt: &impl Abort, alloc: Global, printed: &TimedReply<'_>) {
     let mut writer = Watched::new(Vec::new(alloc));
     let mut page = Page::new();
-    let mut ended = write_reply(&mut writer, &mut page, TIMED, &event, &reply);
+    let event = &printed.event;
+    let mut ended = write_reply(&mut writer, &mut page, TIMED, event, &printed.reply);
     if ended.is_ok() {
         ended = page.write_out(&mut writer);
     }
-    check(rt, writer, ended, wanted);
+    check(rt, writer, ended, printed.line);
 }
+
+/// A draw of this number of this total, which thread 2 won.
+fn drawn(number: u128, total: u128, line: &str) -> TimedReply<'_> {
+    TimedReply {
+        event: Event::Draw(1, 0),
+        reply: Reply::Winner {
+            thread: 2,
+            number,
+            total,
+            delivered: None,
+        },
+        line,
+    }
+}
+
+/// A trap of thread 3 after 7 ticks.
+fn trapped(action: Action, outcome: Outcome, line: &str) -> TimedReply<'_> {
+    TimedReply {
+        event: Event::Trap(1, 6, action),
+        reply: Reply::Trapped {
+            thread: 3,
+            ticks: 7,
+            outcome,
+            ends: false,
+        },
+        line,
+    }
+}
+
+/// The unlock of mutex 4, which passes it to thread 5.
+const PASSED: Outcome = Outcome::Passed {
+    to: 5,
+    draw: Some((1, 26)),
+};
+
+/// A server's reply to thread 5, after which it received from thread 6.
+const RECEIVED: Outcome = Outcome::RepliedThenReceived {
+    to: 5,
+    client: 6,
+    number: 41,
+};
+
+/// The same, after which it waits.
+const WAITS: Outcome = Outcome::RepliedThenWaits(5);
 
 // 2561 / 256 is 10.00390625, 384 / 256 is 1.5, and 64 / 256 is 0.25.
 #[test]
 fn prints_what_is_behind_the_point(rt: HostRuntime) {
-    let rt = &rt;
-    let won = |number, total| Reply::Winner {
-        thread: 2,
-        number,
-        total,
-        delivered: None,
-    };
-    let draw = Event::Draw(1, 0);
-    check_timed(
-        rt,
-        rt.alloc(),
-        draw,
-        won(384, 2561),
-        "120 1 draw 1.5 of 10.003 thread 2\n",
-    );
-    let draw = Event::Draw(1, 0);
-    check_timed(
-        rt,
-        rt.alloc(),
-        draw,
-        won(64, 2560),
-        "120 1 draw 0.25 of 10 thread 2\n",
-    );
-    let trapped = |outcome| Reply::Trapped {
-        thread: 3,
-        ticks: 7,
-        outcome,
-        ends: false,
-    };
-    check_timed(
-        rt,
-        rt.alloc(),
-        Event::Trap(1, 6, Action::Unlock(4, 99)),
-        trapped(Outcome::Passed {
-            to: 5,
-            draw: Some((1, 26)),
-        }),
-        "120 1 thread 3 ticks 7 unlock 4 to 5 draw 0.003 of 0.101\n",
-    );
-    check_timed(
-        rt,
-        rt.alloc(),
-        Event::Trap(1, 6, Action::Serve(2, 9)),
-        trapped(Outcome::RepliedThenReceived {
-            to: 5,
-            client: 6,
-            number: 41,
-        }),
-        "120 1 thread 3 ticks 7 reply client 5 receive 2 client 6 got 41\n",
-    );
-    check_timed(
-        rt,
-        rt.alloc(),
-        Event::Trap(1, 6, Action::Serve(2, 9)),
-        trapped(Outcome::RepliedThenWaits(5)),
-        "120 1 thread 3 ticks 7 reply client 5 receive 2 waits\n",
-    );
+    let rows = [
+        drawn(384, 2561, "120 1 draw 1.5 of 10.003 thread 2\n"),
+        drawn(64, 2560, "120 1 draw 0.25 of 10 thread 2\n"),
+        trapped(
+            Action::Unlock(4, 99),
+            PASSED,
+            "120 1 thread 3 ticks 7 unlock 4 to 5 draw 0.003 of 0.101\n",
+        ),
+        trapped(
+            Action::Serve(2, 9),
+            RECEIVED,
+            "120 1 thread 3 ticks 7 reply client 5 receive 2 client 6 got 41\n",
+        ),
+        trapped(
+            Action::Serve(2, 9),
+            WAITS,
+            "120 1 thread 3 ticks 7 reply client 5 receive 2 waits\n",
+        ),
+    ];
+    for printed in &rows {
+        check_timed(&rt, rt.alloc(), printed);
+    }
 }
 
 /// The greatest waits that there may be.
@@ -849,14 +862,24 @@ const NO_WAITS: Waits = Waits {
     since: None,
 };
 
+/// Checks the line of thread 1 with 4 quanta and 2 ticks, among totals of which it has these shares.
+fn check_shares(rt: &impl Abort, alloc: Global, shares: ThreadShares, wanted: &str)
+    requires { shares.all_values < 2 ^ 96 }
+{
+    let row = ThreadRow {
+        quanta: 4,
+        ticks: 2,
+        ..thread_row(rt, Status::Ready)
+    };
+    let mut writer = Watched::new(Vec::new(alloc));
+    let ended = write_timed_thread_total(&mut writer, 1, &row, shares);
+    check(rt, writer, ended, wanted);
+}
+
 // 2 of 3 ticks are 66.666%; 5 waits of 12 ticks in all are 2.4 on average. 18446744073709551615 / 4294967295 is
 // 4294967297.
 #[test]
-fn prints_timed_totals(rt: HostRuntime) -> Result<(), Fail> {
-    let mut row = thread_row(Status::Ready)?;
-    row.quanta = 4;
-    row.ticks = 2;
-    let mut writer = Watched::new(Vec::new(rt.alloc()));
+fn prints_timed_totals(rt: HostRuntime) {
     let shares = ThreadShares {
         all_ticks: 3,
         live_value: 1,
@@ -869,11 +892,9 @@ fn prints_timed_totals(rt: HostRuntime) -> Result<(), Fail> {
         },
         replies: NO_WAITS,
     };
-    let ended = write_timed_thread_total(&mut writer, 1, &row, shares);
     let wanted =
         "thread 1 thread2 quanta 4 ticks 2 share 66.666% value 12.5% mutex waits 5 mean 2.4 longest 4\n";
-    check(&rt, writer, ended, wanted);
-    let mut writer = Watched::new(Vec::new(rt.alloc()));
+    check_shares(&rt, rt.alloc(), shares, wanted);
     let shares = ThreadShares {
         all_ticks: 0,
         live_value: 0,
@@ -881,16 +902,13 @@ fn prints_timed_totals(rt: HostRuntime) -> Result<(), Fail> {
         mutexes: NO_WAITS,
         replies: LONG,
     };
-    let ended = write_timed_thread_total(&mut writer, 1, &row, shares);
     let wanted =
         "thread 1 thread2 quanta 4 ticks 2 share 0% value 0% reply waits 4294967295 mean 4294967297 longest 4294967295\n";
-    check(&rt, writer, ended, wanted);
-    Ok(())
+    check_shares(&rt, rt.alloc(), shares, wanted);
 }
 
 #[test]
-fn prints_timed_ends(rt: HostRuntime) {
-    let mut writer = Watched::new(Vec::new(rt.alloc()));
+fn prints_timed_processors(rt: HostRuntime) {
     let total = TimedProcessorTotal {
         processor: 2,
         quanta: 3,
@@ -898,14 +916,14 @@ fn prints_timed_ends(rt: HostRuntime) {
         ticks: 5,
         unused: 6,
     };
-    let ended = write_timed_processor_total(&mut writer, total);
-    check(
-        &rt,
-        writer,
-        ended,
-        "processor 2 quanta 3 idle 4 ticks 5 unused 6\n",
-    );
     let mut writer = Watched::new(Vec::new(rt.alloc()));
+    let ended = write_timed_processor_total(&mut writer, total);
+    let wanted = "processor 2 quanta 3 idle 4 ticks 5 unused 6\n";
+    check(&rt, writer, ended, wanted);
+}
+
+#[test]
+fn prints_timed_ends(rt: HostRuntime) {
     let total = TimedWholeTotal {
         turns: 1,
         quanta: 2,
@@ -913,11 +931,8 @@ fn prints_timed_ends(rt: HostRuntime) {
         refused: 4,
         left: 5,
     };
+    let mut writer = Watched::new(Vec::new(rt.alloc()));
     let ended = write_timed_whole_total(&mut writer, total);
-    check(
-        &rt,
-        writer,
-        ended,
-        "total turns 1 quanta 2 ticks 3 refused 4 left 5\n",
-    );
+    let wanted = "total turns 1 quanta 2 ticks 3 refused 4 left 5\n";
+    check(&rt, writer, ended, wanted);
 }

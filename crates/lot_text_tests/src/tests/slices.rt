@@ -1,24 +1,41 @@
 //! Worked scripts. What is expected follows from their lists, unrolled by hand.
-use lot_script::{Script, ScriptBuilder};
+use super::same::{check_same, check_same_at};
+use lot_script::{Place, Script, ScriptBuilder};
 use lot_simulation::{InputRefusal, Line, ScriptTrap};
-use std::alloc::{AllocError, Global};
+use std::alloc::Global;
 use std::process::Abort;
-use std::test::Fail;
+
+/// Adds a line that can come next.
+fn add_line(rt: &impl Abort, builder: &mut ScriptBuilder, line: Line) {
+    assert!(rt; builder.check(line).is_ok());
+    builder.push(line).expect(rt, "memory");
+}
+
+/// Adds the line this often.
+fn add_lines(rt: &impl Abort, builder: &mut ScriptBuilder, line: Line, count: u32) {
+    for _ in 0..count {
+        add_line(rt, builder, line);
+    }
+}
+
+/// The script of the lines that were added.
+fn finished(rt: &impl Abort, builder: ScriptBuilder) -> Script {
+    assert!(rt; builder.open_loops() == 0);
+    builder.finish()
+}
 
 /// A script of these lines.
-fn script_of(rt: &impl Abort, alloc: Global, lines: &[Line]) -> Result<Script, AllocError> {
+fn script_of(rt: &impl Abort, alloc: Global, lines: &[Line]) -> Script {
     let mut builder = ScriptBuilder::new(alloc);
     for line in lines {
-        assert!(rt; builder.check(*line).is_ok());
-        builder.push(*line)?;
+        add_line(rt, &mut builder, *line);
     }
-    assert_eq!(rt; builder.len(), lines.len());
-    assert_eq!(rt; builder.open_loops(), 0);
-    Ok(builder.finish())
+    check_same(rt, &builder.len(), &lines.len());
+    finished(rt, builder)
 }
 
 /// Slices of the script in turn, from its beginning: of each the budget, the ticks, the trap and the accumulator at
-/// its end.
+/// its end. A failed comparison shows the budget.
 fn slices_in_turn(
     rt: &impl Abort,
     script: &Script,
@@ -26,20 +43,18 @@ fn slices_in_turn(
 ) {
     let mut place = script.start();
     for (budget, ticks, trap, accumulator) in slices {
-        assert!(rt; script.fits(&place));
-        assert!(rt; 1 <= *budget && *budget <= 1000);
+        assert!(rt; script.fits(&place) && 1 <= *budget && *budget <= 1000);
         let slice = script.slice(place, *budget);
-        assert_eq!(rt; slice.ticks(), *ticks, "with budget {budget}");
-        assert_eq!(rt; slice.trap(), *trap, "with budget {budget}");
         place = slice.end().copied();
-        assert_eq!(rt; place.accumulator(), *accumulator, "with budget {budget}");
+        let found = (slice.ticks(), slice.trap(), place.accumulator());
+        check_same_at(rt, budget, &found, &(*ticks, *trap, *accumulator));
     }
 }
 
 #[test]
-fn loops(rt: HostRuntime) -> Result<(), Fail> {
+fn loops(rt: HostRuntime) {
     let lines = [Line::Loop(2), Line::Compute(3), Line::End];
-    let script = script_of(&rt, rt.alloc(), &lines)?;
+    let script = script_of(&rt, rt.alloc(), &lines);
     let exit = Some(ScriptTrap::Exit);
     slices_in_turn(&rt, &script, &[(1000, 9, exit, 0), (1000, 0, exit, 0)]);
     slices_in_turn(&rt, &script, &[(9, 9, None, 0), (1, 0, exit, 0)]);
@@ -49,23 +64,21 @@ fn loops(rt: HostRuntime) -> Result<(), Fail> {
         &[(2, 2, None, 0), (4, 4, None, 0), (4, 3, exit, 0)],
     );
     let lines = [Line::Loop(3), Line::End];
-    let script = script_of(&rt, rt.alloc(), &lines)?;
+    let script = script_of(&rt, rt.alloc(), &lines);
     slices_in_turn(&rt, &script, &[(5, 4, exit, 0)]);
-    Ok(())
 }
 
 #[test]
-fn nothing_to_do(rt: HostRuntime) -> Result<(), Fail> {
-    let script = script_of(&rt, rt.alloc(), &[])?;
+fn nothing_to_do(rt: HostRuntime) {
+    let script = script_of(&rt, rt.alloc(), &[]);
     let exit = Some(ScriptTrap::Exit);
     slices_in_turn(&rt, &script, &[(1, 0, exit, 0), (1000, 0, exit, 0)]);
-    Ok(())
 }
 
 #[test]
-fn traps(rt: HostRuntime) -> Result<(), Fail> {
+fn traps(rt: HostRuntime) {
     let lines = [Line::Loop(1), Line::Yield, Line::End, Line::Receive(2)];
-    let script = script_of(&rt, rt.alloc(), &lines)?;
+    let script = script_of(&rt, rt.alloc(), &lines);
     let exit = Some(ScriptTrap::Exit);
     slices_in_turn(
         &rt,
@@ -85,7 +98,7 @@ fn traps(rt: HostRuntime) -> Result<(), Fail> {
         Line::Unlock(1),
         Line::Yield,
     ];
-    let script = script_of(&rt, rt.alloc(), &lines)?;
+    let script = script_of(&rt, rt.alloc(), &lines);
     slices_in_turn(
         &rt,
         &script,
@@ -99,13 +112,12 @@ fn traps(rt: HostRuntime) -> Result<(), Fail> {
             (1, 0, exit, 0),
         ],
     );
-    Ok(())
 }
 
 #[test]
-fn budgets_round_a_trap(rt: HostRuntime) -> Result<(), Fail> {
+fn budgets_round_a_trap(rt: HostRuntime) {
     let lines = [Line::Compute(5), Line::Call(3), Line::Compute(1)];
-    let script = script_of(&rt, rt.alloc(), &lines)?;
+    let script = script_of(&rt, rt.alloc(), &lines);
     let call = Some(ScriptTrap::Call(3));
     let exit = Some(ScriptTrap::Exit);
     slices_in_turn(
@@ -119,11 +131,10 @@ fn budgets_round_a_trap(rt: HostRuntime) -> Result<(), Fail> {
         &[(5, 5, None, 0), (1, 0, call, 0), (2, 1, exit, 0)],
     );
     slices_in_turn(&rt, &script, &[(6, 5, call, 0), (1000, 1, exit, 0)]);
-    Ok(())
 }
 
 #[test]
-fn accumulators(rt: HostRuntime) -> Result<(), Fail> {
+fn accumulators(rt: HostRuntime) {
     let lines = [
         Line::Set(4294967295),
         Line::Add(3),
@@ -133,7 +144,7 @@ fn accumulators(rt: HostRuntime) -> Result<(), Fail> {
         Line::End,
         Line::Set(5),
     ];
-    let script = script_of(&rt, rt.alloc(), &lines)?;
+    let script = script_of(&rt, rt.alloc(), &lines);
     slices_in_turn(
         &rt,
         &script,
@@ -146,25 +157,15 @@ fn accumulators(rt: HostRuntime) -> Result<(), Fail> {
             (1000, 1, Some(ScriptTrap::Exit), 5),
         ],
     );
-    Ok(())
 }
 
 #[test]
-fn eight_loops(rt: HostRuntime) -> Result<(), Fail> {
+fn eight_loops(rt: HostRuntime) {
     let mut builder = ScriptBuilder::new(rt.alloc());
-    for line in [Line::Loop(65535), Line::Compute(4294967295), Line::End] {
-        let count = if line == Line::Compute(4294967295) {
-            1
-        } else {
-            8
-        };
-        for _ in 0..count {
-            assert!(&rt; builder.check(line).is_ok());
-            builder.push(line)?;
-        }
-    }
-    assert!(&rt; builder.open_loops() == 0);
-    let script = builder.finish();
+    add_lines(&rt, &mut builder, Line::Loop(65535), 8);
+    add_line(&rt, &mut builder, Line::Compute(4294967295));
+    add_lines(&rt, &mut builder, Line::End, 8);
+    let script = finished(&rt, builder);
     slices_in_turn(
         &rt,
         &script,
@@ -174,20 +175,14 @@ fn eight_loops(rt: HostRuntime) -> Result<(), Fail> {
             (1000, 1000, None, 0),
         ],
     );
-    Ok(())
 }
 
 #[test]
-fn ends_of_eight_loops(rt: HostRuntime) -> Result<(), Fail> {
+fn ends_of_eight_loops(rt: HostRuntime) {
     let mut builder = ScriptBuilder::new(rt.alloc());
-    for (line, count) in [(Line::Loop(2), 8), (Line::End, 8)] {
-        for _ in 0..count {
-            assert!(&rt; builder.check(line).is_ok());
-            builder.push(line)?;
-        }
-    }
-    assert!(&rt; builder.open_loops() == 0);
-    let script = builder.finish();
+    add_lines(&rt, &mut builder, Line::Loop(2), 8);
+    add_lines(&rt, &mut builder, Line::End, 8);
+    let script = finished(&rt, builder);
     let exit = Some(ScriptTrap::Exit);
     // The innermost has 3 marks, and each loop round k marks has 1 + 2 * (k + 1).
     slices_in_turn(&rt, &script, &[(1000, 765, exit, 0)]);
@@ -196,11 +191,15 @@ fn ends_of_eight_loops(rt: HostRuntime) -> Result<(), Fail> {
         &script,
         &[(764, 764, None, 0), (1, 1, None, 0), (1, 0, exit, 0)],
     );
-    Ok(())
+}
+
+/// Checks that the line can't come next, and why.
+fn check_refused(rt: &impl Abort, builder: &ScriptBuilder, line: Line, refusal: InputRefusal) {
+    check_same_at(rt, &line, &builder.check(line), &Err(refusal));
 }
 
 #[test]
-fn refused_lines(rt: HostRuntime) -> Result<(), Fail> {
+fn refused_lines(rt: HostRuntime) {
     let mut builder = ScriptBuilder::new(rt.alloc());
     for (line, refusal) in [
         (Line::Compute(0), InputRefusal::BadNumber),
@@ -208,58 +207,82 @@ fn refused_lines(rt: HostRuntime) -> Result<(), Fail> {
         (Line::Loop(65536), InputRefusal::BadNumber),
         (Line::End, InputRefusal::BadLine),
     ] {
-        assert_eq!(&rt; builder.check(line), Err(refusal));
+        check_refused(&rt, &builder, line, refusal);
     }
-    for _ in 0..8 {
-        assert!(&rt; builder.check(Line::Loop(1)).is_ok());
-        builder.push(Line::Loop(1))?;
-    }
-    assert_eq!(&rt; builder.check(Line::Loop(1)), Err(InputRefusal::TooDeep));
-    for _ in 8..1024 {
-        assert!(&rt; builder.check(Line::Yield).is_ok());
-        builder.push(Line::Yield)?;
-    }
-    assert_eq!(&rt; builder.check(Line::Loop(1)), Err(InputRefusal::TooDeep));
-    assert_eq!(&rt; builder.check(Line::Yield), Err(InputRefusal::TooLong));
-    Ok(())
+    add_lines(&rt, &mut builder, Line::Loop(1), 8);
+    check_refused(&rt, &builder, Line::Loop(1), InputRefusal::TooDeep);
+    add_lines(&rt, &mut builder, Line::Yield, 1016);
+    check_refused(&rt, &builder, Line::Loop(1), InputRefusal::TooDeep);
+    check_refused(&rt, &builder, Line::Yield, InputRefusal::TooLong);
+}
+
+/// Whether the place fits in each of three scripts.
+fn fits(place: &Place, first: &Script, second: &Script, third: &Script) -> [bool; 3] {
+    [first.fits(place), second.fits(place), third.fits(place)]
 }
 
 #[test]
-fn places_in_other_scripts(rt: HostRuntime) -> Result<(), Fail> {
+fn places_in_other_scripts(rt: HostRuntime) {
     let lines = [Line::Loop(3), Line::Compute(4), Line::End];
-    let script = script_of(&rt, rt.alloc(), &lines)?;
-    let fewer = script_of(
-        &rt,
-        rt.alloc(),
-        &[Line::Loop(2), Line::Compute(4), Line::End],
-    )?;
-    let other = script_of(&rt, rt.alloc(), &[Line::Yield, Line::Compute(4)])?;
+    let script = script_of(&rt, rt.alloc(), &lines);
+    let lines = [Line::Loop(2), Line::Compute(4), Line::End];
+    let fewer = script_of(&rt, rt.alloc(), &lines);
+    let other = script_of(&rt, rt.alloc(), &[Line::Yield, Line::Compute(4)]);
+    let found = fits(&script.start(), &script, &fewer, &other);
+    check_same(&rt, &found, &[true; 3]);
     for (budget, in_fewer, in_other) in [(2, false, false), (7, true, false), (16, true, false)] {
-        let start = script.start();
-        assert!(&rt; script.fits(&start) && fewer.fits(&start) && other.fits(&start));
-        let slice = script.slice(start, budget);
-        assert!(&rt; script.fits(slice.end()));
-        assert_eq!(&rt; fewer.fits(slice.end()), in_fewer, "after {budget}");
-        assert_eq!(&rt; other.fits(slice.end()), in_other, "after {budget}");
+        let slice = script.slice(script.start(), budget);
+        let found = fits(slice.end(), &script, &fewer, &other);
+        check_same_at(&rt, &budget, &found, &[true, in_fewer, in_other]);
     }
-    Ok(())
 }
 
-#[test]
-fn the_same_again(rt: HostRuntime) -> Result<(), Fail> {
-    let script = script_of(&rt, rt.alloc(), &[Line::Set(3), Line::Yield])?;
-    let other = script_of(&rt, rt.alloc(), &[Line::Set(3), Line::Reply])?;
-    let copy = script.copied(rt.alloc())?;
-    assert!(&rt; copy.is_same(&script) && !copy.is_same(&other));
+/// Of a slice with budget 1: whether it is of this copy of its script, its budget, whether it starts at the beginning,
+/// and whether it ends there.
+fn parts_of_a_slice(script: &Script, copy: &Script) -> (bool, u32, bool, bool) {
     let slice = script.slice(script.start(), 1);
-    assert!(&rt; slice.script().is_same(&copy) && slice.budget() == 1);
-    assert!(&rt; *slice.start() == script.start() && *slice.end() != script.start());
+    let is_of_copy = slice.script().is_same(copy);
+    let start = script.start();
+    (
+        is_of_copy,
+        slice.budget(),
+        *slice.start() == start,
+        *slice.end() == start,
+    )
+}
+
+/// Whether slices with budget 1 of a script and its copy are the same, and one with budget 2 is.
+fn are_same_slices(script: &Script, copy: &Script) -> (bool, bool) {
+    let slice = script.slice(script.start(), 1);
     let again = copy.slice(copy.start(), 1);
     let more = script.slice(script.start(), 2);
-    assert!(&rt; slice.is_same(&again) && !slice.is_same(&more));
-    assert!(&rt; slice.start().is_same(&copy.start()) && !slice.end().is_same(slice.start()));
-    let mut handed = slice.end().copied();
+    (slice.is_same(&again), slice.is_same(&more))
+}
+
+/// Whether a slice starts at the same place as its script's copy, and whether it ends there.
+fn are_same_places(script: &Script, copy: &Script) -> (bool, bool) {
+    let slice = script.slice(script.start(), 1);
+    let start = slice.start();
+    (start.is_same(&copy.start()), slice.end().is_same(start))
+}
+
+/// The accumulator of a slice's end to which 9 was handed.
+fn handed_accumulator(script: &Script) -> u32 {
+    let mut handed = script.slice(script.start(), 1).end().copied();
     handed.set_accumulator(9);
-    assert_eq!(&rt; handed.accumulator(), 9);
-    Ok(())
+    handed.accumulator()
+}
+
+#[test]
+fn the_same_again(rt: HostRuntime) {
+    let script = script_of(&rt, rt.alloc(), &[Line::Set(3), Line::Yield]);
+    let other = script_of(&rt, rt.alloc(), &[Line::Set(3), Line::Reply]);
+    let copy = script.copied(rt.alloc()).expect(&rt, "memory");
+    let found = (copy.is_same(&script), copy.is_same(&other));
+    check_same(&rt, &found, &(true, false));
+    let found = parts_of_a_slice(&script, &copy);
+    check_same(&rt, &found, &(true, 1, true, false));
+    check_same(&rt, &are_same_slices(&script, &copy), &(true, false));
+    check_same(&rt, &are_same_places(&script, &copy), &(true, false));
+    check_same(&rt, &handed_accumulator(&script), &9);
 }

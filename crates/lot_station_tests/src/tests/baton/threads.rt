@@ -4,6 +4,7 @@ ghost use Rattle.lot_station.specs.BatonSeats.{IsSeatOf};
 
 use crate::tests::program_of;
 use crate::tests::replaying::{Compared, Played, compared};
+use crate::tests::same::check_same;
 use crate::tests::seats::make_turn;
 use lot_engine::{Answer, System};
 use lot_station::{BatonSeat, BatonStation};
@@ -132,8 +133,6 @@ fn plays_in_threads<R: Threads + Wait + Sync>(rt: &R, alloc: Global) -> Option<C
 
 #[test]
 fn turns_in_threads(rt: HostRuntime) {
-    assert_eq!(rt;
-        plays_in_threads(&rt, rt.alloc()),
-        Some((ROOM as usize, true, true))
-    );
+    let wanted = Some((ROOM as usize, true, true));
+    check_same(&rt, &plays_in_threads(&rt, rt.alloc()), &wanted);
 }

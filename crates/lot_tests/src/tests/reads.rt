@@ -1,4 +1,5 @@
-//! What reads values, and what is worth nothing.
+//! What reads values, and what is worth nothing. They stand among the tests, since the crate would prove them a second
+//! time as a library.
 ghost use Rattle.std.specs.Prelude.{◌≡◌, ◌↔◌, IsTrue, Some};
 ghost use Rattle.lot_machine.specs.declared.row.CurrencyRow.{CurrencyRow as CurrencyRecord};
 ghost use Rattle.lot_simulation.specs.World as world;
@@ -6,7 +7,7 @@ ghost use Rattle.lot_simulation.specs.World as world;
 use lot_machine::{Action, CurrencyRow, Event};
 
 /// Whether an event may read values: those that take a drawn number may, a draw and an unlock.
-pub fn may_read(event: &Event) -> bool
+pub(crate) fn may_read(event: &Event) -> bool
     ensures { result ≡ world.takes_number event.now }
 {
     matches!(
@@ -16,7 +17,7 @@ pub fn may_read(event: &Event) -> bool
 }
 
 /// Whether there is a currency, and it is worth nothing and has nothing active.
-pub fn is_worth_nothing(row: Option<CurrencyRow>) -> bool
+pub(crate) fn is_worth_nothing(row: Option<CurrencyRow>) -> bool
     ensures { IsTrue result ↔ ((shown : CurrencyRecord) × (row ≡ Some shown) × (shown.active_amount ≡ 0)
         × (shown.value ≡ 0)) }
 {
