@@ -2,6 +2,7 @@
 
 mod outputs;
 mod runs;
+mod same;
 mod shown;
 mod timed;
 mod told;
@@ -9,12 +10,12 @@ mod told;
 use lot_command::{status, unread_status};
 use lot_io::{IoFault, Watched};
 use lot_system::{Played, play};
+use same::{check_same, check_same_at};
 use std::alloc::Global;
 use std::io;
 use std::io::{ErrorKind, Read, Write};
 use std::process::Abort;
 use std::sync::Wait;
-use std::test::Fail;
 use std::thread::Threads;
 
 /// Two threads that compute, with base tickets of 10 and 5.
@@ -49,7 +50,29 @@ fn check_play<H: Abort + Threads + Wait + Sync>(
     check_words_on(rt, alloc, "play", input, code, expected);
 }
 
-/// Has the input played or run, and compares the exit status and what was written.
+/// What came of a call of the program: its exit status, and what it wrote to each output.
+#[derive(Drop)]
+struct Ended {
+    code: u8,
+    output: Vec<u8>,
+    errors: Vec<u8>,
+}
+
+/// Calls the program with these words and this input.
+fn ended_on<H: Threads + Wait + Sync>(rt: &H, alloc: Global, words: &[&str], input: &str) -> Ended {
+    let mut output = Vec::new(alloc);
+    let mut errors = Vec::new(alloc);
+    let reader = input.as_bytes();
+    let code = status(rt, alloc, words, reader, &mut output, &mut errors);
+    Ended {
+        code,
+        output,
+        errors,
+    }
+}
+
+/// Has the input played or run, and compares the exit status and what was written. A diagnostic is told if the status
+/// isn't 0.
 fn check_words_on<H: Abort + Threads + Wait + Sync>(
     rt: &H,
     alloc: Global,
@@ -58,26 +81,22 @@ fn check_words_on<H: Abort + Threads + Wait + Sync>(
     code: u8,
     expected: &str,
 ) {
-    let mut output = Vec::new(alloc);
-    let mut errors = Vec::new(alloc);
-    let words = ["lot_sim", word];
-    let ended = status(
+    let ended = ended_on(rt, alloc, &["lot_sim", word], input);
+    let is_written = ended.output.as_slice() == expected.as_bytes();
+    let is_told = code == 0 || !ended.errors.is_empty();
+    check_same_at(
         rt,
-        alloc,
-        &words,
-        input.as_bytes(),
-        &mut output,
-        &mut errors,
+        &input,
+        &(ended.code, is_written, is_told),
+        &(code, true, true),
     );
-    assert_eq!(rt; ended, code, "{input}");
-    assert!(rt; output.as_slice() == expected.as_bytes(), "{input}");
-    assert!(rt; code == 0 || !errors.is_empty(), "{input}");
 }
 
 #[test]
-fn two_threads(rt: HostRuntime) -> Result<(), Fail> {
+fn two_threads(rt: HostRuntime) {
     let alloc = rt.alloc();
-    let input = format!(in alloc; "lottery 1\n{SPINNERS}schedule 0 0 0 0 0 0 1 1 1 1 1 1\n")?;
+    let input = format!(in alloc; "lottery 1\n{SPINNERS}schedule 0 0 0 0 0 0 1 1 1 1 1 1\n");
+    let input = input.expect(&rt, "memory");
     let output = format!(in alloc;
         "{SPINNERS_MADE}1 draw 9 of 15 thread 1
 1 thread 1 ticks 100 expire
@@ -91,13 +110,13 @@ thread 2 b quanta 1 ticks 100
 processor 1 quanta 3 idle 0 ticks 300
 total turns 12 quanta 3 ticks 300
 "
-    )?;
+    );
+    let output = output.expect(&rt, "memory");
     check_play(&rt, alloc, input.as_str(), 0, output.as_str());
-    Ok(())
 }
 
 #[test]
-fn finer_values(rt: HostRuntime) -> Result<(), Fail> {
+fn finer_values(rt: HostRuntime) {
     let alloc = rt.alloc();
     let output = format!(in alloc;
         "{SPINNERS_MADE}1 draw 2724 of 3840 thread 2
@@ -108,12 +127,13 @@ thread 2 b quanta 1 ticks 100
 processor 1 quanta 1 idle 0 ticks 100
 total turns 8 quanta 1 ticks 100
 "
-    )?;
+    );
+    let output = output.expect(&rt, "memory");
     for schedule in ["schedule 0 0 0 0 0 0 1 1", "runs 0 6 1 2"] {
-        let input = format!(in alloc; "lottery 2\n{SPINNERS}{schedule}\n")?;
+        let input = format!(in alloc; "lottery 2\n{SPINNERS}{schedule}\n");
+        let input = input.expect(&rt, "memory");
         check_play(&rt, alloc, input.as_str(), 0, output.as_str());
     }
-    Ok(())
 }
 
 /// Nothing to do.
@@ -487,7 +507,7 @@ const CALL: &str = "lottery 1\nquantum 10\nport p\nscript srv\n";
 const SCRIPT: &str = "lottery 1\nscript s\n";
 
 #[test]
-fn refused_inputs(rt: HostRuntime) -> Result<(), Fail> {
+fn refused_inputs(rt: HostRuntime) {
     let rows = [
         ("", "", "1 50 BadHeader"),
         (SCRIPT, "compute 5\n", "2 54 OpenScript"),
@@ -517,18 +537,17 @@ fn refused_inputs(rt: HostRuntime) -> Result<(), Fail> {
         ("lottery 1\n", "runs 0 1\n", "2 51 BadLine"),
     ];
     for (front, rest, refusal) in rows {
-        let input = format!(in rt.alloc(); "{front}{rest}")?;
-        let output = format!(in rt.alloc(); "refused line {refusal}\n")?;
+        let input = format!(in rt.alloc(); "{front}{rest}").expect(&rt, "memory");
+        let output = format!(in rt.alloc(); "refused line {refusal}\n").expect(&rt, "memory");
         check_play(&rt, rt.alloc(), input.as_str(), 1, output.as_str());
     }
-    Ok(())
 }
 
 #[test]
-fn long_comment(rt: HostRuntime) -> Result<(), Fail> {
-    let mut input = String::from_str(rt.alloc(), "lottery 1\n#")?;
+fn long_comment(rt: HostRuntime) {
+    let mut input = String::from_str(rt.alloc(), "lottery 1\n#").expect(&rt, "memory");
     for _ in 0..4096 {
-        input.push('a')?;
+        input.push('a').expect(&rt, "memory");
     }
     check_play(
         &rt,
@@ -537,7 +556,6 @@ fn long_comment(rt: HostRuntime) -> Result<(), Fail> {
         1,
         "refused line 2 56 TooLong\n",
     );
-    Ok(())
 }
 
 /// Checks the exit status of these words, and where a text was written.
@@ -548,12 +566,13 @@ fn check_words<H: Abort + Threads + Wait + Sync>(
     code: u8,
     on_output: bool,
 ) {
-    let mut output = Vec::new(alloc);
-    let mut errors = Vec::new(alloc);
-    let ended = status(rt, alloc, words, "".as_bytes(), &mut output, &mut errors);
-    assert_eq!(rt; ended, code, "{words:?}");
-    assert_eq!(rt; output.is_empty(), !on_output, "{words:?}");
-    assert_eq!(rt; errors.is_empty(), on_output, "{words:?}");
+    let ended = ended_on(rt, alloc, words, "");
+    check_same_at(
+        rt,
+        &words,
+        &(ended.code, ended.output.is_empty(), ended.errors.is_empty()),
+        &(code, !on_output, on_output),
+    );
 }
 
 #[test]
@@ -575,14 +594,14 @@ fn unread_command_lines(rt: HostRuntime) {
     ] {
         let mut errors = Vec::new(rt.alloc());
         let ended = unread_status(&io::Error::from(kind), &mut errors);
-        assert_eq!(rt; (ended, !errors.is_empty()), (code, is_told));
+        check_same(&rt, &(ended, !errors.is_empty()), &(code, is_told));
     }
     let failing = Failing {
         given: false,
         kind: ErrorKind::Other,
     };
     let ended = unread_status(&io::Error::from(ErrorKind::InvalidData), failing);
-    assert_eq!(rt; ended, 3);
+    check_same(&rt, &ended, &3);
 }
 
 /// A reader that gives some bytes and then fails, or a writer that fails at once.
@@ -613,40 +632,37 @@ impl Write for Failing {
     }
 }
 
-#[test]
-fn failures(rt: HostRuntime) {
-    let alloc = rt.alloc();
-    for kind in [ErrorKind::Other, ErrorKind::Interrupted] {
-        let mut output = Vec::new(alloc);
-        let mut errors = Vec::new(alloc);
-        let reader = Failing { given: false, kind };
-        let ended = status(
-            &rt,
-            alloc,
-            &["lot_sim", "play"],
-            reader,
-            &mut output,
-            &mut errors,
-        );
-        assert_eq!(rt; ended, 3);
-        assert!(rt; output.is_empty() && errors.is_empty());
-    }
+/// Plays what a reader gives before it fails, and returns the exit status and whether nothing was written.
+fn ended_by_reader<H: Threads + Wait + Sync>(rt: &H, alloc: Global, kind: ErrorKind) -> (u8, bool) {
+    let reader = Failing { given: false, kind };
+    let mut output = Vec::new(alloc);
     let mut errors = Vec::new(alloc);
+    let words = ["lot_sim", "play"];
+    let code = status(rt, alloc, &words, reader, &mut output, &mut errors);
+    (code, output.is_empty() && errors.is_empty())
+}
+
+/// Plays to a writer that fails, and returns the exit status and whether nothing was told.
+fn ended_by_writer<H: Threads + Wait + Sync>(rt: &H, alloc: Global) -> (u8, bool) {
+    let reader = "lottery 1".as_bytes();
     let writer = Failing {
         given: false,
         kind: ErrorKind::Other,
     };
+    let mut errors = Vec::new(alloc);
     let words = ["lot_sim", "play"];
-    let ended = status(
-        &rt,
-        alloc,
-        &words,
-        "lottery 1".as_bytes(),
-        writer,
-        &mut errors,
-    );
-    assert_eq!(rt; ended, 3);
-    assert!(rt; errors.is_empty());
+    let code = status(rt, alloc, &words, reader, writer, &mut errors);
+    (code, errors.is_empty())
+}
+
+#[test]
+fn failures(rt: HostRuntime) {
+    for kind in [ErrorKind::Other, ErrorKind::Interrupted] {
+        let ended = ended_by_reader(&rt, rt.alloc(), kind);
+        check_same_at(&rt, &"reading", &ended, &(3, true));
+    }
+    let ended = ended_by_writer(&rt, rt.alloc());
+    check_same_at(&rt, &"writing", &ended, &(3, true));
 }
 
 /// A writer that keeps what it takes and whether all of that was flushed, and whose call of this number fails: with
@@ -715,11 +731,16 @@ fn writing_fails(
     } = writer.into_inner();
     let whole = output.as_bytes();
     if has_failed {
-        assert_eq!(rt; (ended, calls), (Err(IoFault::Write), fails_at));
-        assert!(rt; whole.starts_with(written.as_slice()), "at call {fails_at}");
+        let found = (ended, calls, whole.starts_with(written.as_slice()));
+        check_same_at(
+            rt,
+            &fails_at,
+            &found,
+            &(Err(IoFault::Write), fails_at, true),
+        );
     } else {
-        assert_eq!(rt; (ended, is_flushed), (Ok(Played::Done), true));
-        assert!(rt; whole == written.as_slice(), "at call {fails_at}");
+        let found = (ended, is_flushed, whole == written.as_slice());
+        check_same_at(rt, &fails_at, &found, &(Ok(Played::Done), true, true));
     }
     has_failed
 }
@@ -740,28 +761,28 @@ fn first_unmade_write(
 }
 
 /// The input with tables of these limits, which come after this front of it.
-fn with_limits(alloc: Global, input: &str, front: &str, limits: &str) -> Result<String, Fail> {
-    let rest = input.strip_prefix(front).ok_or("a first line")?;
-    Ok(format!(in alloc; "{front}limits {limits}\n{rest}")?)
+fn with_limits(rt: &impl Abort, alloc: Global, input: &str, front: &str, limits: &str) -> String {
+    let rest = input.strip_prefix(front).expect(rt, "a first line");
+    format!(in alloc; "{front}limits {limits}\n{rest}").expect(rt, "memory")
+}
+
+/// Plays the input to writers that fail in each way at each of their calls. The page of turns, five lines of the report
+/// and, if it can fail, the flush: at least that many calls fail.
+fn check_failing_writers(rt: &impl Abort, alloc: Global, row: (&str, &str)) {
+    for kind in [Some(ErrorKind::Other), Some(ErrorKind::Interrupted), None] {
+        let unmade = first_unmade_write(rt, alloc, row, kind);
+        assert!(rt; 6 < unmade, "{unmade}");
+    }
 }
 
 #[test]
-fn failing_writers(rt: HostRuntime) -> Result<(), Fail> {
+fn failing_writers(rt: HostRuntime) {
     let alloc = rt.alloc();
-    let graph = with_limits(alloc, CURRENCY_GRAPH, "lottery 1\n", "8 5 3")?;
-    let call = with_limits(alloc, CALL_AND_REPLY, "lottery 1\nquantum 10\n", "2 1 2")?;
-    for kind in [Some(ErrorKind::Other), Some(ErrorKind::Interrupted), None] {
-        for row in [
-            (graph.as_str(), CURRENCY_LISTINGS),
-            (call.as_str(), CALL_AND_REPLY_PLAYED),
-        ] {
-            let unmade = first_unmade_write(&rt, alloc, row, kind);
-            // The page of turns, five lines of the report and, if it can fail, the flush: at least that many calls
-            // fail.
-            assert!(rt; 6 < unmade, "{unmade}");
-        }
-    }
-    Ok(())
+    let graph = with_limits(&rt, alloc, CURRENCY_GRAPH, "lottery 1\n", "8 5 3");
+    check_failing_writers(&rt, alloc, (graph.as_str(), CURRENCY_LISTINGS));
+    let front = "lottery 1\nquantum 10\n";
+    let call = with_limits(&rt, alloc, CALL_AND_REPLY, front, "2 1 2");
+    check_failing_writers(&rt, alloc, (call.as_str(), CALL_AND_REPLY_PLAYED));
 }
 
 /// A reader of a few bytes at a time, whose call of this number fails.
@@ -802,17 +823,16 @@ fn reading_fails(
     let mut writer = Watched::new(Vec::new(alloc));
     let ended = play(alloc, &mut reader, &mut writer);
     let written = writer.into_inner();
-    if reader.failed() {
-        assert_eq!(rt; ended, Err(IoFault::Read));
-        assert!(rt; written.is_empty(), "at call {fails_at}");
+    let has_failed = reader.failed();
+    let wanted = if has_failed {
+        (Err(IoFault::Read), true)
     } else {
-        assert_eq!(rt; ended, Ok(Played::Done));
-        assert!(rt;
-            output.as_bytes() == written.as_slice(),
-            "at call {fails_at}"
-        );
-    }
-    reader.failed()
+        (Ok(Played::Done), true)
+    };
+    let whole = if has_failed { "" } else { output };
+    let found = (ended, whole.as_bytes() == written.as_slice());
+    check_same_at(rt, &fails_at, &found, &wanted);
+    has_failed
 }
 
 /// The number of the first read whose failure doesn't come, since there are fewer.
@@ -826,12 +846,12 @@ fn first_unmade_read(rt: &impl Abort, alloc: Global, row: (&str, &str), kind: Er
 }
 
 #[test]
-fn failing_readers(rt: HostRuntime) -> Result<(), Fail> {
+fn failing_readers(rt: HostRuntime) {
     let alloc = rt.alloc();
-    let call = with_limits(alloc, CALL_AND_REPLY, "lottery 1\nquantum 10\n", "2 1 2")?;
+    let front = "lottery 1\nquantum 10\n";
+    let call = with_limits(&rt, alloc, CALL_AND_REPLY, front, "2 1 2");
     for kind in [ErrorKind::Other, ErrorKind::Interrupted] {
         let unmade = first_unmade_read(&rt, alloc, (call.as_str(), CALL_AND_REPLY_PLAYED), kind);
         assert!(rt; 30 < unmade, "{unmade}");
     }
-    Ok(())
 }

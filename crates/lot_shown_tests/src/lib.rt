@@ -3,8 +3,5 @@
 //! so that those five aren't proved a second time for them.
 #![tactic(auto)]
 
-mod endings;
 #[cfg(test)]
 mod tests;
-
-pub use endings::has_written_or_lacked_memory;

@@ -3,11 +3,13 @@
 
 mod charts;
 mod curves;
+mod endings;
 mod explained;
 mod pictures;
+mod same;
 mod words;
 
-use crate::has_written_or_lacked_memory;
+use endings::has_written_or_lacked_memory;
 use lot_curves::Measure;
 use lot_engine::Played;
 use lot_explain::explain;

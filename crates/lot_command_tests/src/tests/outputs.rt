@@ -1,12 +1,12 @@
 //! Outputs that fail, and that are flushed. Nothing more is written to one after its first error.
 
+use super::same::{check_same, check_same_at};
 use super::{EMPTY_REPORT, FailingCall};
 use lot_command::status;
 use std::alloc::Global;
 use std::io::ErrorKind;
 use std::process::Abort;
 use std::sync::Wait;
-use std::test::Fail;
 use std::thread::Threads;
 
 /// How a call fails: with an error of this kind, or by taking no byte.
@@ -85,25 +85,19 @@ fn output_fails<H: Abort + Threads + Wait + Sync>(
     let mut output = failing(alloc, fails_at, kind);
     let mut errors = Vec::new(alloc);
     let words = ["lot_sim", word];
-    let ended = status(
-        rt,
-        alloc,
-        &words,
-        input.as_bytes(),
-        &mut output,
-        &mut errors,
-    );
+    let reader = input.as_bytes();
+    let ended = status(rt, alloc, &words, reader, &mut output, &mut errors);
     let whole = text.as_bytes();
-    assert_eq!(rt; errors.is_empty(), ended != 1, "{input}");
+    let written = output.written.as_slice();
     if ended == 3 {
-        assert_eq!(rt; output.calls, fails_at, "{input}");
-        assert!(rt; whole.starts_with(output.written.as_slice()), "{input}");
-        return true;
+        let found = (output.calls, whole.starts_with(written), errors.is_empty());
+        check_same_at(rt, &input, &found, &(fails_at, true, true));
+    } else {
+        let is_whole = output.is_flushed && whole == written;
+        let found = (ended, is_whole, errors.is_empty());
+        check_same_at(rt, &input, &found, &(code, true, code != 1));
     }
-    assert_eq!(rt; ended, code, "{input}");
-    assert!(rt; output.is_flushed, "{input}");
-    assert!(rt; whole == output.written.as_slice(), "{input}");
-    false
+    ended == 3
 }
 
 /// Asks for this with an output that fails at each of its calls, and at none. A flush takes no bytes, so it fails
@@ -114,11 +108,8 @@ fn check_output<H: Abort + Threads + Wait + Sync>(rt: &H, alloc: Global, asked: 
         for call in 0..10 {
             let is_write = 0 < call && call <= writes;
             let is_failing_flush = call == writes.saturating_add(1) && kind.is_some();
-            assert_eq!(rt;
-                output_fails(rt, alloc, asked, call, kind),
-                is_write || is_failing_flush,
-                "call {call} of {input}"
-            );
+            let fails = output_fails(rt, alloc, asked, call, kind);
+            check_same_at(rt, &(call, input), &fails, &(is_write || is_failing_flush));
         }
     }
 }
@@ -132,17 +123,16 @@ fn failing_outputs(rt: HostRuntime) {
 
 // What is longer than the buffer.
 #[test]
-fn failing_long_output(rt: HostRuntime) -> Result<(), Fail> {
+fn failing_long_output(rt: HostRuntime) {
     let mut text = String::new(rt.alloc());
     for _ in 0..10000 {
-        text.push_str("1 idle\n")?;
+        text.push_str("1 idle\n").expect(&rt, "memory");
     }
-    text.push_str(
-        "report
+    let report = "report
 processor 1 quanta 0 idle 10000 ticks 0
 total turns 10000 quanta 0 ticks 0
-",
-    )?;
+";
+    text.push_str(report).expect(&rt, "memory");
     let asked = Asked {
         word: "play",
         input: "lottery 2\nlimits 1 1 1\nruns 1 10000\n",
@@ -151,7 +141,6 @@ total turns 10000 quanta 0 ticks 0
         writes: 2,
     };
     check_output(&rt, rt.alloc(), asked);
-    Ok(())
 }
 
 /// Calls the program with these words, and returns its exit status and the one output that it wrote to, whose call of
@@ -184,16 +173,16 @@ fn check_told<H: Abort + Threads + Wait + Sync>(
     kind: ErrorKind,
 ) {
     let (ended, whole) = ended_with(rt, alloc, words, 0, None);
-    assert_eq!(rt; (ended, whole.is_flushed), (code, true), "{words:?}");
+    check_same_at(rt, &words, &(ended, whole.is_flushed), &(code, true));
+    let text = whole.written.as_slice();
     for call in 1..=whole.calls {
         let (ended, begun) = ended_with(rt, alloc, words, call, Some(kind));
-        assert_eq!(rt; (ended, begun.calls), (3, call), "{words:?}");
-        assert!(rt;
-            whole
-                .written
-                .as_slice()
-                .starts_with(begun.written.as_slice()),
-            "{words:?}"
+        let is_begun = text.starts_with(begun.written.as_slice());
+        check_same_at(
+            rt,
+            &words,
+            &(ended, begun.calls, is_begun),
+            &(3, call, true),
         );
     }
 }
@@ -209,6 +198,6 @@ fn failing_texts(rt: HostRuntime) {
         check_told(&rt, alloc, &["lot_sim", "replay"], 2, kind);
     }
     let (ended, output) = ended_with(&rt, alloc, &["lot_sim", "--help"], 1, None);
-    assert_eq!(rt; (ended, output.calls), (3, 1));
-    assert!(rt; output.written.is_empty());
+    let found = (ended, output.calls, output.written.is_empty());
+    check_same(&rt, &found, &(3, 1, true));
 }

@@ -1,13 +1,13 @@
 //! Free runs.
 
-use super::check_words_on;
-use lot_command::{RunStop, status};
+use super::same::{check_same, check_same_at};
+use super::{check_words_on, ended_on};
+use lot_command::RunStop;
 use lot_io::IoFault;
 use lot_processors::FreeRunFault;
 use std::alloc::Global;
-use std::str;
+use std::process::Abort;
 use std::sync::Wait;
-use std::test::*;
 use std::thread::Threads;
 
 /// Inputs, and what running them writes whatever the order of turns is.
@@ -69,28 +69,16 @@ fn runs(rt: HostRuntime) {
     }
 }
 
-/// The output of playing or running the input, if it is text and all is done.
-fn written<H: Threads + Wait + Sync>(
+/// The output of playing or running the input, which is done.
+fn written<H: Abort + Threads + Wait + Sync>(
     rt: &H,
     alloc: Global,
     word: &str,
     input: &str,
-) -> Result<String, Fail> {
-    let mut output = Vec::new(alloc);
-    let mut errors = Vec::new(alloc);
-    let words = ["lot_sim", word];
-    let ended = status(
-        rt,
-        alloc,
-        &words,
-        input.as_bytes(),
-        &mut output,
-        &mut errors,
-    );
-    if ended != 0 {
-        return Err("not done".into());
-    }
-    Ok(String::from_utf8(output)?)
+) -> String {
+    let ended = ended_on(rt, alloc, &["lot_sim", word], input);
+    check_same_at(rt, &input, &ended.code, &0);
+    String::from_utf8(ended.output).expect(rt, "a text")
 }
 
 /// Programs whose workers have turns to make, with a word of their last lines when they are run.
@@ -152,33 +140,43 @@ fundx 3 base c spin
     ),
 ];
 
+/// Runs the program, and plays its schedule. Compares whether the run has this word, and the report of what was played.
+fn check_played_back<H: Abort + Threads + Wait + Sync>(
+    rt: &H,
+    alloc: Global,
+    program: &str,
+    total: &str,
+) {
+    let run = written(rt, alloc, "run", program);
+    let lines = run
+        .as_str()
+        .find("\nschedule ")
+        .or(run.as_str().find("\nruns "));
+    let (report, schedule) = run.as_str().split_at(lines.expect(rt, "a schedule") + 1);
+    let input = format!(in alloc; "{program}{schedule}").expect(rt, "memory");
+    let played = written(rt, alloc, "play", input.as_str());
+    let found = (
+        run.as_str().contains(total),
+        played.as_str().ends_with(report),
+    );
+    check_same_at(rt, &program, &found, &(true, true));
+}
+
 // The schedule that a run prints gives `play` the report that the run printed.
 #[test]
-fn a_run_is_played_back(rt: HostRuntime) -> Result<(), Fail> {
-    let alloc = rt.alloc();
+fn a_run_is_played_back(rt: HostRuntime) {
     for (program, total) in PROGRAMS {
-        let run = written(&rt, alloc, "run", program)?;
-        assert!(rt; run.as_str().contains(total));
-        let lines = run
-            .as_str()
-            .find("\nschedule ")
-            .or(run.as_str().find("\nruns "));
-        let (report, schedule) = run.as_str().split_at(lines.ok_or("no schedule")? + 1);
-        let input = format!(in alloc; "{program}{schedule}")?;
-        let played = written(&rt, alloc, "play", input.as_str())?;
-        assert!(rt; played.as_str().ends_with(report));
+        check_played_back(&rt, rt.alloc(), program, total);
     }
-    Ok(())
 }
 
 #[test]
-fn texts_of_stops(rt: HostRuntime) -> Result<(), Fail> {
+fn texts_of_stops(rt: HostRuntime) {
     for (stop, text) in [
         (RunStop::Play(IoFault::Read), "the reader has failed"),
         (RunStop::Workers(FreeRunFault::Memory), "out of memory"),
     ] {
-        let shown = format!(in rt.alloc(); "{stop}")?;
-        assert_eq!(rt; shown.as_str(), text);
+        let shown = format!(in rt.alloc(); "{stop}").expect(&rt, "memory");
+        check_same(&rt, &shown.as_str(), &text);
     }
-    Ok(())
 }

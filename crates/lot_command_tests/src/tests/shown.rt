@@ -1,7 +1,6 @@
 //! Tables and pictures of what threads have run, and lotteries that are explained.
-use super::{check_words, check_words_on};
-use lot_command::status;
-use std::test::Fail;
+use super::same::check_same;
+use super::{check_words, check_words_on, ended_on};
 
 /// Thread `a` has the only ticket: it wins both draws, and runs for two quanta of 2 ticks.
 const INPUT: &str = "lottery 1
@@ -49,40 +48,25 @@ fn options(rt: HostRuntime) {
     check_words(&rt, alloc, &["lot_sim", "play", "--quanta"], 2, false);
 }
 
+/// The columns count draws.
 #[test]
-fn draws_and_titles(rt: HostRuntime) -> Result<(), Fail> {
-    let alloc = rt.alloc();
-    let mut output = Vec::new(alloc);
-    let mut errors = Vec::new(alloc);
+fn draws(rt: HostRuntime) {
     let words = ["lot_sim", "shares", "--quanta"];
-    let ended = status(
-        &rt,
-        alloc,
-        &words,
-        INPUT.as_bytes(),
-        &mut output,
-        &mut errors,
-    );
-    assert_eq!(rt; ended, 0);
-    assert!(rt; output.as_slice() == "tick,a,b\n0,1,0\n1,1,0\n2,2,0\n3,2,0\n4,2,0\n".as_bytes());
-    let mut picture = Vec::new(alloc);
+    let ended = ended_on(&rt, rt.alloc(), &words, INPUT);
+    let table = "tick,a,b\n0,1,0\n1,1,0\n2,2,0\n3,2,0\n4,2,0\n";
+    let is_table = ended.output.as_slice() == table.as_bytes();
+    check_same(&rt, &(ended.code, is_table), &(0, true));
+}
+
+#[test]
+fn titles(rt: HostRuntime) {
     let words = ["lot_sim", "chart", "--title", "One & none"];
-    let ended = status(
-        &rt,
-        alloc,
-        &words,
-        INPUT.as_bytes(),
-        &mut picture,
-        &mut errors,
-    );
-    assert_eq!(rt; ended, 0);
-    let text = String::from_utf8(picture).ok().ok_or("a text")?;
-    assert!(rt;
-        text.as_str()
-            .contains("<title id='title'>One &amp; none</title>\n")
-    );
-    assert!(rt; text.as_str().ends_with("</svg>\n"));
-    Ok(())
+    let ended = ended_on(&rt, rt.alloc(), &words, INPUT);
+    let picture = String::from_utf8(ended.output).expect(&rt, "a text");
+    let text = picture.as_str();
+    let has_title = text.contains("<title id='title'>One &amp; none</title>\n");
+    let is_whole = text.ends_with("</svg>\n");
+    check_same(&rt, &(ended.code, has_title, is_whole), &(0, true, true));
 }
 
 /// The explanation of the input.

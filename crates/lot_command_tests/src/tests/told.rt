@@ -1,6 +1,7 @@
 //! Diagnostics in words on standard error.
 
-use super::{EMPTY_REPORT, Failing};
+use super::same::{check_same, check_same_at};
+use super::{EMPTY_REPORT, Failing, ended_on};
 use lot_command::status;
 use std::alloc::Global;
 use std::io::ErrorKind;
@@ -17,19 +18,9 @@ fn check_told<H: Abort + Threads + Wait + Sync>(
     code: u8,
     expected: &str,
 ) {
-    let mut output = Vec::new(alloc);
-    let mut errors = Vec::new(alloc);
-    let ended = status(
-        rt,
-        alloc,
-        &words,
-        input.as_bytes(),
-        &mut output,
-        &mut errors,
-    );
-    assert_eq!(rt; ended, code, "{input}");
-    let told = str::from_utf8(errors.as_slice()).unwrap_or("");
-    assert_eq!(rt; told, expected);
+    let ended = ended_on(rt, alloc, &words, input);
+    let told = str::from_utf8(ended.errors.as_slice()).unwrap_or("");
+    check_same_at(rt, &input, &(ended.code, told), &(code, expected));
 }
 
 #[test]
@@ -40,23 +31,34 @@ fn refused_inputs(rt: HostRuntime) {
     check_told(&rt, rt.alloc(), ["lot_sim", "run"], input, 1, expected);
 }
 
+/// Plays the input with an output for diagnostics that fails, and returns the exit status and whether this was
+/// written.
+fn ended_untold<H: Threads + Wait + Sync>(
+    rt: &H,
+    alloc: Global,
+    input: &str,
+    expected: &str,
+) -> (u8, bool) {
+    let mut output = Vec::new(alloc);
+    let errors = Failing {
+        given: false,
+        kind: ErrorKind::Other,
+    };
+    let words = ["lot_sim", "play"];
+    let reader = input.as_bytes();
+    let code = status(rt, alloc, &words, reader, &mut output, errors);
+    (code, output.as_slice() == expected.as_bytes())
+}
+
 #[test]
 fn failing_errors(rt: HostRuntime) {
-    let alloc = rt.alloc();
     let rows = [
         ("lottery 1\nmktk 5 base\n", 1, "refused line 2 51 BadLine\n"),
         ("lottery 1\nmkcur a\n", 0, EMPTY_REPORT),
     ];
     for (input, code, expected) in rows {
-        let mut output = Vec::new(alloc);
-        let errors = Failing {
-            given: false,
-            kind: ErrorKind::Other,
-        };
-        let words = ["lot_sim", "play"];
-        let ended = status(&rt, alloc, &words, input.as_bytes(), &mut output, errors);
-        assert_eq!(rt; ended, code);
-        assert!(rt; output.as_slice() == expected.as_bytes());
+        let ended = ended_untold(&rt, rt.alloc(), input, expected);
+        check_same(&rt, &ended, &(code, true));
     }
 }
 

@@ -1,6 +1,7 @@
 //! Curves of a few threads, as a table and as pictures.
 ghost use Rattle.std.specs.Prelude.{◌≤◌, ◌<◌, ◌^◌, IfOk, length, vec_len};
 
+use super::same::{check_same, check_same_at};
 use lot_chart::{chart, table};
 use lot_curves::{Curves, Measure, Stretch};
 use lot_machine::{Name, Reply};
@@ -53,38 +54,41 @@ fn thirteen_threads(alloc: Global) -> Result<Curves, Fail> {
     Ok(Curves::new(names, stretches))
 }
 
+/// Compares the table of the curves.
+fn check_table(rt: &impl Abort, alloc: Global, curves: &Curves, measure: Measure, expected: &str) {
+    let written = table(alloc, curves, measure).expect(rt, "memory");
+    let found = str::from_utf8(written.as_slice()).unwrap_or("");
+    check_same(rt, &found, &expected);
+}
+
 #[test]
 fn tables(rt: HostRuntime) -> Result<(), Fail> {
-    let alloc = rt.alloc();
-    let curves = three_ticks(alloc)?;
-    let ticks = table(alloc, &curves, Measure::Ticks)?;
-    assert!(rt; ticks.as_slice() == "tick,a,b-2\n0,0,0\n1,1,0\n2,2,0\n3,2,1\n".as_bytes());
-    let draws = table(alloc, &curves, Measure::Draws)?;
-    assert!(rt; draws.as_slice() == "tick,a,b-2\n0,1,0\n1,1,0\n2,1,1\n3,1,1\n".as_bytes());
-    let none = Curves::new(Vec::new(alloc), Vec::new(alloc));
-    let empty = table(alloc, &none, Measure::Ticks)?;
-    assert!(rt; empty.as_slice() == "tick\n0\n".as_bytes());
+    let curves = three_ticks(rt.alloc())?;
+    let ticks = "tick,a,b-2\n0,0,0\n1,1,0\n2,2,0\n3,2,1\n";
+    check_table(&rt, rt.alloc(), &curves, Measure::Ticks, ticks);
+    let draws = "tick,a,b-2\n0,1,0\n1,1,0\n2,1,1\n3,1,1\n";
+    check_table(&rt, rt.alloc(), &curves, Measure::Draws, draws);
     Ok(())
 }
 
+#[test]
+fn tables_of_nothing(rt: HostRuntime) {
+    let none = Curves::new(Vec::new(rt.alloc()), Vec::new(rt.alloc()));
+    check_table(&rt, rt.alloc(), &none, Measure::Ticks, "tick\n0\n");
+}
+
 /// Draws the curves, and looks for these parts of the picture.
-fn check_picture(
-    rt: &impl Abort,
-    alloc: Global,
-    curves: &Curves,
-    parts: &[&str],
-) -> Result<(), Fail> {
-    let picture = chart(alloc, curves, "a < b & c")?;
-    let text = String::from_utf8(picture).ok().ok_or("a text")?;
+fn check_picture(rt: &impl Abort, alloc: Global, curves: &Curves, parts: &[&str]) {
+    let picture = chart(alloc, curves, "a < b & c").expect(rt, "memory");
+    let text = String::from_utf8(picture).expect(rt, "a text");
     for part in parts {
-        assert!(rt; text.as_str().contains(*part), "{part}");
+        check_same_at(rt, part, &text.as_str().contains(*part), &true);
     }
-    Ok(())
 }
 
 #[test]
 fn pictures(rt: HostRuntime) -> Result<(), Fail> {
-    let alloc = rt.alloc();
+    let curves = three_ticks(rt.alloc())?;
     let parts = [
         "<title id='title'>a &lt; b &amp; c</title>\n",
         "<text x='92' y='260.0' dy='4' text-anchor='end'>1</text>\n",
@@ -94,12 +98,19 @@ fn pictures(rt: HostRuntime) -> Result<(), Fail> {
         "<text x='788' y='60.0' dy='4'>a 66.7%</text>\n",
         "<text x='788' y='260.0' dy='4'>b-2 33.3%</text>\n",
     ];
-    check_picture(&rt, alloc, &three_ticks(alloc)?, &parts)?;
+    check_picture(&rt, rt.alloc(), &curves, &parts);
+    Ok(())
+}
+
+#[test]
+fn picture_of_more_than_twelve(rt: HostRuntime) -> Result<(), Fail> {
+    let curves = thirteen_threads(rt.alloc())?;
     let parts = [
         "<text x='788' y='60.0' dy='4'>m 14.3%</text>\n",
         "<text x='788' y='367.7' dy='4'>c 3.3%</text>\n",
         "<path d='M770 367.7L784 383.7' stroke='#cc79a7'/>\n",
         "<text x='788' y='383.7' dy='4'>others 3.3%</text>\n",
     ];
-    check_picture(&rt, alloc, &thirteen_threads(alloc)?, &parts)
+    check_picture(&rt, rt.alloc(), &curves, &parts);
+    Ok(())
 }

@@ -1,6 +1,7 @@
 //! Curves of two threads.
 ghost use Rattle.std.specs.Prelude.{◌≡◌, IfOk, length};
 
+use super::same::{check_same, check_same_at};
 use lot_curves::{Curves, Measure, Stretch};
 use lot_machine::{Name, Reply};
 use std::alloc::Global;
@@ -36,12 +37,21 @@ fn two_threads(alloc: Global) -> Result<Curves, Fail>
     Ok(Curves::new(names, stretches))
 }
 
+/// The two threads' numbers at this tick.
+fn row_at(curves: &Curves, measure: Measure, tick: u64) -> [u64; 2]
+    requires { length curves.now.names ≡ 2 }
+{
+    let mut row = [0u64; 2];
+    curves.fill_row(measure, tick, &mut row);
+    row
+}
+
 #[test]
 fn rows(rt: HostRuntime) -> Result<(), Fail> {
     let curves = two_threads(rt.alloc())?;
-    assert_eq!(rt; curves.last(), 30);
-    assert_eq!(rt; curves.sample_count(), 30);
-    assert_eq!(rt; curves.sample_tick(7), 7);
+    check_same(&rt, &(curves.last(), curves.sample_count()), &(30, 30));
+    assert!(rt; 7 <= curves.sample_count());
+    check_same(&rt, &curves.sample_tick(7), &7);
     for (tick, ticks, draws) in [
         (0, [0, 0], [1, 0]),
         (7, [7, 0], [1, 0]),
@@ -49,11 +59,11 @@ fn rows(rt: HostRuntime) -> Result<(), Fail> {
         (15, [10, 5], [1, 1]),
         (30, [20, 10], [2, 1]),
     ] {
-        let mut row = [0u64; 2];
-        curves.fill_row(Measure::Ticks, tick, &mut row);
-        assert_eq!(rt; row, ticks, "at {tick}");
-        curves.fill_row(Measure::Draws, tick, &mut row);
-        assert_eq!(rt; row, draws, "at {tick}");
+        let found = (
+            row_at(&curves, Measure::Ticks, tick),
+            row_at(&curves, Measure::Draws, tick),
+        );
+        check_same_at(&rt, &tick, &found, &(ticks, draws));
     }
     Ok(())
 }

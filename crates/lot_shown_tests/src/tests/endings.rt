@@ -1,4 +1,5 @@
-//! How a run may end, and what it has written by then.
+//! How a run may end, and what it has written by then. It stands among the tests, since the crate would prove it a
+//! second time as a library.
 ghost use Rattle.std.specs.Prelude.{◌≡◌, ◌<◌, ◌↔◌, ◌⊎◌, Err, IsTrue, Ok};
 ghost use Rattle.lot_io.specs.declared.fault.IoFault.TheVariants as faults;
 ghost use Rattle.lot_engine.specs.declared.inputs.Played.TheVariants as came;
@@ -7,7 +8,7 @@ use lot_engine::Played;
 use lot_io::IoFault;
 
 /// Whether a run was played to its end and has written something, or lacked memory and has written nothing.
-pub fn has_written_or_lacked_memory(ended: Result<Played, IoFault>, written: usize) -> bool
+pub(crate) fn has_written_or_lacked_memory(ended: Result<Played, IoFault>, written: usize) -> bool
     ensures { IsTrue result ↔ (((ended ≡ Ok came.Done) × (0 < written))
         ⊎ ((ended ≡ Err faults.Memory) × (written ≡ 0))) }
 {

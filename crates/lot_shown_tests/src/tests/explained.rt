@@ -1,4 +1,5 @@
 //! Inputs that are explained, and their explanations.
+use super::same::check_same_at;
 use lot_engine::Played;
 use lot_explain::explain;
 use lot_io::Watched;
@@ -95,9 +96,9 @@ fn check(rt: &impl Abort, alloc: Global, input: &str, came: Played, expected: &s
     let mut reader = Watched::new(input.as_bytes());
     let mut writer = Watched::new(Vec::new(alloc));
     let ended = explain(alloc, &mut reader, &mut writer);
-    assert_eq!(rt; ended, Ok(came));
     let written = writer.into_inner();
-    assert!(rt; written.as_slice() == expected.as_bytes());
+    let is_written = written.as_slice() == expected.as_bytes();
+    check_same_at(rt, &input, &(ended, is_written), &(Ok(came), true));
 }
 
 #[test]

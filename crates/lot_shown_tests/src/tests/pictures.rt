@@ -1,12 +1,12 @@
 //! A short run, as tables and as a picture.
 use super::SCHEDULED;
+use super::same::{check_same, check_same_at};
 use lot_curves::Measure;
 use lot_engine::Played;
 use lot_io::{IoFault, Watched};
 use lot_pictures::{chart, shares};
 use std::alloc::Global;
 use std::process::Abort;
-use std::test::Fail;
 
 /// A thread comes at tick 2. It runs for 4 ticks to the end of its quantum, and for 2 and the one of its end.
 const IN_TIME: &str = "lottery 3
@@ -32,14 +32,19 @@ fn check_shares(
     let mut writer = Watched::new(Vec::new(alloc));
     let mut refused = Vec::new(alloc);
     let came = shares(alloc, measure, &mut refused, &mut reader, &mut writer);
-    assert_eq!(rt; came, ended);
     let written = writer.into_inner();
-    assert!(rt; written.as_slice() == expected.as_bytes());
-    assert_eq!(rt; refused.is_empty(), ended == Ok(Played::Done));
+    let is_written = written.as_slice() == expected.as_bytes();
+    let is_done = ended == Ok(Played::Done);
+    check_same_at(
+        rt,
+        &input,
+        &(came, is_written, refused.is_empty()),
+        &(ended, true, is_done),
+    );
 }
 
 #[test]
-fn tables(rt: HostRuntime) -> Result<(), Fail> {
+fn tables(rt: HostRuntime) {
     let alloc = rt.alloc();
     let done = Ok(Played::Done);
     let ticks = "tick,a,b\n0,0,0\n1,1,0\n2,2,0\n3,3,0\n4,4,0\n";
@@ -56,7 +61,6 @@ fn tables(rt: HostRuntime) -> Result<(), Fail> {
         Ok(Played::Refused),
         refused,
     );
-    Ok(())
 }
 
 #[test]
@@ -69,31 +73,26 @@ fn tables_in_time(rt: HostRuntime) {
     check_shares(&rt, alloc, Measure::Draws, IN_TIME, done, draws);
 }
 
-#[test]
-fn pictures(rt: HostRuntime) -> Result<(), Fail> {
-    let alloc = rt.alloc();
+/// The outcome of drawing the first input, and the picture.
+fn drawn(rt: &impl Abort, alloc: Global) -> (Result<Played, IoFault>, String) {
     let mut reader = Watched::new(SCHEDULED.as_bytes());
     let mut writer = Watched::new(Vec::new(alloc));
     let mut refused = Vec::new(alloc);
     let came = chart(alloc, "Two & none", &mut refused, &mut reader, &mut writer);
-    assert_eq!(rt; came, Ok(Played::Done));
-    let text = String::from_utf8(writer.into_inner()).ok().ok_or("a text")?;
-    assert!(rt;
-        text.as_str()
-            .contains("<title id='title'>Two &amp; none</title>\n")
-    );
-    assert!(rt;
-        text.as_str().contains(
-            "<polyline points=' 100.0,460.0 267.5,360.0 435.0,260.0 602.5,160.0 770.0,60.0' stroke='#0072b2'/>\n"
-        )
-    );
-    assert!(rt;
-        text.as_str()
-            .contains("<text x='788' y='60.0' dy='4'>a 100.0%</text>\n")
-    );
-    assert!(rt;
-        text.as_str()
-            .contains("<text x='788' y='460.0' dy='4'>b 0.0%</text>\n")
-    );
-    Ok(())
+    let picture = String::from_utf8(writer.into_inner()).expect(rt, "a text");
+    (came, picture)
+}
+
+#[test]
+fn pictures(rt: HostRuntime) {
+    let (came, picture) = drawn(&rt, rt.alloc());
+    check_same(&rt, &came, &Ok(Played::Done));
+    for part in [
+        "<title id='title'>Two &amp; none</title>\n",
+        "<polyline points=' 100.0,460.0 267.5,360.0 435.0,260.0 602.5,160.0 770.0,60.0' stroke='#0072b2'/>\n",
+        "<text x='788' y='60.0' dy='4'>a 100.0%</text>\n",
+        "<text x='788' y='460.0' dy='4'>b 0.0%</text>\n",
+    ] {
+        check_same_at(&rt, &part, &picture.as_str().contains(part), &true);
+    }
 }

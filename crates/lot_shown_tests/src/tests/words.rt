@@ -1,9 +1,9 @@
 //! Inputs that are refused, and what is said of each.
+use super::same::{check_same, check_same_at};
 use lot_text::{ParseFault, parse};
 use lot_words::{CommandLines, write_words};
 use std::alloc::Global;
 use std::process::Abort;
-use std::test::Fail;
 
 /// Reads the input, which is refused, and compares what is said of it.
 fn check<H: Abort>(rt: &H, alloc: Global, input: &[u8], expected: &str) {
@@ -11,9 +11,9 @@ fn check<H: Abort>(rt: &H, alloc: Global, input: &[u8], expected: &str) {
         panic!(rt; "it isn't refused: {expected}");
     };
     let mut words = Vec::new(alloc);
-    assert!(rt; write_words(alloc, &mut words, input, fault).is_ok());
+    let is_written = write_words(alloc, &mut words, input, fault).is_ok();
     let said = str::from_utf8(words.as_slice()).unwrap_or("");
-    assert_eq!(rt; said, expected);
+    check_same(rt, &(is_written, said), &(true, expected));
 }
 
 #[test]
@@ -120,7 +120,7 @@ fn places_of_lines(rt: HostRuntime) {
 }
 
 #[test]
-fn bytes(rt: HostRuntime) -> Result<(), Fail> {
+fn bytes(rt: HostRuntime) {
     let (rt, alloc) = (&rt, rt.alloc());
     check(
         rt,
@@ -140,18 +140,16 @@ fn bytes(rt: HostRuntime) -> Result<(), Fail> {
         b"lottery 1\nmkcur \xc3\xa9\n",
         "line 2: byte 195 in column 7: outside comments only ASCII is read\n",
     );
-    let mut long = String::new(alloc);
-    long.push_str("lottery 1\n#")?;
+}
+
+#[test]
+fn long_lines(rt: HostRuntime) {
+    let mut long = String::from_str(rt.alloc(), "lottery 1\n#").expect(&rt, "memory");
     for _ in 0..600 {
-        long.push_str("0123456789")?;
+        long.push_str("0123456789").expect(&rt, "memory");
     }
-    check(
-        rt,
-        alloc,
-        long.as_bytes(),
-        "line 2: 6001 bytes, at most 4096\n",
-    );
-    Ok(())
+    let expected = "line 2: 6001 bytes, at most 4096\n";
+    check(&rt, rt.alloc(), long.as_bytes(), expected);
 }
 
 #[test]
@@ -230,20 +228,13 @@ fn names(rt: HostRuntime) {
 }
 
 #[test]
-fn too_many(rt: HostRuntime) -> Result<(), Fail> {
-    let (rt, alloc) = (&rt, rt.alloc());
-    let mut input = String::new(alloc);
-    input.push_str("lottery 1\nscript s\n")?;
+fn too_many(rt: HostRuntime) {
+    let mut input = String::from_str(rt.alloc(), "lottery 1\nscript s\n").expect(&rt, "memory");
     for _ in 0..1025 {
-        input.push_str("yield\n")?;
+        input.push_str("yield\n").expect(&rt, "memory");
     }
-    check(
-        rt,
-        alloc,
-        input.as_bytes(),
-        "line 1027: one word of a script too many, at most 1024\n",
-    );
-    Ok(())
+    let expected = "line 1027: one word of a script too many, at most 1024\n";
+    check(&rt, rt.alloc(), input.as_bytes(), expected);
 }
 
 #[test]
@@ -347,29 +338,22 @@ fn several_words(rt: HostRuntime) {
 
 /// The same as `check`, of an input that ends with this line of a script, or with these lines.
 fn check_script<H: Abort>(rt: &H, alloc: Global, line: &str, expected: &str) {
-    let mut input = String::new(alloc);
-    assert!(rt;
-        input
-            .push_str("lottery 3\nfor 5\nmutex m\nscript s\n")
-            .is_ok()
-    );
-    assert!(rt; input.push_str(line).is_ok());
+    let input = format!(in alloc; "lottery 3\nfor 5\nmutex m\nscript s\n{line}");
+    let input = input.expect(rt, "memory");
     check(rt, alloc, input.as_bytes(), expected);
 }
 
 #[test]
-fn lines_of_commands(rt: HostRuntime) -> Result<(), Fail> {
-    let (rt, alloc) = (&rt, rt.alloc());
+fn lines_of_commands(rt: HostRuntime) {
     let input =
         b"lottery 3\nfor 5\nport endscript\nscript s\n# endscript\nyield call endscript\nyield endscript\nlstkt\n\nlscur\nlsthr\n";
-    let lines = CommandLines::of(alloc, input)?;
+    let lines = CommandLines::of(rt.alloc(), input).expect(&rt, "memory");
     for (place, line) in [
         (0usize, Some(8u32)),
         (1, Some(10)),
         (2, Some(11)),
         (3, None),
     ] {
-        assert_eq!(rt; lines.line_of(place), line, "of {place}");
+        check_same_at(&rt, &place, &lines.line_of(place), &line);
     }
-    Ok(())
 }
