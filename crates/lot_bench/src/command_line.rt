@@ -13,7 +13,7 @@ const ABOUT: &str =
     "Gives events to the kernel by itself, and prints what it answered, which is the same each time";
 
 /// The options for other output, and that output.
-const FLAGS: [(&str, &str); 4] = [
+const FLAGS: [(&str, &str); 5] = [
     ("time", "Nanoseconds for each event"),
     (
         "growth",
@@ -27,6 +27,10 @@ const FLAGS: [(&str, &str); 4] = [
         "workers",
         "Turns for each second of worker threads, by a lock and by a baton",
     ),
+    (
+        "million",
+        "A million events of two users with four threads each, and what their winners sum to",
+    ),
 ];
 
 /// The output that a command line requests.
@@ -37,6 +41,7 @@ pub(crate) enum Request {
     Growth,
     Settling,
     Workers,
+    Million,
 }
 
 /// The request of a command line, with about how many events of each workload, and the one workload that it names, if
@@ -85,6 +90,8 @@ fn requested(matches: &ArgMatches<'_>) -> Request {
         Request::Settling
     } else if matches.get_flag("workers") {
         Request::Workers
+    } else if matches.get_flag("million") {
+        Request::Million
     } else {
         Request::Digests
     }

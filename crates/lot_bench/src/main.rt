@@ -5,6 +5,7 @@ mod command_line;
 mod digest;
 mod driver;
 mod growth;
+mod million;
 mod opening;
 mod place;
 mod role;
@@ -37,6 +38,7 @@ fn main(rt: HostRuntime) -> Result<ExitCode> {
         Request::Growth => growth::print_growth(&rt, rt.alloc(), wish.events)?,
         Request::Settling => settling::print_settling(&rt, rt.alloc())?,
         Request::Workers => workers::print_workers(&rt, rt.alloc())?,
+        Request::Million => million::print_million(&rt, rt.alloc())?,
     }
     Ok(ExitCode::SUCCESS)
 }

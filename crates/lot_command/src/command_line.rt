@@ -1,5 +1,6 @@
 //! The words that the program is called with.
 
+use crate::view::View;
 use clap::{Arg, ArgAction, ArgMatches, Command, Error};
 use lot_curves::Measure;
 use std::alloc::{AllocError, Global};
@@ -11,13 +12,8 @@ const TITLE: &str = "What each thread has run";
 /// The request of a command line: exactly one subcommand.
 #[derive(Clone, Copy, Debug)]
 pub(crate) enum Request<'a> {
-    Play,
-    Explain,
+    Show(View<'a>),
     Run,
-    /// The measure of each thread.
-    Shares(Measure),
-    /// The title of the picture.
-    Chart(&'a str),
 }
 
 /// Reads the words, the program's own name first.
@@ -43,13 +39,14 @@ pub(crate) fn request_of<'a, S: AsStr>(
         .subcommand(shares_command(alloc)?)?
         .subcommand(chart_command(alloc)?)?;
     let matches = command.try_get_matches_from(words)?;
-    match matches.subcommand() {
-        Some(("explain", _)) => Ok(Request::Explain),
-        Some(("run", _)) => Ok(Request::Run),
-        Some(("shares", given)) => Ok(Request::Shares(measure_of(given))),
-        Some(("chart", given)) => Ok(Request::Chart(given.get_str("title").unwrap_or(TITLE))),
-        _ => Ok(Request::Play),
-    }
+    let view = match matches.subcommand() {
+        Some(("run", _)) => return Ok(Request::Run),
+        Some(("explain", _)) => View::Explain,
+        Some(("shares", given)) => View::Shares(measure_of(given)),
+        Some(("chart", given)) => View::Chart(given.get_str("title").unwrap_or(TITLE)),
+        _ => View::Play,
+    };
+    Ok(Request::Show(view))
 }
 
 /// The command that writes a table.

@@ -2,13 +2,11 @@
 
 use crate::command_line::{Request, request_of};
 use crate::diagnostics::Diagnostics;
-use crate::explain::explain;
-use crate::play::play;
 use crate::run::run;
+use crate::view::show;
 use clap::Error;
 use clap::error::ErrorKind;
 use lot_io::Watched;
-use lot_pictures::{chart, shares};
 use lot_system::Played;
 use std::alloc::Global;
 use std::convert::AsStr;
@@ -89,29 +87,10 @@ fn request_status<H: Threads + Wait + Sync, R: Read + Drop, W: Write + Drop, E: 
         return FAILED;
     };
     let played = match request {
-        Request::Play => play(alloc, &mut diagnostics, &mut reader, &mut writer).ok(),
-        Request::Explain => explain(alloc, &mut diagnostics, &mut reader, &mut writer).ok(),
+        Request::Show(view) => {
+            show(alloc, view, &mut diagnostics, &mut reader, &mut writer).ok()
+        }
         Request::Run => run(rt, alloc, &mut diagnostics, &mut reader, &mut writer).ok(),
-        Request::Shares(measure) => {
-            shares(
-                alloc,
-                measure,
-                &mut diagnostics.input,
-                &mut reader,
-                &mut writer,
-            )
-            .ok()
-        }
-        Request::Chart(title) => {
-            chart(
-                alloc,
-                title,
-                &mut diagnostics.input,
-                &mut reader,
-                &mut writer,
-            )
-            .ok()
-        }
     };
     match played {
         Some(Played::Done) => {

@@ -5,9 +5,8 @@
 mod command_line;
 mod diagnostics;
 mod exit_status;
-mod explain;
-mod play;
 mod run;
+mod view;
 
 pub use exit_status::{status, unread_status};
 pub use run::{RunStop, run_bytes};

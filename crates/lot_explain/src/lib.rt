@@ -11,4 +11,4 @@ mod lines;
 pub mod rows;
 mod won;
 
-pub use explaining::{explain, explain_bytes};
+pub use explaining::explain_bytes;

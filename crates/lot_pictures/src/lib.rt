@@ -6,4 +6,4 @@ pub mod laws;
 mod showing;
 
 pub use gathering::gather;
-pub use showing::{chart, shares};
+pub use showing::{chart_bytes, shares_bytes};

@@ -1,47 +1,24 @@
 //! Writing curves.
-ghost use Rattle.std.specs.Prelude.{◌≡◌, ℕ, List, false, true, IfErr, IfOk, OnOk};
-ghost use Rattle.std.specs.Io.KnownBytes.{Appends};
+ghost use Rattle.std.specs.Prelude.{◌≡◌, false, true, IfErr, IfOk, OnOk};
 ghost use Rattle.lot_simulation.specs.Grammar.{program_in};
 ghost use Rattle.lot_text.specs.Faults.{IsFaultOf as IsParseFaultOf};
-ghost use Rattle.lot_engine.specs.Played.{Leaves, Plays, came_of};
-ghost use Rattle.lot_io.specs.Reading.{Reads};
-ghost use Rattle.lot_io.specs.Writing.{IsFaultOf, Writes};
+ghost use Rattle.lot_engine.specs.Played.{Plays, came_of};
+ghost use Rattle.lot_io.specs.Writing.{Writes};
 ghost use Rattle.lot_pictures.specs.Shown.{HasCurves, Shows, chart_output, shares_output};
 
 use crate::gather;
 use lot_chart::table;
 use lot_curves::{Curves, Measure};
 use lot_engine::{Played, refuse};
-use lot_io::{IoFault, Watched, flush, read_input, write_bytes};
+use lot_io::{IoFault, Watched, flush, write_bytes};
 use lot_text::{ParseFault, parse};
 use std::alloc::{AllocError, Global};
-use std::io::{Read, Write};
+use std::io::Write;
 
-/// Reads an input, makes its turns, and writes a table of what each thread has had over time; or one line, if the
-/// input is refused: then `refused` has its bytes, otherwise none. Out of memory, it writes nothing.
-pub fn shares<R: Read, W: Write>(
-    alloc: Global,
-    measure: Measure,
-    refused: &mut Vec<u8>,
-    reader: &mut Watched<R>,
-    writer: &mut Watched<W>,
-) -> Result<Played, IoFault>
-    requires { (reader.old.failed ≡ false) × (writer.old.failed ≡ false) }
-    ensures flushed { OnOk result (writer.new.flushed ≡ true) }
-    ensures err { IfErr result (λ fault. IsFaultOf fault reader.new.failed writer.new.failed) }
-    ensures output { IfOk result (λ played. (bytes : List ℕ) × Reads R.remaining reader.old reader.new bytes
-        × (played ≡ came_of (program_in bytes))
-        × Appends (W.contents writer.old.inner) (W.contents writer.new.inner) (shares_output measure bytes)) }
-    ensures fault { IfErr result
-        (λ fault. Leaves
-        (shares_output measure) R.remaining reader.old reader.new W.contents writer.old writer.new fault) }
-{
-    *refused = read_input(alloc, reader)?;
-    write_shares(alloc, measure, refused, writer)
-}
-
-/// Writes the table of what these bytes say, or why they are refused.
-fn write_shares<W: Write>(
+/// Makes the turns of the input in `bytes`, and writes a table of what each thread has had over time; or one line, if
+/// the input is refused: then `bytes` keeps it, otherwise its memory is freed before the first turn. Out of memory, it
+/// writes nothing.
+pub fn shares_bytes<W: Write>(
     alloc: Global,
     measure: Measure,
     bytes: &mut Vec<u8>,
@@ -59,31 +36,10 @@ fn write_shares<W: Write>(
     }
 }
 
-/// Reads an input, makes its turns, and writes a picture with this title of what each thread has had over time; or
-/// one line, if the input is refused: then `refused` has its bytes, otherwise none. Out of memory, it writes nothing.
-pub fn chart<R: Read, W: Write>(
-    alloc: Global,
-    title: &str,
-    refused: &mut Vec<u8>,
-    reader: &mut Watched<R>,
-    writer: &mut Watched<W>,
-) -> Result<Played, IoFault>
-    requires { (reader.old.failed ≡ false) × (writer.old.failed ≡ false) }
-    ensures flushed { OnOk result (writer.new.flushed ≡ true) }
-    ensures err { IfErr result (λ fault. IsFaultOf fault reader.new.failed writer.new.failed) }
-    ensures output { IfOk result (λ played. (bytes : List ℕ) × Reads R.remaining reader.old reader.new bytes
-        × (played ≡ came_of (program_in bytes))
-        × Appends (W.contents writer.old.inner) (W.contents writer.new.inner) (chart_output title.now bytes)) }
-    ensures fault { IfErr result
-        (λ fault. Leaves
-        (chart_output title.now) R.remaining reader.old reader.new W.contents writer.old writer.new fault) }
-{
-    *refused = read_input(alloc, reader)?;
-    write_chart(alloc, title, refused, writer)
-}
-
-/// Writes the picture of what these bytes say, or why they are refused.
-fn write_chart<W: Write>(
+/// Makes the turns of the input in `bytes`, and writes a picture with this title of what each thread has had over time;
+/// or one line, if the input is refused: then `bytes` keeps it, otherwise its memory is freed before the first turn. Out
+/// of memory, it writes nothing.
+pub fn chart_bytes<W: Write>(
     alloc: Global,
     title: &str,
     bytes: &mut Vec<u8>,

@@ -1,11 +1,8 @@
 //! Playing an input.
-ghost use Rattle.std.specs.Prelude.{◌≡◌, ℕ, List, false, true, IfErr, IfOk, OnOk};
-ghost use Rattle.std.specs.Io.KnownBytes.{Appends};
+ghost use Rattle.std.specs.Prelude.{◌≡◌, false, true, OnOk};
 ghost use Rattle.lot_simulation.specs.Grammar.{program_in};
 ghost use Rattle.lot_simulation.specs.Output.{output};
-ghost use Rattle.lot_engine.specs.Played.{Leaves, Plays, came_of};
-ghost use Rattle.lot_io.specs.Reading.{Reads};
-ghost use Rattle.lot_io.specs.Writing.{IsFaultOf};
+ghost use Rattle.lot_engine.specs.Played.{Plays, PlaysInput, came_of};
 
 use crate::play_program;
 use lot_engine::{Played, Warnings, program_of, refuse};
@@ -22,14 +19,7 @@ pub fn play<R: Read, W: Write>(
     writer: &mut Watched<W>,
 ) -> Result<Played, IoFault>
     requires { (reader.old.failed ≡ false) × (writer.old.failed ≡ false) }
-    ensures ok { OnOk result ((reader.new.failed ≡ false) × (writer.new.failed ≡ false)) }
-    ensures flushed { OnOk result (writer.new.flushed ≡ true) }
-    ensures err { IfErr result (λ fault. IsFaultOf fault reader.new.failed writer.new.failed) }
-    ensures output { IfOk result (λ played. (bytes : List ℕ) × Reads R.remaining reader.old reader.new bytes
-        × (played ≡ came_of (program_in bytes))
-        × Appends (W.contents writer.old.inner) (W.contents writer.new.inner) (output bytes)) }
-    ensures fault { IfErr result
-        (λ fault. Leaves output R.remaining reader.old reader.new W.contents writer.old writer.new fault) }
+    ensures plays { PlaysInput output R.remaining reader.old reader.new W.contents writer.old writer.new result }
 {
     let mut bytes = read_input(alloc, reader)?;
     let Ok(mut warnings) = Warnings::none(alloc) else {

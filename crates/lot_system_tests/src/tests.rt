@@ -7,6 +7,7 @@ mod memory;
 mod moves;
 mod reports;
 mod same;
+mod shown;
 mod timed;
 mod turns;
 

@@ -10,7 +10,7 @@ use std::process::Abort;
 use std::test::Fail;
 
 /// A thread comes at tick 2. It runs for 4 ticks to the end of its quantum, and for 2 and the one of its end.
-const COMES_LATER: &str = "lottery 3
+pub(super) const COMES_LATER: &str = "lottery 3
 quantum 4
 for 12
 script s

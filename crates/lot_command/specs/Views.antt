@@ -1,0 +1,14 @@
+-- The text of a view of an input.
+use Rattle.std.specs.Prelude.{ℕ, List}
+use Rattle.lot_simulation.specs.Output.{output}
+use Rattle.lot_explain.specs.Explained.{explained_output}
+use Rattle.lot_pictures.specs.Shown.{chart_output, shares_output}
+use Rattle.lot_command.specs.declared.view.View.{View}
+use Rattle.lot_command.specs.declared.view.View.TheVariants as view
+
+-- what is written of the bytes read
+abbrev pub text_of : View → List ℕ → List ℕ
+text_of view.Play = output
+text_of view.Explain = explained_output
+text_of (view.Shares measure) = shares_output measure
+text_of (view.Chart title) = chart_output title.now

@@ -1,0 +1,65 @@
+//! The views of an input's turns.
+ghost use Rattle.std.specs.Prelude.{◌≡◌, false, true, OnOk};
+ghost use Rattle.lot_simulation.specs.Grammar.{program_in};
+ghost use Rattle.lot_engine.specs.Played.{Plays, PlaysInput, came_of};
+ghost use Rattle.lot_command.specs.Views.{text_of};
+
+use crate::diagnostics::Diagnostics;
+use lot_curves::Measure;
+use lot_explain::explain_bytes;
+use lot_io::{IoFault, Watched, read_input};
+use lot_pictures::{chart_bytes, shares_bytes};
+use lot_system::{Played, play_bytes};
+use std::alloc::Global;
+use std::io::{Read, Write};
+
+/// What is written of the turns of an input's schedule.
+#[derive(Clone, Copy, Debug)]
+pub(crate) enum View<'a> {
+    /// A line for each turn, and the report.
+    Play,
+    /// The same, with the lots of each lottery that was won before its line.
+    Explain,
+    /// A table of this measure of each thread over time.
+    Shares(Measure),
+    /// A picture with this title of the ticks of each thread over time.
+    Chart(&'a str),
+}
+
+/// Reads an input, makes the turns of its schedule, and writes this view of them; or one line, if the input is refused.
+/// Diagnostics are stored in `diagnostics`.
+pub(crate) fn show<R: Read, W: Write>(
+    alloc: Global,
+    view: View<'_>,
+    diagnostics: &mut Diagnostics,
+    reader: &mut Watched<R>,
+    writer: &mut Watched<W>,
+) -> Result<Played, IoFault>
+    requires { (reader.old.failed ≡ false) × (writer.old.failed ≡ false) }
+    ensures plays { PlaysInput (text_of view) R.remaining reader.old reader.new W.contents writer.old writer.new result }
+{
+    let input = read_input(alloc, reader)?;
+    diagnostics.take_up(alloc, input);
+    show_bytes(alloc, view, diagnostics, writer)
+}
+
+/// Makes the turns of the input that `diagnostics` has, and writes this view of them, or why it is refused.
+fn show_bytes<W: Write>(
+    alloc: Global,
+    view: View<'_>,
+    diagnostics: &mut Diagnostics,
+    writer: &mut Watched<W>,
+) -> Result<Played, IoFault>
+    requires { writer.old.failed ≡ false }
+    ensures flushed { OnOk result (writer.new.flushed ≡ true) }
+    ensures shown { Plays W.contents writer.old writer.new result
+        (came_of (program_in diagnostics.old.input.items)) (text_of view diagnostics.old.input.items) }
+{
+    let input = &mut diagnostics.input;
+    match view {
+        View::Play => play_bytes(alloc, input, &mut diagnostics.warnings, writer),
+        View::Explain => explain_bytes(alloc, input, &mut diagnostics.warnings, writer),
+        View::Shares(measure) => shares_bytes(alloc, measure, input, writer),
+        View::Chart(title) => chart_bytes(alloc, title, input, writer),
+    }
+}

@@ -1,0 +1,16 @@
+use Rattle.std.proofs.Common.{ap, arith, rules}
+use Rattle.lot_machine.specs.declared.event.Event.TheVariants.{Expire}
+use Rattle.lot_curves.specs.declared.stretch.Stretch.{Stretch}
+use Rattle.lot_curves.specs.Stretches.{last_end}
+use Rattle.lot_curves.proofs.Ends.{last_end-push}
+use Rattle.lot_system_tests.proofs.tests.shown.charts.thirteen_threads.Goals as goal
+
+pub loop-ticks-preserved : goal.loop-ticks-preserved
+loop-ticks-preserved c =
+    let i = c.loop-ticks.invariant in
+    let end = ap (λ (s : Stretch). s.end) (c.new.ensures (Expire 0)) in
+    let items = c.in_ok-push.ensures.items in
+    record {
+      few = search rules;
+      early = omega (arith, i.early, ap last_end items, last_end-push c.loop-ticks.stretches.items c.new.result, end, c.from.ensures, c.loop-ticks-test.true);
+    }

@@ -1,0 +1,16 @@
+use Rattle.std.proofs.Common.{ap, arith, rules}
+use Rattle.lot_machine.specs.declared.event.Event.TheVariants.{Expire}
+use Rattle.lot_curves.specs.declared.stretch.Stretch.{Stretch}
+use Rattle.lot_curves.specs.Stretches.{last_end}
+use Rattle.lot_curves.proofs.Ends.{last_end-push}
+use Rattle.lot_system_tests.proofs.tests.shown.curves.two_threads.Goals as goal
+
+pub loop-end-preserved : goal.loop-end-preserved
+loop-end-preserved c =
+    let i = c.loop-end.invariant in
+    let end = ap (λ (s : Stretch). s.end) (c.new-in-loop-end.ensures (Expire 0)) in
+    let items = c.in_ok-push-2.ensures.items in
+    record {
+      few = search rules;
+      early = omega (arith, i.early, ap last_end items, last_end-push c.loop-end.stretches.items c.new-in-loop-end.result, end, c.from.ensures, c.loop-end-test.element_fits);
+    }

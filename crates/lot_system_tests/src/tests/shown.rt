@@ -1,0 +1,144 @@
+//! Inputs that are explained, and shown as tables and pictures. The tests of this file are for runs in which one
+//! allocation is refused, each in turn; those of the modules need all memory that they ask for.
+ghost use Rattle.std.specs.Prelude.{◌≡◌, false};
+
+mod charts;
+mod curves;
+mod endings;
+mod explained;
+mod pictures;
+mod words;
+
+use endings::has_written_or_lacked_memory;
+use lot_curves::Measure;
+use lot_engine::{Played, Warnings};
+use lot_explain::explain_bytes;
+use lot_io::{IoFault, Watched, read_input};
+use lot_pictures::{chart_bytes, shares_bytes};
+use std::alloc::Global;
+use std::io;
+use std::io::Write;
+use std::process::Abort;
+
+/// Thread `a` has the only ticket: it wins both draws, and runs for two quanta of 2 ticks.
+const SCHEDULED: &str = "lottery 1
+quantum 2
+script spin
+compute 9
+endscript
+fundx 1 base a spin
+mkthr b spin
+schedule 0 0 1 1 1 1
+";
+
+/// The same, with its turns in the order of time.
+const TIMED: &str = "lottery 3
+quantum 2
+for 4
+script spin
+compute 9
+endscript
+fundx 1 base a spin
+mkthr b spin
+";
+
+/// A writer that counts what it takes, and allocates no memory.
+#[derive(Drop)]
+struct Counting {
+    taken: usize,
+}
+
+impl Write for Counting {
+    fn write(&mut self, buf: &[u8]) -> io::Result<usize> {
+        self.taken = self.taken.saturating_add(buf.len());
+        Ok(buf.len())
+    }
+
+    fn flush(&mut self) -> io::Result<()> {
+        Ok(())
+    }
+}
+
+/// The form in which an input is shown.
+#[derive(Clone, Copy, Debug)]
+enum Shown {
+    Explained,
+    Table(Measure),
+    Picture(&'static str),
+}
+
+/// Shows the input, and returns the outcome and what is kept of the input.
+fn show<W: Write>(
+    alloc: Global,
+    shown: Shown,
+    input: &str,
+    writer: &mut Watched<W>,
+) -> Result<(Played, Vec<u8>), IoFault>
+    requires { writer.old.failed ≡ false }
+{
+    let mut bytes = read_input(alloc, &mut Watched::new(input.as_bytes()))?;
+    let Ok(mut warnings) = Warnings::none(alloc) else {
+        return Err(IoFault::Memory);
+    };
+    let played = match shown {
+        Shown::Explained => explain_bytes(alloc, &mut bytes, &mut warnings, writer)?,
+        Shown::Table(measure) => shares_bytes(alloc, measure, &mut bytes, writer)?,
+        Shown::Picture(title) => chart_bytes(alloc, title, &mut bytes, writer)?,
+    };
+    Ok((played, bytes))
+}
+
+/// Shows the input, and returns the outcome and how many bytes were written.
+fn counted(alloc: Global, shown: Shown, input: &str) -> (Result<Played, IoFault>, usize) {
+    let mut writer = Watched::new(Counting { taken: 0 });
+    let ended = match show(alloc, shown, input, &mut writer) {
+        Ok((played, _)) => Ok(played),
+        Err(fault) => Err(fault),
+    };
+    let Counting { taken } = writer.into_inner();
+    (ended, taken)
+}
+
+/// Shows the input, and returns the outcome, whether the output is this, and whether the input is kept if and only if
+/// it is refused.
+fn outcome(
+    alloc: Global,
+    shown: Shown,
+    input: &str,
+    expected: &str,
+) -> Result<(Played, bool, bool), IoFault> {
+    let mut writer = Watched::new(Vec::new(alloc));
+    let (played, kept) = show(alloc, shown, input, &mut writer)?;
+    let wanted = match played {
+        Played::Done => "",
+        Played::Refused => input,
+    };
+    let is_written = writer.into_inner().as_slice() == expected.as_bytes();
+    Ok((played, is_written, kept.as_slice() == wanted.as_bytes()))
+}
+
+/// If an allocation fails, nothing was written.
+fn check(rt: &impl Abort, alloc: Global, shown: Shown) {
+    for input in [SCHEDULED, TIMED] {
+        let (ended, written) = counted(alloc, shown, input);
+        assert!(rt;
+            has_written_or_lacked_memory(ended, written),
+            "{shown:?}: {ended:?}, {written} bytes"
+        );
+    }
+}
+
+#[test]
+fn explains_or_lacks_memory(rt: HostRuntime) {
+    check(&rt, rt.alloc(), Shown::Explained);
+}
+
+#[test]
+fn tables_or_lacks_memory(rt: HostRuntime) {
+    check(&rt, rt.alloc(), Shown::Table(Measure::Ticks));
+}
+
+#[test]
+fn pictures_or_lacks_memory(rt: HostRuntime) {
+    check(&rt, rt.alloc(), Shown::Picture("Two"));
+}

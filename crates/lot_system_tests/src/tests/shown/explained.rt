@@ -1,0 +1,106 @@
+//! Inputs that are explained, and their explanations.
+use super::{Shown, outcome};
+use crate::tests::same::check_same_at;
+use lot_engine::Played;
+use std::alloc::Global;
+use std::process::Abort;
+
+/// Two threads wait for a mutex, and its owner passes it on by a lottery.
+const MUTEX_LOTTERY: &str = "lottery 1
+quantum 10
+seed 132
+mutex m
+script one
+lock m
+compute 2
+yield
+unlock m
+endscript
+fundx 3 base a one
+fundx 2 base b one
+fundx 1 base c one
+schedule 0 0 0 1 1 1 1 1 1 1 1 1
+";
+
+/// Its explanation, worked out by hand.
+const EXPLAINED: &str = "0 funded 1 1
+0 funded 2 2
+0 funded 3 3
+1 lot thread 1 a weight 3 from 0 below 3 wins
+1 lot thread 2 b weight 2 from 3 below 5
+1 lot thread 3 c weight 1 from 5 below 6
+1 draw 0 of 6 thread 1
+1 thread 1 ticks 1 lock 1 taken
+1 thread 1 ticks 3 yield
+1 lot thread 1 a weight 7 from 0 below 7
+1 lot thread 2 b weight 2 from 7 below 9 wins
+1 lot thread 3 c weight 1 from 9 below 10
+1 draw 7 of 10 thread 2
+1 thread 2 ticks 1 lock 1 waits
+1 lot thread 1 a weight 12 from 0 below 12
+1 lot thread 3 c weight 1 from 12 below 13 wins
+1 draw 12 of 13 thread 3
+1 thread 3 ticks 1 lock 1 waits
+1 lot thread 1 a weight 15 from 0 below 15 wins
+1 draw 12 of 15 thread 1
+1 lot waiter 2 b value 2 from 0 below 2
+1 lot waiter 3 c value 1 from 2 below 3 wins
+1 thread 1 ticks 1 unlock 1 to 3 draw 2 of 3
+report
+thread 1 a quanta 2 ticks 5
+thread 2 b quanta 1 ticks 1
+thread 3 c quanta 1 ticks 1
+processor 1 quanta 4 idle 0 ticks 7
+total turns 12 quanta 4 ticks 7
+";
+
+/// A thread that uses a third of its quantum, and one that uses all of it.
+const IN_TIME: &str = "lottery 3
+quantum 9
+for 12
+seed 5
+script short
+compute 2 yield
+endscript
+script long
+compute 9
+endscript
+fundx 1 base a short
+fundx 1 base b long
+";
+
+/// Its explanation, worked out by hand.
+const EXPLAINED_IN_TIME: &str = "0 0 funded 1 1
+0 0 funded 2 2
+0 1 lot thread 1 a weight 1 from 0 below 1
+0 1 lot thread 2 b weight 1 from 1 below 2 wins
+0 1 draw 1.082 of 2 thread 2
+9 1 thread 2 ticks 9 expire
+9 1 lot thread 1 a weight 1 from 0 below 1 wins
+9 1 lot thread 2 b weight 1 from 1 below 2
+9 1 draw 0.82 of 2 thread 1
+12 1 thread 1 ticks 3 yield
+12 1 lot thread 1 a weight 3 from 0 below 3
+12 1 lot thread 2 b weight 1 from 3 below 4 wins
+12 1 draw 3.257 of 4 thread 2
+report
+thread 1 a quanta 1 ticks 3 share 25% value 50%
+thread 2 b quanta 2 ticks 9 share 75% value 50%
+processor 1 quanta 3 idle 0 ticks 12 unused 0
+total turns 7 quanta 3 ticks 12 refused 0 left 0
+";
+
+/// Explains the input, and compares the outcome and the output.
+fn check(rt: &impl Abort, alloc: Global, input: &str, played: Played, expected: &str) {
+    let found = outcome(alloc, Shown::Explained, input, expected);
+    check_same_at(rt, &input, &found, &Ok((played, true, true)));
+}
+
+#[test]
+fn explains_inputs(rt: HostRuntime) {
+    let alloc = rt.alloc();
+    check(&rt, alloc, MUTEX_LOTTERY, Played::Done, EXPLAINED);
+    check(&rt, alloc, IN_TIME, Played::Done, EXPLAINED_IN_TIME);
+    let refused = "refused line 1 50 BadHeader\n";
+    check(&rt, alloc, "lottery 9\n", Played::Refused, refused);
+}

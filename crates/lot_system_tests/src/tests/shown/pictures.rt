@@ -1,0 +1,77 @@
+//! A short run, as tables and as a picture.
+use super::{SCHEDULED, Shown, outcome, show};
+use crate::tests::same::{check_same, check_same_at};
+use crate::tests::timed::COMES_LATER;
+use lot_curves::Measure;
+use lot_engine::Played;
+use lot_io::{IoFault, Watched};
+use std::alloc::Global;
+use std::process::Abort;
+
+/// Writes the table of the input, and compares the outcome and the output.
+fn check_shares(
+    rt: &impl Abort,
+    alloc: Global,
+    measure: Measure,
+    input: &str,
+    played: Played,
+    expected: &str,
+) {
+    let found = outcome(alloc, Shown::Table(measure), input, expected);
+    check_same_at(rt, &input, &found, &Ok((played, true, true)));
+}
+
+#[test]
+fn tables(rt: HostRuntime) {
+    let alloc = rt.alloc();
+    let done = Played::Done;
+    let ticks = "tick,a,b\n0,0,0\n1,1,0\n2,2,0\n3,3,0\n4,4,0\n";
+    check_shares(&rt, alloc, Measure::Ticks, SCHEDULED, done, ticks);
+    let draws = "tick,a,b\n0,1,0\n1,1,0\n2,2,0\n3,2,0\n4,2,0\n";
+    check_shares(&rt, alloc, Measure::Draws, SCHEDULED, done, draws);
+    check_shares(&rt, alloc, Measure::Ticks, "lottery 1\n", done, "tick\n0\n");
+    let refused = "refused line 1 50 BadHeader\n";
+    check_shares(
+        &rt,
+        alloc,
+        Measure::Ticks,
+        "lottery 9\n",
+        Played::Refused,
+        refused,
+    );
+}
+
+#[test]
+fn tables_in_time(rt: HostRuntime) {
+    let alloc = rt.alloc();
+    let done = Played::Done;
+    let ticks = "tick,a\n0,0\n1,0\n2,0\n3,1\n4,2\n5,3\n6,4\n7,5\n8,6\n9,7\n";
+    check_shares(&rt, alloc, Measure::Ticks, COMES_LATER, done, ticks);
+    let draws = "tick,a\n0,0\n1,0\n2,1\n3,1\n4,1\n5,1\n6,2\n7,2\n8,2\n9,2\n";
+    check_shares(&rt, alloc, Measure::Draws, COMES_LATER, done, draws);
+}
+
+/// The picture of the first input, if it was drawn.
+fn drawn(rt: &impl Abort, alloc: Global) -> (Result<Played, IoFault>, String) {
+    let mut writer = Watched::new(Vec::new(alloc));
+    let came = match show(alloc, Shown::Picture("Two & none"), SCHEDULED, &mut writer) {
+        Ok((played, _)) => Ok(played),
+        Err(fault) => Err(fault),
+    };
+    let picture = String::from_utf8(writer.into_inner()).expect(rt, "a text");
+    (came, picture)
+}
+
+#[test]
+fn pictures(rt: HostRuntime) {
+    let (came, picture) = drawn(&rt, rt.alloc());
+    check_same(&rt, &came, &Ok(Played::Done));
+    for part in [
+        "<title id='title'>Two &amp; none</title>\n",
+        "<polyline points=' 100.0,460.0 267.5,360.0 435.0,260.0 602.5,160.0 770.0,60.0' stroke='#0072b2'/>\n",
+        "<text x='788' y='60.0' dy='4'>a 100.0%</text>\n",
+        "<text x='788' y='460.0' dy='4'>b 0.0%</text>\n",
+    ] {
+        check_same_at(&rt, &part, &picture.as_str().contains(part), &true);
+    }
+}

@@ -1,0 +1,359 @@
+//! Inputs that are refused, and what is said of each.
+use crate::tests::same::{check_same, check_same_at};
+use lot_text::{ParseFault, parse};
+use lot_words::{CommandLines, write_words};
+use std::alloc::Global;
+use std::process::Abort;
+
+/// Reads the input, which is refused, and compares what is said of it.
+fn check<H: Abort>(rt: &H, alloc: Global, input: &[u8], expected: &str) {
+    let Err(ParseFault::Input(fault)) = parse(alloc, input) else {
+        panic!(rt; "it isn't refused: {expected}");
+    };
+    let mut words = Vec::new(alloc);
+    let is_written = write_words(alloc, &mut words, input, fault).is_ok();
+    let said = str::from_utf8(words.as_slice()).unwrap_or("");
+    check_same(rt, &(is_written, said), &(true, expected));
+}
+
+#[test]
+fn first_lines(rt: HostRuntime) {
+    let (rt, alloc) = (&rt, rt.alloc());
+    let start = "line 1: an input begins with 'lottery 1', 'lottery 2' or 'lottery 3'\n";
+    check(rt, alloc, b"", start);
+    check(rt, alloc, b"lottery 9\n", start);
+    check(rt, alloc, b"script s\n", start);
+    check(
+        rt,
+        alloc,
+        b"lottery 1\nquantum 5\nprocessors 2\n",
+        "line 3: 'processors' comes too late: the header has 'lottery', 'processors', 'quantum', 'turns', 'seed' and 'limits', each at most once, in this order and before all else\n",
+    );
+}
+
+#[test]
+fn misspelt_words(rt: HostRuntime) {
+    let (rt, alloc) = (&rt, rt.alloc());
+    check(
+        rt,
+        alloc,
+        b"lottery 1\n# a ticket\nmktk 5 base\n",
+        "line 3: 'mktk' is no body line; did you mean 'mktkt'?\n",
+    );
+    check(
+        rt,
+        alloc,
+        b"lottery 1\nnonsense\n",
+        "line 2: 'nonsense' is no body line\n",
+    );
+    check(
+        rt,
+        alloc,
+        b"lottery 1\nscript s\ncomptue 4\n",
+        "line 3: 'comptue' is no word of a script; did you mean 'compute'?\n",
+    );
+    check(
+        rt,
+        alloc,
+        b"lottery 1\nscript s\nserve_\n",
+        "line 3: 'serve_' is no word of a script\n",
+    );
+    check(
+        rt,
+        alloc,
+        b"lottery 3\nfor 5\nscript s\nserve_\n",
+        "line 4: 'serve_' is no word of a script; did you mean 'serve'?\n",
+    );
+    check(
+        rt,
+        alloc,
+        b"lottery 1\nport disk\nscript s\ncall disc\n",
+        "line 4: 'disc' is no port of an earlier line; did you mean 'disk'?\n",
+    );
+}
+
+#[test]
+fn places_of_lines(rt: HostRuntime) {
+    let (rt, alloc) = (&rt, rt.alloc());
+    check(
+        rt,
+        alloc,
+        b"lottery 1\ncompute 4\n",
+        "line 2: 'compute' is a word of a script, and no script is open: 'script NAME' opens one\n",
+    );
+    check(
+        rt,
+        alloc,
+        b"lottery 1\nscript s\nmktkt 5 base\n",
+        "line 3: 'mktkt' is no word of a script, and the one that line 2 opens isn't closed: 'endscript' closes it\n",
+    );
+    check(
+        rt,
+        alloc,
+        b"lottery 1\nscript s\nyield\n",
+        "line 2: this script isn't closed: 'endscript' closes it\n",
+    );
+    check(
+        rt,
+        alloc,
+        b"lottery 1\nscript s\nend\n",
+        "line 3: 'end' closes a loop, and none is open\n",
+    );
+    check(
+        rt,
+        alloc,
+        b"lottery 1\nscript s\nloop 2\nendscript\n",
+        "line 4: 'endscript' stands inside a loop: 'end' closes it\n",
+    );
+    check(
+        rt,
+        alloc,
+        b"lottery 1\nscript s\nloop 2\nloop 2\nloop 2\nloop 2\nloop 2\nloop 2\nloop 2\nloop 2\nloop 2\n",
+        "line 11: a ninth loop is open here, at most 8\n",
+    );
+    check(
+        rt,
+        alloc,
+        b"lottery 1\nruns 1 5\n",
+        "line 2: 'runs' is for 'lottery 2': in 'lottery 1' write 'schedule ACTOR ..'\n",
+    );
+}
+
+#[test]
+fn bytes(rt: HostRuntime) {
+    let (rt, alloc) = (&rt, rt.alloc());
+    check(
+        rt,
+        alloc,
+        b"lottery 1\nmktkt\t5 base\n",
+        "line 2: a tab: put spaces between words\n",
+    );
+    check(
+        rt,
+        alloc,
+        b"lottery 1\r\n",
+        "line 1: a carriage return: save the file with line feeds alone as line ends\n",
+    );
+    check(
+        rt,
+        alloc,
+        b"lottery 1\nmkcur \xc3\xa9\n",
+        "line 2: byte 195 in column 7: outside comments only ASCII is read\n",
+    );
+}
+
+#[test]
+fn long_lines(rt: HostRuntime) {
+    let mut long = String::from_str(rt.alloc(), "lottery 1\n#").expect(&rt, "memory");
+    for _ in 0..600 {
+        long.push_str("0123456789").expect(&rt, "memory");
+    }
+    let expected = "line 2: 6001 bytes, at most 4096\n";
+    check(&rt, rt.alloc(), long.as_bytes(), expected);
+}
+
+#[test]
+fn counts_of_words(rt: HostRuntime) {
+    let (rt, alloc) = (&rt, rt.alloc());
+    check(
+        rt,
+        alloc,
+        b"lottery 1\nmktkt 5\n",
+        "line 2: this line is written 'mktkt AMOUNT CURRENCY', and here are 2 words\n",
+    );
+    check(
+        rt,
+        alloc,
+        b"lottery 1\nmktkt 5 base # mine\n",
+        "line 2: a comment has a line of its own; 'mktkt AMOUNT CURRENCY' has no room for one\n",
+    );
+    check(
+        rt,
+        alloc,
+        b"lottery 1\nprocessors 2\nseed 1\n",
+        "line 3: this line is written 'seed S1 .. SP, with a number for each processor', and here are 2 words\n",
+    );
+    check(
+        rt,
+        alloc,
+        b"lottery 2\nruns 0 6 1\n",
+        "line 2: this line is written 'runs ACTOR TURNS ..', and here are 4 words\n",
+    );
+}
+
+#[test]
+fn numbers(rt: HostRuntime) {
+    let (rt, alloc) = (&rt, rt.alloc());
+    check(
+        rt,
+        alloc,
+        b"lottery 1\nmktkt 05 base\n",
+        "line 2: '05' is no number: digits, without a 0 before others, at most 18446744073709551615\n",
+    );
+    check(
+        rt,
+        alloc,
+        b"lottery 1\nprocessors 65\n",
+        "line 2: '65' is no number from 1 to 64\n",
+    );
+    check(
+        rt,
+        alloc,
+        b"lottery 1\nprocessors 2\nschedule 0 1 2 3\n",
+        "line 3: '3': there are 2 processors, and 0 is the console\n",
+    );
+}
+
+#[test]
+fn names(rt: HostRuntime) {
+    let (rt, alloc) = (&rt, rt.alloc());
+    check(
+        rt,
+        alloc,
+        b"lottery 1\nmkcur a_name_of_17_bytes\n",
+        "line 2: 'a_name_of_17_bytes' has 18 bytes, and a name at most 16\n",
+    );
+    check(
+        rt,
+        alloc,
+        b"lottery 1\nport Disk\n",
+        "line 2: 'Disk' is no name: a letter a to z, and then letters a to z, digits, '_' or '-'\n",
+    );
+    check(
+        rt,
+        alloc,
+        b"lottery 1\nmutex m\nport m\nmutex m\n",
+        "line 4: 'm' is the name of an earlier mutex\n",
+    );
+}
+
+#[test]
+fn too_many(rt: HostRuntime) {
+    let mut input = String::from_str(rt.alloc(), "lottery 1\nscript s\n").expect(&rt, "memory");
+    for _ in 0..1025 {
+        input.push_str("yield\n").expect(&rt, "memory");
+    }
+    let expected = "line 1027: one word of a script too many, at most 1024\n";
+    check(&rt, rt.alloc(), input.as_bytes(), expected);
+}
+
+#[test]
+fn turns_in_time(rt: HostRuntime) {
+    let (rt, alloc) = (&rt, rt.alloc());
+    let lacks =
+        "line 2: the header doesn't say how long the input runs: 'for TICKS' comes before 'seed', 'limits' and all else\n";
+    check(rt, alloc, b"lottery 3\nmkcur a\n", lacks);
+    check(rt, alloc, b"lottery 3\nquantum 5\n", lacks);
+    check(
+        rt,
+        alloc,
+        b"lottery 3\n",
+        "line 1: the header doesn't say how long the input runs: 'for TICKS' comes before 'seed', 'limits' and all else\n",
+    );
+    check(
+        rt,
+        alloc,
+        b"lottery 3\nfor 5\nquantum 5\n",
+        "line 3: 'quantum' comes too late: the header has 'lottery', 'processors', 'quantum', 'turns', 'for', 'seed' and 'limits', each at most once, in this order and before all else\n",
+    );
+    check(
+        rt,
+        alloc,
+        b"lottery 3\nfor 5\nschedule 0\n",
+        "line 3: 'schedule' is not for 'lottery 3', whose turns come in the order of time: 'at TICK' says when commands are made\n",
+    );
+    check(
+        rt,
+        alloc,
+        b"lottery 3\nfor 5\nat 3\nat 2\n",
+        "line 4: '2' is no number from 3 to 4294967295\n",
+    );
+    check(
+        rt,
+        alloc,
+        b"lottery 2\nat 5\n",
+        "line 2: 'at' is for 'lottery 3', whose turns come in the order of time\n",
+    );
+    check(
+        rt,
+        alloc,
+        b"lottery 1\nport p\nscript s\nserve p\n",
+        "line 4: 'serve' is for 'lottery 3', whose turns come in the order of time\n",
+    );
+}
+
+#[test]
+fn several_words(rt: HostRuntime) {
+    let (rt, alloc) = (&rt, rt.alloc());
+    for (line, expected) in [
+        (
+            "yield compute",
+            "line 5: a word is missing at the end: 'compute TICKS'\n",
+        ),
+        ("compute 5 7", "line 5: '7' is no word of a script\n"),
+        (
+            "loop 2 comptue 5 end",
+            "line 5: 'comptue' is no word of a script; did you mean 'compute'?\n",
+        ),
+        (
+            "loop 2 compute 0 end",
+            "line 5: '0' is no number from 1 to 4294967295\n",
+        ),
+        (
+            "yield lock n",
+            "line 5: 'n' is no mutex of an earlier line\n",
+        ),
+        (
+            "yield end",
+            "line 5: 'end' closes a loop, and none is open\n",
+        ),
+        (
+            "loop 2 yield endscript",
+            "line 5: 'endscript' stands inside a loop: 'end' closes it\n",
+        ),
+        (
+            "yield endscript yield",
+            "line 5: 'yield' stands behind 'endscript', which ends its line\n",
+        ),
+        (
+            "yield # gives way",
+            "line 5: a comment has a line of its own\n",
+        ),
+        (
+            "yield\nmktkt 5 base",
+            "line 6: 'mktkt' is no word of a script, and the one that line 4 opens isn't closed: 'endscript' closes it\n",
+        ),
+        (
+            "yield endscript\nmktk 5 base",
+            "line 6: 'mktk' is no body line; did you mean 'mktkt'?\n",
+        ),
+        (
+            "# endscript\nnonsense",
+            "line 6: 'nonsense' is no word of a script\n",
+        ),
+    ] {
+        check_script(rt, alloc, line, expected);
+    }
+}
+
+/// The same as `check`, of an input that ends with this line of a script, or with these lines.
+fn check_script<H: Abort>(rt: &H, alloc: Global, line: &str, expected: &str) {
+    let input = format!(in alloc; "lottery 3\nfor 5\nmutex m\nscript s\n{line}");
+    let input = input.expect(rt, "memory");
+    check(rt, alloc, input.as_bytes(), expected);
+}
+
+#[test]
+fn lines_of_commands(rt: HostRuntime) {
+    let input =
+        b"lottery 3\nfor 5\nport endscript\nscript s\n# endscript\nyield call endscript\nyield endscript\nlstkt\n\nlscur\nlsthr\n";
+    let lines = CommandLines::of(rt.alloc(), input).expect(&rt, "memory");
+    for (place, line) in [
+        (0usize, Some(8u32)),
+        (1, Some(10)),
+        (2, Some(11)),
+        (3, None),
+    ] {
+        check_same_at(&rt, &place, &lines.line_of(place), &line);
+    }
+}
