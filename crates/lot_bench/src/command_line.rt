@@ -21,7 +21,8 @@ const FLAGS: [(&str, &str); 5] = [
     ),
     (
         "settling",
-        "Nanoseconds of a draw for each edge that it reads, in the largest graph whose stale nodes stand in the worst order, and in parts of it",
+        "Nanoseconds of a draw for each edge that it reads, in the largest graph whose stale nodes stand in the worst \
+         order, and in parts of it",
     ),
     (
         "workers",

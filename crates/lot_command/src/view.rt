@@ -36,7 +36,8 @@ pub(crate) fn show<R: Read, W: Write>(
     writer: &mut Watched<W>,
 ) -> Result<Played, IoFault>
     requires { (reader.old.failed ≡ false) × (writer.old.failed ≡ false) }
-    ensures plays { PlaysInput (text_of view) R.remaining reader.old reader.new W.contents writer.old writer.new result }
+    ensures plays { PlaysInput
+        (text_of view) R.remaining reader.old reader.new W.contents writer.old writer.new result }
 {
     let input = read_input(alloc, reader)?;
     diagnostics.take_up(alloc, input);

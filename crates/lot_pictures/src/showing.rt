@@ -36,9 +36,9 @@ pub fn shares_bytes<W: Write>(
     }
 }
 
-/// Makes the turns of the input in `bytes`, and writes a picture with this title of what each thread has had over time;
-/// or one line, if the input is refused: then `bytes` keeps it, otherwise its memory is freed before the first turn. Out
-/// of memory, it writes nothing.
+/// Makes the turns of the input in `bytes`, and writes a picture with this title of what each thread has had over
+/// time; or one line, if the input is refused: then `bytes` keeps it, otherwise its memory is freed before the first
+/// turn. Out of memory, it writes nothing.
 pub fn chart_bytes<W: Write>(
     alloc: Global,
     title: &str,

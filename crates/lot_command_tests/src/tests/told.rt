@@ -94,7 +94,8 @@ schedule 0 0
 ";
     let expected = "line 7: the command was refused: an amount is a number from 1 to 4294967295
 line 11: the command was refused: no script of an earlier line has this name
-line 12: this command and those after it, 2 in all, were never made: each 0 in a schedule makes one, and lottery 3 makes those up to its end
+line 12: this command and those after it, 2 in all, were never made: each 0 in a schedule makes one, and lottery 3 \
+makes those up to its end
 ";
     check_told(&rt, rt.alloc(), ["lot_sim", "play"], input, 0, expected);
     check_told(&rt, rt.alloc(), ["lot_sim", "explain"], input, 0, expected);
@@ -109,7 +110,8 @@ fn one_command_never_made(rt: HostRuntime) {
         ["lot_sim", "play"],
         input,
         0,
-        "line 3: this command was never made: each 0 in a schedule makes one, and lottery 3 makes those up to its end\n",
+        "line 3: this command was never made: each 0 in a schedule makes one, and lottery 3 makes those up to its \
+         end\n",
     );
 }
 

@@ -27,7 +27,8 @@ fn first_lines(rt: HostRuntime) {
         rt,
         alloc,
         b"lottery 1\nquantum 5\nprocessors 2\n",
-        "line 3: 'processors' comes too late: the header has 'lottery', 'processors', 'quantum', 'turns', 'seed' and 'limits', each at most once, in this order and before all else\n",
+        "line 3: 'processors' comes too late: the header has 'lottery', 'processors', 'quantum', 'turns', 'seed' and \
+         'limits', each at most once, in this order and before all else\n",
     );
 }
 
@@ -241,26 +242,30 @@ fn too_many(rt: HostRuntime) {
 fn turns_in_time(rt: HostRuntime) {
     let (rt, alloc) = (&rt, rt.alloc());
     let lacks =
-        "line 2: the header doesn't say how long the input runs: 'for TICKS' comes before 'seed', 'limits' and all else\n";
+        "line 2: the header doesn't say how long the input runs: 'for TICKS' comes before 'seed', 'limits' and all \
+         else\n";
     check(rt, alloc, b"lottery 3\nmkcur a\n", lacks);
     check(rt, alloc, b"lottery 3\nquantum 5\n", lacks);
     check(
         rt,
         alloc,
         b"lottery 3\n",
-        "line 1: the header doesn't say how long the input runs: 'for TICKS' comes before 'seed', 'limits' and all else\n",
+        "line 1: the header doesn't say how long the input runs: 'for TICKS' comes before 'seed', 'limits' and all \
+         else\n",
     );
     check(
         rt,
         alloc,
         b"lottery 3\nfor 5\nquantum 5\n",
-        "line 3: 'quantum' comes too late: the header has 'lottery', 'processors', 'quantum', 'turns', 'for', 'seed' and 'limits', each at most once, in this order and before all else\n",
+        "line 3: 'quantum' comes too late: the header has 'lottery', 'processors', 'quantum', 'turns', 'for', 'seed' \
+         and 'limits', each at most once, in this order and before all else\n",
     );
     check(
         rt,
         alloc,
         b"lottery 3\nfor 5\nschedule 0\n",
-        "line 3: 'schedule' is not for 'lottery 3', whose turns come in the order of time: 'at TICK' says when commands are made\n",
+        "line 3: 'schedule' is not for 'lottery 3', whose turns come in the order of time: 'at TICK' says when \
+         commands are made\n",
     );
     check(
         rt,
@@ -321,7 +326,8 @@ fn several_words(rt: HostRuntime) {
         ),
         (
             "yield\nmktkt 5 base",
-            "line 6: 'mktkt' is no word of a script, and the one that line 4 opens isn't closed: 'endscript' closes it\n",
+            "line 6: 'mktkt' is no word of a script, and the one that line 4 opens isn't closed: 'endscript' closes \
+             it\n",
         ),
         (
             "yield endscript\nmktk 5 base",
@@ -345,8 +351,18 @@ fn check_script<H: Abort>(rt: &H, alloc: Global, line: &str, expected: &str) {
 
 #[test]
 fn lines_of_commands(rt: HostRuntime) {
-    let input =
-        b"lottery 3\nfor 5\nport endscript\nscript s\n# endscript\nyield call endscript\nyield endscript\nlstkt\n\nlscur\nlsthr\n";
+    let input = b"lottery 3
+for 5
+port endscript
+script s
+# endscript
+yield call endscript
+yield endscript
+lstkt
+
+lscur
+lsthr
+";
     let lines = CommandLines::of(rt.alloc(), input).expect(&rt, "memory");
     for (place, line) in [
         (0usize, Some(8u32)),
