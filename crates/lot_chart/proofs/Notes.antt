@@ -17,8 +17,8 @@ use Rattle.lot_engine.specs.Seen.{Seen, world_of}
 use Rattle.lot_playback.specs.declared.turn.Turn.{Turn as ATurn}
 use Rattle.lot_playback.specs.Stages.{HasJustMade, HasMade, answer_in}
 use Rattle.lot_playback.specs.Turns.{MadeTurn, counted_turn, counted_turns, program_turns, scheduled_turns, turns_by, turns_in_time}
-use Rattle.lot_pictures.specs.Noted.{curves_after, end_in, own_stretch, stretches_at, stretches_in, stretches_of_turn}
-use Rattle.lot_pictures.proofs.NotedFacts.{curves-are}
+use Rattle.lot_chart.specs.Noted.{curves_after, end_in, own_stretch, stretches_at, stretches_in, stretches_of_turn}
+use Rattle.lot_chart.proofs.NotedFacts.{curves-are}
 
 -- ---- how many turns there are
 

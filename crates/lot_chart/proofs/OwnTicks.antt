@@ -51,8 +51,8 @@ use Rattle.lot_curves.specs.declared.stretch.Measure.TheVariants.{Ticks}
 use Rattle.lot_curves.specs.Stretches.{had_at, last_end, stretch_of, stretches_of, charged_thread}
 use Rattle.lot_curves.proofs.Ends.{ticks-at_last}
 use Rattle.lot_curves.specs.OwnTimes.{ended_after}
-use Rattle.lot_pictures.proofs.NotedFacts.{timed_stretch}
-use Rattle.lot_pictures.proofs.Notes.{timed-few}
+use Rattle.lot_chart.proofs.NotedFacts.{timed_stretch}
+use Rattle.lot_chart.proofs.Notes.{timed-few}
 
 -- what stands for a record if there is none
 abbrev nobody : Record

@@ -7,12 +7,12 @@ use Rattle.lot_simulation.specs.declared.input.InputFault.{InputFault}
 use Rattle.lot_simulation.specs.World.{Program}
 use Rattle.lot_curves.specs.Curves.{Curves}
 use Rattle.lot_io.specs.Watching.{Watch}
-use Rattle.lot_engine.specs.Played.{Plays, came_of}
-use Rattle.lot_engine.specs.declared.inputs.Played.{Played}
-use Rattle.lot_engine.specs.declared.inputs.Played.TheVariants.{Done}
+use Rattle.lot_play.specs.Played.{Plays, came_of}
+use Rattle.lot_play.specs.declared.inputs.Played.{Played}
+use Rattle.lot_play.specs.declared.inputs.Played.TheVariants.{Done}
 use Rattle.lot_io.specs.declared.fault.IoFault.{IoFault}
 use Rattle.lot_io.specs.declared.fault.IoFault.TheVariants.{Memory}
-use Rattle.lot_pictures.specs.Shown.{HasCurves, Shows, shown_of}
+use Rattle.lot_chart.specs.Shown.{HasCurves, Shows, shown_of}
 
 keeps-all : (known : Option (List ℕ)) → Keeps known known
 keeps-all None = tt

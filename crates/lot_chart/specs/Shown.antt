@@ -10,9 +10,9 @@ use Rattle.lot_curves.specs.Curves.{Curves, curves_of}
 use Rattle.lot_chart.specs.Tables.{table}
 use Rattle.lot_chart.specs.Charts.{chart}
 use Rattle.lot_io.specs.Watching.{Watch}
-use Rattle.lot_engine.specs.Played.{Plays}
-use Rattle.lot_engine.specs.declared.inputs.Played.{Played}
-use Rattle.lot_engine.specs.declared.inputs.Played.TheVariants.{Done}
+use Rattle.lot_play.specs.Played.{Plays}
+use Rattle.lot_play.specs.declared.inputs.Played.{Played}
+use Rattle.lot_play.specs.declared.inputs.Played.TheVariants.{Done}
 use Rattle.lot_io.specs.declared.fault.IoFault.{IoFault}
 use Rattle.lot_io.specs.declared.fault.IoFault.TheVariants.{Memory}
 

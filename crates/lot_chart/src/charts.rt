@@ -32,7 +32,7 @@ const FRAME: &str =
 
 /// The picture of the curves, an SVG with this title: a line for each thread, or for the eleven that have run longest
 /// and for the others together, and at its end its name and its part of all ticks.
-pub fn chart(alloc: Global, curves: &Curves, title: &str) -> Result<Vec<u8>, AllocError>
+pub fn chart_of(alloc: Global, curves: &Curves, title: &str) -> Result<Vec<u8>, AllocError>
     ensures { IfOk result (λ text. text.items ≡ definitions.chart title.now curves.now) }
 {
     let selection = select(alloc, curves)?;

@@ -6,12 +6,13 @@ ghost use Rattle.lot_curves.specs.Stretches.{last_end};
 ghost use Rattle.lot_engine.specs.Seen.{world_of};
 ghost use Rattle.lot_playback.specs.Stages.{HasMade};
 ghost use Rattle.lot_playback.specs.Turns.{program_turns};
-ghost use Rattle.lot_pictures.specs.Noted.{end_in, stretches_in};
+ghost use Rattle.lot_chart.specs.Noted.{end_in, stretches_in};
 
 use lot_curves::{Curves, Stretch};
 use lot_engine::System;
 use lot_machine::Name;
-use lot_playback::{Observer, Playback, Turn, play_through};
+use lot_play::play_through;
+use lot_playback::{Observer, Playback, Turn};
 use lot_text::Program;
 use std::alloc::{AllocError, Global};
 
@@ -76,7 +77,7 @@ pub fn gather(alloc: Global, program: &Program) -> Result<Curves, AllocError>
 {
     let mut playback = Playback::open(alloc, program)?;
     let stretches = note_turns(alloc, program, &mut playback)?;
-    let mut system = playback.into_system();
+    let (mut system, _) = playback.into_parts();
     let names = names_of(alloc, &mut system)?;
     Ok(Curves::new(names, stretches))
 }

@@ -3,16 +3,15 @@ ghost use Rattle.std.specs.Prelude.{◌≡◌, ℕ, List, false, true, IfErr, If
 ghost use Rattle.std.specs.Io.KnownBytes.{Appends};
 ghost use Rattle.lot_simulation.specs.Grammar.{program_in};
 ghost use Rattle.lot_text.specs.Faults.{IsFaultOf as IsParseFaultOf};
-ghost use Rattle.lot_engine.specs.Played.{Leaves, Plays, came_of};
+ghost use Rattle.lot_play.specs.Played.{Leaves, Plays, came_of};
 ghost use Rattle.lot_io.specs.Reading.{Reads};
 ghost use Rattle.lot_io.specs.Writing.{IsFaultOf, Writes};
-ghost use Rattle.lot_pictures.specs.Shown.{HasCurves, Shows, chart_output, shares_output};
+ghost use Rattle.lot_chart.specs.Shown.{HasCurves, Shows, chart_output, shares_output};
 
-use crate::gather;
-use lot_chart::table;
+use crate::{chart_of, gather, table};
 use lot_curves::{Curves, Measure};
-use lot_engine::{Played, refuse};
 use lot_io::{IoFault, Watched, flush, read_input, write_bytes};
+use lot_play::{Played, refuse};
 use lot_text::{ParseFault, parse};
 use std::alloc::{AllocError, Global};
 use std::io::{Read, Write};
@@ -95,7 +94,7 @@ fn write_chart<W: Write>(
         (chart_output title.now bytes.old.items) }
 {
     match curves_in(alloc, bytes) {
-        Ok(curves) => write_text(lot_chart::chart(alloc, &curves, title), writer),
+        Ok(curves) => write_text(chart_of(alloc, &curves, title), writer),
         Err(ParseFault::Memory) => Err(IoFault::Memory),
         Err(ParseFault::Input(fault)) => refuse(fault, writer),
     }

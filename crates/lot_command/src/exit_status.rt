@@ -8,7 +8,7 @@ use crate::run::run;
 use clap::Error;
 use clap::error::ErrorKind;
 use lot_io::Watched;
-use lot_pictures::{chart, shares};
+use lot_chart::{chart, shares};
 use lot_system::Played;
 use std::alloc::Global;
 use std::convert::AsStr;

@@ -3,7 +3,7 @@ ghost use Rattle.std.specs.Prelude.{◌≡◌, ℕ, List, false, true, IfErr, If
 ghost use Rattle.std.specs.Io.KnownBytes.{Appends};
 ghost use Rattle.lot_explain.specs.Explained.{explained_output};
 ghost use Rattle.lot_simulation.specs.Grammar.{program_in};
-ghost use Rattle.lot_engine.specs.Played.{Leaves, came_of};
+ghost use Rattle.lot_play.specs.Played.{Leaves, came_of};
 ghost use Rattle.lot_io.specs.Reading.{Reads};
 ghost use Rattle.lot_io.specs.Writing.{IsFaultOf};
 

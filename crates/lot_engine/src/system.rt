@@ -10,9 +10,8 @@ ghost use Rattle.lot_simulation.specs.World.Answer.{Answered};
 ghost use Rattle.lot_simulation.specs.World.{IsLegal, system_turn};
 ghost use Rattle.lot_simulation.specs.Report.{ticks_in, total_of, turns_made, turns_of};
 ghost use Rattle.lot_engine.specs.Counted.{counted};
-ghost use Rattle.lot_engine.specs.Listing.{given_count};
 ghost use Rattle.lot_engine.specs.Playing.{IsPlayed, turn_in};
-ghost use Rattle.lot_engine.specs.Seen.{after_turn, commands_made, world_of};
+ghost use Rattle.lot_engine.specs.Seen.{after_turn, commands_made, given_count, world_of};
 ghost use Rattle.lot_script.specs.Places.{Place as PlaceRecord};
 ghost use Rattle.lot_engine.specs.Turns.{Answers, Faults, Goes, IfStale, IsEnded, IsFresh, IsWorkOf, Prevents, work_at};
 
@@ -367,14 +366,14 @@ impl System {
     }
 
     /// The limits of the program.
-    pub(crate) fn limits(&self) -> Limits
+    pub fn limits(&self) -> Limits
         ensures { sizes_of result ≡ (world_of self.now).state.limits }
     {
         self.kernel.limits()
     }
 
     /// What the kernel shows of the ticket with this number, if it exists.
-    pub(crate) fn ticket_row(&mut self, ticket: u32) -> Option<TicketRow>
+    pub fn ticket_row(&mut self, ticket: u32) -> Option<TicketRow>
         ensures row { result ≡ rows.ticket_row (world_of self.old).state ticket }
         ensures state { self.new ≡ self.old }
     {
@@ -382,7 +381,7 @@ impl System {
     }
 
     /// What the kernel shows of the currency with this number, if it exists.
-    pub(crate) fn currency_row(&mut self, currency: u32) -> Option<CurrencyRow>
+    pub fn currency_row(&mut self, currency: u32) -> Option<CurrencyRow>
         ensures row { result ≡ rows.currency_row (world_of self.old).state currency }
         ensures state { self.new ≡ self.old }
     {
@@ -410,7 +409,7 @@ impl System {
     }
 
     /// The format of the program.
-    pub(crate) fn format(&self) -> Format
+    pub fn format(&self) -> Format
         ensures { unit_of result ≡ self.now.setting.program.limits.unit }
     {
         self.program.format()
@@ -426,7 +425,7 @@ impl System {
     }
 
     /// How many numbers of this kind were given.
-    pub(crate) fn given_count(&self, kind: Kind) -> u32
+    pub fn given_count(&self, kind: Kind) -> u32
         ensures { result ≡ given_count (world_of self.now).state kind }
     {
         match kind {
@@ -460,7 +459,7 @@ impl System {
     }
 
     /// How many turns were made.
-    pub(crate) fn turn_count(&self) -> u64
+    pub fn turn_count(&self) -> u64
         ensures { result ≡ length (world_of self.now).history }
     {
         self.history.len() as u64

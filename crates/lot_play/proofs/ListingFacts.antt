@@ -16,7 +16,8 @@ use Rattle.lot_simulation.specs.declared.manner.Manner.{Manner}
 use Rattle.lot_simulation.specs.Texts.{newline, front, listing_text}
 use Rattle.lot_machine.proofs.Tickets.{at_number-suc}
 use Rattle.lot_print.specs.Listings.{listing_line}
-use Rattle.lot_engine.specs.Listing.{first_number, given_count, is_there, row_line, rows_among}
+use Rattle.lot_engine.specs.Seen.{given_count}
+use Rattle.lot_play.specs.Listing.{first_number, is_there, row_line, rows_among}
 
 numbers-push : (a k : ℕ) → range_with_len a (suc k) ≡ range_with_len a k ++ (a + k) ∷ []
 numbers-push a zero = let e : a + 0 ≡ a = omega arith in ap (λ n. n ∷ []) (sym e)

@@ -6,7 +6,7 @@ use Rattle.lot_simulation.specs.declared.manner.Manner.TheVariants.{Whole}
 use Rattle.lot_simulation.specs.Timed.{TimedTurn, timed_turns}
 use Rattle.lot_simulation.specs.World.{Program, World, opening_world, system_turn}
 use Rattle.lot_playback.specs.Turns.{scheduled_turns, turns_by, turns_in_time}
-use Rattle.lot_playback.specs.Texts.{last_report, made_texts}
+use Rattle.lot_play.specs.Texts.{last_report, made_texts}
 
 texts-scheduled : (program : Program) (w : World) (actors : List ℕ) → turn_texts program w actors ≡ made_texts (scheduled_turns program w actors)
 texts-scheduled program w [] = refl

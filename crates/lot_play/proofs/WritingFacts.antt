@@ -5,6 +5,7 @@ use Rattle.std.specs.Io.KnownBytes.{Appends}
 use Rattle.lot_io.specs.Writing.{Begins, Put, Written}
 use Rattle.lot_io.proofs.WritingFacts.{appends-both, begins-front, begins-after}
 use Rattle.lot_io.specs.declared.fault.IoFault.{IoFault}
+use Rattle.lot_playback.proofs.TimeFacts.{range-push}
 
 -- a text that is written after what waited, so that nothing waits
 pub put-written : {U : Type 0} (old mid new : Option (List ℕ)) (before after text : List ℕ) (failed : Bool) (r : Result U IoFault) → after ≡ [] → Appends old mid before → Written mid new failed r text → Put old new before after failed r text
@@ -12,12 +13,6 @@ put-written old mid new before after text failed (Ok done) none one two = (two.0
 put-written old mid new before after text failed (Err fault) none one two = (two.0, two.1, begins-after old mid new before text one two.2)
 
 -- ---- texts of the numbers of a range
-
-pub range-push : {A : Type 0} (f : ℕ → List A) (a k : ℕ) → flat_map f (range_with_len a (suc k)) ≡ flat_map f (range_with_len a k) ++ f (a + k)
-range-push f a zero = let e : a + 0 ≡ a = omega arith in append-nil (f a) ∙ ap f (sym e)
-range-push f a (suc k) =
-    let e : a + 1 + k ≡ a + suc k = omega arith in
-    ap (λ xs. f a ++ xs) (range-push f (a + 1) k) ∙ sym (append_assoc (f a) (flat_map f (range_with_len (a + 1) k)) (f (a + 1 + k))) ∙ ap (λ n. (f a ++ flat_map f (range_with_len (a + 1) k)) ++ f n) e
 
 -- one text more is written
 pub range-more : (old mid new : Option (List ℕ)) (f : ℕ → List ℕ) (a k j : ℕ) → j ≡ a + k → Appends old mid (flat_map f (range_with_len a k)) → Appends mid new (f j) → Appends old new (flat_map f (range_with_len a (k + 1)))

@@ -2,8 +2,8 @@
 use Rattle.std.specs.Prelude.{ℕ, ◌==◌, if◌then◌else◌}
 use Rattle.lot_machine.specs.declared.reply.Reply.{Reply}
 use Rattle.lot_machine.specs.declared.reply.Reply.TheVariants as replies
-use Rattle.lot_engine.specs.declared.warnings.Warnings.{Warnings}
-use Rattle.lot_engine.specs.Kept.{kept_with, one_more}
+use Rattle.lot_play.specs.declared.warnings.Warnings.{Warnings}
+use Rattle.lot_play.specs.Kept.{kept_with, one_more}
 
 -- after a command that got this reply: one more was made, and it is kept with its place if it was refused
 abbrev pub command_noted : Warnings → Reply → Warnings

@@ -15,12 +15,6 @@ first_number Tickets = 1
 first_number Currencies = 0
 first_number Threads = 1
 
--- how many numbers of the kind were given
-abbrev pub given_count : State → Kind → ℕ
-given_count s Tickets = length s.tickets
-given_count s Currencies = length s.currencies
-given_count s Threads = length s.records
-
 -- whether there is a row with the number
 abbrev pub is_there : State → Kind → ℕ → Bool
 is_there s Tickets n = is_some (ticket_row s n)

@@ -3,8 +3,8 @@ use Rattle.std.specs.Prelude.{◌≡◌, ℕ, Bool, true, false, Option, Ok, Err
 use Rattle.std.specs.Io.KnownBytes.{Appends, Keeps}
 use Rattle.lot_simulation.specs.declared.input.InputFault.{InputFault}
 use Rattle.lot_simulation.specs.World.{Program}
-use Rattle.lot_engine.specs.declared.inputs.Played.{Played}
-use Rattle.lot_engine.specs.declared.inputs.Played.TheVariants.{Done, Refused}
+use Rattle.lot_play.specs.declared.inputs.Played.{Played}
+use Rattle.lot_play.specs.declared.inputs.Played.TheVariants.{Done, Refused}
 use Rattle.lot_io.specs.declared.fault.IoFault.{IoFault}
 use Rattle.lot_io.specs.declared.fault.IoFault.TheVariants.{Memory, Read, Write}
 use Rattle.lot_io.specs.Watching.{Watch}

@@ -4,11 +4,13 @@ ghost use Rattle.std.specs.Fmt.{decimal};
 ghost use Rattle.lot_simulation.specs.Texts.{front, reply_text};
 ghost use Rattle.lot_engine.specs.Seen.{world_of};
 ghost use Rattle.lot_io.specs.Writing.{Puts};
+ghost use Rattle.lot_play.specs.Texts.{manner_at};
 
-use crate::System;
 use crate::listing::write_listing;
+use lot_engine::System;
 use lot_io::{IoFault, Watched};
 use lot_machine::{Event, Reply};
+use lot_playback::Turn;
 use lot_print::{Heading, Page, write_reply};
 use lot_simulation::Manner;
 use std::io::Write;
@@ -51,5 +53,16 @@ pub fn heading(system: &System, manner: Manner, actor: u32) -> Heading
         manner,
         unit: system.unit(),
         actor,
+    }
+}
+
+/// How a turn is written: with its time, if it has one.
+#[inline(always)]
+pub fn manner_of(turn: &Turn) -> Manner
+    ensures { result ≡ manner_at turn.now.time }
+{
+    match turn.time {
+        Some(time) => Manner::Timed(time),
+        None => Manner::Whole,
     }
 }

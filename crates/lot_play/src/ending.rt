@@ -3,8 +3,8 @@ ghost use Rattle.std.specs.Prelude.{◌≡◌, false, true, OnOk};
 ghost use Rattle.lot_simulation.specs.Output.{end_text};
 ghost use Rattle.lot_io.specs.Writing.{Writes};
 
-use crate::System;
 use crate::report::write_report;
+use lot_engine::System;
 use lot_io::{IoFault, Watched, flush};
 use lot_print::write_history;
 use std::io::Write;

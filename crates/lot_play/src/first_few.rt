@@ -1,6 +1,6 @@
 //! The first few of a kind.
 ghost use Rattle.std.specs.Prelude.{◌≡◌, ◌-◌, ◌≤◌, IfOk, length};
-ghost use Rattle.lot_engine.specs.Kept.{kept_with, none_kept};
+ghost use Rattle.lot_play.specs.Kept.{kept_with, none_kept};
 
 use std::alloc::{AllocError, Global};
 use std::marker::Model;
@@ -17,7 +17,7 @@ pub struct FirstFew<T: Drop> {
 
 impl<T: Drop> Model for FirstFew<T> {
     ghost use Rattle.std.specs.Prelude.{◌≤◌, vec_len, vec_capacity};
-    ghost use Rattle.lot_engine.specs.Kept.{Kept};
+    ghost use Rattle.lot_play.specs.Kept.{Kept};
 
     ghost Value = { Kept T };
 

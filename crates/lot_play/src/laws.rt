@@ -2,7 +2,7 @@
 ghost use Rattle.std.specs.Prelude.{◌≡◌, ◌++◌};
 ghost use Rattle.lot_simulation.specs.Output.{played_output};
 ghost use Rattle.lot_simulation.specs.World.{Program};
-ghost use Rattle.lot_playback.specs.Texts.{last_report, made_texts};
+ghost use Rattle.lot_play.specs.Texts.{last_report, made_texts};
 ghost use Rattle.lot_playback.specs.Turns.{program_turns};
 
 /// The output of `play` is the lines of each of the program's turns, and then the report, in both orders.

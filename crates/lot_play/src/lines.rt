@@ -3,16 +3,17 @@ ghost use Rattle.std.specs.Prelude.{◌≡◌, [], false, true, OnOk};
 ghost use Rattle.lot_io.specs.Writing.{Begins, IsPut, Puts, Writes};
 ghost use Rattle.lot_io.specs.declared.fault.IoFault.TheVariants as faults;
 ghost use Rattle.lot_simulation.specs.Output.{played_output};
-ghost use Rattle.lot_engine.specs.Played.{Plays};
+ghost use Rattle.lot_play.specs.Played.{Plays};
 ghost use Rattle.lot_engine.specs.Seen.{world_of};
-ghost use Rattle.lot_engine.specs.declared.inputs.Played.TheVariants.{Done};
+ghost use Rattle.lot_play.specs.declared.inputs.Played.TheVariants.{Done};
 ghost use Rattle.lot_playback.specs.Stages.{HasMade, Reports, turns_left};
-ghost use Rattle.lot_playback.specs.Texts.{made_text, made_texts};
+ghost use Rattle.lot_play.specs.Texts.{made_text, made_texts};
 ghost use Rattle.lot_playback.specs.Turns.{MadeTurn, program_turns};
 
-use crate::{Observer, Playback, Turn, play_through};
-use lot_engine::{Played, System, Warnings, heading, put_answer};
-use lot_io::{IoFault, Watched, flush};
+use crate::{Played, Warnings, end_play, heading, manner_of, play_through, put_answer};
+use lot_engine::System;
+use lot_io::{IoFault, Watched};
+use lot_playback::{Observer, Playback, Turn};
 use lot_print::{Page, write_ended};
 use lot_text::Program;
 use std::alloc::Global;
@@ -86,7 +87,7 @@ fn put_made<W: Write>(
     ensures text { (made : MadeTurn) → Reports turn.now made → world_of system.old ≡ made.turn.world
         → Puts W.contents writer.old writer.new page.old page.new result (made_text made) }
 {
-    let manner = turn.manner();
+    let manner = manner_of(turn);
     if turn.has_ended {
         return write_ended(writer, page, heading(system, manner, turn.actor));
     }
@@ -141,25 +142,7 @@ pub fn play_program<W: Write>(
     let Ok(mut playback) = Playback::open(alloc, program) else {
         return Err(IoFault::Memory);
     };
-    write_all(program, &mut playback, warnings, writer)?;
-    playback.note_end(warnings);
+    write_turns(program, &mut playback, warnings, writer)?;
+    end_play(program, playback, warnings, writer)?;
     Ok(Played::Done)
-}
-
-/// Makes the program's turns, and writes their lines and the report.
-fn write_all<W: Write>(
-    program: &Program,
-    playback: &mut Playback,
-    warnings: &mut Warnings,
-    writer: &mut Watched<W>,
-) -> Result<(), IoFault>
-    requires none { playback.old.made ≡ 0 }
-    requires made { HasMade program.now [] playback.old.seen }
-    requires working { writer.old.failed ≡ false }
-    ensures flushed { OnOk result (writer.new.flushed ≡ true) }
-    ensures text { Writes W.contents writer.old writer.new result (played_output program.now program.now.duration) }
-{
-    write_turns(program, playback, warnings, writer)?;
-    playback.write_report(program, writer)?;
-    flush(writer)
 }

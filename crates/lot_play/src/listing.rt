@@ -5,12 +5,12 @@ ghost use Rattle.std.specs.Option.{option_map_or};
 ghost use Rattle.std.specs.List.{flat_map, range_with_len};
 ghost use Rattle.lot_simulation.specs.Texts as texts;
 ghost use Rattle.lot_machine.specs.Rows as rows;
-ghost use Rattle.lot_engine.specs.Seen.{world_of};
-ghost use Rattle.lot_engine.specs.Listing as listing;
-ghost use Rattle.lot_engine.specs.Listing.{given_count, is_there, row_line, rows_among};
+ghost use Rattle.lot_engine.specs.Seen.{given_count, world_of};
+ghost use Rattle.lot_play.specs.Listing as listing;
+ghost use Rattle.lot_play.specs.Listing.{is_there, row_line, rows_among};
 ghost use Rattle.lot_io.specs.Writing.{Writes};
 
-use crate::System;
+use lot_engine::System;
 use lot_io::{IoFault, Watched};
 use lot_machine::Kind;
 use lot_print::{write_currency, write_listing_line, write_thread, write_ticket};

@@ -10,7 +10,7 @@ ghost use Rattle.lot_simulation.specs.Texts.{lines_for};
 ghost use Rattle.lot_engine.specs.Seen.{world_of};
 ghost use Rattle.lot_io.specs.Writing.{Writes};
 
-use crate::System;
+use lot_engine::System;
 use lot_io::{IoFault, Watched};
 use lot_print::{
     ProcessorTotal, WholeTotal, write_processor_total, write_report_line, write_thread_total,

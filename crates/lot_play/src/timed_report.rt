@@ -15,10 +15,10 @@ ghost use Rattle.lot_playback.specs.InTime.{IsAtEnd, moment_in};
 ghost use Rattle.lot_engine.specs.Seen.{world_of};
 ghost use Rattle.lot_io.specs.Writing.{Writes};
 
-use crate::timekeeper::Timekeeper;
 use lot_engine::System;
 use lot_io::{IoFault, Watched};
 use lot_machine::Status;
+use lot_playback::Timekeeper;
 use lot_print::{
     ThreadShares, TimedProcessorTotal, TimedWholeTotal, write_report_line,
     write_timed_processor_total, write_timed_thread_total, write_timed_whole_total,

@@ -1,11 +1,12 @@
 //! The warnings of a run, in addition to its output.
 
 ghost use Rattle.std.specs.Prelude.{◌≡◌, IfOk, length};
-ghost use Rattle.lot_engine.specs.Kept.{none_kept};
-ghost use Rattle.lot_engine.specs.Leaving.{command_noted, noted};
+ghost use Rattle.lot_play.specs.Kept.{none_kept};
+ghost use Rattle.lot_play.specs.Leaving.{command_noted, noted};
 ghost use Rattle.lot_engine.specs.Seen.{world_of};
 
-use crate::{FirstFew, System};
+use crate::FirstFew;
+use lot_engine::System;
 use lot_machine::{Name, Refusal, Reply, Status, ThreadRow};
 use std::alloc::{AllocError, Global};
 

@@ -1,7 +1,7 @@
 //! What a run leaves to tell, in words.
 
 use crate::CommandLines;
-use lot_engine::{FirstFew, RefusedCommand, StuckThread, Warnings};
+use lot_play::{FirstFew, RefusedCommand, StuckThread, Warnings};
 use lot_machine::{Refusal, Status};
 use std::io::Write;
 use std::{fmt, io, str};

@@ -1,6 +1,6 @@
 //! Inputs that are explained, and their explanations.
 use super::same::check_same_at;
-use lot_engine::Played;
+use lot_play::Played;
 use lot_explain::explain;
 use lot_io::Watched;
 use std::alloc::Global;

@@ -2,9 +2,9 @@
 use super::SCHEDULED;
 use super::same::{check_same, check_same_at};
 use lot_curves::Measure;
-use lot_engine::Played;
+use lot_play::Played;
 use lot_io::{IoFault, Watched};
-use lot_pictures::{chart, shares};
+use lot_chart::{chart, shares};
 use std::alloc::Global;
 use std::process::Abort;
 

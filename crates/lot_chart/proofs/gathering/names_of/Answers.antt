@@ -3,7 +3,7 @@ use Rattle.std.specs.List.{range_with_len}
 use Rattle.std.proofs.lemmas.List.FromFn.{map-range_with_len_more}
 use Rattle.lot_curves.specs.Curves.{name_in}
 use Rattle.lot_engine.specs.Seen.{Seen, world_of}
-use Rattle.lot_pictures.proofs.gathering.names_of.Goals as goal
+use Rattle.lot_chart.proofs.gathering.names_of.Goals as goal
 
 pub loop-place-preserved : goal.loop-place-preserved
 loop-place-preserved c =

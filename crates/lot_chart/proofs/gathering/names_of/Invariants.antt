@@ -2,7 +2,7 @@ use Rattle.std.proofs.Common.{◌≡◌, map, vec_len}
 use Rattle.std.specs.List.{range_with_len}
 use Rattle.lot_curves.specs.Curves.{name_in}
 use Rattle.lot_engine.specs.Seen.{world_of}
-use Rattle.lot_pictures.proofs.gathering.names_of.Given as goal
+use Rattle.lot_chart.proofs.gathering.names_of.Given as goal
 
 -- the names of the threads passed so far are there
 abbrev pub invariant-loop-place : goal.invariant-loop-place

@@ -1,6 +1,6 @@
 use Rattle.std.proofs.Common.{arith}
-use Rattle.lot_pictures.proofs.Notes.{program-few}
-use Rattle.lot_pictures.proofs.gathering.note_turns.Goals as goal
+use Rattle.lot_chart.proofs.Notes.{program-few}
+use Rattle.lot_chart.proofs.gathering.note_turns.Goals as goal
 
 pub returns-clause-noted : goal.returns-clause-noted
 returns-clause-noted c = c.in_ok-play_through.ensures.observed.0

@@ -1,5 +1,5 @@
 use Rattle.lot_io.proofs.WritingFacts.{writes-flushed}
-use Rattle.lot_pictures.proofs.showing.write_flushed.Goals as goal
+use Rattle.lot_chart.proofs.showing.write_flushed.Goals as goal
 
 pub returns-clause-text : goal.returns-clause-text
 returns-clause-text g c =

@@ -1,7 +1,7 @@
 use Rattle.lot_simulation.specs.Grammar.{program_in}
 use Rattle.lot_chart.specs.Tables.{table}
-use Rattle.lot_pictures.proofs.Shows.{shows-plays}
-use Rattle.lot_pictures.proofs.showing.write_shares.Goals as goal
+use Rattle.lot_chart.proofs.Shows.{shows-plays}
+use Rattle.lot_chart.proofs.showing.write_shares.Goals as goal
 
 pub returns-in-Ok-clause-shown : goal.returns-in-Ok-clause-shown
 returns-in-Ok-clause-shown g c =

@@ -3,7 +3,7 @@ use Rattle.std.proofs.Common.{◌≡◌, ℕ, List, Err, rules, sym, subst}
 use Rattle.lot_io.specs.Writing.{Begins, Written}
 use Rattle.lot_io.proofs.WritingFacts.{begins-after, begins-front, writes-after, writes-flushed}
 use Rattle.lot_simulation.specs.World.{Program}
-use Rattle.lot_playback.specs.Texts.{last_report}
+use Rattle.lot_play.specs.Texts.{last_report}
 use Rattle.lot_playback.specs.Turns.{program_turns}
 use Rattle.lot_explain.specs.MadeTurns.{explained_turns}
 use Rattle.lot_explain.proofs.MadeTexts.{program-texts}

@@ -7,8 +7,8 @@ use Rattle.lot_simulation.specs.Texts.{front, listing_text, plain_text, reply_te
 use Rattle.lot_io.specs.Writing.{Put}
 use Rattle.lot_io.proofs.WritingFacts.{begins-front}
 use Rattle.lot_engine.specs.Seen.{world_of}
-use Rattle.lot_engine.proofs.WritingFacts.{put-written}
-use Rattle.lot_engine.proofs.answers.put_answer.Goals as goal
+use Rattle.lot_play.proofs.WritingFacts.{put-written}
+use Rattle.lot_play.proofs.answers.put_answer.Goals as goal
 
 -- the text of a line with this heading
 headed : (manner m : Manner) (actor a unit u : ℕ) (e : Event) (r : Reply) → m ≡ manner → a ≡ actor → u ≡ unit

@@ -1,7 +1,7 @@
 -- Flushing writes nothing more.
 use Rattle.lot_simulation.specs.Output.{end_text}
 use Rattle.lot_io.proofs.WritingFacts.{writes-flushed}
-use Rattle.lot_engine.proofs.ending.write_end.Goals as goal
+use Rattle.lot_play.proofs.ending.write_end.Goals as goal
 
 pub returns-clause-text : goal.returns-clause-text
 returns-clause-text g c =

@@ -5,7 +5,7 @@ use Rattle.lot_simulation.specs.Report.{report, history_lines}
 use Rattle.lot_engine.specs.Seen.{Seen}
 use Rattle.lot_io.specs.Writing.{Written}
 use Rattle.lot_io.proofs.WritingFacts.{begins-front, writes-after}
-use Rattle.lot_engine.proofs.ending.write_texts.Goals as goal
+use Rattle.lot_play.proofs.ending.write_texts.Goals as goal
 
 lines-are : (s now : Seen) (unit : ℕ) (history : List ℕ) → now ≡ s → unit ≡ now.setting.program.limits.unit → history ≡ now.history → history_lines unit history ≡ history_lines s.setting.program.limits.unit s.history
 lines-are s now unit history same of_unit of_history =

@@ -2,7 +2,7 @@ use Rattle.std.proofs.Common.{◌≡◌, [], Err, rules, subst, append-nil}
 use Rattle.lot_simulation.specs.Texts.{fault_line}
 use Rattle.lot_io.specs.Writing.{Begins}
 use Rattle.lot_io.proofs.WritingFacts.{begins-after}
-use Rattle.lot_engine.proofs.inputs.refuse.Goals as goal
+use Rattle.lot_play.proofs.inputs.refuse.Goals as goal
 
 pub returns-in_err-flush-clause-played : goal.returns-in_err-flush-clause-played
 returns-in_err-flush-clause-played g c =

@@ -3,10 +3,10 @@ use Rattle.std.proofs.Common.{◌≡◌, ℕ, List, Err, rules, sym, subst}
 use Rattle.lot_io.specs.Writing.{Begins, Written}
 use Rattle.lot_io.proofs.WritingFacts.{begins-after, begins-front, writes-after, writes-flushed}
 use Rattle.lot_simulation.specs.World.{Program}
-use Rattle.lot_playback.specs.Texts.{last_report, made_texts}
+use Rattle.lot_play.specs.Texts.{last_report, made_texts}
 use Rattle.lot_playback.specs.Turns.{program_turns}
-use Rattle.lot_playback.proofs.TextFacts.{played-texts}
-use Rattle.lot_playback.proofs.lines.write_all.Goals as goal
+use Rattle.lot_play.proofs.TextFacts.{played-texts}
+use Rattle.lot_play.proofs.lines.write_all.Goals as goal
 
 abbrev texts : Program → List ℕ
 texts program = made_texts (program_turns program)

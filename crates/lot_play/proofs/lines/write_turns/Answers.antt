@@ -1,8 +1,8 @@
 use Rattle.std.proofs.Common.{rules}
-use Rattle.lot_playback.specs.Texts.{made_texts}
+use Rattle.lot_play.specs.Texts.{made_texts}
 use Rattle.lot_playback.specs.Turns.{program_turns}
-use Rattle.lot_playback.proofs.LineFacts.{pages-out}
-use Rattle.lot_playback.proofs.lines.write_turns.Goals as goal
+use Rattle.lot_play.proofs.LineFacts.{pages-out}
+use Rattle.lot_play.proofs.lines.write_turns.Goals as goal
 
 pub returns-clause-text : goal.returns-clause-text
 returns-clause-text g c =

@@ -1,9 +1,9 @@
 use Rattle.std.proofs.Common.{◌≡◌, ◌+◌, sym, ap, ◌∙◌, arith}
-use Rattle.lot_engine.specs.Listing.{first_number, is_there}
+use Rattle.lot_play.specs.Listing.{first_number, is_there}
 use Rattle.lot_engine.specs.Seen.{Seen, world_of}
-use Rattle.lot_engine.proofs.ListingFacts.{passing-there, passing-none}
-use Rattle.lot_engine.proofs.listing.count_rows.Goals as goal
-use Rattle.lot_engine.proofs.listing.count_rows.Goals.{then-has_row, else-has_row}
+use Rattle.lot_play.proofs.ListingFacts.{passing-there, passing-none}
+use Rattle.lot_play.proofs.listing.count_rows.Goals as goal
+use Rattle.lot_play.proofs.listing.count_rows.Goals.{then-has_row, else-has_row}
 
 pub loop-place-preserved : goal.loop-place-preserved
 loop-place-preserved c =

@@ -1,7 +1,7 @@
 use Rattle.std.proofs.Common.{◌≡◌, ◌≤◌}
-use Rattle.lot_engine.specs.Listing.{rows_among}
+use Rattle.lot_play.specs.Listing.{rows_among}
 use Rattle.lot_engine.specs.Seen.{world_of}
-use Rattle.lot_engine.proofs.listing.count_rows.Given as goal
+use Rattle.lot_play.proofs.listing.count_rows.Given as goal
 
 -- the rows of the numbers passed so far are counted, and counting changes nothing
 abbrev pub invariant-loop-place : goal.invariant-loop-place

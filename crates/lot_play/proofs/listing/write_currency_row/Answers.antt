@@ -5,7 +5,7 @@ use Rattle.lot_machine.specs.Rows.{currency_row}
 use Rattle.lot_simulation.specs.Texts.{currency_line}
 use Rattle.lot_io.specs.Writing.{Begins}
 use Rattle.lot_engine.specs.Seen.{world_of}
-use Rattle.lot_engine.proofs.listing.write_currency_row.Goals as goal
+use Rattle.lot_play.proofs.listing.write_currency_row.Goals as goal
 
 pub returns-in_err-write_currency-clause-text : goal.returns-in_err-write_currency-clause-text
 returns-in_err-write_currency-clause-text g c =

@@ -6,10 +6,11 @@ use Rattle.lot_simulation.specs.Texts.{front}
 use Rattle.lot_print.specs.Listings.{listing_line}
 use Rattle.lot_io.specs.Writing.{Begins, Written}
 use Rattle.lot_io.proofs.WritingFacts.{begins-front, writes-after}
-use Rattle.lot_engine.specs.Listing.{first_number, given_count, row_line}
+use Rattle.lot_engine.specs.Seen.{given_count}
+use Rattle.lot_play.specs.Listing.{first_number, row_line}
 use Rattle.lot_engine.specs.Seen.{world_of}
-use Rattle.lot_engine.proofs.ListingFacts.{listed-after}
-use Rattle.lot_engine.proofs.listing.write_listing.Goals as goal
+use Rattle.lot_play.proofs.ListingFacts.{listed-after}
+use Rattle.lot_play.proofs.listing.write_listing.Goals as goal
 
 pub returns-in_err-write_listing_line-clause-text : goal.returns-in_err-write_listing_line-clause-text
 returns-in_err-write_listing_line-clause-text g c =

@@ -1,8 +1,9 @@
 use Rattle.std.proofs.Common.{◌≡◌, ◌+◌, Err, rules, ◌∙◌, ap, arith}
-use Rattle.lot_engine.specs.Listing.{first_number, given_count, row_line}
+use Rattle.lot_engine.specs.Seen.{given_count}
+use Rattle.lot_play.specs.Listing.{first_number, row_line}
 use Rattle.lot_engine.specs.Seen.{world_of}
-use Rattle.lot_engine.proofs.WritingFacts.{range-more, range-stops}
-use Rattle.lot_engine.proofs.listing.write_rows.Goals as goal
+use Rattle.lot_play.proofs.WritingFacts.{range-more, range-stops}
+use Rattle.lot_play.proofs.listing.write_rows.Goals as goal
 
 pub returns-in_err-write_row-clause-text : goal.returns-in_err-write_row-clause-text
 returns-in_err-write_row-clause-text g c =

@@ -1,9 +1,9 @@
 use Rattle.std.proofs.Common.{◌≡◌, false}
 use Rattle.std.specs.List.{flat_map, range_with_len}
 use Rattle.std.specs.Io.KnownBytes.{Appends}
-use Rattle.lot_engine.specs.Listing.{first_number, row_line}
+use Rattle.lot_play.specs.Listing.{first_number, row_line}
 use Rattle.lot_engine.specs.Seen.{world_of}
-use Rattle.lot_engine.proofs.listing.write_rows.Given as goal
+use Rattle.lot_play.proofs.listing.write_rows.Given as goal
 
 -- the lines of the numbers passed so far are written
 abbrev pub invariant-loop-place : goal.invariant-loop-place

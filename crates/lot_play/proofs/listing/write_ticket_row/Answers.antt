@@ -5,7 +5,7 @@ use Rattle.lot_machine.specs.Rows.{ticket_row}
 use Rattle.lot_simulation.specs.Texts.{ticket_line}
 use Rattle.lot_io.specs.Writing.{Begins}
 use Rattle.lot_engine.specs.Seen.{world_of}
-use Rattle.lot_engine.proofs.listing.write_ticket_row.Goals as goal
+use Rattle.lot_play.proofs.listing.write_ticket_row.Goals as goal
 
 pub returns-in_err-write_ticket-clause-text : goal.returns-in_err-write_ticket-clause-text
 returns-in_err-write_ticket-clause-text g c =

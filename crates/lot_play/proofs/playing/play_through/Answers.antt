@@ -1,6 +1,6 @@
 use Rattle.std.proofs.Common.{◌≡◌, ◌++◌, ◌∷◌, [], Err, rules, ap, sym, ◌∙◌, append_assoc}
 use Rattle.lot_playback.specs.Stages.{turns_left}
-use Rattle.lot_playback.proofs.playing.play_through.Goals as goal
+use Rattle.lot_play.proofs.playing.play_through.Goals as goal
 
 pub returns-in_err-play_turn-clause-stopped : goal.returns-in_err-play_turn-clause-stopped
 returns-in_err-play_turn-clause-stopped g c =

@@ -1,7 +1,7 @@
 use Rattle.std.proofs.Common.{◌≡◌, ◌++◌, List, length}
 use Rattle.lot_playback.specs.Stages.{HasMade, turns_left}
 use Rattle.lot_playback.specs.Turns.{MadeTurn, program_turns}
-use Rattle.lot_playback.proofs.playing.play_through.Given as goal
+use Rattle.lot_play.proofs.playing.play_through.Given as goal
 
 -- some of the program's turns are made, and observed, and the others are left
 abbrev pub invariant-loop-next : goal.invariant-loop-next

@@ -1,8 +1,8 @@
 use Rattle.std.proofs.Common.{◌≡◌, ◌+◌, Err, rules, arith}
 use Rattle.lot_simulation.specs.Report.{processor_total, turns_made}
 use Rattle.lot_engine.specs.Seen.{world_of}
-use Rattle.lot_engine.proofs.WritingFacts.{range-more, range-stops}
-use Rattle.lot_engine.proofs.report.write_processors.Goals as goal
+use Rattle.lot_play.proofs.WritingFacts.{range-more, range-stops}
+use Rattle.lot_play.proofs.report.write_processors.Goals as goal
 
 pub returns-in_err-write_processor : goal.returns-in_err-write_processor
 returns-in_err-write_processor g c =

@@ -2,7 +2,7 @@ use Rattle.std.proofs.Common.{◌≡◌, false}
 use Rattle.std.specs.List.{flat_map, range_with_len}
 use Rattle.std.specs.Io.KnownBytes.{Appends}
 use Rattle.lot_simulation.specs.Report.{processor_total, turns_made}
-use Rattle.lot_engine.proofs.report.write_processors.Given as goal
+use Rattle.lot_play.proofs.report.write_processors.Given as goal
 
 -- the lines of the processors passed so far are written
 abbrev pub invariant-loop-place : goal.invariant-loop-place

@@ -7,7 +7,7 @@ use Rattle.lot_machine.specs.Rows.{thread_row}
 use Rattle.lot_simulation.specs.Texts.{lines_for}
 use Rattle.lot_engine.specs.Seen.{Seen, world_of}
 use Rattle.lot_io.proofs.WritingFacts.{begins-after, begins-front, writes-after}
-use Rattle.lot_engine.proofs.report.write_report.Goals as goal
+use Rattle.lot_play.proofs.report.write_report.Goals as goal
 
 abbrev threads : Seen → List ℕ
 threads s = lines_for thread_total (thread_row (world_of s).state) (numbers (world_of s).state.records)

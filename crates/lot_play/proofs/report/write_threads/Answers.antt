@@ -3,8 +3,8 @@ use Rattle.std.specs.Option.{option_map_or}
 use Rattle.lot_simulation.specs.Report.{thread_total}
 use Rattle.lot_machine.specs.Rows.{thread_row}
 use Rattle.lot_engine.specs.Seen.{Seen, world_of}
-use Rattle.lot_engine.proofs.WritingFacts.{range-more, range-stops}
-use Rattle.lot_engine.proofs.report.write_threads.Goals as goal
+use Rattle.lot_play.proofs.WritingFacts.{range-more, range-stops}
+use Rattle.lot_play.proofs.report.write_threads.Goals as goal
 
 -- the line of the thread with a number, if there is one
 abbrev line : Seen → ℕ → List ℕ

@@ -5,7 +5,7 @@ use Rattle.std.specs.Io.KnownBytes.{Appends}
 use Rattle.lot_simulation.specs.Report.{thread_total}
 use Rattle.lot_machine.specs.Rows.{thread_row}
 use Rattle.lot_engine.specs.Seen.{world_of}
-use Rattle.lot_engine.proofs.report.write_threads.Given as goal
+use Rattle.lot_play.proofs.report.write_threads.Given as goal
 
 -- the lines of the threads passed so far are written
 abbrev pub invariant-loop-place : goal.invariant-loop-place

@@ -1,6 +1,6 @@
 use Rattle.std.proofs.Common.{ap}
 use Rattle.lot_engine.specs.declared.counts.Counts.{Counts}
-use Rattle.lot_engine.proofs.report.write_total.Goals as goal
+use Rattle.lot_play.proofs.report.write_total.Goals as goal
 
 pub returns : goal.returns
 returns g c =

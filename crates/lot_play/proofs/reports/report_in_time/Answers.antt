@@ -3,9 +3,9 @@ use Rattle.std.specs.Prelude.{IsSome, is_some}
 use Rattle.lot_io.specs.Writing.{Written}
 use Rattle.lot_simulation.specs.TimedReport.{timed_report}
 use Rattle.lot_simulation.specs.World.{Program}
-use Rattle.lot_playback.specs.Texts.{last_report}
+use Rattle.lot_play.specs.Texts.{last_report}
 use Rattle.lot_playback.proofs.ClockFacts.{time-end}
-use Rattle.lot_playback.proofs.reports.report_in_time.Goals as goal
+use Rattle.lot_play.proofs.reports.report_in_time.Goals as goal
 
 pub write_timed_report-requires-clause-end : goal.write_timed_report-requires-clause-end
 write_timed_report-requires-clause-end g c = time-end c.args.system.now c.args.timekeeper.now c.requires.there c.requires.ended

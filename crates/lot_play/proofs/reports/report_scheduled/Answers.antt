@@ -3,9 +3,9 @@ use Rattle.lot_io.specs.Writing.{Written}
 use Rattle.lot_simulation.specs.Report.{report}
 use Rattle.lot_simulation.specs.World.{Program}
 use Rattle.lot_engine.proofs.PlayingFacts.{report-is}
-use Rattle.lot_playback.specs.Texts.{last_report}
+use Rattle.lot_play.specs.Texts.{last_report}
 use Rattle.lot_playback.proofs.PlaceFacts.{place-end}
-use Rattle.lot_playback.proofs.reports.report_scheduled.Goals as goal
+use Rattle.lot_play.proofs.reports.report_scheduled.Goals as goal
 
 pub returns-clause-text : goal.returns-clause-text
 returns-clause-text g c =

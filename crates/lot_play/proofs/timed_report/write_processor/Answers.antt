@@ -5,8 +5,8 @@ use Rattle.lot_simulation.specs.Timed.{timed_turns}
 use Rattle.lot_simulation.specs.TimedReport.{actor_turns}
 use Rattle.lot_engine.specs.Counted.{counted}
 use Rattle.lot_playback.specs.InTime.{moment_in}
-use Rattle.lot_playback.proofs.TimedReportFacts.{history-short, turns-are, processor-line}
-use Rattle.lot_playback.proofs.timed_report.write_processor.Goals as goal
+use Rattle.lot_play.proofs.TimedReportFacts.{history-short, turns-are, processor-line}
+use Rattle.lot_play.proofs.timed_report.write_processor.Goals as goal
 
 pub idle_until-requires-clause-idled : goal.idle_until-requires-clause-idled
 idle_until-requires-clause-idled g c =

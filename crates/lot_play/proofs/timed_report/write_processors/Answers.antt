@@ -4,8 +4,8 @@ use Rattle.lot_simulation.specs.TimedReport.{actor_turns, timed_processor_total}
 use Rattle.lot_playback.specs.declared.timekeeper.Timekeeper.{Timekeeper}
 use Rattle.lot_playback.specs.InTime.{moment_in}
 use Rattle.lot_engine.specs.Seen.{Seen, world_of}
-use Rattle.lot_engine.proofs.WritingFacts.{range-more, range-stops}
-use Rattle.lot_playback.proofs.timed_report.write_processors.Goals as goal
+use Rattle.lot_play.proofs.WritingFacts.{range-more, range-stops}
+use Rattle.lot_play.proofs.timed_report.write_processors.Goals as goal
 
 -- the line of the processor with a number
 abbrev line : Seen → Timekeeper → ℕ → ℕ → List ℕ

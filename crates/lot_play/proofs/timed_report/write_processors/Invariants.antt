@@ -4,7 +4,7 @@ use Rattle.std.specs.Io.KnownBytes.{Appends}
 use Rattle.lot_simulation.specs.Timed.{timed_turns}
 use Rattle.lot_simulation.specs.TimedReport.{actor_turns, timed_processor_total}
 use Rattle.lot_playback.specs.InTime.{moment_in}
-use Rattle.lot_playback.proofs.timed_report.write_processors.Given as goal
+use Rattle.lot_play.proofs.timed_report.write_processors.Given as goal
 
 -- the lines of the processors passed so far are written
 abbrev pub invariant-loop-place : goal.invariant-loop-place

@@ -2,8 +2,8 @@ use Rattle.std.proofs.Common.{length, subst}
 use Rattle.lot_io.specs.Writing.{Written}
 use Rattle.lot_simulation.specs.Timed.{timed_turns}
 use Rattle.lot_simulation.specs.TimedReport.{mutex_change, reply_change}
-use Rattle.lot_playback.proofs.TimedReportFacts.{mutexes-are, replies-are, asked-line}
-use Rattle.lot_playback.proofs.timed_report.write_thread.Goals as goal
+use Rattle.lot_play.proofs.TimedReportFacts.{mutexes-are, replies-are, asked-line}
+use Rattle.lot_play.proofs.timed_report.write_thread.Goals as goal
 
 pub returns-clause-text : goal.returns-clause-text
 returns-clause-text g c =

@@ -7,8 +7,8 @@ use Rattle.lot_simulation.specs.Report.{ticks_in, total_of}
 use Rattle.lot_simulation.specs.Timed.{timed_turns}
 use Rattle.lot_simulation.specs.TimedReport.{actor_turns, timed_thread_total}
 use Rattle.lot_engine.specs.Seen.{Seen, world_of}
-use Rattle.lot_engine.proofs.WritingFacts.{range-more, range-stops}
-use Rattle.lot_playback.proofs.timed_report.write_threads.Goals as goal
+use Rattle.lot_play.proofs.WritingFacts.{range-more, range-stops}
+use Rattle.lot_play.proofs.timed_report.write_threads.Goals as goal
 
 -- the line of the thread with a number, if there is one
 abbrev line : Seen → ℕ → List ℕ

@@ -7,7 +7,7 @@ use Rattle.lot_simulation.specs.Report.{ticks_in, total_of}
 use Rattle.lot_simulation.specs.Timed.{timed_turns}
 use Rattle.lot_simulation.specs.TimedReport.{actor_turns, timed_thread_total}
 use Rattle.lot_engine.specs.Seen.{world_of}
-use Rattle.lot_playback.proofs.timed_report.write_threads.Given as goal
+use Rattle.lot_play.proofs.timed_report.write_threads.Given as goal
 
 -- the lines of the threads passed so far are written
 abbrev pub invariant-loop-place : goal.invariant-loop-place

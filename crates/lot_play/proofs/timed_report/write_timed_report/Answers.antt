@@ -10,8 +10,8 @@ use Rattle.lot_io.specs.Writing.{Begins, Written}
 use Rattle.lot_playback.specs.declared.timekeeper.Timekeeper.{Timekeeper}
 use Rattle.lot_playback.specs.InTime.{moment_in}
 use Rattle.lot_engine.specs.Seen.{Seen, world_of}
-use Rattle.lot_playback.proofs.TimedReportFacts.{report-is}
-use Rattle.lot_playback.proofs.timed_report.write_timed_report.Goals as goal
+use Rattle.lot_play.proofs.TimedReportFacts.{report-is}
+use Rattle.lot_play.proofs.timed_report.write_timed_report.Goals as goal
 
 -- the lines of the threads, of the processors, and the last
 abbrev threads : Seen → List ℕ

@@ -4,8 +4,8 @@ use Rattle.lot_engine.specs.Counted.{counted}
 use Rattle.lot_simulation.specs.TimedReport.{actor_turns}
 use Rattle.lot_simulation.specs.Timed.{timed_turns}
 use Rattle.lot_playback.specs.InTime.{moment_in}
-use Rattle.lot_playback.proofs.TimedReportFacts.{turns-are, refused-are, total-line}
-use Rattle.lot_playback.proofs.timed_report.write_total.Goals as goal
+use Rattle.lot_play.proofs.TimedReportFacts.{turns-are, refused-are, total-line}
+use Rattle.lot_play.proofs.timed_report.write_total.Goals as goal
 
 pub returns : goal.returns
 returns g c =

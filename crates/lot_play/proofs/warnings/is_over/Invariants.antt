@@ -1,5 +1,5 @@
 use Rattle.std.proofs.Common.{◌≡◌}
-use Rattle.lot_engine.proofs.warnings.is_over.Given as goal
+use Rattle.lot_play.proofs.warnings.is_over.Given as goal
 
 -- looking at a thread changes nothing
 abbrev pub invariant-loop-place : goal.invariant-loop-place

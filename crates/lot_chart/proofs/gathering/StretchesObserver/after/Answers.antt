@@ -1,8 +1,8 @@
 use Rattle.std.proofs.Common.{[], ◌∷◌, ap, arith, length-append}
 use Rattle.lot_curves.specs.declared.stretch.Stretch.{Stretch}
 use Rattle.lot_simulation.specs.World.{Program}
-use Rattle.lot_pictures.proofs.Notes.{answered-noted, early-noted, ended-noted}
-use Rattle.lot_pictures.proofs.gathering.StretchesObserver.after.Goals as goal
+use Rattle.lot_chart.proofs.Notes.{answered-noted, early-noted, ended-noted}
+use Rattle.lot_chart.proofs.gathering.StretchesObserver.after.Goals as goal
 
 pub end_of-requires : goal.end_of-requires
 end_of-requires c =

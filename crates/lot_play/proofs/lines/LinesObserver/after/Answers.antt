@@ -2,11 +2,11 @@ use Rattle.std.proofs.Common.{◌≡◌, ◌∙◌}
 use Rattle.lot_simulation.specs.World.{opening_world}
 use Rattle.lot_engine.specs.Seen.{world_of}
 use Rattle.lot_playback.specs.Stages.{Reports}
-use Rattle.lot_playback.specs.Texts.{made_text}
+use Rattle.lot_play.specs.Texts.{made_text}
 use Rattle.lot_playback.specs.Turns.{MadeTurn}
-use Rattle.lot_playback.proofs.LineFacts.{put-err, put-ok, texts-more, texts-stop}
+use Rattle.lot_play.proofs.LineFacts.{put-err, put-ok, texts-more, texts-stop}
 use Rattle.lot_playback.proofs.MadeFacts.{world-one_more}
-use Rattle.lot_playback.proofs.lines.LinesObserver.after.Goals as goal
+use Rattle.lot_play.proofs.lines.LinesObserver.after.Goals as goal
 
 pub returns-clause-ok : goal.returns-clause-ok
 returns-clause-ok g c =

@@ -1,5 +1,5 @@
 use Rattle.std.proofs.Common.{◌≡◌}
-use Rattle.lot_engine.proofs.warnings.Warnings.note_end.Given as goal
+use Rattle.lot_play.proofs.warnings.Warnings.note_end.Given as goal
 
 -- what was noted of commands stays, and so does the system
 abbrev pub invariant-loop-place : goal.invariant-loop-place

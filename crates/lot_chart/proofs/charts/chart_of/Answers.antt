@@ -1,7 +1,7 @@
 use Rattle.std.proofs.Common.{◌∙◌, sym, ap}
 use Rattle.lot_chart.specs.Lines.{lines_of}
 use Rattle.lot_chart.proofs.Whole.{chart-is}
-use Rattle.lot_chart.proofs.charts.chart.Goals as goal
+use Rattle.lot_chart.proofs.charts.chart_of.Goals as goal
 
 pub returns : goal.returns
 returns c =

@@ -1,0 +1,5 @@
+pub mod WritingFacts
+pub mod ListingFacts
+pub mod TimedReportFacts
+pub mod TextFacts
+pub mod LineFacts
