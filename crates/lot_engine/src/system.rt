@@ -18,6 +18,7 @@ ghost use Rattle.lot_engine.specs.Turns.{Answers, Faults, Goes, IfStale, IsEnded
 use crate::TurnFault;
 use crate::counts::{Counts, count_turn, no_counts};
 use crate::generators::{generators_of, next_event};
+use crate::known::known;
 use crate::places::{follow_command, follow_turn, pass_slice, places_for, receive};
 use crate::slices::script_numbered;
 use crate::turn::{Answer, KeptWork, Running, Unmade, Work, done_in, matches_work};
@@ -137,7 +138,7 @@ impl System {
         ensures legal { IsLegal self.now.setting.program self.now.setting.room self.now.history }
         ensures room { self.now.setting.room < 2 ^ 32 }
     {
-        let _room = self.room;
+        known(self.room);
         &self.history
     }
 
@@ -147,7 +148,7 @@ impl System {
         ensures work { IsWorkOf self.now actor result }
         ensures legal { IsLegal self.now.setting.program self.now.setting.room self.now.history }
     {
-        let _ = &self.spent;
+        known(self.spent);
         Some(self.kept_work(actor)?.copied())
     }
 
@@ -161,7 +162,7 @@ impl System {
         }
         let runner = self.kernel.runner(actor)?;
         let script = self.kernel.script_of(runner.thread).unwrap();
-        let _lines = script_numbered(&self.program, script);
+        known(script_numbered(&self.program, script));
         Some(KeptWork {
             thread: runner.thread,
             script,
@@ -240,7 +241,12 @@ impl System {
         if self.is_ended(actor) {
             return false;
         }
-        self.own_turn(actor, event, reply);
+        let Some(work) = self.kept_work(actor) else {
+            self.make_turn(actor, &None, event, reply);
+            return true;
+        };
+        let running = work.running();
+        self.run_turn(actor, running, event, reply);
         true
     }
 
@@ -260,27 +266,8 @@ impl System {
         self.history.len() >= self.room as usize
     }
 
-    /// The actor's turn with the slice of its own work. It advances the thread's place where the system keeps it, and
+    /// Makes a turn: the console's next command, a processor's draw, or the slice of the thread that runs there. It
     /// stores the event and the kernel's reply where the caller keeps them.
-    #[inline(always)]
-    pub(crate) fn own_turn(&mut self, actor: u32, event: &mut Event, reply: &mut Reply)
-        requires there { actor ≤ self.old.setting.program.limits.processors }
-        requires left { ¬ IsEnded self.old actor }
-        requires room { length self.old.history < self.old.setting.room }
-        ensures seen { self.new ≡ after_turn self.old actor }
-        ensures answer { (system_turn self.old.setting.program (world_of self.old) actor).answer
-            ≡ Answered event.new reply.new }
-    {
-        match self.kept_work(actor) {
-            None => self.make_turn(actor, &None, event, reply),
-            Some(work) => {
-                let running = work.running();
-                self.run_turn(actor, running, event, reply);
-            }
-        }
-    }
-
-    /// Makes a turn, and stores its event and the kernel's reply where the caller keeps them.
     #[inline(always)]
     pub(crate) fn make_turn(
         &mut self,
@@ -297,9 +284,15 @@ impl System {
     {
         if actor == 0 {
             *reply = self.console_turn(event);
-        } else {
-            self.processor_turn(actor, slice, event, reply);
+            return;
         }
+        let done = done_in(slice);
+        next_event(&mut self.generators, actor, self.is_wide, done, event);
+        *reply = self.kernel.event(event);
+        follow_turn(&mut self.places, slice, *reply);
+        count_turn(&mut self.counts, actor, *reply);
+        self.total = self.total.with_turn(*reply);
+        remember(&mut self.history, actor);
     }
 
     /// The console's next command.
@@ -318,31 +311,6 @@ impl System {
         self.total = self.total.with_turn(reply);
         remember(&mut self.history, 0);
         reply
-    }
-
-    /// A processor's draw, or the slice of the thread that runs there.
-    #[inline(always)]
-    fn processor_turn(
-        &mut self,
-        actor: u32,
-        slice: &Option<Slice>,
-        event: &mut Event,
-        reply: &mut Reply,
-    )
-        requires actor { IsBetween 1 self.old.setting.program.limits.processors actor }
-        requires fresh { IsFresh self.old actor slice.now }
-        requires room { length self.old.history < self.old.setting.room }
-        ensures seen { self.new ≡ after_turn self.old actor }
-        ensures answer { (system_turn self.old.setting.program (world_of self.old) actor).answer
-            ≡ Answered event.new reply.new }
-    {
-        let done = done_in(slice);
-        next_event(&mut self.generators, actor, self.is_wide, done, event);
-        *reply = self.kernel.event(event);
-        follow_turn(&mut self.places, slice, *reply);
-        count_turn(&mut self.counts, actor, *reply);
-        self.total = self.total.with_turn(*reply);
-        remember(&mut self.history, actor);
     }
 
     /// The slice of the thread that runs on the processor. It advances the thread's place where the system keeps it.

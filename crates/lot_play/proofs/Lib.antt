@@ -3,3 +3,4 @@ pub mod ListingFacts
 pub mod TimedReportFacts
 pub mod TextFacts
 pub mod LineFacts
+pub mod PlayedFacts

@@ -44,10 +44,6 @@ impl<'a, W: Write> Observer for Lines<'a, W> {
 
     #[inline(always)]
     fn before(&mut self, program: &Program, system: &mut System, actor: u32) {
-        let _ = self;
-        let _ = program;
-        let _ = system;
-        let _ = actor;
     }
 
     #[inline(always)]
@@ -57,7 +53,6 @@ impl<'a, W: Write> Observer for Lines<'a, W> {
         system: &mut System,
         turn: &Turn,
     ) -> Result<(), IoFault> {
-        let _ = program;
         put_made(system, turn, self.warnings, self.writer, &mut self.page)
     }
 }

@@ -1,10 +1,8 @@
 //! Listings.
-ghost use Rattle.std.specs.Prelude.{◌≡◌, ◌≤◌, ◌++◌, [], codes, false};
+ghost use Rattle.std.specs.Prelude.{◌≡◌, ◌≤◌, ◌++◌, codes, false};
 ghost use Rattle.std.specs.Fmt.{decimal};
-ghost use Rattle.std.specs.Option.{option_map_or};
 ghost use Rattle.std.specs.List.{flat_map, range_with_len};
 ghost use Rattle.lot_simulation.specs.Texts as texts;
-ghost use Rattle.lot_machine.specs.Rows as rows;
 ghost use Rattle.lot_engine.specs.Seen.{given_count, world_of};
 ghost use Rattle.lot_play.specs.Listing as listing;
 ghost use Rattle.lot_play.specs.Listing.{is_there, row_line, rows_among};
@@ -108,69 +106,19 @@ fn write_row<W: Write>(
     ensures text { Writes W.contents writer.old writer.new result
         (row_line manner (world_of system.old).state kind number) }
 {
+    let limits = system.limits();
     match kind {
-        Kind::Tickets => write_ticket_row(system, manner, number, writer),
-        Kind::Currencies => write_currency_row(system, manner, number, writer),
-        Kind::Threads => write_thread_row(system, manner, number, writer),
+        Kind::Tickets => match system.ticket_row(number) {
+            Some(row) => write_ticket(writer, manner, limits, number, &row),
+            None => Ok(()),
+        },
+        Kind::Currencies => match system.currency_row(number) {
+            Some(row) => write_currency(writer, manner, limits, number, &row),
+            None => Ok(()),
+        },
+        Kind::Threads => match system.thread_row(number) {
+            Some(row) => write_thread(writer, manner, limits, number, &row),
+            None => Ok(()),
+        },
     }
-}
-
-/// Writes the line of the ticket with this number, if there is one.
-fn write_ticket_row<W: Write>(
-    system: &mut System,
-    manner: Manner,
-    number: u32,
-    writer: &mut Watched<W>,
-) -> Result<(), IoFault>
-    requires { writer.old.failed ≡ false }
-    ensures same { system.new ≡ system.old }
-    ensures text { Writes W.contents writer.old writer.new result
-        (option_map_or (texts.ticket_line manner (world_of system.old).state.limits.unit number)
-        (rows.ticket_row (world_of system.old).state number) []) }
-{
-    let limits = system.limits();
-    if let Some(row) = system.ticket_row(number) {
-        write_ticket(writer, manner, limits, number, &row)?;
-    }
-    Ok(())
-}
-
-/// Writes the line of the currency with this number, if there is one.
-fn write_currency_row<W: Write>(
-    system: &mut System,
-    manner: Manner,
-    number: u32,
-    writer: &mut Watched<W>,
-) -> Result<(), IoFault>
-    requires { writer.old.failed ≡ false }
-    ensures same { system.new ≡ system.old }
-    ensures text { Writes W.contents writer.old writer.new result
-        (option_map_or (texts.currency_line manner (world_of system.old).state.limits.unit number)
-        (rows.currency_row (world_of system.old).state number) []) }
-{
-    let limits = system.limits();
-    if let Some(row) = system.currency_row(number) {
-        write_currency(writer, manner, limits, number, &row)?;
-    }
-    Ok(())
-}
-
-/// Writes the line of the thread with this number, if there is one.
-fn write_thread_row<W: Write>(
-    system: &mut System,
-    manner: Manner,
-    number: u32,
-    writer: &mut Watched<W>,
-) -> Result<(), IoFault>
-    requires { writer.old.failed ≡ false }
-    ensures same { system.new ≡ system.old }
-    ensures text { Writes W.contents writer.old writer.new result
-        (option_map_or (texts.thread_line manner (world_of system.old).state.limits.unit number)
-        (rows.thread_row (world_of system.old).state number) []) }
-{
-    let limits = system.limits();
-    if let Some(row) = system.thread_row(number) {
-        write_thread(writer, manner, limits, number, &row)?;
-    }
-    Ok(())
 }

@@ -68,8 +68,6 @@ fn report_scheduled<W: Write>(
     ensures same { system.new ≡ system.old }
     ensures text { Writes W.contents writer.old writer.new result (last_report program.now program.now.duration) }
 {
-    let _ = program;
-    let _ = place;
     write_report(system, writer)
 }
 
