@@ -43,8 +43,7 @@ impl<'a, W: Write> Observer for Lines<'a, W> {
         × Begins (W.contents first.writer.now.inner) (W.contents now.writer.now.inner) (made_texts turns) };
 
     #[inline(always)]
-    fn before(&mut self, program: &Program, system: &mut System, actor: u32) {
-    }
+    fn before(&mut self, program: &Program, system: &mut System, actor: u32) {}
 
     #[inline(always)]
     fn after(

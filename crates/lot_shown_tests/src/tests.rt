@@ -10,11 +10,11 @@ mod same;
 mod words;
 
 use endings::has_written_or_lacked_memory;
+use lot_chart::{chart, shares};
 use lot_curves::Measure;
-use lot_play::Played;
 use lot_explain::explain;
 use lot_io::{IoFault, Watched};
-use lot_chart::{chart, shares};
+use lot_play::Played;
 use std::alloc::Global;
 use std::io;
 use std::io::Write;

@@ -2,9 +2,7 @@
 //! and `lot_play`; this crate is where callers find both.
 #![tactic(auto)]
 
-pub use lot_engine::{
-    Answer, Counts, System, TurnFault, Work, laws, slice_for, slice_in,
-};
+pub use lot_engine::{Answer, Counts, System, TurnFault, Work, laws, slice_for, slice_in};
 pub use lot_io::{IoFault as PlayFault, read_input};
 pub use lot_play::{
     FirstFew, Played, RefusedCommand, StuckThread, Warnings, play, play_bytes, program_of,

@@ -1,8 +1,8 @@
 //! Inputs that are explained, and their explanations.
 use super::same::check_same_at;
-use lot_play::Played;
 use lot_explain::explain;
 use lot_io::Watched;
+use lot_play::Played;
 use std::alloc::Global;
 use std::process::Abort;
 

@@ -1,10 +1,10 @@
 //! A short run, as tables and as a picture.
 use super::SCHEDULED;
 use super::same::{check_same, check_same_at};
-use lot_curves::Measure;
-use lot_play::Played;
-use lot_io::{IoFault, Watched};
 use lot_chart::{chart, shares};
+use lot_curves::Measure;
+use lot_io::{IoFault, Watched};
+use lot_play::Played;
 use std::alloc::Global;
 use std::process::Abort;
 
