@@ -61,8 +61,8 @@ next_turn-requires-clause-room c =
     let first = its c.args.system.now c.args.timekeeper.now c.requires.there c.args.next c.requires.next c.in-Some.time c.in-Some.is early in
     first.room
 
-pub unreachable-requires-2 : goal.unreachable-requires-2
-unreachable-requires-2 c =
+pub unreachable-requires-then-not-next_turn : goal.unreachable-requires-then-not-next_turn
+unreachable-requires-then-not-next_turn c =
     let seen = c.args.system.now in
     let early : c.in-Some.time < 2 ^ 32 = search rules in
     let first = its seen c.args.timekeeper.now c.requires.there c.args.next c.requires.next c.in-Some.time c.in-Some.is early in
