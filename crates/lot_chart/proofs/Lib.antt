@@ -6,3 +6,7 @@ pub mod Steps
 pub mod TableSizes
 pub mod Whole
 pub mod Ranked
+pub mod NotedFacts
+pub mod Notes
+pub mod OwnTicks
+pub mod Shows

@@ -14,3 +14,7 @@ pub mod Escapes
 pub mod Charts
 -- A small run, and its curves as a table and as a picture.
 pub mod Samples
+-- The output of `shares` and `chart`.
+pub mod Shown
+-- The stretches of a program's turns.
+pub mod Noted

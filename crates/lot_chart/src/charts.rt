@@ -24,15 +24,17 @@ const WIDTH: u32 = 6700;
 
 /// The part before the title.
 const BEGINNING: &str =
-    "<svg xmlns='http://www.w3.org/2000/svg' width='1040' height='540' viewBox='0 0 1040 540' role='img' aria-labelledby='title' font-family='sans-serif' font-size='12' fill='#222222'>\n<title id='title'>";
+    "<svg xmlns='http://www.w3.org/2000/svg' width='1040' height='540' viewBox='0 0 1040 540' role='img' \
+    aria-labelledby='title' font-family='sans-serif' font-size='12' fill='#222222'>\n<title id='title'>";
 
 /// The part after the axes' marks.
-const FRAME: &str =
-    "<path d='M100 60V460H770' fill='none' stroke='#222222'/>\n<text x='435' y='512' text-anchor='middle'>time, in ticks</text>\n<text transform='translate(14 260) rotate(-90)' text-anchor='middle'>what each thread has run, in ticks</text>\n";
+const FRAME: &str = "<path d='M100 60V460H770' fill='none' stroke='#222222'/>\n\
+    <text x='435' y='512' text-anchor='middle'>time, in ticks</text>\n\
+    <text transform='translate(14 260) rotate(-90)' text-anchor='middle'>what each thread has run, in ticks</text>\n";
 
 /// The picture of the curves, an SVG with this title: a line for each thread, or for the eleven that have run longest
 /// and for the others together, and at its end its name and its part of all ticks.
-pub fn chart(alloc: Global, curves: &Curves, title: &str) -> Result<Vec<u8>, AllocError>
+pub fn chart_of(alloc: Global, curves: &Curves, title: &str) -> Result<Vec<u8>, AllocError>
     ensures { IfOk result (λ text. text.items ≡ definitions.chart title.now curves.now) }
 {
     let selection = select(alloc, curves)?;

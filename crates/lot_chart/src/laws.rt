@@ -1,16 +1,25 @@
-//! Bounds and order of pictures and tables: laws of the definitions, with nothing to run.
-ghost use Rattle.std.specs.Prelude.{◌≡◌, ◌==◌, ◌≤◌, ◌<◌, ◌+◌, ◌-◌, ◌*◌, ◌^◌, ℕ, All, AllPairs, List, [], ◌∷◌, filter};
-ghost use Rattle.std.specs.Prelude.{length, map, slice_index};
-ghost use Rattle.lot_machine.specs.Bounds.{IsBetween};
+//! Bounds and order of pictures and tables, the curves of turns, and their ends: laws of the definitions, with nothing
+//! to run.
+ghost use Rattle.std.specs.Prelude.{◌≡◌, ◌==◌, ◌≤◌, ◌<◌, ◌+◌, ◌-◌, ◌*◌, ◌^◌, ℕ, [], ◌∷◌};
+ghost use Rattle.std.specs.Prelude.{All, AllPairs, List, filter, length, map, slice_index, Some};
+ghost use Rattle.lot_machine.specs.Bounds.{IsBetween, IsWithinBounds};
 ghost use Rattle.lot_curves.specs.declared.stretch.Measure.{Measure as Measured};
 ghost use Rattle.lot_curves.specs.Curves as curves;
-ghost use Rattle.lot_curves.specs.Stretches.{last_end};
+ghost use Rattle.lot_curves.specs.Stretches.{last_end, had_at, stretches_of};
 ghost use Rattle.lot_chart.specs.declared.standings.Standing.{Standing as StandingRecord};
 ghost use Rattle.lot_chart.specs.Charts.{chart};
 ghost use Rattle.lot_chart.specs.Lines.{lines_of};
 ghost use Rattle.lot_chart.specs.Ranking.{IsBefore};
 ghost use Rattle.lot_chart.specs.Standings.{ranked, selection};
 ghost use Rattle.lot_chart.specs.Tables.{table};
+ghost use Rattle.lot_machine.specs.declared.row.ThreadRow.{ThreadRow};
+ghost use Rattle.lot_machine.specs.Rows.{thread_row};
+ghost use Rattle.lot_simulation.specs.Timed.{last_moment};
+ghost use Rattle.lot_simulation.specs.World.{IsLegal, Program, system_run};
+ghost use Rattle.lot_curves.specs.declared.stretch.Measure.TheVariants.{Ticks};
+ghost use Rattle.lot_curves.specs.Curves.{curves_of, stretches_made, timed_stretches};
+ghost use Rattle.lot_playback.specs.Turns.{program_turns};
+ghost use Rattle.lot_chart.specs.Noted.{curves_after};
 
 /// The ranking is in order: each thread has run longer than those after it, or as long with a lower number. Each
 /// thread of the row is in it once, with its own ticks, and no other thread is.
@@ -47,4 +56,26 @@ pub fn tables_are_short()
         → All (λ s. s.ticks < 2 ^ 32) curves.stretches → All (λ s. s.draws < 2 ^ 32) curves.stretches
         → last_end curves.stretches < 2 ^ 64
         → length (table measure curves) ≤ 4226 + 4238 * length curves.names }
+{}
+
+/// A program's curves are those of its turns, in both orders.
+pub fn curves_are_those_of_the_turns()
+    ensures { (program : Program) → curves_of program ≡ curves_after program (program_turns program) }
+{}
+
+/// A thread's curve ends at the ticks that the report of a legal history has of it, in a system with room for less than
+/// 2 ^ 32 turns.
+pub fn curves_end_at_the_report()
+    ensures { (program : Program) (room : ℕ) (history : List ℕ) (t : ℕ) (row : ThreadRow)
+        → IsWithinBounds program.limits → IsLegal program room history → room < 2 ^ 32
+        → thread_row (system_run program history).state t ≡ Some row
+        → had_at Ticks (last_end (stretches_made program history)) (stretches_of t (stretches_made program history))
+        ≡ row.ticks }
+{}
+
+/// The same of turns in the order of time: a thread's curve ends at the ticks that the report has of it.
+pub fn timed_curves_end_at_the_report()
+    ensures { (program : Program) (t : ℕ) (row : ThreadRow) → IsWithinBounds program.limits
+        → thread_row (last_moment program).world.state t ≡ Some row
+        → had_at Ticks (last_end (timed_stretches program)) (stretches_of t (timed_stretches program)) ≡ row.ticks }
 {}

@@ -1,17 +1,21 @@
-//! What curves look like: a table of them, and a picture.
+//! Shows an input: `shares` writes a table of what each thread has had over time, and `chart` a picture of it.
 #![tactic(auto)]
 
 mod axes;
 mod charts;
 mod escapes;
+mod gathering;
 pub mod laws;
 mod lines;
 pub mod rows;
+mod showing;
 mod standings;
 mod tables;
 mod text;
 
-pub use charts::chart;
+pub use charts::chart_of;
+pub use gathering::gather;
 pub use lines::Line;
+pub use showing::{chart_bytes, shares_bytes};
 pub use standings::Standing;
 pub use tables::table;

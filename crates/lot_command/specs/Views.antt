@@ -2,7 +2,7 @@
 use Rattle.std.specs.Prelude.{ℕ, List}
 use Rattle.lot_simulation.specs.Output.{output}
 use Rattle.lot_explain.specs.Explained.{explained_output}
-use Rattle.lot_pictures.specs.Shown.{chart_output, shares_output}
+use Rattle.lot_chart.specs.Shown.{chart_output, shares_output}
 use Rattle.lot_command.specs.declared.view.View.{View}
 use Rattle.lot_command.specs.declared.view.View.TheVariants as view
 

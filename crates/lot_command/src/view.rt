@@ -1,14 +1,14 @@
 //! The views of an input's turns.
 ghost use Rattle.std.specs.Prelude.{◌≡◌, false, true, OnOk};
 ghost use Rattle.lot_simulation.specs.Grammar.{program_in};
-ghost use Rattle.lot_engine.specs.Played.{Plays, PlaysInput, came_of};
+ghost use Rattle.lot_play.specs.Played.{Plays, PlaysInput, came_of};
 ghost use Rattle.lot_command.specs.Views.{text_of};
 
 use crate::diagnostics::Diagnostics;
+use lot_chart::{chart_bytes, shares_bytes};
 use lot_curves::Measure;
 use lot_explain::explain_bytes;
 use lot_io::{IoFault, Watched, read_input};
-use lot_pictures::{chart_bytes, shares_bytes};
 use lot_system::{Played, play_bytes};
 use std::alloc::Global;
 use std::io::{Read, Write};

@@ -5,8 +5,6 @@ pub mod PlaceFacts
 pub mod TurnFacts
 pub mod RunFacts
 pub mod CountFacts
-pub mod WritingFacts
-pub mod ListingFacts
 pub mod PlayingFacts
 pub mod WorkFacts
 pub mod Openings

@@ -3,9 +3,5 @@ pub mod Steps
 pub mod Held
 pub mod Turns
 pub mod Counted
-pub mod Listing
 pub mod Playing
-pub mod Played
 pub mod Fitting
-pub mod Kept
-pub mod Leaving

@@ -1,5 +1,8 @@
 -- A system as contracts see it.
-use Rattle.std.specs.Prelude.{ℕ, ◌==◌, List, [], ◌∷◌, ◌++◌, count_by}
+use Rattle.std.specs.Prelude.{ℕ, ◌==◌, List, [], ◌∷◌, ◌++◌, count_by, length}
+use Rattle.lot_machine.specs.declared.command.Kind.{Kind}
+use Rattle.lot_machine.specs.declared.command.Kind.TheVariants.{Tickets, Currencies, Threads}
+use Rattle.lot_machine.specs.State.{State}
 use Rattle.lot_simulation.specs.World.{Program, World, system_run}
 
 -- the program that a system was opened with, and how many turns it has room for
@@ -23,3 +26,9 @@ commands_made seen = count_by (λ actor. actor == 0) seen.history
 -- the same system after one more turn
 abbrev pub after_turn : Seen → ℕ → Seen
 after_turn seen actor = record { setting = seen.setting; history = seen.history ++ actor ∷ [] }
+
+-- how many numbers of the kind were given
+abbrev pub given_count : State → Kind → ℕ
+given_count s Tickets = length s.tickets
+given_count s Currencies = length s.currencies
+given_count s Threads = length s.records

@@ -6,6 +6,7 @@ ghost use Rattle.lot_engine.specs.Held.{script_lines};
 ghost use Rattle.lot_engine.specs.Turns.{IsFresh, IsSliceOf, Matches};
 ghost use Rattle.lot_engine.specs.Fitting.{FitsIn, IsStale};
 
+use crate::known::known;
 use crate::turn::KeptWork;
 use crate::{System, TurnFault, Work};
 use lot_machine::Sizes;
@@ -81,6 +82,6 @@ pub(crate) fn script_numbered(program: &Program, number: u32) -> &Script
     ensures legal { IsScript result.now }
 {
     let script = &program.scripts()[number as usize - 1];
-    let _lines = script.lines();
+    known(script.lines());
     script
 }

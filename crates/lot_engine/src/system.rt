@@ -10,15 +10,15 @@ ghost use Rattle.lot_simulation.specs.World.Answer.{Answered};
 ghost use Rattle.lot_simulation.specs.World.{IsLegal, system_turn};
 ghost use Rattle.lot_simulation.specs.Report.{ticks_in, total_of, turns_made, turns_of};
 ghost use Rattle.lot_engine.specs.Counted.{counted};
-ghost use Rattle.lot_engine.specs.Listing.{given_count};
 ghost use Rattle.lot_engine.specs.Playing.{IsPlayed, turn_in};
-ghost use Rattle.lot_engine.specs.Seen.{after_turn, commands_made, world_of};
+ghost use Rattle.lot_engine.specs.Seen.{after_turn, commands_made, given_count, world_of};
 ghost use Rattle.lot_script.specs.Places.{Place as PlaceRecord};
 ghost use Rattle.lot_engine.specs.Turns.{Answers, Faults, Goes, IfStale, IsEnded, IsFresh, IsWorkOf, Prevents, work_at};
 
 use crate::TurnFault;
 use crate::counts::{Counts, count_turn, no_counts};
 use crate::generators::{generators_of, next_event};
+use crate::known::known;
 use crate::places::{follow_command, follow_turn, pass_slice, places_for, receive};
 use crate::slices::script_numbered;
 use crate::turn::{Answer, KeptWork, Running, Unmade, Work, done_in, matches_work};
@@ -138,7 +138,7 @@ impl System {
         ensures legal { IsLegal self.now.setting.program self.now.setting.room self.now.history }
         ensures room { self.now.setting.room < 2 ^ 32 }
     {
-        let _room = self.room;
+        known(self.room);
         &self.history
     }
 
@@ -148,7 +148,7 @@ impl System {
         ensures work { IsWorkOf self.now actor result }
         ensures legal { IsLegal self.now.setting.program self.now.setting.room self.now.history }
     {
-        let _ = &self.spent;
+        known(self.spent);
         Some(self.kept_work(actor)?.copied())
     }
 
@@ -162,7 +162,7 @@ impl System {
         }
         let runner = self.kernel.runner(actor)?;
         let script = self.kernel.script_of(runner.thread).unwrap();
-        let _lines = script_numbered(&self.program, script);
+        known(script_numbered(&self.program, script));
         Some(KeptWork {
             thread: runner.thread,
             script,
@@ -241,7 +241,12 @@ impl System {
         if self.is_ended(actor) {
             return false;
         }
-        self.own_turn(actor, event, reply);
+        let Some(work) = self.kept_work(actor) else {
+            self.make_turn(actor, &None, event, reply);
+            return true;
+        };
+        let running = work.running();
+        self.run_turn(actor, running, event, reply);
         true
     }
 
@@ -261,27 +266,8 @@ impl System {
         self.history.len() >= self.room as usize
     }
 
-    /// The actor's turn with the slice of its own work. It advances the thread's place where the system keeps it, and
+    /// Makes a turn: the console's next command, a processor's draw, or the slice of the thread that runs there. It
     /// stores the event and the kernel's reply where the caller keeps them.
-    #[inline(always)]
-    pub(crate) fn own_turn(&mut self, actor: u32, event: &mut Event, reply: &mut Reply)
-        requires there { actor ≤ self.old.setting.program.limits.processors }
-        requires left { ¬ IsEnded self.old actor }
-        requires room { length self.old.history < self.old.setting.room }
-        ensures seen { self.new ≡ after_turn self.old actor }
-        ensures answer { (system_turn self.old.setting.program (world_of self.old) actor).answer
-            ≡ Answered event.new reply.new }
-    {
-        match self.kept_work(actor) {
-            None => self.make_turn(actor, &None, event, reply),
-            Some(work) => {
-                let running = work.running();
-                self.run_turn(actor, running, event, reply);
-            }
-        }
-    }
-
-    /// Makes a turn, and stores its event and the kernel's reply where the caller keeps them.
     #[inline(always)]
     pub(crate) fn make_turn(
         &mut self,
@@ -298,9 +284,15 @@ impl System {
     {
         if actor == 0 {
             *reply = self.console_turn(event);
-        } else {
-            self.processor_turn(actor, slice, event, reply);
+            return;
         }
+        let done = done_in(slice);
+        next_event(&mut self.generators, actor, self.is_wide, done, event);
+        *reply = self.kernel.event(event);
+        follow_turn(&mut self.places, slice, *reply);
+        count_turn(&mut self.counts, actor, *reply);
+        self.total = self.total.with_turn(*reply);
+        remember(&mut self.history, actor);
     }
 
     /// The console's next command.
@@ -319,31 +311,6 @@ impl System {
         self.total = self.total.with_turn(reply);
         remember(&mut self.history, 0);
         reply
-    }
-
-    /// A processor's draw, or the slice of the thread that runs there.
-    #[inline(always)]
-    fn processor_turn(
-        &mut self,
-        actor: u32,
-        slice: &Option<Slice>,
-        event: &mut Event,
-        reply: &mut Reply,
-    )
-        requires actor { IsBetween 1 self.old.setting.program.limits.processors actor }
-        requires fresh { IsFresh self.old actor slice.now }
-        requires room { length self.old.history < self.old.setting.room }
-        ensures seen { self.new ≡ after_turn self.old actor }
-        ensures answer { (system_turn self.old.setting.program (world_of self.old) actor).answer
-            ≡ Answered event.new reply.new }
-    {
-        let done = done_in(slice);
-        next_event(&mut self.generators, actor, self.is_wide, done, event);
-        *reply = self.kernel.event(event);
-        follow_turn(&mut self.places, slice, *reply);
-        count_turn(&mut self.counts, actor, *reply);
-        self.total = self.total.with_turn(*reply);
-        remember(&mut self.history, actor);
     }
 
     /// The slice of the thread that runs on the processor. It advances the thread's place where the system keeps it.
@@ -367,14 +334,14 @@ impl System {
     }
 
     /// The limits of the program.
-    pub(crate) fn limits(&self) -> Limits
+    pub fn limits(&self) -> Limits
         ensures { sizes_of result ≡ (world_of self.now).state.limits }
     {
         self.kernel.limits()
     }
 
     /// What the kernel shows of the ticket with this number, if it exists.
-    pub(crate) fn ticket_row(&mut self, ticket: u32) -> Option<TicketRow>
+    pub fn ticket_row(&mut self, ticket: u32) -> Option<TicketRow>
         ensures row { result ≡ rows.ticket_row (world_of self.old).state ticket }
         ensures state { self.new ≡ self.old }
     {
@@ -382,7 +349,7 @@ impl System {
     }
 
     /// What the kernel shows of the currency with this number, if it exists.
-    pub(crate) fn currency_row(&mut self, currency: u32) -> Option<CurrencyRow>
+    pub fn currency_row(&mut self, currency: u32) -> Option<CurrencyRow>
         ensures row { result ≡ rows.currency_row (world_of self.old).state currency }
         ensures state { self.new ≡ self.old }
     {
@@ -410,7 +377,7 @@ impl System {
     }
 
     /// The format of the program.
-    pub(crate) fn format(&self) -> Format
+    pub fn format(&self) -> Format
         ensures { unit_of result ≡ self.now.setting.program.limits.unit }
     {
         self.program.format()
@@ -426,7 +393,7 @@ impl System {
     }
 
     /// How many numbers of this kind were given.
-    pub(crate) fn given_count(&self, kind: Kind) -> u32
+    pub fn given_count(&self, kind: Kind) -> u32
         ensures { result ≡ given_count (world_of self.now).state kind }
     {
         match kind {
@@ -460,7 +427,7 @@ impl System {
     }
 
     /// How many turns were made.
-    pub(crate) fn turn_count(&self) -> u64
+    pub fn turn_count(&self) -> u64
         ensures { result ≡ length (world_of self.now).history }
     {
         self.history.len() as u64

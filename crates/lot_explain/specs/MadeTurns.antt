@@ -9,7 +9,7 @@ use Rattle.lot_simulation.specs.World.Answer.{Answered}
 use Rattle.lot_engine.specs.Seen.{Seen, world_of}
 use Rattle.lot_playback.specs.declared.turn.Turn.{Turn}
 use Rattle.lot_playback.specs.Stages.{Reports}
-use Rattle.lot_playback.specs.Texts.{manner_at}
+use Rattle.lot_play.specs.Texts.{manner_at}
 use Rattle.lot_playback.specs.Turns.{MadeTurn}
 use Rattle.lot_explain.specs.Explained.{explained_text}
 use Rattle.lot_explain.specs.Lots.{lots_of}

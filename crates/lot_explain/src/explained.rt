@@ -12,10 +12,11 @@ ghost use Rattle.lot_explain.specs.MadeTurns.{HasLots, IsExplained, explained_ma
 
 use crate::gathering::Lots;
 use crate::lines::put_lots;
-use lot_engine::{System, Warnings, heading, put_answer};
+use lot_engine::System;
 use lot_io::{IoFault, Watched};
 use lot_machine::{Event, Reply};
-use lot_playback::{Observer, Playback, Turn, play_through};
+use lot_play::{Warnings, heading, manner_of, play_through, put_answer};
+use lot_playback::{Observer, Playback, Turn};
 use lot_print::{Heading, Lot, Page, write_ended};
 use lot_text::Program;
 use std::io::Write;
@@ -127,7 +128,7 @@ fn put_explained<W: Write>(
     ensures text { (made : MadeTurn) → IsExplained system.old turn.now lots.now.lots made
         → Puts W.contents writer.old writer.new page.old page.new result (explained_made made) }
 {
-    let heading = heading(system, turn.manner(), turn.actor);
+    let heading = heading(system, manner_of(turn), turn.actor);
     if turn.has_ended {
         return write_ended(writer, page, heading);
     }

@@ -1,16 +1,16 @@
 //! Explaining an input.
 ghost use Rattle.std.specs.Prelude.{◌≡◌, [], false, true, OnOk};
 ghost use Rattle.lot_simulation.specs.Grammar.{program_in};
-ghost use Rattle.lot_engine.specs.Played.{Plays, came_of};
+ghost use Rattle.lot_play.specs.Played.{Plays, came_of};
 ghost use Rattle.lot_io.specs.Writing.{Writes};
-ghost use Rattle.lot_engine.specs.declared.inputs.Played.TheVariants.{Done};
+ghost use Rattle.lot_play.specs.declared.inputs.Played.TheVariants.{Done};
 ghost use Rattle.lot_playback.specs.Stages.{HasMade};
 ghost use Rattle.lot_explain.specs.Explained.{explained_output, explained_program};
 
 use crate::explained::explain_turns;
 use crate::gathering::Lots;
-use lot_engine::{Played, Warnings, program_of, refuse};
-use lot_io::{IoFault, Watched, flush};
+use lot_io::{IoFault, Watched};
+use lot_play::{Played, Warnings, end_play, program_of, refuse};
 use lot_playback::Playback;
 use lot_text::{ParseFault, Program};
 use std::alloc::Global;
@@ -55,27 +55,7 @@ fn explain_program<W: Write>(
     let Ok(mut lots) = Lots::open(alloc, program.limits().threads) else {
         return Err(IoFault::Memory);
     };
-    explain_all(program, &mut playback, &mut lots, warnings, writer)?;
-    playback.note_end(warnings);
+    explain_turns(program, &mut playback, &mut lots, warnings, writer)?;
+    end_play(program, playback, warnings, writer)?;
     Ok(Played::Done)
-}
-
-/// Makes the program's turns, and writes what explains them and the report.
-fn explain_all<W: Write>(
-    program: &Program,
-    playback: &mut Playback,
-    lots: &mut Lots,
-    warnings: &mut Warnings,
-    writer: &mut Watched<W>,
-) -> Result<(), IoFault>
-    requires none { playback.old.made ≡ 0 }
-    requires made { HasMade program.now [] playback.old.seen }
-    requires room { lots.old.room ≡ program.now.limits.threads }
-    requires working { writer.old.failed ≡ false }
-    ensures flushed { OnOk result (writer.new.flushed ≡ true) }
-    ensures text { Writes W.contents writer.old writer.new result (explained_program program.now program.now.duration) }
-{
-    explain_turns(program, playback, lots, warnings, writer)?;
-    playback.write_report(program, writer)?;
-    flush(writer)
 }

@@ -11,7 +11,7 @@ ghost use Rattle.lot_simulation.specs.Timed.{end_of, timed_turns};
 ghost use Rattle.lot_simulation.specs.World.{Program, World, system_turn};
 ghost use Rattle.lot_simulation.specs.World.Answer.{Answered};
 ghost use Rattle.lot_simulation.specs.declared.manner.Manner.{Manner};
-ghost use Rattle.lot_playback.specs.Texts.{last_report};
+ghost use Rattle.lot_play.specs.Texts.{last_report};
 ghost use Rattle.lot_playback.specs.Turns.{program_turns};
 ghost use Rattle.lot_explain.specs.Explained.{explained_in_time, explained_output, explained_program};
 ghost use Rattle.lot_explain.specs.Explained.{explained_schedule};

@@ -1,10 +1,7 @@
 pub mod TimeFacts
 pub mod WaitFacts
 pub mod FollowFacts
-pub mod TimedReportFacts
 pub mod TurnFacts
-pub mod TextFacts
 pub mod MadeFacts
 pub mod PlaceFacts
 pub mod ClockFacts
-pub mod LineFacts

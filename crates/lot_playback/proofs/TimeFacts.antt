@@ -1,5 +1,5 @@
 -- Whose turn is next in time.
-use Rattle.std.proofs.Common.{◌≡◌, ℕ, zero, suc, ◌+◌, ◌*◌, ◌<◌, ◌≤◌, Bool, true, false, Option, Some, None, List, [], ◌∷◌, ◌++◌, length, get_or, set, take, drop, refl, sym, ◌∙◌, ap, subst, arith, append_assoc}
+use Rattle.std.proofs.Common.{◌≡◌, ℕ, zero, suc, ◌+◌, ◌*◌, ◌<◌, ◌≤◌, Bool, true, false, Option, Some, None, List, [], ◌∷◌, ◌++◌, length, get_or, set, take, drop, refl, sym, ◌∙◌, ap, subst, arith, append_assoc, append-nil}
 use Rattle.std.specs.Prelude.{nat_le, map, option_map, replicate, slice_get, unwrap_or}
 use Rattle.std.specs.List.{flat_map, range_with_len}
 use Rattle.std.proofs.lemmas.Bool.{leb-true, leb-false, le-leb}
@@ -9,7 +9,14 @@ use Rattle.lot_simulation.specs.Timed.{Moment, clock_of, cost_of, earliest, proc
 use Rattle.lot_simulation.specs.World.{processor_event}
 use Rattle.lot_machine.proofs.Tickets.{at_number-suc}
 use Rattle.lot_playback.specs.InTime.{HaveIdled, sooner_of}
-use Rattle.lot_engine.proofs.WritingFacts.{range-push}
+
+-- ---- lists of the numbers of a range
+
+pub range-push : {A : Type 0} (f : ℕ → List A) (a k : ℕ) → flat_map f (range_with_len a (suc k)) ≡ flat_map f (range_with_len a k) ++ f (a + k)
+range-push f a zero = let e : a + 0 ≡ a = omega arith in append-nil (f a) ∙ ap f (sym e)
+range-push f a (suc k) =
+    let e : a + 1 + k ≡ a + suc k = omega arith in
+    ap (λ xs. f a ++ xs) (range-push f (a + 1) k) ∙ sym (append_assoc (f a) (flat_map f (range_with_len (a + 1) k)) (f (a + 1 + k))) ∙ ap (λ n. (f a ++ flat_map f (range_with_len (a + 1) k)) ++ f n) e
 
 -- ---- the first of the turns that may come next
 

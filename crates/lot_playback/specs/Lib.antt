@@ -1,7 +1,5 @@
 -- The turns of a program: those of its schedule, or those in the order of time.
 pub mod Turns
--- What `play` writes of them.
-pub mod Texts
 -- How far a program is played.
 pub mod Stages
 -- Turns in the order of time.

@@ -47,7 +47,7 @@ impl Clocks {
     }
 
     /// The next turn, unless all processors wait and no command is left, or it would be made after the end.
-    pub(crate) fn next_due(&self, program: &Program, system: &System) -> Option<Due>
+    pub fn next_due(&self, program: &Program, system: &System) -> Option<Due>
         requires program { system.now.setting.program ≡ program.now }
         requires clocks { vec_len self.now.processors ≡ program.now.limits.processors }
         ensures due { result
@@ -138,7 +138,7 @@ impl Clocks {
     }
 
     /// How long the processor was idle, up to this time.
-    pub(crate) fn idle_until(&self, end: u32, processor: u32) -> u64
+    pub fn idle_until(&self, end: u32, processor: u32) -> u64
         requires there { IsBetween 1 (vec_len self.now.processors) processor }
         requires idled { (turns : ℕ) × (turns < 2 ^ 31) × HaveIdled turns self.now.processors.items }
         ensures { result ≡ reports.idle_until end (clock_of self.now.processors.items processor) }

@@ -1,23 +1,18 @@
-//! A program's turns, one after another, whichever order they come in, and what observers make of them.
+//! A program's turns, one after another, whichever order they come in: those of a schedule, or those that are due by
+//! clocks.
 #![tactic(auto)]
 
 mod clocks;
-mod inputs;
-pub mod laws;
-mod lines;
 mod making;
 mod observer;
 mod playback;
-mod playing;
-mod reports;
-mod timed_report;
 mod timekeeper;
 mod turn;
 mod waits;
 
-pub use inputs::{play, play_bytes};
-pub use lines::play_program;
+pub use clocks::Clocks;
 pub use observer::Observer;
-pub use playback::Playback;
-pub use playing::play_through;
+pub use playback::{Order, Playback};
+pub use timekeeper::Timekeeper;
 pub use turn::{NextTurn, Turn};
+pub use waits::WaitTable;

@@ -4,10 +4,8 @@ ghost use Rattle.lot_playback.specs.Orders.{IsAtPlace, IsAtTime};
 ghost use Rattle.lot_playback.specs.Stages.{IsNext, MakesTurn, turns_left};
 ghost use Rattle.lot_playback.specs.Turns.{MadeTurn};
 
-use crate::timekeeper::{Timekeeper, make_due};
-use crate::{NextTurn, Turn};
+use crate::{NextTurn, Timekeeper, Turn};
 use lot_engine::System;
-use lot_simulation::Due;
 use lot_text::Program;
 
 /// Whose turn is next at this place of the schedule.
@@ -18,7 +16,6 @@ pub(crate) fn next_scheduled(program: &Program, system: &System, place: usize) -
     ensures none { IfNone result (turns_left (record { seen = system.now; made = place }) ≡ []) }
     ensures next { IfSome result (IsNext (record { seen = system.now; made = place })) }
 {
-    let _ = system;
     let schedule = program.schedule();
     if schedule.len() <= place {
         return None;
@@ -41,7 +38,10 @@ pub(crate) fn next_in_time(
     ensures none { IfNone result (turns_left (record { seen = system.now; made = length system.now.history }) ≡ []) }
     ensures next { IfSome result (IsNext (record { seen = system.now; made = length system.now.history })) }
 {
-    let due = timekeeper.next_due(program, system)?;
+    if system.is_full() {
+        return None;
+    }
+    let due = timekeeper.clocks.next_due(program, system)?;
     Some(NextTurn {
         time: Some(due.time as u32),
         actor: due.actor,
@@ -64,7 +64,6 @@ pub(crate) fn make_scheduled(
     ensures made { (made : MadeTurn) × MakesTurn (record { seen = system.old; made = place.old })
         (record { seen = system.new; made = place.new }) turn.new made }
 {
-    let _ = program;
     *place += 1;
     turn.time = None;
     turn.actor = next.actor;
@@ -90,19 +89,11 @@ pub(crate) fn make_in_time(
     let Some(time) = next.time else {
         unreachable!()
     };
-    let due = Due {
-        time: u64::from(time),
-        actor: next.actor,
-    };
     turn.time = next.time;
     turn.actor = next.actor;
     turn.has_ended = false;
-    make_due(
-        program,
-        system,
-        timekeeper,
-        due,
-        &mut turn.event,
-        &mut turn.reply,
-    );
+    if !system.next_turn(next.actor, &mut turn.event, &mut turn.reply) {
+        unreachable!()
+    }
+    timekeeper.follow(time, next.actor, &turn.event, turn.reply);
 }

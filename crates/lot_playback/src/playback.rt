@@ -1,20 +1,15 @@
 //! A program that is played, a turn at a time.
-ghost use Rattle.std.specs.Prelude.{◌≡◌, List, [], ◌∷◌, ◌++◌, IfErr, IfNone, IfOk, IfSome, IsSome, None, OnOk, false};
-ghost use Rattle.lot_engine.specs.Seen.{world_of};
-ghost use Rattle.lot_playback.specs.Stages.{HasJustMade, HasMade, IsNext, MakesTurn, turns_left};
-ghost use Rattle.lot_playback.specs.Texts.{last_report};
+ghost use Rattle.std.specs.Prelude.{◌≡◌, List, [], ◌∷◌, ◌++◌, IfErr, IfNone, IfOk, IfSome, IsSome, None, OnOk};
+ghost use Rattle.lot_playback.specs.Orders.{IsInOrder, made_in};
+ghost use Rattle.lot_playback.specs.Stages.{HasMade, IsNext, MakesTurn, turns_left};
 ghost use Rattle.lot_playback.specs.Turns.{MadeTurn};
-ghost use Rattle.lot_io.specs.Writing.{Writes};
 
 use crate::making::{make_in_time, make_scheduled, next_in_time, next_scheduled};
-use crate::reports::{report_in_time, report_scheduled};
 use crate::timekeeper::{MOST_TURNS, Timekeeper};
 use crate::{NextTurn, Observer, Turn};
-use lot_engine::{System, Warnings};
-use lot_io::{IoFault, Watched};
+use lot_engine::System;
 use lot_text::Program;
 use std::alloc::{AllocError, Global};
-use std::io::Write;
 use std::marker::Model;
 
 /// A system that makes the turns of its program: those of the schedule, or those in the order of time if the program
@@ -29,7 +24,7 @@ pub struct Playback {
 
 /// Whose turn is next.
 #[derive(Drop)]
-pub(crate) enum Order {
+pub enum Order {
     /// That of the actor at this place of the schedule.
     Scheduled(usize),
     /// That which is due first, by these clocks.
@@ -105,7 +100,7 @@ impl Playback {
     /// Makes the turn that is next, and stores it in `turn`, whose event is large: no turn of a play copies one. It
     /// allocates no memory.
     #[inline(always)]
-    pub(crate) fn make(&mut self, program: &Program, next: NextTurn, turn: &mut Turn)
+    fn make(&mut self, program: &Program, next: NextTurn, turn: &mut Turn)
         requires program { self.old.seen.setting.program ≡ program.now }
         requires next { IsNext self.old next }
         ensures { (made : MadeTurn) × MakesTurn self.old self.new turn.new made }
@@ -130,82 +125,42 @@ impl Playback {
         Some(turn)
     }
 
-    /// Has the observer see the system before the turn that is next.
+    /// Makes the turn that is next, stores it in `turn`, and has the observer follow it.
     #[inline(always)]
-    pub(crate) fn show_next<O: Observer>(
+    pub fn play_turn<O: Observer>(
         &mut self,
         program: &Program,
         next: NextTurn,
-        observer: &mut O,
-    )
-        requires observed { (turns : List MadeTurn) × (first : O)
-            × HasMade program.now turns self.old.seen × O.observed program.now turns first observer.old }
-        ensures same { self.new ≡ self.old }
-        ensures awaits { (turns : List MadeTurn) (first : O)
-            → HasMade program.now turns self.old.seen → O.observed program.now turns first observer.old
-            → O.awaits program.now turns (world_of self.old.seen) next.actor first observer.new }
-    {
-        observer.before(program, &mut self.system, next.actor);
-    }
-
-    /// Has the observer see the turn that was made, and the system after it.
-    #[inline(always)]
-    pub(crate) fn show_made<O: Observer>(
-        &mut self,
-        program: &Program,
-        turn: &Turn,
+        turn: &mut Turn,
         observer: &mut O,
     ) -> Result<(), O::Fault>
-        requires awaits { (turns : List MadeTurn) × (made : MadeTurn) × (first : O)
-            × HasJustMade program.now turns made turn.now self.old.seen
-            × O.awaits program.now turns made.before made.actor first observer.old }
-        ensures same { self.new ≡ self.old }
-        ensures ok { OnOk result ((turns : List MadeTurn) (made : MadeTurn) (first : O)
-            → HasJustMade program.now turns made turn.now self.old.seen
-            → O.awaits program.now turns made.before made.actor first observer.old
-            → O.observed program.now (turns ++ made ∷ []) first observer.new) }
-        ensures err { IfErr result (λ fault. (turns : List MadeTurn) (made : MadeTurn) (first : O)
-            → HasJustMade program.now turns made turn.now self.old.seen
-            → O.awaits program.now turns made.before made.actor first observer.old
-            → O.stopped program.now (turns ++ made ∷ []) first observer.new fault) }
+        requires next { IsNext self.old next }
+        requires observed { (turns : List MadeTurn) × (first : O)
+            × HasMade program.now turns self.old.seen × O.observed program.now turns first observer.old }
+        ensures setting { self.new.seen.setting ≡ self.old.seen.setting }
+        ensures ok { OnOk result ((made : MadeTurn) × (turns_left self.old ≡ made ∷ turns_left self.new)
+            × ((turns : List MadeTurn) → HasMade program.now turns self.old.seen
+            → HasMade program.now (turns ++ made ∷ []) self.new.seen)
+            × ((turns : List MadeTurn) (first : O) → HasMade program.now turns self.old.seen
+            → O.observed program.now turns first observer.old
+            → O.observed program.now (turns ++ made ∷ []) first observer.new)) }
+        ensures err { IfErr result (λ fault. (made : MadeTurn) × (others : List MadeTurn)
+            × (turns_left self.old ≡ made ∷ others)
+            × ((turns : List MadeTurn) (first : O) → HasMade program.now turns self.old.seen
+            → O.observed program.now turns first observer.old
+            → O.stopped program.now (turns ++ made ∷ []) first observer.new fault)) }
     {
+        observer.before(program, &mut self.system, next.actor);
+        self.make(program, next, turn);
         observer.after(program, &mut self.system, turn)
     }
 
-    /// Writes the report, after all turns.
-    pub fn write_report<W: Write>(
-        &mut self,
-        program: &Program,
-        writer: &mut Watched<W>,
-    ) -> Result<(), IoFault>
-        requires program { self.old.seen.setting.program ≡ program.now }
-        requires ended { turns_left self.old ≡ [] }
-        requires working { writer.old.failed ≡ false }
-        ensures same { self.new ≡ self.old }
-        ensures text { Writes W.contents writer.old writer.new result (last_report program.now program.now.duration) }
+    /// The system, with the turns that were made, and whose turn is next.
+    pub fn into_parts(self) -> (System, Order)
+        ensures system { result.0 ≡ self.seen }
+        ensures order { IsInOrder result.0 result.1 }
+        ensures made { made_in result.0 result.1 ≡ self.made }
     {
-        match &self.order {
-            Order::Scheduled(place) => report_scheduled(program, &mut self.system, *place, writer),
-            Order::InTime(timekeeper) => report_in_time(
-                program,
-                &mut self.system,
-                timekeeper,
-                writer,
-            ),
-        }
-    }
-
-    /// The system, with the turns that were made.
-    pub fn into_system(self) -> System
-        ensures { result ≡ self.seen }
-    {
-        self.system
-    }
-
-    /// Records in the warnings how the system ended.
-    pub fn note_end(&mut self, warnings: &mut Warnings)
-        ensures { self.new ≡ self.old }
-    {
-        warnings.note_end(&mut self.system);
+        (self.system, self.order)
     }
 }

@@ -1,20 +1,15 @@
 //! Making a program's turns in the order of time, and tracking what the report needs in addition to the system.
-ghost use Rattle.std.specs.Prelude.{◌≡◌, ℕ, ◌<◌, ◌≤◌, ◌+◌, ◌^◌, ◌++◌, List, [], ◌∷◌, Some, false, replicate, vec_len};
-ghost use Rattle.std.specs.Prelude.{IfNone, IfOk, IfSome};
+ghost use Rattle.std.specs.Prelude.{◌≡◌, ℕ, ◌<◌, ◌≤◌, ◌+◌, ◌^◌, ◌++◌, List, [], ◌∷◌, IfOk, false, replicate, vec_len};
 ghost use Rattle.lot_simulation.specs.TimedReport as reports;
 ghost use Rattle.lot_simulation.specs.Timed.{TimedTurn, clocks_after, is_idle_draw};
 ghost use Rattle.lot_simulation.specs.World.{Program as ProgramRecord};
 ghost use Rattle.lot_simulation.specs.World.Answer.{Answered};
-ghost use Rattle.lot_playback.specs.InTime.{HasFollowed, HasRoomFor, IsDue, IsFollowed, due_turn, next_turns};
-ghost use Rattle.lot_engine.specs.Playing.{turn_in};
-ghost use Rattle.lot_engine.specs.Seen.{after_turn};
+ghost use Rattle.lot_playback.specs.InTime.{HasFollowed, HasRoomFor};
 ghost use Rattle.lot_text.specs.Programs.{IsProgram};
 
 use crate::clocks::Clocks;
 use crate::waits::{WaitTable, mutex_change, reply_change};
-use lot_engine::System;
 use lot_machine::{Event, Reply};
-use lot_simulation::Due;
 use lot_text::Program;
 use std::alloc::{AllocError, Global};
 
@@ -54,20 +49,8 @@ impl Timekeeper {
         })
     }
 
-    /// The turn that comes next, if there is one: when it will be made, and by which actor.
-    pub fn next_due(&self, program: &Program, system: &System) -> Option<Due>
-        requires { IsFollowed program.now system.now self.now }
-        ensures none { IfNone result (next_turns program.now system.now ≡ []) }
-        ensures due { IfSome result (IsDue program.now system.now self.now) }
-    {
-        if system.is_full() {
-            return None;
-        }
-        self.clocks.next_due(program, system)
-    }
-
     /// Records a turn that this actor made at this time, with its event and reply.
-    fn follow(&mut self, time: u32, actor: u32, event: &Event, reply: Reply)
+    pub(crate) fn follow(&mut self, time: u32, actor: u32, event: &Event, reply: Reply)
         requires there { actor ≤ vec_len self.old.clocks.processors }
         requires followed { (done : List TimedTurn) × (n : ℕ) × (n < 2 ^ 31) × HasFollowed done n self.old }
         ensures time { self.new.clocks.time ≡ time }
@@ -95,28 +78,4 @@ fn refusals_in(reply: Reply) -> u64
         Reply::Refused(_) => 1,
         _ => 0,
     }
-}
-
-/// Makes the turn that is due, and stores its event and the kernel's reply where the caller keeps them. It allocates
-/// no memory.
-pub fn make_due(
-    program: &Program,
-    system: &mut System,
-    timekeeper: &mut Timekeeper,
-    due: Due,
-    event: &mut Event,
-    reply: &mut Reply,
-)
-    requires followed { IsFollowed program.now system.old timekeeper.old }
-    requires due { IsDue program.now system.old timekeeper.old due }
-    ensures followed { IsFollowed program.now system.new timekeeper.new }
-    ensures next { next_turns program.now system.old ≡ due_turn system.old due ∷ [] }
-    ensures answer { (turn_in system.old due.actor).answer ≡ Answered event.new reply.new }
-    ensures after { system.new ≡ after_turn system.old due.actor }
-{
-    let _ = program;
-    if !system.next_turn(due.actor, event, reply) {
-        unreachable!()
-    }
-    timekeeper.follow(due.time as u32, due.actor, event, *reply);
 }

@@ -1,9 +1,5 @@
 //! A turn of a program.
-ghost use Rattle.std.specs.Prelude.{◌≡◌};
-ghost use Rattle.lot_playback.specs.Texts.{manner_at};
-
 use lot_machine::{Event, Reply};
-use lot_simulation::Manner;
 
 /// Whose turn is next.
 #[derive(Clone, Copy, Debug, PartialEq, Eq)]
@@ -31,24 +27,13 @@ pub struct Turn {
 
 impl Turn {
     /// Room for a turn, before one is made.
-    pub(crate) fn blank() -> Turn {
+    pub fn blank() -> Turn {
         Turn {
             time: None,
             actor: 0,
             has_ended: true,
             event: Event::Expire(0),
             reply: Reply::Idle,
-        }
-    }
-
-    /// How it is written: with its time, if it has one.
-    #[inline(always)]
-    pub fn manner(&self) -> Manner
-        ensures { result ≡ manner_at self.now.time }
-    {
-        match self.time {
-            Some(time) => Manner::Timed(time),
-            None => Manner::Whole,
         }
     }
 }

@@ -44,7 +44,7 @@ impl WaitTable {
     }
 
     /// How the thread with this number has waited.
-    pub(crate) fn of(&self, thread: u32) -> Waits
+    pub fn of(&self, thread: u32) -> Waits
         requires { IsBetween 1 (vec_len self.now.threads) thread }
         ensures { (kind : WorldAnswer → WaitChangeRecord) (done : List TimedTurn) (n : ℕ)
             → AreWaits kind done n self.now.threads.items → result ≡ timed.waits_in kind done thread }

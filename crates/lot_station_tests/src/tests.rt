@@ -16,8 +16,9 @@ mod slicing;
 mod texts;
 mod turnstile;
 
-use lot_engine::{System, write_end};
+use lot_engine::System;
 use lot_machine::Reply;
+use lot_play::write_end;
 use lot_text::{Program, Watched, parse};
 use seats::Shares;
 use std::alloc::Global;

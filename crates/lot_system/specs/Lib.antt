@@ -3,9 +3,9 @@ pub use Rattle.lot_engine.specs.Steps
 pub use Rattle.lot_engine.specs.Held
 pub use Rattle.lot_engine.specs.Turns
 pub use Rattle.lot_engine.specs.Counted
-pub use Rattle.lot_engine.specs.Listing
 pub use Rattle.lot_engine.specs.Playing
-pub use Rattle.lot_engine.specs.Played
 pub use Rattle.lot_engine.specs.Fitting
-pub use Rattle.lot_engine.specs.Kept
-pub use Rattle.lot_engine.specs.Leaving
+pub use Rattle.lot_play.specs.Listing
+pub use Rattle.lot_play.specs.Played
+pub use Rattle.lot_play.specs.Kept
+pub use Rattle.lot_play.specs.Leaving

@@ -1,10 +1,10 @@
 //! The simulated system, and `play`, which makes the turns of a program and writes them. All of it is in `lot_engine`
-//! and `lot_playback`; this crate is where callers find both.
+//! and `lot_play`; this crate is where callers find both.
 #![tactic(auto)]
 
-pub use lot_engine::{
-    Answer, Counts, FirstFew, PlayFault, Played, RefusedCommand, StuckThread, System, TurnFault,
-    Warnings, Work, laws, program_of, put_answer, read_input, refuse, slice_for, slice_in,
-    write_end, write_report,
+pub use lot_engine::{Answer, Counts, System, TurnFault, Work, laws, slice_for, slice_in};
+pub use lot_io::{IoFault as PlayFault, read_input};
+pub use lot_play::{
+    FirstFew, Played, RefusedCommand, StuckThread, Warnings, play, play_bytes, program_of,
+    put_answer, refuse, write_end, write_report,
 };
-pub use lot_playback::{play, play_bytes};

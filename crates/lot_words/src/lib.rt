@@ -2,7 +2,7 @@
 //! what was expected there; or what a run of it leaves to tell.
 //!
 //! An input is refused by one line for programs, which has the line's number and a refusal. These words stand beside
-//! it, on standard error. The proofs show only that they are safe and end; the tests of `lot_shown_tests` check the
+//! it, on standard error. The proofs show only that they are safe and end; the tests of `lot_system_tests` check the
 //! text.
 #![tactic(auto)]
 

@@ -1,8 +1,8 @@
 //! What a run leaves to tell, in words.
 
 use crate::CommandLines;
-use lot_engine::{FirstFew, RefusedCommand, StuckThread, Warnings};
 use lot_machine::{Refusal, Status};
+use lot_play::{FirstFew, RefusedCommand, StuckThread, Warnings};
 use std::io::Write;
 use std::{fmt, io, str};
 

@@ -10,11 +10,11 @@ mod pictures;
 mod words;
 
 use endings::has_written_or_lacked_memory;
+use lot_chart::{chart_bytes, shares_bytes};
 use lot_curves::Measure;
-use lot_engine::{Played, Warnings};
 use lot_explain::explain_bytes;
 use lot_io::{IoFault, Watched, read_input};
-use lot_pictures::{chart_bytes, shares_bytes};
+use lot_play::{Played, Warnings};
 use std::alloc::Global;
 use std::io;
 use std::io::Write;

@@ -63,7 +63,7 @@ fn turns_in_time(rt: HostRuntime) -> Result<(), Fail> {
         None,
     ];
     check_turns(&rt, &program, &mut playback, &rows);
-    let system = playback.into_system();
+    let (system, _) = playback.into_parts();
     check_same(&rt, &system.history(), &[1, 0, 1, 1, 1, 1, 1].as_slice());
     Ok(())
 }

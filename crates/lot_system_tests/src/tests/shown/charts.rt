@@ -2,7 +2,7 @@
 ghost use Rattle.std.specs.Prelude.{◌≤◌, ◌<◌, ◌^◌, IfOk, length, vec_len};
 
 use crate::tests::same::{check_same, check_same_at};
-use lot_chart::{chart, table};
+use lot_chart::{chart_of, table};
 use lot_curves::{Curves, Measure, Stretch};
 use lot_machine::{Name, Reply};
 use std::alloc::Global;
@@ -79,7 +79,7 @@ fn tables_of_nothing(rt: HostRuntime) {
 
 /// Draws the curves, and looks for these parts of the picture.
 fn check_picture(rt: &impl Abort, alloc: Global, curves: &Curves, parts: &[&str]) {
-    let picture = chart(alloc, curves, "a < b & c").expect(rt, "memory");
+    let picture = chart_of(alloc, curves, "a < b & c").expect(rt, "memory");
     let text = String::from_utf8(picture).expect(rt, "a text");
     for part in parts {
         check_same_at(rt, part, &text.as_str().contains(*part), &true);

@@ -3,8 +3,8 @@ use super::{SCHEDULED, Shown, outcome, show};
 use crate::tests::same::{check_same, check_same_at};
 use crate::tests::timed::COMES_LATER;
 use lot_curves::Measure;
-use lot_engine::Played;
 use lot_io::{IoFault, Watched};
+use lot_play::Played;
 use std::alloc::Global;
 use std::process::Abort;
 

@@ -15,8 +15,8 @@ index-requires c =
     let there = c.in_ok-runner.ensures.there in
     omega (arith, lengths.0, i.held.kept.records, there.0, there.1)
 
-pub script_numbered-lines-requires : goal.script_numbered-lines-requires
-script_numbered-lines-requires c =
+pub script_numbered-requires : goal.script_numbered-requires
+script_numbered-requires c =
     let s = c.self.inside in
     let i = c.self.invariant in
     let e = c.in_ok-runner.ensures in
@@ -27,7 +27,7 @@ returns c =
     let s = c.self.inside in
     let i = c.self.invariant in
     let e = c.in_ok-runner.ensures in
-    let its = c.script_numbered-lines.ensures in
+    let its = c.script_numbered.ensures in
     let legal : IsScript (script_lines s.program c.unwrap-script.result) = subst IsScript its.lines its.legal in
     let quantum : c.limits.result.quantum ≡ s.kernel.state.limits.quantum = ap (λ l. l.quantum) c.limits.ensures in
     let most : s.kernel.state.limits.quantum ≤ 1000 = omega (arith, ap (λ l. l.quantum) i.held.kept.limits, i.program.limits.of_quantum.1) in

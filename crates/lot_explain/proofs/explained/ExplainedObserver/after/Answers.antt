@@ -1,4 +1,4 @@
-use Rattle.lot_playback.proofs.LineFacts.{put-err, put-ok, texts-more, texts-stop}
+use Rattle.lot_play.proofs.LineFacts.{put-err, put-ok, texts-more, texts-stop}
 use Rattle.lot_explain.specs.MadeTurns.{IsExplained, explained_made}
 use Rattle.lot_explain.proofs.TurnFacts.{just-explained}
 use Rattle.lot_explain.proofs.explained.ExplainedObserver.after.Goals as goal

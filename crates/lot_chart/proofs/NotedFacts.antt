@@ -1,0 +1,142 @@
+-- The curves of a program are those of its turns.
+use Rattle.std.proofs.Common.{◌≡◌, ℕ, zero, suc, ◌+◌, ◌==◌, false, Option, None, Some, List, [], ◌∷◌, ◌++◌, map, refl, sym, ◌∙◌, ap, arith, ne_eqb, append-nil, append_assoc}
+use Rattle.std.proofs.lemmas.Grind.{flat_map-append}
+use Rattle.lot_machine.specs.declared.command.Command.{Command}
+use Rattle.lot_machine.specs.declared.event.Event.{Event}
+use Rattle.lot_machine.specs.declared.reply.Reply.{Reply}
+use Rattle.lot_simulation.specs.Report.{ActorTurn, beside, turns_made}
+use Rattle.lot_simulation.specs.Timed.{Moment, TimedTurn, moment_after, moment_after_all, opening_moment, timed_schedule, timed_turns}
+use Rattle.lot_simulation.specs.World.{Program, World, Answer, Turn, console_turn, opening_world, processor_event, processor_turn, system_after, system_answers, system_run, system_turn}
+use Rattle.lot_simulation.specs.World.Answer.{Answered, Ended}
+use Rattle.lot_simulation.proofs.TimedRuns.{timed-world}
+use Rattle.lot_curves.specs.declared.stretch.Stretch.{Stretch}
+use Rattle.lot_curves.specs.Curves.{curves_of, names_in, scheduled_curves, stretches_made, timed_curves, timed_stretches}
+use Rattle.lot_curves.specs.OwnTimes.{ended_after}
+use Rattle.lot_curves.specs.Stretches.{stretch_of}
+use Rattle.lot_playback.specs.Turns.{MadeTurn, counted_turn, counted_turns, program_turns, scheduled_turn, scheduled_turns, turn_in_time, turns_by, turns_in_time, world_after_turns}
+use Rattle.lot_chart.specs.Noted.{curves_after, own_stretch, stretches_in}
+
+-- ---- a schedule
+
+-- a turn without a command leaves the world as it is
+ended-same : (program : Program) (w : World) (actor : ℕ) → (system_turn program w actor).answer ≡ Ended → (system_turn program w actor).world ≡ w
+ended-same program w zero is = from w.commands is
+  where
+    from : (cs : List Command) → (console_turn program w cs).answer ≡ Ended → (console_turn program w cs).world ≡ w
+    from [] told = refl
+    from (c ∷ cs) told = cc
+ended-same program w (suc n) is =
+    let no : (suc n == 0) ≡ false = ne_eqb (suc n) 0 (λ x. omega arith) in
+    let turn : system_turn program w (suc n) ≡ processor_turn w (suc n) (processor_event w (suc n)) = rw no refl in
+    absurd (let wrong = sym (ap (λ (t : Turn). t.answer) turn) ∙ is in cc)
+
+-- one that is answered is one more in the history
+answered-more : (program : Program) (w : World) (actor : ℕ) (e : Event) (r : Reply) → (system_turn program w actor).answer ≡ Answered e r → (system_turn program w actor).world.history ≡ w.history ++ actor ∷ []
+answered-more program w zero e r is = from w.commands is
+  where
+    from : (cs : List Command) → (console_turn program w cs).answer ≡ Answered e r → (console_turn program w cs).world.history ≡ w.history ++ 0 ∷ []
+    from [] told = cc
+    from (c ∷ cs) told = refl
+answered-more program w (suc n) e r is =
+    let no : (suc n == 0) ≡ false = ne_eqb (suc n) 0 (λ x. omega arith) in
+    let turn : system_turn program w (suc n) ≡ processor_turn w (suc n) (processor_event w (suc n)) = rw no refl in
+    ap (λ (t : Turn). t.world.history) turn
+
+-- whose turns were counted
+abbrev actors_in : List ActorTurn → List ℕ
+actors_in turns = map (λ turn. turn.actor) turns
+
+module _ (program : Program) where
+  abbrev made_by : World → List ℕ → List ActorTurn
+  made_by w actors = counted_turns (scheduled_turns program w actors)
+
+  history-is : (w : World) (actors : List ℕ) → (system_after program w actors).history ≡ w.history ++ actors_in (made_by w actors)
+  history-is w [] = sym (append-nil w.history)
+  history-is w (a ∷ actors) = from (system_turn program w a).answer refl (history-is (system_turn program w a).world actors)
+    where
+      from : (x : Answer) → (system_turn program w a).answer ≡ x
+          → (system_after program (system_turn program w a).world actors).history ≡ (system_turn program w a).world.history ++ actors_in (made_by (system_turn program w a).world actors)
+          → (system_after program (system_turn program w a).world actors).history ≡ w.history ++ actors_in (counted_turn a x ++ made_by (system_turn program w a).world actors)
+      from (Answered e r) is later = later ∙ ap (λ h. h ++ actors_in (made_by (system_turn program w a).world actors)) (answered-more program w a e r is) ∙ append_assoc w.history (a ∷ []) (actors_in (made_by (system_turn program w a).world actors))
+      from Ended is later = later ∙ ap (λ (x : World). x.history ++ actors_in (made_by (system_turn program w a).world actors)) (ended-same program w a is)
+
+  made-is : (w : World) (actors : List ℕ) → beside (actors_in (made_by w actors)) (system_answers program w (actors_in (made_by w actors))) ≡ made_by w actors
+  made-is w [] = refl
+  made-is w (a ∷ actors) = from (system_turn program w a).answer refl (made-is (system_turn program w a).world actors)
+    where
+      from : (x : Answer) → (system_turn program w a).answer ≡ x
+          → beside (actors_in (made_by (system_turn program w a).world actors)) (system_answers program (system_turn program w a).world (actors_in (made_by (system_turn program w a).world actors))) ≡ made_by (system_turn program w a).world actors
+          → beside (actors_in (counted_turn a x ++ made_by (system_turn program w a).world actors)) (system_answers program w (actors_in (counted_turn a x ++ made_by (system_turn program w a).world actors))) ≡ counted_turn a x ++ made_by (system_turn program w a).world actors
+      from (Answered e r) is later =
+          ap (λ (x : Answer). record { actor = a; answer = x } ∷ beside (actors_in (made_by (system_turn program w a).world actors)) (system_answers program (system_turn program w a).world (actors_in (made_by (system_turn program w a).world actors)))) is
+          ∙ ap (λ (ts : List ActorTurn). record { actor = a; answer = Answered e r } ∷ ts) later
+      from Ended is later =
+          ap (λ (x : World). beside (actors_in (made_by (system_turn program w a).world actors)) (system_answers program x (actors_in (made_by (system_turn program w a).world actors)))) (sym (ended-same program w a is))
+          ∙ later
+
+  -- the turns that the history has are those that were counted
+  counted-is : turns_made program (system_run program program.schedule).history ≡ made_by (opening_world program) program.schedule
+  counted-is =
+      ap (turns_made program) (history-is (opening_world program) program.schedule) ∙ made-is (opening_world program) program.schedule
+
+  stretches-scheduled : (before : List MadeTurn) (w : World) (actors : List ℕ) → map stretch_of (ended_after (counted_turns before) (made_by w actors)) ≡ stretches_in before (scheduled_turns program w actors)
+  stretches-scheduled before w [] = refl
+  stretches-scheduled before w (a ∷ actors) = from (system_turn program w a).answer refl (stretches-scheduled (before ++ scheduled_turn program w a ∷ []) (system_turn program w a).world actors)
+    where
+      made : MadeTurn
+      made = scheduled_turn program w a
+
+      more : (x : Answer) → (system_turn program w a).answer ≡ x → counted_turns (before ++ made ∷ []) ≡ counted_turns before ++ counted_turn a x
+      more x is =
+          flat_map-append (λ (m : MadeTurn). counted_turn m.actor m.turn.answer) before (made ∷ [])
+          ∙ ap (λ ts. counted_turns before ++ ts) (append-nil (counted_turn a (system_turn program w a).answer) ∙ ap (counted_turn a) is)
+
+      from : (x : Answer) → (system_turn program w a).answer ≡ x
+          → map stretch_of (ended_after (counted_turns (before ++ made ∷ [])) (made_by (system_turn program w a).world actors)) ≡ stretches_in (before ++ made ∷ []) (scheduled_turns program (system_turn program w a).world actors)
+          → map stretch_of (ended_after (counted_turns before) (counted_turn a x ++ made_by (system_turn program w a).world actors)) ≡ stretches_in before (made ∷ scheduled_turns program (system_turn program w a).world actors)
+      from (Answered e r) is later =
+          let turn : ActorTurn = record { actor = a; answer = Answered e r } in
+          ap (λ (ts : List ActorTurn). own_stretch ts turn ∷ map stretch_of (ended_after ts (made_by (system_turn program w a).world actors))) (sym (more (Answered e r) is))
+          ∙ ap (λ (ss : List Stretch). own_stretch (counted_turns (before ++ made ∷ [])) turn ∷ ss) later
+          ∙ ap (λ (x : Answer). map (own_stretch (counted_turns (before ++ made ∷ []))) (counted_turn a x) ++ stretches_in (before ++ made ∷ []) (scheduled_turns program (system_turn program w a).world actors)) (sym is)
+      from Ended is later =
+          ap (λ (ts : List ActorTurn). map stretch_of (ended_after ts (made_by (system_turn program w a).world actors))) (sym (more Ended is ∙ append-nil (counted_turns before)))
+          ∙ later
+          ∙ ap (λ (x : Answer). map (own_stretch (counted_turns (before ++ made ∷ []))) (counted_turn a x) ++ stretches_in (before ++ made ∷ []) (scheduled_turns program (system_turn program w a).world actors)) (sym is)
+
+  world-scheduled : (w : World) (actors : List ℕ) → system_after program w actors ≡ world_after_turns w (scheduled_turns program w actors)
+  world-scheduled w [] = refl
+  world-scheduled w (a ∷ actors) = world-scheduled (system_turn program w a).world actors
+
+-- ---- the order of time
+
+-- the stretch of a turn in the order of time
+abbrev pub timed_stretch : TimedTurn → Stretch
+timed_stretch done = stretch_of (record { time = done.time; answer = done.turn.answer })
+
+stretches-timed : (before : List MadeTurn) (w : World) (turns : List TimedTurn) → map timed_stretch turns ≡ stretches_in before (turns_in_time w turns)
+stretches-timed before w [] = refl
+stretches-timed before w (t ∷ turns) = ap (λ (ss : List Stretch). timed_stretch t ∷ ss) (stretches-timed (before ++ turn_in_time w t ∷ []) t.turn.world turns)
+
+world-timed : (m : Moment) (turns : List TimedTurn) → (moment_after_all m turns).world ≡ world_after_turns m.world (turns_in_time m.world turns)
+world-timed m [] = refl
+world-timed m (t ∷ turns) = world-timed (moment_after m t) turns
+
+-- ---- the curves
+
+pub curves-are : (program : Program) (d : Option ℕ) → program.duration ≡ d → curves_of program ≡ curves_after program (program_turns program)
+curves-are program None is =
+    let turns : turns_by program None ≡ program_turns program = ap (turns_by program) (sym is) in
+    let world : system_run program program.schedule ≡ world_after_turns (opening_world program) (program_turns program) =
+    world-scheduled program (opening_world program) program.schedule ∙ ap (world_after_turns (opening_world program)) turns in
+    let stretches : stretches_made program (system_run program program.schedule).history ≡ stretches_in [] (program_turns program) =
+    ap (λ (ts : List ActorTurn). map stretch_of (ended_after [] ts)) (counted-is program) ∙ stretches-scheduled program [] (opening_world program) program.schedule ∙ ap (stretches_in []) turns in
+    let curves : curves_of program ≡ scheduled_curves program = rw is refl in
+    curves ∙ (λ i. record { names = names_in (world i).state; stretches = stretches i })
+curves-are program (Some duration) is =
+    let turns : turns_by program (Some duration) ≡ program_turns program = ap (turns_by program) (sym is) in
+    let world : system_run program (timed_schedule program) ≡ world_after_turns (opening_world program) (program_turns program) =
+    sym (timed-world program) ∙ world-timed (opening_moment program) (timed_turns program) ∙ ap (world_after_turns (opening_world program)) turns in
+    let stretches : timed_stretches program ≡ stretches_in [] (program_turns program) = stretches-timed [] (opening_world program) (timed_turns program) ∙ ap (stretches_in []) turns in
+    let curves : curves_of program ≡ timed_curves program = rw is refl in
+    curves ∙ (λ i. record { names = names_in (world i).state; stretches = stretches i })

@@ -1,0 +1,39 @@
+-- The output of `shares` and `chart`.
+use Rattle.std.specs.Prelude.{◌≡◌, ℕ, Option, Ok, Err, Result, List}
+use Rattle.std.specs.declared.alloc.AllocError.{AllocError}
+use Rattle.lot_simulation.specs.declared.input.InputFault.{InputFault}
+use Rattle.lot_simulation.specs.Grammar.{program_in}
+use Rattle.lot_simulation.specs.Texts.{fault_line}
+use Rattle.lot_simulation.specs.World.{Program}
+use Rattle.lot_curves.specs.declared.stretch.Measure.{Measure}
+use Rattle.lot_curves.specs.Curves.{Curves, curves_of}
+use Rattle.lot_chart.specs.Tables.{table}
+use Rattle.lot_chart.specs.Charts.{chart}
+use Rattle.lot_io.specs.Watching.{Watch}
+use Rattle.lot_play.specs.Played.{Plays}
+use Rattle.lot_play.specs.declared.inputs.Played.{Played}
+use Rattle.lot_play.specs.declared.inputs.Played.TheVariants.{Done}
+use Rattle.lot_io.specs.declared.fault.IoFault.{IoFault}
+use Rattle.lot_io.specs.declared.fault.IoFault.TheVariants.{Memory}
+
+-- the text of the program's curves, or why the input is refused
+abbrev pub shown_of : (Curves → List ℕ) → Result Program InputFault → List ℕ
+shown_of text (Ok program) = text (curves_of program)
+shown_of text (Err fault) = fault_line fault
+
+-- what `shares` writes if it reads these bytes
+abbrev pub shares_output : Measure → List ℕ → List ℕ
+shares_output measure bytes = shown_of (table measure) (program_in bytes)
+
+-- what `chart` writes if it reads these bytes
+abbrev pub chart_output : List ℕ → List ℕ → List ℕ
+chart_output title bytes = shown_of (chart title) (program_in bytes)
+
+-- the input has a program, and these are its curves
+abbrev pub HasCurves : Result Program InputFault → Curves → Type 0
+HasCurves input curves = (program : Program) × (input ≡ Ok program) × (curves ≡ curves_of program)
+
+-- the text was written, or a beginning of it; without one nothing was
+abbrev pub Shows : {T : Type 0} {V : Type 0} → (T → Option (List ℕ)) → Watch T → Watch T → Result V AllocError → (V → List ℕ) → Result Played IoFault → Type 0
+Shows contents old new (Ok text) bytes result = Plays contents old new result Done (bytes text)
+Shows contents old new (Err fault) bytes result = (result ≡ Err Memory) × (new ≡ old)

@@ -1,0 +1,129 @@
+//! Making the turns of a program for its curves.
+ghost use Rattle.std.specs.Prelude.{◌≡◌, ◌+◌, ◌*◌, ◌^◌, ◌<◌, ◌≤◌, [], IfOk, OnOk, ⊤, length, vec_len};
+ghost use Rattle.lot_machine.specs.Bounds.{IsBetween};
+ghost use Rattle.lot_curves.specs.Curves.{curves_of, name_in, names_in};
+ghost use Rattle.lot_curves.specs.Stretches.{last_end};
+ghost use Rattle.lot_engine.specs.Seen.{world_of};
+ghost use Rattle.lot_playback.specs.Stages.{HasMade};
+ghost use Rattle.lot_playback.specs.Turns.{program_turns};
+ghost use Rattle.lot_chart.specs.Noted.{end_in, stretches_in};
+
+use lot_curves::{Curves, Stretch};
+use lot_engine::System;
+use lot_machine::Name;
+use lot_play::play_through;
+use lot_playback::{Observer, Playback, Turn};
+use lot_text::Program;
+use std::alloc::{AllocError, Global};
+
+/// Notes what each turn was for a thread.
+#[derive(Drop)]
+struct Stretches {
+    stretches: Vec<Stretch>,
+}
+
+impl Observer for Stretches {
+    type Fault = AllocError;
+
+    ghost observed = { λ program turns first now. (now.stretches.items ≡ stretches_in [] turns)
+        × (vec_len now.stretches ≤ length turns)
+        × (last_end now.stretches.items ≤ (length turns + 1) * 2 ^ 32) };
+
+    ghost awaits = { λ program turns world actor first now. (now.stretches.items ≡ stretches_in [] turns)
+        × (vec_len now.stretches ≤ length turns)
+        × (last_end now.stretches.items ≤ (length turns + 1) * 2 ^ 32) };
+
+    ghost stopped = { λ program turns first now fault. ⊤ };
+
+    fn before(&mut self, program: &Program, system: &mut System, actor: u32) {
+        let _ = self;
+        let _ = program;
+        let _ = system;
+        let _ = actor;
+    }
+
+    fn after(
+        &mut self,
+        program: &Program,
+        system: &mut System,
+        turn: &Turn,
+    ) -> Result<(), AllocError> {
+        let _ = program;
+        if turn.has_ended {
+            return Ok(());
+        }
+        let stretch = Stretch::new(end_of(system, turn), turn.reply);
+        self.stretches.push(stretch)?;
+        Ok(())
+    }
+}
+
+/// When a turn ended that the system has just made: at its time, or, if it has none, by its actor's own time.
+fn end_of(system: &System, turn: &Turn) -> u64
+    requires { turn.now.actor ≤ system.now.setting.program.limits.processors }
+    ensures end { result ≡ end_in system.now turn.now.time turn.now.actor }
+    ensures early { result ≤ (length system.now.history + 1) * 2 ^ 32 }
+{
+    match turn.time {
+        Some(time) => u64::from(time),
+        None => system.clock(turn.actor),
+    }
+}
+
+/// Makes the turns of the program in a system of its own, in the order of time if it has a duration, otherwise those
+/// of its schedule, and gathers what they were for each thread.
+pub fn gather(alloc: Global, program: &Program) -> Result<Curves, AllocError>
+    ensures { IfOk result (λ curves. curves ≡ curves_of program.now) }
+{
+    let mut playback = Playback::open(alloc, program)?;
+    let stretches = note_turns(alloc, program, &mut playback)?;
+    let (mut system, _) = playback.into_parts();
+    let names = names_of(alloc, &mut system)?;
+    Ok(Curves::new(names, stretches))
+}
+
+/// Makes the program's turns, and notes what each was for a thread.
+fn note_turns(
+    alloc: Global,
+    program: &Program,
+    playback: &mut Playback,
+) -> Result<Vec<Stretch>, AllocError>
+    requires none { playback.old.made ≡ 0 }
+    requires made { HasMade program.now [] playback.old.seen }
+    ensures made { OnOk result (HasMade program.now (program_turns program.now) playback.new.seen) }
+    ensures noted { IfOk result (λ stretches. stretches.items ≡ stretches_in [] (program_turns program.now)) }
+    ensures few { IfOk result (λ stretches. vec_len stretches < 2 ^ 32) }
+    ensures early { IfOk result (λ stretches. last_end stretches.items < 2 ^ 56) }
+{
+    let schedule = program.schedule();
+    let room = Vec::with_capacity(alloc, schedule.len())?;
+    let mut noted = Stretches { stretches: room };
+    play_through(program, playback, &mut noted)?;
+    let Stretches { stretches } = noted;
+    Ok(stretches)
+}
+
+/// The threads' names, by rising number.
+fn names_of(alloc: Global, system: &mut System) -> Result<Vec<Name>, AllocError>
+    ensures few { IfOk result (λ names. vec_len names < 2 ^ 32) }
+    ensures names { IfOk result (λ names. names.items ≡ names_in (world_of system.old).state) }
+{
+    let count = system.thread_count();
+    let mut names = Vec::with_capacity(alloc, count as usize)?;
+    for place in 0..count {
+        names.push(name_of(system, place + 1))?;
+    }
+    Ok(names)
+}
+
+/// The name of the thread with this number.
+fn name_of(system: &mut System, thread: u32) -> Name
+    requires { IsBetween 1 (length (world_of system.old).state.records) thread }
+    ensures same { system.new ≡ system.old }
+    ensures name { result ≡ name_in (world_of system.old).state thread }
+{
+    match system.thread_row(thread) {
+        Some(row) => row.name,
+        None => unreachable!(),
+    }
+}

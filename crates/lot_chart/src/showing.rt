@@ -1,0 +1,97 @@
+//! Writing curves.
+ghost use Rattle.std.specs.Prelude.{◌≡◌, false, true, IfErr, IfOk, OnOk};
+ghost use Rattle.lot_simulation.specs.Grammar.{program_in};
+ghost use Rattle.lot_text.specs.Faults.{IsFaultOf as IsParseFaultOf};
+ghost use Rattle.lot_play.specs.Played.{Plays, came_of};
+ghost use Rattle.lot_io.specs.Writing.{Writes};
+ghost use Rattle.lot_chart.specs.Shown.{HasCurves, Shows, chart_output, shares_output};
+
+use crate::{chart_of, gather, table};
+use lot_curves::{Curves, Measure};
+use lot_io::{IoFault, Watched, flush, write_bytes};
+use lot_play::{Played, refuse};
+use lot_text::{ParseFault, parse};
+use std::alloc::{AllocError, Global};
+use std::io::Write;
+
+/// Makes the turns of the input in `bytes`, and writes a table of what each thread has had over time; or one line, if
+/// the input is refused: then `bytes` keeps it, otherwise its memory is freed before the first turn. Out of memory, it
+/// writes nothing.
+pub fn shares_bytes<W: Write>(
+    alloc: Global,
+    measure: Measure,
+    bytes: &mut Vec<u8>,
+    writer: &mut Watched<W>,
+) -> Result<Played, IoFault>
+    requires { writer.old.failed ≡ false }
+    ensures flushed { OnOk result (writer.new.flushed ≡ true) }
+    ensures shown { Plays W.contents writer.old writer.new result (came_of (program_in bytes.old.items))
+        (shares_output measure bytes.old.items) }
+{
+    match curves_in(alloc, bytes) {
+        Ok(curves) => write_text(table(alloc, &curves, measure), writer),
+        Err(ParseFault::Memory) => Err(IoFault::Memory),
+        Err(ParseFault::Input(fault)) => refuse(fault, writer),
+    }
+}
+
+/// Makes the turns of the input in `bytes`, and writes a picture with this title of what each thread has had over
+/// time; or one line, if the input is refused: then `bytes` keeps it, otherwise its memory is freed before the first
+/// turn. Out of memory, it writes nothing.
+pub fn chart_bytes<W: Write>(
+    alloc: Global,
+    title: &str,
+    bytes: &mut Vec<u8>,
+    writer: &mut Watched<W>,
+) -> Result<Played, IoFault>
+    requires { writer.old.failed ≡ false }
+    ensures flushed { OnOk result (writer.new.flushed ≡ true) }
+    ensures shown { Plays W.contents writer.old writer.new result (came_of (program_in bytes.old.items))
+        (chart_output title.now bytes.old.items) }
+{
+    match curves_in(alloc, bytes) {
+        Ok(curves) => write_text(chart_of(alloc, &curves, title), writer),
+        Err(ParseFault::Memory) => Err(IoFault::Memory),
+        Err(ParseFault::Input(fault)) => refuse(fault, writer),
+    }
+}
+
+/// The curves of the input in `bytes`. If it is refused, `bytes` keeps it; otherwise its memory is freed before the
+/// first turn.
+fn curves_in(alloc: Global, bytes: &mut Vec<u8>) -> Result<Curves, ParseFault>
+    ensures curves { IfOk result (HasCurves (program_in bytes.old.items)) }
+    ensures fault { IfErr result (IsParseFaultOf (program_in bytes.old.items)) }
+{
+    let program = parse(alloc, bytes.as_slice())?;
+    *bytes = Vec::new(alloc);
+    match gather(alloc, &program) {
+        Ok(curves) => Ok(curves),
+        Err(_) => Err(ParseFault::Memory),
+    }
+}
+
+/// Writes the text, if there was memory for it.
+fn write_text<W: Write>(
+    text: Result<Vec<u8>, AllocError>,
+    writer: &mut Watched<W>,
+) -> Result<Played, IoFault>
+    requires { writer.old.failed ≡ false }
+    ensures flushed { OnOk result (writer.new.flushed ≡ true) }
+    ensures shown { Shows W.contents writer.old writer.new text (λ bytes. bytes.items) result }
+{
+    let Ok(text) = text else {
+        return Err(IoFault::Memory);
+    };
+    write_flushed(text.as_slice(), writer)?;
+    Ok(Played::Done)
+}
+
+/// Writes the bytes, and flushes.
+fn write_flushed<W: Write>(bytes: &[u8], writer: &mut Watched<W>) -> Result<(), IoFault>
+    requires { writer.old.failed ≡ false }
+    ensures flushed { OnOk result (writer.new.flushed ≡ true) }
+    ensures text { Writes W.contents writer.old writer.new result bytes.now }
+{
+    write_bytes(writer, bytes)?;
+    flush(writer)
+}

@@ -1,4 +1,0 @@
-pub mod NotedFacts
-pub mod Notes
-pub mod OwnTicks
-pub mod Shows

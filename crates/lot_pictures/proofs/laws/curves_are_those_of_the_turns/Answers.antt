@@ -1,6 +1,0 @@
-use Rattle.std.proofs.Common.{refl}
-use Rattle.lot_pictures.proofs.NotedFacts.{curves-are}
-use Rattle.lot_pictures.proofs.laws.curves_are_those_of_the_turns.Goals as goal
-
-pub returns : goal.returns
-returns c program = curves-are program program.duration refl

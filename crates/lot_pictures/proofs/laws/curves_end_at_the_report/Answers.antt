@@ -1,5 +1,0 @@
-use Rattle.lot_pictures.proofs.OwnTicks.{ends-at_report}
-use Rattle.lot_pictures.proofs.laws.curves_end_at_the_report.Goals as goal
-
-pub returns : goal.returns
-returns c = ends-at_report

@@ -1,5 +1,0 @@
-use Rattle.lot_pictures.proofs.OwnTicks.{timed-ends-at_report}
-use Rattle.lot_pictures.proofs.laws.timed_curves_end_at_the_report.Goals as goal
-
-pub returns : goal.returns
-returns c = timed-ends-at_report

@@ -1,0 +1,6 @@
+pub mod WritingFacts
+pub mod ListingFacts
+pub mod TimedReportFacts
+pub mod TextFacts
+pub mod LineFacts
+pub mod PlayedFacts

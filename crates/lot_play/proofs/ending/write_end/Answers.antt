@@ -1,0 +1,12 @@
+-- Flushing writes nothing more.
+use Rattle.lot_simulation.specs.Output.{end_text}
+use Rattle.lot_io.proofs.WritingFacts.{writes-flushed}
+use Rattle.lot_play.proofs.ending.write_end.Goals as goal
+
+pub returns-clause-text : goal.returns-clause-text
+returns-clause-text g c =
+    let s = c.args.system.now in
+    let old = g.W.Write.contents c.args.writer.now.inner in
+    let mid = g.W.Write.contents c.write_texts.new.writer.inner in
+    let new = g.W.Write.contents c.flush.new.writer.inner in
+    writes-flushed old mid new c.flush.new.writer.failed c.flush.result (end_text s.setting.program s.history) c.in_ok-write_texts.ensures.text.1 c.flush.ensures.text

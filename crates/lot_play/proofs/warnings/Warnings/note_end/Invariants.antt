@@ -1,0 +1,11 @@
+use Rattle.std.proofs.Common.{◌≡◌}
+use Rattle.lot_play.proofs.warnings.Warnings.note_end.Given as goal
+
+-- what was noted of commands stays, and so does the system
+abbrev pub invariant-loop-place : goal.invariant-loop-place
+invariant-loop-place l = record {
+  made : l.self.made ≡ l.initial.self.made;
+  refused : l.self.refused ≡ l.initial.self.refused;
+  unmade : l.self.unmade ≡ l.initial.self.unmade;
+  system : l.system ≡ l.initial.system;
+}

@@ -1,0 +1,67 @@
+//! The first few of a kind.
+ghost use Rattle.std.specs.Prelude.{◌≡◌, ◌-◌, ◌≤◌, IfOk, length};
+ghost use Rattle.lot_play.specs.Kept.{kept_with, none_kept};
+
+use std::alloc::{AllocError, Global};
+use std::marker::Model;
+
+/// How many of a kind are listed one by one.
+const LISTED: usize = 8;
+
+/// The first few of a kind, and how many there are in all.
+#[derive(Debug, Drop)]
+pub struct FirstFew<T: Drop> {
+    first: Vec<T>,
+    count: usize,
+}
+
+impl<T: Drop> Model for FirstFew<T> {
+    ghost use Rattle.std.specs.Prelude.{◌≤◌, vec_len, vec_capacity};
+    ghost use Rattle.lot_play.specs.Kept.{Kept};
+
+    ghost Value = { Kept T };
+
+    ghost view = { λ f. record { first = f.first.items; count = f.count } };
+
+    ghost invariant = { λ f. record {
+      room : 8 ≤ vec_capacity f.first;
+      few : vec_len f.first ≤ 8;
+    } };
+}
+
+impl<T: Drop> FirstFew<T> {
+    /// None yet, with room for those that are listed. It allocates all the memory that will ever be used.
+    pub(crate) fn none(alloc: Global) -> Result<Self, AllocError>
+        ensures { IfOk result (λ few. few ≡ none_kept) }
+    {
+        Ok(FirstFew {
+            first: Vec::with_capacity(alloc, LISTED)?,
+            count: 0,
+        })
+    }
+
+    /// One more.
+    pub(crate) fn add(&mut self, one: T)
+        ensures { self.new ≡ kept_with self.old one }
+    {
+        if self.first.len() < LISTED {
+            self.first.push_reserved(one);
+        }
+        self.count = self.count.saturating_add(1);
+    }
+
+    /// The first of them, in order.
+    pub fn first(&self) -> &[T]
+        ensures items { result.now ≡ self.now.first }
+        ensures few { length result.now ≤ 8 }
+    {
+        self.first.as_slice()
+    }
+
+    /// How many there are in addition to the first.
+    pub fn others(&self) -> usize
+        ensures { result ≡ self.now.count - length self.now.first }
+    {
+        self.count.saturating_sub(self.first.len())
+    }
+}

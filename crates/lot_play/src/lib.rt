@@ -1,0 +1,26 @@
+//! Plays a program: has observers follow its turns, and writes what `play` writes of them: a line for each turn, the
+//! listings, and the report.
+#![tactic(auto)]
+
+mod answers;
+mod ending;
+mod first_few;
+mod inputs;
+pub mod laws;
+mod lines;
+mod listing;
+mod playing;
+mod report;
+mod reports;
+mod timed_report;
+mod warnings;
+
+pub use answers::{heading, manner_of, put_answer};
+pub use ending::write_end;
+pub use first_few::FirstFew;
+pub use inputs::{Played, play, play_bytes, program_of, refuse};
+pub use lines::play_program;
+pub use playing::play_through;
+pub use report::write_report;
+pub use reports::end_play;
+pub use warnings::{RefusedCommand, StuckThread, Warnings};

@@ -1,0 +1,89 @@
+//! The end of a play's output: the report after all turns, in either order.
+ghost use Rattle.std.specs.Prelude.{◌≡◌, [], false, true, OnOk, length};
+ghost use Rattle.lot_io.specs.Writing.{Writes};
+ghost use Rattle.lot_playback.specs.Orders.{IsAtPlace, IsAtTime, IsInOrder, made_in};
+ghost use Rattle.lot_playback.specs.Stages.{turns_left};
+ghost use Rattle.lot_play.specs.Texts.{last_report};
+
+use crate::Warnings;
+use crate::report::write_report;
+use crate::timed_report::write_timed_report;
+use lot_engine::System;
+use lot_io::{IoFault, Watched, flush};
+use lot_playback::{Order, Playback, Timekeeper};
+use lot_text::Program;
+use std::io::Write;
+
+/// Ends a play whose turns are all made: writes the report, flushes, and records in the warnings how the system ended.
+pub fn end_play<W: Write>(
+    program: &Program,
+    playback: Playback,
+    warnings: &mut Warnings,
+    writer: &mut Watched<W>,
+) -> Result<(), IoFault>
+    requires program { playback.seen.setting.program ≡ program.now }
+    requires ended { turns_left playback ≡ [] }
+    requires working { writer.old.failed ≡ false }
+    ensures flushed { OnOk result (writer.new.flushed ≡ true) }
+    ensures text { Writes W.contents writer.old writer.new result (last_report program.now program.now.duration) }
+{
+    let (mut system, order) = playback.into_parts();
+    write_last_report(program, &mut system, &order, writer)?;
+    flush(writer)?;
+    warnings.note_end(&mut system);
+    Ok(())
+}
+
+/// Writes the report of a system that has made all of its program's turns.
+fn write_last_report<W: Write>(
+    program: &Program,
+    system: &mut System,
+    order: &Order,
+    writer: &mut Watched<W>,
+) -> Result<(), IoFault>
+    requires program { system.old.setting.program ≡ program.now }
+    requires order { IsInOrder system.old order.now }
+    requires ended { turns_left (record { seen = system.old; made = made_in system.old order.now }) ≡ [] }
+    requires working { writer.old.failed ≡ false }
+    ensures same { system.new ≡ system.old }
+    ensures text { Writes W.contents writer.old writer.new result (last_report program.now program.now.duration) }
+{
+    match order {
+        Order::Scheduled(place) => report_scheduled(program, system, *place, writer),
+        Order::InTime(timekeeper) => report_in_time(program, system, timekeeper, writer),
+    }
+}
+
+/// Writes the report of a schedule that was played.
+fn report_scheduled<W: Write>(
+    program: &Program,
+    system: &mut System,
+    place: usize,
+    writer: &mut Watched<W>,
+) -> Result<(), IoFault>
+    requires program { system.old.setting.program ≡ program.now }
+    requires there { IsAtPlace system.old place }
+    requires ended { turns_left (record { seen = system.old; made = place }) ≡ [] }
+    requires working { writer.old.failed ≡ false }
+    ensures same { system.new ≡ system.old }
+    ensures text { Writes W.contents writer.old writer.new result (last_report program.now program.now.duration) }
+{
+    write_report(system, writer)
+}
+
+/// Writes the report of turns that were made in the order of time.
+fn report_in_time<W: Write>(
+    program: &Program,
+    system: &mut System,
+    timekeeper: &Timekeeper,
+    writer: &mut Watched<W>,
+) -> Result<(), IoFault>
+    requires program { system.old.setting.program ≡ program.now }
+    requires there { IsAtTime system.old timekeeper.now }
+    requires ended { turns_left (record { seen = system.old; made = length system.old.history }) ≡ [] }
+    requires working { writer.old.failed ≡ false }
+    ensures same { system.new ≡ system.old }
+    ensures text { Writes W.contents writer.old writer.new result (last_report program.now program.now.duration) }
+{
+    write_timed_report(program, system, timekeeper, writer)
+}

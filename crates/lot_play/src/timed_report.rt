@@ -1,0 +1,219 @@
+//! The report of turns in the order of time.
+ghost use Rattle.std.specs.Prelude.{◌≡◌, ◌<◌, ◌^◌, [], false};
+ghost use Rattle.std.specs.List.{flat_map, range_with_len};
+ghost use Rattle.std.specs.Option.{option_map_or};
+ghost use Rattle.lot_machine.specs.Bounds.{IsBetween};
+ghost use Rattle.lot_machine.specs.Facts as facts;
+ghost use Rattle.lot_machine.specs.Rows.{thread_row};
+ghost use Rattle.lot_machine.specs.State.{is_live_status, value_of};
+ghost use Rattle.lot_simulation.specs.Report.{ticks_in, total_of};
+ghost use Rattle.lot_simulation.specs.Timed as timed;
+ghost use Rattle.lot_simulation.specs.Timed.{timed_turns};
+ghost use Rattle.lot_simulation.specs.TimedReport as reports;
+ghost use Rattle.lot_simulation.specs.TimedReport.{actor_turns, live_part};
+ghost use Rattle.lot_playback.specs.InTime.{IsAtEnd, moment_in};
+ghost use Rattle.lot_engine.specs.Seen.{world_of};
+ghost use Rattle.lot_io.specs.Writing.{Writes};
+
+use lot_engine::System;
+use lot_io::{IoFault, Watched};
+use lot_machine::Status;
+use lot_playback::Timekeeper;
+use lot_print::{
+    ThreadShares, TimedProcessorTotal, TimedWholeTotal, write_report_line,
+    write_timed_processor_total, write_timed_thread_total, write_timed_whole_total,
+};
+use lot_text::Program;
+use std::io::Write;
+
+/// Writes the report of a system that has made all of its program's turns in the order of time: a line for each
+/// thread, a line for each processor, and the totals.
+pub fn write_timed_report<W: Write>(
+    program: &Program,
+    system: &mut System,
+    timekeeper: &Timekeeper,
+    writer: &mut Watched<W>,
+) -> Result<(), IoFault>
+    requires program { system.old.setting.program ≡ program.now }
+    requires end { IsAtEnd system.old timekeeper.now }
+    requires working { writer.old.failed ≡ false }
+    ensures same { system.new ≡ system.old }
+    ensures text { Writes W.contents writer.old writer.new result (reports.timed_report program.now) }
+{
+    write_report_line(writer)?;
+    let end = ended_at(program, system, timekeeper);
+    write_threads(system, timekeeper, writer)?;
+    write_processors(system, timekeeper, end, writer)?;
+    write_total(system, timekeeper, writer)
+}
+
+/// When the play ended: at the end that the input says, or, if there is no more room, with the last turn.
+fn ended_at(program: &Program, system: &System, timekeeper: &Timekeeper) -> u32
+    requires program { system.now.setting.program ≡ program.now }
+    requires end { IsAtEnd system.now timekeeper.now }
+    ensures { result ≡ timed.ended_at program.now (moment_in system.now timekeeper.now) }
+{
+    match timekeeper.clocks.next_due(program, system) {
+        Some(_) => timekeeper.clocks.time,
+        None => program.duration().unwrap_or(0),
+    }
+}
+
+/// Writes each thread's line.
+fn write_threads<W: Write>(
+    system: &mut System,
+    timekeeper: &Timekeeper,
+    writer: &mut Watched<W>,
+) -> Result<(), IoFault>
+    requires end { IsAtEnd system.old timekeeper.now }
+    requires working { writer.old.failed ≡ false }
+    ensures same { system.new ≡ system.old }
+    ensures text { Writes W.contents writer.old writer.new result
+        (reports.timed_thread_lines (world_of system.old).state (timed_turns system.old.setting.program)
+        (total_of ticks_in (actor_turns (timed_turns system.old.setting.program)))) }
+{
+    let all_values = live_value(system);
+    for place in 0..system.thread_count() {
+        write_thread(system, timekeeper, place + 1, all_values, writer)?;
+    }
+    Ok(())
+}
+
+/// The value of all live threads.
+fn live_value(system: &mut System) -> u128
+    ensures value { result ≡ facts.live_value (world_of system.old).state }
+    ensures small { result < 2 ^ 96 }
+    ensures same { system.new ≡ system.old }
+{
+    let mut sum = 0u128;
+    for place in 0..system.thread_count() {
+        sum += u128::from(live_value_of(system, place + 1));
+    }
+    sum
+}
+
+/// The thread's value if it is live, otherwise 0.
+fn live_value_of(system: &mut System, thread: u32) -> u64
+    ensures value { result ≡ live_part (world_of system.old).state thread
+        (value_of (world_of system.old).state thread) }
+    ensures same { system.new ≡ system.old }
+{
+    match system.thread_row(thread) {
+        Some(row) if is_live(row.status) => row.value,
+        _ => 0,
+    }
+}
+
+/// Whether a thread with this status is live.
+fn is_live(status: Status) -> bool
+    ensures { result ≡ is_live_status status }
+{
+    match status {
+        Status::Ready => true,
+        Status::Running { .. } => true,
+        _ => false,
+    }
+}
+
+/// Writes the thread's line.
+fn write_thread<W: Write>(
+    system: &mut System,
+    timekeeper: &Timekeeper,
+    thread: u32,
+    all_values: u128,
+    writer: &mut Watched<W>,
+) -> Result<(), IoFault>
+    requires end { IsAtEnd system.old timekeeper.now }
+    requires there { IsBetween 1 system.old.setting.program.limits.threads thread }
+    requires values { all_values ≡ facts.live_value (world_of system.old).state }
+    requires small { all_values < 2 ^ 96 }
+    requires working { writer.old.failed ≡ false }
+    ensures same { system.new ≡ system.old }
+    ensures text { Writes W.contents writer.old writer.new result
+        (option_map_or (reports.timed_thread_total (world_of system.old).state
+        (timed_turns system.old.setting.program) (total_of ticks_in
+        (actor_turns (timed_turns system.old.setting.program))) thread)
+        (thread_row (world_of system.old).state thread) []) }
+{
+    let live_value = live_value_of(system, thread);
+    let Some(row) = system.thread_row(thread) else {
+        return Ok(());
+    };
+    let shares = ThreadShares {
+        all_ticks: system.total().ticks,
+        live_value,
+        all_values,
+        mutexes: timekeeper.mutexes.of(thread),
+        replies: timekeeper.replies.of(thread),
+    };
+    write_timed_thread_total(writer, thread, &row, shares)
+}
+
+/// Writes each processor's line.
+fn write_processors<W: Write>(
+    system: &System,
+    timekeeper: &Timekeeper,
+    end: u32,
+    writer: &mut Watched<W>,
+) -> Result<(), IoFault>
+    requires end { IsAtEnd system.now timekeeper.now }
+    requires working { writer.old.failed ≡ false }
+    ensures { Writes W.contents writer.old writer.new result
+        (flat_map (reports.timed_processor_total (moment_in system.now timekeeper.now) end
+        (actor_turns (timed_turns system.now.setting.program)))
+        (range_with_len 1 (world_of system.now).state.limits.processors)) }
+{
+    for place in 0..system.processors() {
+        write_processor(system, timekeeper, end, place + 1, writer)?;
+    }
+    Ok(())
+}
+
+/// Writes the processor's line.
+fn write_processor<W: Write>(
+    system: &System,
+    timekeeper: &Timekeeper,
+    end: u32,
+    processor: u32,
+    writer: &mut Watched<W>,
+) -> Result<(), IoFault>
+    requires end { IsAtEnd system.now timekeeper.now }
+    requires there { IsBetween 1 system.now.setting.program.limits.processors processor }
+    requires working { writer.old.failed ≡ false }
+    ensures { Writes W.contents writer.old writer.new result
+        (reports.timed_processor_total (moment_in system.now timekeeper.now) end
+        (actor_turns (timed_turns system.now.setting.program)) processor) }
+{
+    let counts = system.counts(processor);
+    let total = TimedProcessorTotal {
+        processor,
+        quanta: counts.quanta,
+        idles: counts.idles,
+        ticks: counts.ticks,
+        unused: timekeeper.clocks.idle_until(end, processor),
+    };
+    write_timed_processor_total(writer, total)
+}
+
+/// Writes the totals of all actors.
+fn write_total<W: Write>(
+    system: &System,
+    timekeeper: &Timekeeper,
+    writer: &mut Watched<W>,
+) -> Result<(), IoFault>
+    requires end { IsAtEnd system.now timekeeper.now }
+    requires working { writer.old.failed ≡ false }
+    ensures { Writes W.contents writer.old writer.new result
+        (reports.timed_whole_total (moment_in system.now timekeeper.now)
+        (actor_turns (timed_turns system.now.setting.program))) }
+{
+    let counts = system.total();
+    let total = TimedWholeTotal {
+        turns: counts.turns,
+        quanta: counts.quanta,
+        ticks: counts.ticks,
+        refused: timekeeper.refused,
+        left: system.commands_left() as u64,
+    };
+    write_timed_whole_total(writer, total)
+}

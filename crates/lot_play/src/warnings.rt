@@ -1,0 +1,158 @@
+//! The warnings of a run, in addition to its output.
+
+ghost use Rattle.std.specs.Prelude.{◌≡◌, IfOk, length};
+ghost use Rattle.lot_play.specs.Kept.{none_kept};
+ghost use Rattle.lot_play.specs.Leaving.{command_noted, noted};
+ghost use Rattle.lot_engine.specs.Seen.{world_of};
+
+use crate::FirstFew;
+use lot_engine::System;
+use lot_machine::{Name, Refusal, Reply, Status, ThreadRow};
+use std::alloc::{AllocError, Global};
+
+/// A command that the kernel refused.
+#[derive(Clone, Copy, Debug, PartialEq, Eq)]
+pub struct RefusedCommand {
+    /// How many commands come before it in the input.
+    pub place: usize,
+    pub refusal: Refusal,
+}
+
+/// A thread that no later turn can move on.
+#[derive(Debug, Drop)]
+pub struct StuckThread {
+    pub name: Name,
+    /// What it waits for, or Ready if it weighs nothing.
+    pub status: Status,
+}
+
+/// The warnings of a run, which aren't part of its output.
+#[derive(Debug, Drop)]
+pub struct Warnings {
+    /// How many commands were made.
+    pub made: usize,
+    /// Those of them that were refused.
+    pub refused: FirstFew<RefusedCommand>,
+    /// How many commands were never made.
+    pub unmade: usize,
+    /// The Ready threads with a weight of 0.
+    pub weightless: FirstFew<StuckThread>,
+    /// The threads that wait for good.
+    pub waiting: FirstFew<StuckThread>,
+}
+
+impl Warnings {
+    /// No warnings. It allocates all the memory that noting will ever use.
+    pub fn none(alloc: Global) -> Result<Self, AllocError>
+        ensures { IfOk result (λ warnings. warnings
+            ≡ record { made = 0; refused = none_kept; unmade = 0; weightless = none_kept; waiting = none_kept }) }
+    {
+        Ok(Warnings {
+            made: 0,
+            refused: FirstFew::none(alloc)?,
+            unmade: 0,
+            weightless: FirstFew::none(alloc)?,
+            waiting: FirstFew::none(alloc)?,
+        })
+    }
+
+    /// Records the reply to the actor's turn.
+    #[inline(always)]
+    pub fn note(&mut self, actor: u32, reply: &Reply)
+        ensures { self.new ≡ noted self.old actor reply.now }
+    {
+        if actor == 0 {
+            self.note_command(reply);
+        }
+    }
+
+    /// Records the reply to the next command.
+    fn note_command(&mut self, reply: &Reply)
+        ensures { self.new ≡ command_noted self.old reply.now }
+    {
+        if let Reply::Refused(refusal) = *reply {
+            let place = self.made;
+            self.refused.add(RefusedCommand { place, refusal });
+        }
+        self.made = self.made.saturating_add(1);
+    }
+
+    /// Records the state at the end of a run.
+    pub fn note_end(&mut self, system: &mut System)
+        ensures kept { (self.new.made ≡ self.old.made) × (self.new.refused ≡ self.old.refused) }
+        ensures unmade { self.new.unmade ≡ length (world_of system.old).commands }
+        ensures same { system.new ≡ system.old }
+    {
+        self.unmade = system.commands_left();
+        let is_over = is_over(system);
+        for place in 0..system.thread_count() {
+            if let Some(row) = system.thread_row(place + 1) {
+                self.note_thread(system, row, is_over);
+            }
+        }
+    }
+
+    /// Records a thread as it is at the end; `is_over` says whether no thread can run any more.
+    fn note_thread(&mut self, system: &mut System, row: ThreadRow, is_over: bool)
+        ensures kept { (self.new.made ≡ self.old.made) × (self.new.refused ≡ self.old.refused)
+            × (self.new.unmade ≡ self.old.unmade) }
+        ensures same { system.new ≡ system.old }
+    {
+        let ThreadRow {
+            name,
+            status,
+            weight,
+            ..
+        } = row;
+        if status == Status::Ready && weight == 0 {
+            self.weightless.add(StuckThread { name, status });
+        } else if is_stuck(system, status, is_over) {
+            self.waiting.add(StuckThread { name, status });
+        }
+    }
+}
+
+/// Whether no thread can run any more: none is Running, or Ready with a weight.
+fn is_over(system: &mut System) -> bool
+    ensures { system.new ≡ system.old }
+{
+    for place in 0..system.thread_count() {
+        if let Some(row) = system.thread_row(place + 1) {
+            if can_run(&row) {
+                return false;
+            }
+        }
+    }
+    true
+}
+
+/// Whether the thread runs, or can win a draw.
+fn can_run(row: &ThreadRow) -> bool {
+    match row.status {
+        Status::Running { .. } => true,
+        Status::Ready => row.weight > 0,
+        _ => false,
+    }
+}
+
+/// Whether a thread with this status waits for good: for the reply of a server that has ended, or, if no thread can
+/// run, for a mutex or a reply. A server that waits for calls doesn't count.
+fn is_stuck(system: &mut System, status: Status, is_over: bool) -> bool
+    ensures { system.new ≡ system.old }
+{
+    match status {
+        Status::Served(server) => is_over || has_ended(system, server),
+        Status::Queued(_) | Status::Waiting(_) => is_over,
+        _ => false,
+    }
+}
+
+/// Whether the thread with this number has ended.
+fn has_ended(system: &mut System, thread: u32) -> bool
+    ensures { system.new ≡ system.old }
+{
+    match system.thread_row(thread) {
+        Some(row) => row.status == Status::Dead,
+        None => false,
+    }
+}
