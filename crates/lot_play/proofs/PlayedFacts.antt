@@ -1,23 +1,24 @@
 -- A play whose turns are written first, and then the report.
-use Rattle.std.proofs.Common.{◌≡◌, ℕ, Bool, Option, Result, Ok, Err, List, ◌++◌, refl, sym, subst}
+use Rattle.std.proofs.Common.{◌≡◌, ℕ, Bool, true, false, Option, Result, Ok, Err, List, ◌++◌, refl, sym, subst}
 use Rattle.std.specs.Io.KnownBytes.{Appends}
 use Rattle.lot_io.specs.declared.fault.IoFault.{IoFault}
-use Rattle.lot_io.specs.Writing.{Begins, Written}
+use Rattle.lot_io.specs.declared.fault.IoFault.TheVariants.{Write}
+use Rattle.lot_io.specs.Writing.{Begins}
 use Rattle.lot_io.proofs.WritingFacts.{appends-both, begins-after, begins-front}
 use Rattle.lot_play.specs.declared.inputs.Played.{Played}
 use Rattle.lot_play.specs.declared.inputs.Played.TheVariants.{Done}
 use Rattle.lot_play.specs.Played.{EndsPlay}
 
-module _ {U : Type 0} (old new : Option (List ℕ)) (turns last all : List ℕ) (is : all ≡ turns ++ last) (failed : Bool) where
+module _ (old new : Option (List ℕ)) (turns last all : List ℕ) (is : all ≡ turns ++ last) (failed : Bool) where
   -- the writer fails among the turns
-  pub fails-first : (r : Result Played IoFault) (fault : IoFault) → r ≡ Err fault → Written {U} old new failed (Err fault) turns → EndsPlay old new failed r Done all
+  pub fails-first : (r : Result Played IoFault) (fault : IoFault) → r ≡ Err fault → (fault ≡ Write) × (failed ≡ true) × Begins old new turns → EndsPlay old new failed r Done all
   fails-first r fault err told = rw err (rw told.0 (told.1, subst (Begins old new) (sym is) (begins-front old new turns last told.2)))
 
   module _ (mid : Option (List ℕ)) (first : Appends old mid turns) where
     -- or in the report
-    pub fails-last : (r : Result Played IoFault) (fault : IoFault) → r ≡ Err fault → Written {U} mid new failed (Err fault) last → EndsPlay old new failed r Done all
+    pub fails-last : (r : Result Played IoFault) (fault : IoFault) → r ≡ Err fault → (fault ≡ Write) × (failed ≡ true) × Begins mid new last → EndsPlay old new failed r Done all
     fails-last r fault err told = rw err (rw told.0 (told.1, subst (Begins old new) (sym is) (begins-after old mid new turns last first told.2)))
 
     -- or not at all
-    pub ends-well : (x : U) → Written mid new failed (Ok x) last → EndsPlay old new failed (Ok Done) Done all
-    ends-well x told = (refl, told.0, subst (Appends old new) (sym is) (appends-both old mid new turns last first told.1))
+    pub ends-well : (failed ≡ false) × Appends mid new last → EndsPlay old new failed (Ok Done) Done all
+    ends-well told = (refl, told.0, subst (Appends old new) (sym is) (appends-both old mid new turns last first told.1))

@@ -24,4 +24,4 @@ pub returns-clause-played : goal.returns-clause-played
 returns-clause-played g c =
     let program = c.args.program.now in
     ends-well (g.W.Write.contents c.args.writer.now.inner) (g.W.Write.contents c.end_play.new.writer.inner) (made_texts (program_turns program)) (last_report program program.duration) _ (played-texts program program.duration) c.end_play.new.writer.failed
-    (g.W.Write.contents c.write_turns.new.writer.inner) c.in_ok-write_turns.ensures.text.1 tt c.in_ok-end_play.ensures.text
+    (g.W.Write.contents c.write_turns.new.writer.inner) c.in_ok-write_turns.ensures.text.1 c.in_ok-end_play.ensures.text

@@ -22,7 +22,7 @@ loop-next-preserved g c =
       setting = c.in_ok-play_turn.ensures.setting ∙ c.loop-next.invariant.setting;
       observed = (
         i.0 ++ told.0 ∷ [],
-        i.1 ∙ ap (λ ts. i.0 ++ ts) told.1 ∙ sym (append_assoc i.0 (told.0 ∷ []) (turns_left c.play_turn.new.playback)),
+        i.1 ∙ ap (λ ts. i.0 ++ ts) told.1 ∙ sym (append_assoc i.0 (told.0 ∷ []) (turns_left c.play_turn.new.self)),
         told.2 i.0 i.2,
         told.3 i.0 c.args.observer.now i.2 i.3,
       );
