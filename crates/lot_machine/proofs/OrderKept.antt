@@ -1,10 +1,8 @@
 -- A state that is in order stays so through each event, and is sound.
-use Rattle.std.proofs.Common.{◌≡◌, ℕ, zero, suc, ◌+◌, ◌-◌, ◌^◌, ◌<◌, ◌≤◌, ◌==◌, Bool, true, false, not, ◌||◌, ◌⊎◌, inl, inr, Option, Some, None, is_some, is_none, List, [], ◌∷◌, length, map, filter, replicate, refl, sym, ◌∙◌, ap, subst, arith, cond, nat_lt, option_map, option_and_then, unwrap_or, get_or, slice_get, slice_index, All, IfSome}
+use Rattle.std.proofs.Common.{◌≡◌, ℕ, zero, suc, ◌+◌, ◌-◌, ◌<◌, ◌≤◌, Bool, true, false, not, ◌⊎◌, inl, inr, Option, Some, None, is_some, is_none, List, [], ◌∷◌, length, map, replicate, refl, sym, ◌∙◌, ap, subst, arith, nat_lt, option_map, option_and_then, unwrap_or, get_or, slice_get, slice_index}
 use Rattle.std.specs.Option.{option_flatten}
-use Rattle.std.proofs.lemmas.Bool.{ltb-false, leb-false, or_parts}
-use Rattle.std.proofs.lemmas.List.{get_or_past, length-append}
-use Rattle.std.proofs.Math.ListN.{length-set}
-use Rattle.std.proofs.lemmas.List.Elements.{All-nil, All-head, All-tail, All-push, All-set}
+use Rattle.std.proofs.lemmas.List.{get_or_past}
+use Rattle.std.proofs.lemmas.List.Elements.{All-nil}
 use Rattle.std.proofs.lemmas.Option.{slice_get_cases, get_or_from_slice_get}
 use Rattle.lot_machine.specs.declared.ticket.Ticket.{Ticket}
 use Rattle.lot_machine.specs.declared.ticket.Target.{Target}
@@ -17,21 +15,20 @@ use Rattle.lot_machine.specs.declared.funding.Lend.TheVariants.{Nobody}
 use Rattle.lot_machine.specs.declared.action.Action.{Action}
 use Rattle.lot_machine.specs.declared.action.Action.TheVariants.{Yield, Call, Receive, Reply as ReplyTo, Serve, Lock, Unlock, Exit}
 use Rattle.lot_machine.specs.declared.command.Command.{Command}
-use Rattle.lot_machine.specs.declared.command.Command.TheVariants.{MakeTicket, RemoveTicket, MakeCurrency, RemoveCurrency, Fund, Unfund, MakeThread, MakeFunded, List as Listing}
 use Rattle.lot_machine.specs.declared.event.Event.{Event}
 use Rattle.lot_machine.specs.declared.event.Event.TheVariants as event
-use Rattle.lot_machine.specs.declared.refusal.Refusal.TheVariants.{BadName, NameTaken, NoCurrency, BadAmount, Full, NoScript, BadProcessor, Busy, NotRunning, BadTicks}
+use Rattle.lot_machine.specs.declared.refusal.Refusal.TheVariants.{BadProcessor, Busy, NotRunning, BadTicks}
 use Rattle.lot_machine.specs.declared.refusal.TrapRefusal.{TrapRefusal}
 use Rattle.lot_machine.specs.declared.refusal.TrapRefusal.TheVariants.{NoPort, NothingToReply, NoMutex, NotOwner, AlreadyOwner, LockCycle}
 use Rattle.lot_machine.specs.declared.drawn.Drawn.{Drawn}
 use Rattle.lot_machine.specs.Bounds.{IsWithinBounds}
 use Rattle.lot_machine.specs.declared.sizes.Sizes.{Sizes}
-use Rattle.lot_machine.specs.Numbered.{at_number, set_number, numbers, option_any}
-use Rattle.lot_machine.specs.Funding.{ticket_in, with_new_ticket, retargeted, target_of, issuer_of}
+use Rattle.lot_machine.specs.Numbered.{at_number, numbers, option_any}
+use Rattle.lot_machine.specs.Funding.{target_of, issuer_of}
 use Rattle.lot_machine.specs.Lends.{lends_on_to, LendsTo, borrower}
 use Rattle.lot_machine.specs.Lottery.{winner}
 use Rattle.lot_machine.specs.State.{State, Port, Mutex, QueuedCall, opening, funding_of, lend_of, status_of, is_ready, ready_threads, thread_on, change_record, value_of, weight_of}
-use Rattle.lot_machine.specs.Commands.{currency_named, target_named, currency_or_base, is_good_name, is_taken, is_no_script, is_bad_amount, are_tickets_full, are_threads_full, with_thread, command_effect, command_step}
+use Rattle.lot_machine.specs.Commands.{command_step}
 use Rattle.lot_machine.specs.declared.after.After.{After}
 use Rattle.lot_machine.specs.Traps.{after_trap, with_ticks}
 use Rattle.lot_machine.specs.declared.after.After.TheVariants.{GoesOn, Leaves, Ends}
@@ -41,126 +38,29 @@ use Rattle.lot_machine.specs.Step.{Effect, is_bad_processor, started, draw, expi
 use Rattle.lot_machine.specs.Facts.{HasNoCycle, RunsApart, IsSound}
 use Rattle.lot_machine.specs.Order.{IsQueue, HasQueues, IsInOrder}
 use Rattle.lot_machine.proofs.Tickets.{at_number-suc, some-injective}
-use Rattle.lot_machine.proofs.CommandsKept.{unrefused, all-pass, some-of, command-keeps}
-use Rattle.lot_machine.proofs.RecordsKept.{RunsAlone, found-runs, RunsApart-trapped, apart}
-use Rattle.lot_machine.proofs.StepsKept.{command-apart, draw-apart, expire-apart, IsApart, effect-apart, there-alone, free-of}
-use Rattle.lot_machine.proofs.Queues.{queue-empty, queues-live, queues-more}
+use Rattle.lot_machine.proofs.CommandsKept.{unrefused, all-pass}
+use Rattle.lot_machine.proofs.RecordsKept.{RunsAlone, RunsApart-stops, RunsApart-trapped, apart}
+use Rattle.lot_machine.proofs.Idle.{filter-passes, is-ready, there-runs, there-alone, free-of}
+use Rattle.lot_machine.proofs.StepChanges.{Console, On, kept as all-kept, Apart, Queues, HasAmount, HasRoom, ready-stops, change-apart, change-room, change-queues, command-keeps, command-leads, draw-leads}
+use Rattle.lot_machine.proofs.StepsKept.{IsApart, effect-apart}
+use Rattle.lot_machine.proofs.Queues.{queue-empty, queues-live}
 use Rattle.lot_machine.proofs.TrapQueues.{stay-queues, call-queues, receive-queues, reply-queues, replied-queues, lock-queues, unlock-queues}
 use Rattle.lot_machine.proofs.TrapCycles.{cycle-nobody, call-cycle, receive-cycle, reply-cycle, replied-cycle, lock-cycle, unlock-cycle}
 use Rattle.lot_machine.proofs.BaseKept.{base-bounded}
 use Rattle.lot_machine.proofs.Bounded.{sound}
 
--- ---- commands: tickets and sizes
-
--- a ticket that is there has an amount of 32 bits
-abbrev HasAmount : Option Ticket → Type 0
-HasAmount place = IfSome place (λ t. t.amount < 2 ^ 32)
-
--- tickets and sizes are within their bounds
-abbrev HasRoom : State → Type 0
-HasRoom s = All HasAmount s.tickets × (length s.tickets ≤ s.limits.tickets) × IsWithinBounds s.limits
-
-amount-at : (tickets : List (Option Ticket)) (i : ℕ) → All HasAmount tickets → IfSome (slice_get tickets i) HasAmount
-amount-at [] i all = tt
-amount-at (t ∷ ts) zero all = All-head HasAmount t ts all
-amount-at (t ∷ ts) (suc i) all = amount-at ts i (All-tail HasAmount t ts all)
-
-amount-in : (tickets : List (Option Ticket)) (n : ℕ) (to : Target) → All HasAmount tickets → HasAmount (option_map (retargeted to) (ticket_in tickets n))
-amount-in tickets n to all = at (n == 0)
-  where
-    found : (o : Option (Option Ticket)) → IfSome o HasAmount → HasAmount (option_map (retargeted to) (option_flatten o))
-    found None is = tt
-    found (Some None) is = tt
-    found (Some (Some t)) is = is
-
-    at : (b : Bool) → HasAmount (option_map (retargeted to) (option_flatten (cond {A = Option (Option Ticket)} b None (slice_get tickets (n - 1)))))
-    at true = tt
-    at false = found (slice_get tickets (n - 1)) (amount-at tickets (n - 1) all)
-
-room-new : (s : State) (amount issuer : ℕ) (to : Target) → is_bad_amount amount ≡ false → are_tickets_full s ≡ false → HasRoom s → HasRoom (record s { tickets = with_new_ticket s.tickets amount issuer to })
-room-new s amount issuer to good free (amounts, few, bounds) =
-    let small : amount < 2 ^ 32 = omega (arith, ltb-false 4294967295 amount (or_parts (amount == 0) (nat_lt 4294967295 amount) good).1) in
-    let place : length s.tickets < s.limits.tickets = leb-false s.limits.tickets (length s.tickets) free in
-    let new : Option Ticket = Some (record { amount = amount; issuer = issuer; target = to }) in
-    (All-push HasAmount s.tickets new amounts small, omega (arith, place, length-append s.tickets (new ∷ [])), bounds)
-
-room-put : (s : State) (n : ℕ) (put : Option Ticket) → HasAmount put → HasRoom s → HasRoom (record s { tickets = set_number s.tickets n put })
-room-put s n put small (amounts, few, bounds) = (All-set HasAmount s.tickets (n - 1) put small amounts, omega (arith, few, length-set s.tickets (n - 1) put), bounds)
-
-command-room : (s : State) (c : Command) → HasRoom s → HasRoom (command_step s c).state
-command-room s (MakeTicket amount currency) room =
-    unrefused HasRoom s _ (command_effect s (MakeTicket amount currency)) room (λ e.
-    let passed = all-pass ((is_bad_amount amount, BadAmount) ∷ (is_none (currency_named s currency), NoCurrency) ∷ (are_tickets_full s, Full) ∷ []) e in
-    room-new s amount (currency_or_base s currency) target.Unfunded passed.0 passed.1.1.0 room)
-command-room s (RemoveTicket n) room = unrefused HasRoom s _ (command_effect s (RemoveTicket n)) room (λ _. room-put s n None tt room)
-command-room s (MakeCurrency name) room = unrefused HasRoom s _ (command_effect s (MakeCurrency name)) room (λ _. room)
-command-room s (RemoveCurrency currency) room = unrefused HasRoom s _ (command_effect s (RemoveCurrency currency)) room (λ _. room)
-command-room s (Fund n name) room =
-    unrefused HasRoom s _ (command_effect s (Fund n name)) room (λ _.
-    let to = unwrap_or (target_named s name) target.Unfunded in
-    room-put s n (option_map (retargeted to) (ticket_in s.tickets n)) (amount-in s.tickets n to room.0) room)
-command-room s (Unfund n) room =
-    unrefused HasRoom s _ (command_effect s (Unfund n)) room (λ _.
-    room-put s n (option_map (retargeted target.Unfunded) (ticket_in s.tickets n)) (amount-in s.tickets n target.Unfunded room.0) room)
-command-room s (MakeThread name script) room = unrefused HasRoom s _ (command_effect s (MakeThread name script)) room (λ _. room)
-command-room s (MakeFunded amount currency name script) room =
-    unrefused HasRoom s _ (command_effect s (MakeFunded amount currency name script)) room (λ e.
-    let passed = all-pass ((is_bad_amount amount, BadAmount) ∷ (is_none (currency_named s currency), NoCurrency) ∷ (not (is_good_name name), BadName)
-    ∷ (is_taken s name, NameTaken) ∷ (is_no_script s script, NoScript) ∷ (are_tickets_full s || are_threads_full s, Full) ∷ []) e in
-    room-new (with_thread s name script) amount (currency_or_base s currency) (target.Thread (length s.threads + 1)) passed.0
-    (or_parts (are_tickets_full s) (are_threads_full s) passed.1.1.1.1.1.0).0 room)
-command-room s (Listing kind) room = room
-
--- ---- commands: queues
-
-abbrev Queues : State → Type 0
-Queues s = HasQueues s.records s.clients s.ports s.mutexes
-
-thread-queues : (s : State) (name : List ℕ) (script : ℕ) → Queues s → Queues (with_thread s name script)
-thread-queues s name script queues =
-    queues-more s.records s.clients s.ports s.mutexes queues (record { status = status.Ready; compensation = None; delivered = None; quanta = 0; ticks = 0 })
-
-command-queues : (s : State) (c : Command) → Queues s → Queues (command_step s c).state
-command-queues s (MakeTicket amount currency) queues = unrefused Queues s _ (command_effect s (MakeTicket amount currency)) queues (λ _. queues)
-command-queues s (RemoveTicket n) queues = unrefused Queues s _ (command_effect s (RemoveTicket n)) queues (λ _. queues)
-command-queues s (MakeCurrency name) queues = unrefused Queues s _ (command_effect s (MakeCurrency name)) queues (λ _. queues)
-command-queues s (RemoveCurrency currency) queues = unrefused Queues s _ (command_effect s (RemoveCurrency currency)) queues (λ _. queues)
-command-queues s (Fund n name) queues = unrefused Queues s _ (command_effect s (Fund n name)) queues (λ _. queues)
-command-queues s (Unfund n) queues = unrefused Queues s _ (command_effect s (Unfund n)) queues (λ _. queues)
-command-queues s (MakeThread name script) queues = unrefused Queues s _ (command_effect s (MakeThread name script)) queues (λ _. thread-queues s name script queues)
-command-queues s (MakeFunded amount currency name script) queues = unrefused Queues s _ (command_effect s (MakeFunded amount currency name script)) queues (λ _. thread-queues s name script queues)
-command-queues s (Listing kind) queues = queues
+-- ---- commands
 
 pub command-order : (s : State) (c : Command) → IsInOrder s → IsInOrder (command_step s c).state
 command-order s c order =
+    let leads = command-leads s c in
     let funded = command-keeps s c order.no_cycle order.funds_there in
-    let room = command-room s c (order.amounts, order.ticket_count, order.bounds) in
-    record { no_cycle = funded.0; funds_there = funded.1; runs_apart = command-apart s c order.runs_apart; queues = command-queues s c order.queues; amounts = room.0; ticket_count = room.1; bounds = room.2 }
+    let room = all-kept HasRoom (change-room Console s) leads (order.amounts, order.ticket_count, order.bounds) in
+    let runs = all-kept Apart (change-apart Console s order.runs_apart) leads order.runs_apart in
+    let queues = all-kept Queues (change-queues s) leads order.queues in
+    record { no_cycle = funded.0; funds_there = funded.1; runs_apart = runs; queues = queues; amounts = room.0; ticket_count = room.1; bounds = room.2 }
 
 -- ---- draws and expiries
-
--- what a filter keeps passes
-pub filter-passes : (test : ℕ → Bool) (xs : List ℕ) (i x : ℕ) → slice_get (filter test xs) i ≡ Some x → test x ≡ true
-filter-passes test [] i x e = cc
-filter-passes test (y ∷ ys) i x e = at (λ j. filter-passes test ys j x) (test y) refl
-  where
-    at : ((j : ℕ) → slice_get (filter test ys) j ≡ Some x → test x ≡ true) → (b : Bool) → test y ≡ b → test x ≡ true
-    at more false is = let same : filter test (y ∷ ys) ≡ filter test ys = rw is refl in more i (sym (ap (λ zs. slice_get zs i) same) ∙ e)
-    at more true is = let same : filter test (y ∷ ys) ≡ y ∷ filter test ys = rw is refl in from i (sym (ap (λ zs. slice_get zs i) same) ∙ e)
-      where
-        from : (j : ℕ) → slice_get (y ∷ filter test ys) j ≡ Some x → test x ≡ true
-        from zero here = ap test (sym (some-injective y x here)) ∙ is
-        from (suc j) here = more j here
-
-pub is-ready : (o : Option Status) → option_any is_ready o ≡ true → o ≡ Some status.Ready
-is-ready None e = cc
-is-ready (Some status.Ready) e = refl
-is-ready (Some (status.Running p used)) e = cc
-is-ready (Some (status.Receiving p)) e = cc
-is-ready (Some (status.Queued p)) e = cc
-is-ready (Some (status.Served server)) e = cc
-is-ready (Some (status.Waiting m)) e = cc
-is-ready (Some status.Dead) e = cc
 
 -- who stands at a place of the Ready threads changes
 ready-queues : (s : State) (change : Record → Record) (place : ℕ) → Queues s → HasQueues (change_record change s.records (slice_index (ready_threads s.records) place)) s.clients s.ports s.mutexes
@@ -180,7 +80,7 @@ ready-queues s change place queues = from (slice_get_cases (ready_threads s.reco
         subst (λ u. HasQueues (change_record change s.records u) s.clients s.ports s.mutexes) (sym nobody) queues
 
 pub draw-order : (s : State) (p d : ℕ) → thread_on s.records p ≡ None → IsInOrder s → IsInOrder (draw s p d).state
-draw-order s p d free order = at (winner (map (weight_of s) (ready_threads s.records)) d) refl (draw-apart s p d free order.runs_apart)
+draw-order s p d free order = at (winner (map (weight_of s) (ready_threads s.records)) d) refl (all-kept Apart (change-apart (On p) s order.runs_apart) (draw-leads s p d free) order.runs_apart)
   where
     won : (w : Drawn) → RunsApart (change_record (started p) s.records (slice_index (ready_threads s.records) w.place)) → IsInOrder (record s { records = change_record (started p) s.records (slice_index (ready_threads s.records) w.place) })
     won w runs = record {
@@ -197,20 +97,13 @@ draw-order s p d free order = at (winner (map (weight_of s) (ready_threads s.rec
     at None is runs = rw is order
     at (Some w) is runs = rw is (won w (rw is at runs))
 
--- the thread that is found on a processor runs there
-pub there-runs : (s : State) (p : ℕ) → is_none (thread_on s.records p) ≡ false → (used : ℕ) × (status_of s.records (thread_there s p) ≡ Some (status.Running p used))
-there-runs s p some = from (some-of (thread_on s.records p) some)
-  where
-    from : ((t : ℕ) × (thread_on s.records p ≡ Some t)) → (used : ℕ) × (status_of s.records (thread_there s p) ≡ Some (status.Running p used))
-    from (t, found) = let there = found-runs s.records p t found in (there.0, ap (λ o. status_of s.records (unwrap_or o 0)) found ∙ there.1)
-
 pub expire-order : (s : State) (p t before used : ℕ) → status_of s.records t ≡ Some (status.Running p before) → IsInOrder s → IsInOrder (expire s t used).state
 expire-order s p t before used runs order =
     let change : Record → Record = λ r. with_ticks (s.limits.quantum - used) (record r { status = status.Ready; compensation = None }) in
     record {
       no_cycle = cycle-nobody s change t (λ r. refl) order.no_cycle;
       funds_there = order.funds_there;
-      runs_apart = expire-apart s t used order.runs_apart;
+      runs_apart = RunsApart-stops change s.records t (λ r. ready-stops) order.runs_apart;
       queues = queues-live s.records s.clients s.ports s.mutexes order.queues change t (status.Running p before) runs refl;
       amounts = order.amounts;
       ticket_count = order.ticket_count;
