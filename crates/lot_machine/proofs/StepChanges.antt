@@ -188,13 +188,13 @@ change-grown by s a (NewThread t) allowed (limits, (more, records, threads)) =
 change-grown by s a (PutRecord t r) allowed (limits, (more, records, threads)) = (limits, (more, length-set a.records (t - 1) r ∙ records, threads))
 change-grown by s a other allowed grown = grown
 
--- the same limits, and as many threads
+-- the same limits, as many records, and the same threads
 abbrev pub HasSizesOf : State → State → Type 0
-HasSizesOf s after = (after.limits ≡ s.limits) × (length after.records ≡ length s.records)
+HasSizesOf s after = (after.limits ≡ s.limits) × (length after.records ≡ length s.records) × (after.threads ≡ s.threads)
 
 pub change-sizes : (by : By) (s : State) → ¬ (by ≡ Console) → Keeps by s (HasSizesOf s)
 change-sizes by s other a (NewThread t) allowed sizes = absurd (other allowed)
-change-sizes by s other a (PutRecord t r) allowed (limits, records) = (limits, length-set a.records (t - 1) r ∙ records)
+change-sizes by s other a (PutRecord t r) allowed (limits, records, threads) = (limits, length-set a.records (t - 1) r ∙ records, threads)
 change-sizes by s other a c allowed sizes = sizes
 
 -- ---- commands

@@ -1,4 +1,4 @@
--- How many threads a state has after an event, and its limits.
+-- How many threads a state has after an event, who they are, and its limits.
 use Rattle.std.proofs.Common.{◌≡◌, ℕ, ◌-◌, Option, Some, None, List, length, refl, arith}
 use Rattle.std.proofs.Math.ListN.{length-set}
 use Rattle.lot_machine.specs.declared.record.Record.{Record}
@@ -25,11 +25,11 @@ change-length change records t = at (at_number records t) refl
 
 -- a trap's work, whether it is refused or not
 pub checked-sizes : (s : State) (t : ℕ) (action : Action) (o : Option TrapRefusal) → HasSizesOf s (checked_effect s o (trap_effect s t action)).state
-checked-sizes s t action o = kept (HasSizesOf s) (change-sizes Work s (λ e. cc)) (checked-leads s t action o).0 (refl, refl)
+checked-sizes s t action o = kept (HasSizesOf s) (change-sizes Work s (λ e. cc)) (checked-leads s t action o).0 (refl, refl, refl)
 
 -- an event of a processor makes no thread, and leaves the limits
 pub step-sizes : (s : State) (e : Event) (q : ℕ) → processor_of e ≡ Some q → HasSizesOf s (step s e).state
-step-sizes s e q on = kept (HasSizesOf s) (change-sizes (by_event e) s (from e on)) (step-leads s e) (refl, refl)
+step-sizes s e q on = kept (HasSizesOf s) (change-sizes (by_event e) s (from e on)) (step-leads s e) (refl, refl, refl)
   where
     from : (e : Event) → processor_of e ≡ Some q → ¬ (by_event e ≡ Console)
     from (event.Command command) on is = cc
