@@ -71,10 +71,10 @@ pub record Moves (by : By) (s a : State) (t : ℕ) (r : Record) : Type 0 where
 
 -- the change is allowed in the second state, which the event has reached from the first
 abbrev pub Allowed : By → State → State → Change → Type 0
-Allowed by s a (NewTicket t) = (t.amount < 2 ^ 32) × (length a.tickets < a.limits.tickets) × (currency_funded t.target ≡ None)
-Allowed by s a (PutTicket n place) = (All HasAmount a.tickets → HasAmount place) × (IsFunded a → IsFunded (record a { tickets = set_number a.tickets n place }))
-Allowed by s a (NewCurrency name) = Unit {0}
-Allowed by s a (DropCurrency c) = length (backing_currency (funding_of a) c) ≡ 0
+Allowed by s a (NewTicket t) = (by ≡ Console) × (t.amount < 2 ^ 32) × (length a.tickets < a.limits.tickets) × (currency_funded t.target ≡ None)
+Allowed by s a (PutTicket n place) = (by ≡ Console) × (All HasAmount a.tickets → HasAmount place) × (IsFunded a → IsFunded (record a { tickets = set_number a.tickets n place }))
+Allowed by s a (NewCurrency name) = by ≡ Console
+Allowed by s a (DropCurrency c) = (by ≡ Console) × (length (backing_currency (funding_of a) c) ≡ 0)
 Allowed by s a (NewThread t) = by ≡ Console
 Allowed by s a (PutRecord t r) = Moves by s a t r
 Allowed by s a other = ¬ (by ≡ Console)
@@ -108,17 +108,20 @@ working p s b leads = kept (Leads (On p) s) (λ a c allowed before. Then before 
     not-on : (q : ℕ) → ¬ (Work ≡ On q)
     not-on q e = cc
 
+    not-console : ¬ (Work ≡ Console)
+    not-console e = cc
+
     may : (a : State) (c : Change) → Allowed Work s a c → Allowed (On p) s a c
-    may a (NewThread t) allowed = cc
+    may a (NewThread t) allowed = absurd (not-console allowed)
     may a (PutRecord t r) allowed =
         record { there = allowed.there; mover = λ e. cc; tally = λ e. cc; elsewhere = λ queues q other. allowed.elsewhere queues q (not-on q); runs = λ q used is. absurd (not-on q (allowed.runs q used is).0) }
     may a (PutClients t x) allowed = λ e. cc
     may a (PutPort t x) allowed = λ e. cc
     may a (PutMutex t x) allowed = λ e. cc
-    may a (NewTicket t) allowed = allowed
-    may a (PutTicket n x) allowed = allowed
-    may a (NewCurrency x) allowed = allowed
-    may a (DropCurrency x) allowed = allowed
+    may a (NewTicket t) allowed = absurd (not-console allowed.0)
+    may a (PutTicket n x) allowed = absurd (not-console allowed.0)
+    may a (NewCurrency x) allowed = absurd (not-console allowed)
+    may a (DropCurrency x) allowed = absurd (not-console allowed.0)
 
 -- one thread's record changes, if it is there
 put : {by : By} {s : State} (a : State) (change : Record → Record) (t : ℕ) → ¬ (by ≡ Console) → (by ≡ Work → (r : Record) → change r ≡ record r { status = (change r).status; compensation = (change r).compensation; delivered = (change r).delivered }) → Leads by s a
@@ -174,8 +177,8 @@ abbrev pub HasRoom : State → Type 0
 HasRoom s = All HasAmount s.tickets × (length s.tickets ≤ s.limits.tickets) × IsWithinBounds s.limits
 
 pub change-room : (by : By) (s : State) → Keeps by s HasRoom
-change-room by s a (NewTicket t) (small, free, target) (amounts, few, bounds) = (All-push HasAmount a.tickets (Some t) amounts small, omega (arith, free, length-append a.tickets (Some t ∷ [])), bounds)
-change-room by s a (PutTicket n place) allowed (amounts, few, bounds) = (All-set HasAmount a.tickets (n - 1) place (allowed.0 amounts) amounts, omega (arith, few, length-set a.tickets (n - 1) place), bounds)
+change-room by s a (NewTicket t) (console, small, free, target) (amounts, few, bounds) = (All-push HasAmount a.tickets (Some t) amounts small, omega (arith, free, length-append a.tickets (Some t ∷ [])), bounds)
+change-room by s a (PutTicket n place) allowed (amounts, few, bounds) = (All-set HasAmount a.tickets (n - 1) place (allowed.1 amounts) amounts, omega (arith, few, length-set a.tickets (n - 1) place), bounds)
 change-room by s a other allowed room = room
 
 -- the same limits, and as many more records as threads
@@ -196,6 +199,12 @@ pub change-sizes : (by : By) (s : State) → ¬ (by ≡ Console) → Keeps by s 
 change-sizes by s other a (NewThread t) allowed sizes = absurd (other allowed)
 change-sizes by s other a (PutRecord t r) allowed (limits, records, threads) = (limits, length-set a.records (t - 1) r ∙ records, threads)
 change-sizes by s other a c allowed sizes = sizes
+
+-- the same tickets
+pub change-tickets : (by : By) (s : State) → ¬ (by ≡ Console) → Keeps by s (λ a. a.tickets ≡ s.tickets)
+change-tickets by s other a (NewTicket t) allowed same = absurd (other allowed.0)
+change-tickets by s other a (PutTicket n place) allowed same = absurd (other allowed.0)
+change-tickets by s other a c allowed same = same
 
 -- ---- commands
 
@@ -218,9 +227,9 @@ amount-in tickets n to all = at (n == 0)
 
 -- a ticket's amount is checked, and that there is room for it
 may-issue : (s : State) (amount : ℕ) (to : Target) → is_bad_amount amount ≡ false → are_tickets_full s ≡ false → currency_funded to ≡ None
-    → (amount < 2 ^ 32) × (length s.tickets < s.limits.tickets) × (currency_funded to ≡ None)
+    → ◌≡◌ {A = By} Console Console × (amount < 2 ^ 32) × (length s.tickets < s.limits.tickets) × (currency_funded to ≡ None)
 may-issue s amount to good free none =
-    (omega (arith, ltb-false 4294967295 amount (or_parts (amount == 0) (nat_lt 4294967295 amount) good).1), leb-false s.limits.tickets (length s.tickets) free, none)
+    (refl, omega (arith, ltb-false 4294967295 amount (or_parts (amount == 0) (nat_lt 4294967295 amount) good).1), leb-false s.limits.tickets (length s.tickets) free, none)
 
 -- Each command: its checks say that its changes are allowed.
 pub command-leads : (s : State) (c : Command) → Leads Console s (command_step s c).state
@@ -229,13 +238,13 @@ command-leads s (MakeTicket amount currency) =
     let passed = all-pass ((is_bad_amount amount, BadAmount) ∷ (is_none (currency_named s currency), NoCurrency) ∷ (are_tickets_full s, Full) ∷ []) e in
     Then Stays (NewTicket (record { amount = amount; issuer = currency_or_base s currency; target = target.Unfunded })) (may-issue s amount target.Unfunded passed.0 passed.1.1.0 refl))
 command-leads s (RemoveTicket n) =
-    unrefused (Leads Console s) s _ (command_effect s (RemoveTicket n)) Stays (λ _. Then Stays (PutTicket n None) (λ _. tt, λ (cycle, there). keeps-remove_ticket s cycle there n))
-command-leads s (MakeCurrency name) = unrefused (Leads Console s) s _ (command_effect s (MakeCurrency name)) Stays (λ _. Then Stays (NewCurrency name) tt)
+    unrefused (Leads Console s) s _ (command_effect s (RemoveTicket n)) Stays (λ _. Then Stays (PutTicket n None) (refl, λ _. tt, λ (cycle, there). keeps-remove_ticket s cycle there n))
+command-leads s (MakeCurrency name) = unrefused (Leads Console s) s _ (command_effect s (MakeCurrency name)) Stays (λ _. Then Stays (NewCurrency name) refl)
 command-leads s (RemoveCurrency currency) =
     unrefused (Leads Console s) s _ (command_effect s (RemoveCurrency currency)) Stays (λ e.
     let passed = all-pass ((is_none (currency_named s currency), NoCurrency) ∷ (option_any (λ c. c == 0) (currency_named s currency), BaseFixed)
     ∷ (option_any (is_in_use s) (currency_named s currency), InUse) ∷ []) e in
-    Then Stays (DropCurrency (currency_or_base s currency)) (unused (currency_named s currency) passed.0 passed.1.1.0))
+    Then Stays (DropCurrency (currency_or_base s currency)) (refl, unused (currency_named s currency) passed.0 passed.1.1.0))
   where
     unused : (o : Option ℕ) → is_none o ≡ false → option_any (is_in_use s) o ≡ false → length (backing_currency (funding_of s) (unwrap_or o 0)) ≡ 0
     unused None named not_used = cc
@@ -246,7 +255,7 @@ command-leads s (Fund n name) =
     ∷ (option_any (is_currency 0) (target_named s name), BaseFixed) ∷ (option_any (is_dead_thread s) (target_named s name), DeadThread)
     ∷ (option_any is_funding (ticket_in s.tickets n), IsFunding) ∷ (option_any (is_cycle s n) (target_named s name), Cycle) ∷ []) e in
     let to = unwrap_or (target_named s name) target.Unfunded in
-    Then Stays (PutTicket n (option_map (retargeted to) (ticket_in s.tickets n))) (amount-in s.tickets n to, funds (target_named s name) refl passed.1.0 passed.1.1.1.1.1.0 passed.0))
+    Then Stays (PutTicket n (option_map (retargeted to) (ticket_in s.tickets n))) (refl, amount-in s.tickets n to, funds (target_named s name) refl passed.1.0 passed.1.1.1.1.1.0 passed.0))
   where
     funds : (o : Option Target) → target_named s name ≡ o → is_none o ≡ false → option_any (is_cycle s n) o ≡ false → is_none (ticket_in s.tickets n) ≡ false
         → IsFunded s → IsFunded (record s { tickets = with_target s.tickets n (unwrap_or o target.Unfunded) })
@@ -255,7 +264,7 @@ command-leads s (Fund n name) =
         keeps-target s no_cycle there n to (λ c same. (apart, named-there name s.currencies c (target-currency s name c (is ∙ ap Some same)))) here
 command-leads s (Unfund n) =
     unrefused (Leads Console s) s _ (command_effect s (Unfund n)) Stays (λ _.
-    Then Stays (PutTicket n (option_map (retargeted target.Unfunded) (ticket_in s.tickets n))) (amount-in s.tickets n target.Unfunded, λ (cycle, there). keeps-unfund s cycle there n target.Unfunded refl))
+    Then Stays (PutTicket n (option_map (retargeted target.Unfunded) (ticket_in s.tickets n))) (refl, amount-in s.tickets n target.Unfunded, λ (cycle, there). keeps-unfund s cycle there n target.Unfunded refl))
 command-leads s (MakeThread name script) =
     unrefused (Leads Console s) s _ (command_effect s (MakeThread name script)) Stays (λ _. Then Stays (NewThread (record { name = name; script = script })) refl)
 command-leads s (MakeFunded amount currency name script) =
@@ -270,14 +279,14 @@ command-leads s (Listing kind) = Stays
 
 -- nothing makes a cycle, and tickets fund only currencies that are there
 pub change-funded : (s : State) → Keeps Console s IsFunded
-change-funded s a (NewTicket t) (small, room, none) (no_cycle, there) =
+change-funded s a (NewTicket t) (console, small, room, none) (no_cycle, there) =
     (HasNoCycle-new_ticket (funding_of a) t.amount t.issuer t.target none no_cycle, FundsThere-new_ticket (funding_of a) t.amount t.issuer t.target none there)
-change-funded s a (PutTicket n place) allowed funded = allowed.1 funded
+change-funded s a (PutTicket n place) allowed funded = allowed.2 funded
 change-funded s a (NewCurrency name) allowed (no_cycle, there) = (
   HasNoCycle-currencies (funding_of a) (map is_some (a.currencies ++ Some name ∷ [])) no_cycle,
   subst (λ xs. FundsThere (record (funding_of a) { currencies = xs })) (sym (map-append is_some a.currencies (Some name ∷ []))) (FundsThere-after (funding_of a) (true ∷ []) there),
 )
-change-funded s a (DropCurrency c) unused (no_cycle, there) = (
+change-funded s a (DropCurrency c) (console, unused) (no_cycle, there) = (
   HasNoCycle-currencies (funding_of a) (map is_some (slice_set a.currencies c None)) no_cycle,
   subst (λ xs. FundsThere (record (funding_of a) { currencies = xs })) (sym (map-set is_some a.currencies c None)) (FundsThere-removed (funding_of a) c unused there),
 )

@@ -13,7 +13,7 @@ use Rattle.lot_machine.specs.Commands.{command_step}
 use Rattle.lot_machine.specs.Step.{trap_effect, checked_effect, step}
 use Rattle.lot_machine.specs.Named.{processor_of}
 pub use Rattle.lot_machine.proofs.StepChanges.{HasSizesOf, HasGrownFrom}
-use Rattle.lot_machine.proofs.StepChanges.{Console, Work, kept, change-grown, change-sizes, command-leads, checked-leads, by_event, step-leads}
+use Rattle.lot_machine.proofs.StepChanges.{Console, Work, kept, change-grown, change-sizes, change-tickets, checked-leads, by_event, step-leads}
 
 -- a change of a thread's record
 pub change-length : (change : Record → Record) (records : List Record) (t : ℕ) → length (change_record change records t) ≡ length records
@@ -27,20 +27,27 @@ change-length change records t = at (at_number records t) refl
 pub checked-sizes : (s : State) (t : ℕ) (action : Action) (o : Option TrapRefusal) → HasSizesOf s (checked_effect s o (trap_effect s t action)).state
 checked-sizes s t action o = kept (HasSizesOf s) (change-sizes Work s (λ e. cc)) (checked-leads s t action o).0 (refl, refl, refl)
 
--- an event of a processor makes no thread, and leaves the limits
+-- an event of a processor is not the console's
+not-console : (e : Event) (q : ℕ) → processor_of e ≡ Some q → ¬ (by_event e ≡ Console)
+not-console (event.Command command) q on is = cc
+not-console (event.Draw p d) q on is = cc
+not-console (event.Expire p) q on is = cc
+not-console (event.Trap p ran action) q on is = cc
+
+-- it makes no thread, and leaves the limits
 pub step-sizes : (s : State) (e : Event) (q : ℕ) → processor_of e ≡ Some q → HasSizesOf s (step s e).state
-step-sizes s e q on = kept (HasSizesOf s) (change-sizes (by_event e) s (from e on)) (step-leads s e) (refl, refl, refl)
-  where
-    from : (e : Event) → processor_of e ≡ Some q → ¬ (by_event e ≡ Console)
-    from (event.Command command) on is = cc
-    from (event.Draw p d) on is = cc
-    from (event.Expire p) on is = cc
-    from (event.Trap p ran action) on is = cc
+step-sizes s e q on = kept (HasSizesOf s) (change-sizes (by_event e) s (not-console e q on)) (step-leads s e) (refl, refl, refl)
 
--- a command leaves the limits, and a thread that it makes has a record
+-- and the tickets
+pub step-tickets : (s : State) (e : Event) (q : ℕ) → processor_of e ≡ Some q → (step s e).state.tickets ≡ s.tickets
+step-tickets s e q on = kept (λ a. a.tickets ≡ s.tickets) (change-tickets (by_event e) s (not-console e q on)) (step-leads s e) refl
+
+-- any event leaves the limits, and a thread that it makes has a record
+pub step-grown : (s : State) (e : Event) → HasGrownFrom s (step s e).state
+step-grown s e = kept (HasGrownFrom s) (change-grown (by_event e) s) (step-leads s e) (refl, (0, omega arith, omega arith))
+
 pub command-grown : (s : State) (c : Command) → HasGrownFrom s (command_step s c).state
-command-grown s c = kept (HasGrownFrom s) (change-grown Console s) (command-leads s c) (refl, (0, omega arith, omega arith))
+command-grown s c = step-grown s (event.Command c)
 
--- no event changes the limits
 pub step-limits : (s : State) (e : Event) → (step s e).state.limits ≡ s.limits
-step-limits s e = (kept (HasGrownFrom s) (change-grown (by_event e) s) (step-leads s e) (refl, (0, omega arith, omega arith))).0
+step-limits s e = (step-grown s e).0
