@@ -35,30 +35,42 @@ use Rattle.lot_machine.specs.declared.after.After.TheVariants.{GoesOn, Leaves, E
 use Rattle.lot_machine.specs.Ports.{first_client, reply}
 use Rattle.lot_machine.specs.Mutexes.{mutex_at}
 use Rattle.lot_machine.specs.Step.{Effect, is_bad_processor, started, draw, expire, owns, trap_refusal, trap_effect, checked_effect, trap, thread_there, used_there, event_effect, step, state_after}
-use Rattle.lot_machine.specs.Facts.{HasNoCycle, RunsApart, IsSound}
+use Rattle.lot_machine.specs.Facts.{HasNoCycle, FundsThere, IsSound}
 use Rattle.lot_machine.specs.Order.{IsQueue, HasQueues, IsInOrder}
 use Rattle.lot_machine.proofs.Tickets.{at_number-suc, some-injective}
 use Rattle.lot_machine.proofs.CommandsKept.{unrefused, all-pass}
-use Rattle.lot_machine.proofs.RecordsKept.{RunsAlone, RunsApart-stops, RunsApart-trapped, apart}
-use Rattle.lot_machine.proofs.Idle.{filter-passes, is-ready, there-runs, there-alone, free-of}
-use Rattle.lot_machine.proofs.StepChanges.{Console, On, kept as all-kept, Apart, Queues, HasAmount, HasRoom, ready-stops, change-apart, change-room, change-queues, command-keeps, command-leads, draw-leads}
-use Rattle.lot_machine.proofs.StepsKept.{IsApart, effect-apart}
+use Rattle.lot_machine.proofs.RecordsKept.{RunsAlone, apart}
+use Rattle.lot_machine.proofs.Idle.{filter-passes, is-ready, there-runs, there-alone, free-of, used-of, used-elsewhere}
+use Rattle.lot_machine.proofs.StepChanges.{By, On, Leads, kept as all-kept, Apart, Queues, HasAmount, HasRoom, change-apart, change-room, change-there, change-queues, command-keeps, command-leads, draw-leads, expire-leads, checked-leads, finish-leads}
 use Rattle.lot_machine.proofs.Queues.{queue-empty, queues-live}
 use Rattle.lot_machine.proofs.TrapQueues.{stay-queues, call-queues, receive-queues, reply-queues, replied-queues, lock-queues, unlock-queues}
 use Rattle.lot_machine.proofs.TrapCycles.{cycle-nobody, call-cycle, receive-cycle, reply-cycle, replied-cycle, lock-cycle, unlock-cycle}
 use Rattle.lot_machine.proofs.BaseKept.{base-bounded}
 use Rattle.lot_machine.proofs.Bounded.{sound}
 
--- ---- commands
+-- ---- what allowed changes keep of the order
 
-pub command-order : (s : State) (c : Command) → IsInOrder s → IsInOrder (command_step s c).state
+-- all but cycles, queues and what tickets fund
+frame-order : {by : By} (s b : State) → IsInOrder s → Leads by s b → HasNoCycle (funding_of b) → FundsThere (funding_of b) → Queues b → IsInOrder b
+frame-order {by} s b order leads no_cycle there queues =
+    let room = all-kept HasRoom (change-room by s) leads (order.amounts, order.ticket_count, order.bounds) in
+    let runs = all-kept Apart (change-apart by s order.runs_apart) leads order.runs_apart in
+    record { no_cycle = no_cycle; funds_there = there; runs_apart = runs; queues = queues; amounts = room.0; ticket_count = room.1; bounds = room.2 }
+
+command-order : (s : State) (c : Command) → IsInOrder s → IsInOrder (command_step s c).state
 command-order s c order =
     let leads = command-leads s c in
     let funded = command-keeps s c order.no_cycle order.funds_there in
-    let room = all-kept HasRoom (change-room Console s) leads (order.amounts, order.ticket_count, order.bounds) in
-    let runs = all-kept Apart (change-apart Console s order.runs_apart) leads order.runs_apart in
-    let queues = all-kept Queues (change-queues s) leads order.queues in
-    record { no_cycle = funded.0; funds_there = funded.1; runs_apart = runs; queues = queues; amounts = room.0; ticket_count = room.1; bounds = room.2 }
+    frame-order s (command_step s c).state order leads funded.0 funded.1 (all-kept Queues (change-queues s) leads order.queues)
+
+-- cycles and queues
+abbrev IsUntangled : State → Type 0
+IsUntangled s = HasNoCycle (funding_of s) × Queues s
+
+-- what isn't the console's leaves what tickets fund
+processor-order : (p : ℕ) (s b : State) → IsInOrder s → Leads (On p) s b → IsUntangled b → IsInOrder b
+processor-order p s b order leads (no_cycle, queues) =
+    frame-order s b order leads no_cycle (all-kept (λ a. FundsThere (funding_of a)) (change-there (On p) s (λ e. cc)) leads order.funds_there) queues
 
 -- ---- draws and expiries
 
@@ -79,36 +91,19 @@ ready-queues s change place queues = from (slice_get_cases (ready_threads s.reco
         let nobody : slice_index (ready_threads s.records) place ≡ 0 = get_or_past (ready_threads s.records) place 0 past in
         subst (λ u. HasQueues (change_record change s.records u) s.clients s.ports s.mutexes) (sym nobody) queues
 
-pub draw-order : (s : State) (p d : ℕ) → thread_on s.records p ≡ None → IsInOrder s → IsInOrder (draw s p d).state
-draw-order s p d free order = at (winner (map (weight_of s) (ready_threads s.records)) d) refl (all-kept Apart (change-apart (On p) s order.runs_apart) (draw-leads s p d free) order.runs_apart)
+draw-order : (s : State) (p d : ℕ) → thread_on s.records p ≡ None → IsInOrder s → IsInOrder (draw s p d).state
+draw-order s p d free order = processor-order p s (draw s p d).state order (draw-leads s p d free) (at (winner (map (weight_of s) (ready_threads s.records)) d) refl)
   where
-    won : (w : Drawn) → RunsApart (change_record (started p) s.records (slice_index (ready_threads s.records) w.place)) → IsInOrder (record s { records = change_record (started p) s.records (slice_index (ready_threads s.records) w.place) })
-    won w runs = record {
-      no_cycle = cycle-nobody s (started p) (slice_index (ready_threads s.records) w.place) (λ r. refl) order.no_cycle;
-      funds_there = order.funds_there;
-      runs_apart = runs;
-      queues = ready-queues s (started p) w.place order.queues;
-      amounts = order.amounts;
-      ticket_count = order.ticket_count;
-      bounds = order.bounds;
-    }
+    at : (o : Option Drawn) → winner (map (weight_of s) (ready_threads s.records)) d ≡ o → IsUntangled (draw s p d).state
+    at None is = rw is (order.no_cycle, order.queues)
+    at (Some w) is =
+        let t = slice_index (ready_threads s.records) w.place in
+        rw is (cycle-nobody s (started p) t (λ r. refl) order.no_cycle, ready-queues s (started p) w.place order.queues)
 
-    at : (o : Option Drawn) → winner (map (weight_of s) (ready_threads s.records)) d ≡ o → RunsApart (draw s p d).state.records → IsInOrder (draw s p d).state
-    at None is runs = rw is order
-    at (Some w) is runs = rw is (won w (rw is at runs))
-
-pub expire-order : (s : State) (p t before used : ℕ) → status_of s.records t ≡ Some (status.Running p before) → IsInOrder s → IsInOrder (expire s t used).state
-expire-order s p t before used runs order =
+expire-untangled : (s : State) (p t before used : ℕ) → status_of s.records t ≡ Some (status.Running p before) → IsInOrder s → IsUntangled (expire s t used).state
+expire-untangled s p t before used runs order =
     let change : Record → Record = λ r. with_ticks (s.limits.quantum - used) (record r { status = status.Ready; compensation = None }) in
-    record {
-      no_cycle = cycle-nobody s change t (λ r. refl) order.no_cycle;
-      funds_there = order.funds_there;
-      runs_apart = RunsApart-stops change s.records t (λ r. ready-stops) order.runs_apart;
-      queues = queues-live s.records s.clients s.ports s.mutexes order.queues change t (status.Running p before) runs refl;
-      amounts = order.amounts;
-      ticket_count = order.ticket_count;
-      bounds = order.bounds;
-    }
+    (cycle-nobody s change t (λ r. refl) order.no_cycle, queues-live s.records s.clients s.ports s.mutexes order.queues change t (status.Running p before) runs refl)
 
 -- ---- traps
 
@@ -117,7 +112,7 @@ default-of : {A : Type 0} (o : Option A) (d : A) → is_none o ≡ false → o �
 default-of None d e = cc
 default-of (Some x) d e = refl
 
-module _ (s : State) (order : IsInOrder s) (t p before ticks used : ℕ) (runs : status_of s.records t ≡ Some (status.Running p before)) (alone : RunsAlone s.records p t) where
+module _ (s : State) (order : IsInOrder s) (t p before ticks used : ℕ) (runs : status_of s.records t ≡ Some (status.Running p before)) where
   -- what becomes of the thread that made the trap
   abbrev finish : After → Record → Record
   finish after r = with_ticks ticks (after_trap after p used s.limits.quantum r)
@@ -134,76 +129,53 @@ module _ (s : State) (order : IsInOrder s) (t p before ticks used : ℕ) (runs :
   abbrev finished : Effect → State
   finished e = record e.state { records = change_record (finish e.after) e.state.records t }
 
-  built : (records : List Record) (clients : List (List ℕ)) (ports : List Port) (mutexes : List Mutex) (after : After) → IsApart p t records after
-      → HasNoCycle (funding_of (record s { records = change_record (finish after) records t; clients = clients; ports = ports; mutexes = mutexes }))
-      → HasQueues (change_record (finish after) records t) clients ports mutexes
-      → IsInOrder (record s { records = change_record (finish after) records t; clients = clients; ports = ports; mutexes = mutexes })
-  built records clients ports mutexes after is no_cycle queues = record {
-    no_cycle = no_cycle;
-    funds_there = order.funds_there;
-    runs_apart = RunsApart-trapped after ticks s.limits.quantum records p t used is.2 is.1 is.0;
-    queues = queues;
-    amounts = order.amounts;
-    ticket_count = order.ticket_count;
-    bounds = order.bounds;
-  }
-
   -- one that changes nothing besides
-  kept : (after : After) → IsApart p t s.records after → ((r : Record) → lend_of (finish after r).status ≡ Nobody) → IsInOrder (record s { records = change_record (finish after) s.records t })
-  kept after is nobody =
-      built s.records s.clients s.ports s.mutexes after is (cycle-nobody s (finish after) t nobody order.no_cycle)
-      (stay-queues finish (λ st r. refl) s.records s.clients s.ports s.mutexes order.queues t p before runs after)
+  nothing-else : (after : After) → ((r : Record) → lend_of (finish after r).status ≡ Nobody) → IsUntangled (record s { records = change_record (finish after) s.records t })
+  nothing-else after nobody =
+      (cycle-nobody s (finish after) t nobody order.no_cycle, stay-queues finish (λ st r. refl) s.records s.clients s.ports s.mutexes order.queues t p before runs after)
 
-  effect-order : (action : Action) → trap_refusal s t action ≡ None → IsInOrder (finished (trap_effect s t action))
-  effect-order Yield allowed = kept (Leaves status.Ready) (effect-apart s p t t Yield order.runs_apart alone) (λ r. refl)
-  effect-order Exit allowed = kept Ends (effect-apart s p t t Exit order.runs_apart alone) (λ r. refl)
-  effect-order (Call port number) allowed =
+  effect-untangled : (action : Action) → trap_refusal s t action ≡ None → IsUntangled (finished (trap_effect s t action))
+  effect-untangled Yield allowed = nothing-else (Leaves status.Ready) (λ r. refl)
+  effect-untangled Exit allowed = nothing-else Ends (λ r. refl)
+  effect-untangled (Call port number) allowed =
       let passed = all-pass ((is_none (at_number s.ports port), NoPort) ∷ []) allowed in
       let there = default-of (at_number s.ports port) (record { calls = []; receivers = [] }) passed.0 in
-      built _ _ _ _ (trap_effect s t (Call port number)).after (effect-apart s p t t (Call port number) order.runs_apart alone)
-      (call-cycle finish (λ st r. refl) goes-on s order.no_cycle order.queues t p before runs port number there)
-      (call-queues finish (λ st r. refl) s.records s.clients s.ports s.mutexes order.queues t p before runs port number there)
-  effect-order (Receive port) allowed =
+      (call-cycle finish (λ st r. refl) goes-on s order.no_cycle order.queues t p before runs port number there, call-queues finish (λ st r. refl) s.records s.clients s.ports s.mutexes order.queues t p before runs port number there)
+  effect-untangled (Receive port) allowed =
       let passed = all-pass ((is_none (at_number s.ports port), NoPort) ∷ []) allowed in
       let there = default-of (at_number s.ports port) (record { calls = []; receivers = [] }) passed.0 in
-      built _ _ _ _ (trap_effect s t (Receive port)).after (effect-apart s p t t (Receive port) order.runs_apart alone)
-      (receive-cycle finish (λ st r. refl) goes-on s order.no_cycle order.queues t p before runs port there)
-      (receive-queues finish (λ st r. refl) s.records s.clients s.ports s.mutexes order.queues t p before runs port there)
-  effect-order (ReplyTo number) allowed =
+      (receive-cycle finish (λ st r. refl) goes-on s order.no_cycle order.queues t p before runs port there, receive-queues finish (λ st r. refl) s.records s.clients s.ports s.mutexes order.queues t p before runs port there)
+  effect-untangled (ReplyTo number) allowed =
       let passed = all-pass ((is_none (first_client s.clients t), NothingToReply) ∷ []) allowed in
-      built _ _ _ _ (trap_effect s t (ReplyTo number)).after (effect-apart s p t t (ReplyTo number) order.runs_apart alone)
-      (reply-cycle finish (λ st r. refl) goes-on s order.no_cycle order.queues t p before runs number)
-      (reply-queues finish (λ st r. refl) s.records s.clients s.ports s.mutexes order.queues t p before runs number passed.0)
-  effect-order (Serve port number) allowed =
+      (reply-cycle finish (λ st r. refl) goes-on s order.no_cycle order.queues t p before runs number, reply-queues finish (λ st r. refl) s.records s.clients s.ports s.mutexes order.queues t p before runs number passed.0)
+  effect-untangled (Serve port number) allowed =
       let passed = all-pass ((is_none (at_number s.ports port), NoPort) ∷ (is_none (first_client s.clients t), NothingToReply) ∷ []) allowed in
       let there = default-of (at_number s.ports port) (record { calls = []; receivers = [] }) passed.0 in
       let replied = reply s.records s.clients s.ports t number in
       let middle : State = record s { records = replied.records; clients = replied.clients; ports = replied.ports } in
       let left = replied-queues finish (λ st r. refl) s.records s.clients s.ports s.mutexes order.queues t p before runs number passed.1.0 in
       let no_cycle = replied-cycle finish (λ st r. refl) goes-on s order.no_cycle order.queues t p before runs number in
-      built _ _ _ _ (trap_effect s t (Serve port number)).after (effect-apart s p t t (Serve port number) order.runs_apart alone)
-      (receive-cycle finish (λ st r. refl) goes-on middle no_cycle left.0 t p before left.1 port there)
-      (receive-queues finish (λ st r. refl) replied.records replied.clients replied.ports s.mutexes left.0 t p before left.1 port there)
-  effect-order (Lock m) allowed =
+      (receive-cycle finish (λ st r. refl) goes-on middle no_cycle left.0 t p before left.1 port there, receive-queues finish (λ st r. refl) replied.records replied.clients replied.ports s.mutexes left.0 t p before left.1 port there)
+  effect-untangled (Lock m) allowed =
       let passed = all-pass ((is_none (at_number s.mutexes m), NoMutex) ∷ (owns s t m, AlreadyOwner)
       ∷ (option_any (λ owner. lends_on_to (funding_of s) owner t) (mutex_at s.mutexes m).owner, LockCycle) ∷ []) allowed in
       let there = default-of (at_number s.mutexes m) (record { owner = None; waiters = [] }) passed.0 in
-      built _ _ _ _ (trap_effect s t (Lock m)).after (effect-apart s p t t (Lock m) order.runs_apart alone)
-      (lock-cycle finish (λ st r. refl) goes-on s order.no_cycle order.queues t p before runs m there passed.1.0 passed.1.1.0)
-      (lock-queues finish (λ st r. refl) s.records s.clients s.ports s.mutexes order.queues t p before runs m there)
-  effect-order (Unlock m d) allowed =
+      (lock-cycle finish (λ st r. refl) goes-on s order.no_cycle order.queues t p before runs m there passed.1.0 passed.1.1.0, lock-queues finish (λ st r. refl) s.records s.clients s.ports s.mutexes order.queues t p before runs m there)
+  effect-untangled (Unlock m d) allowed =
       let passed = all-pass ((is_none (at_number s.mutexes m), NoMutex) ∷ (not (owns s t m), NotOwner) ∷ []) allowed in
       let there = default-of (at_number s.mutexes m) (record { owner = None; waiters = [] }) passed.0 in
-      built _ _ _ _ (trap_effect s t (Unlock m d)).after (effect-apart s p t t (Unlock m d) order.runs_apart alone)
-      (unlock-cycle finish (λ st r. refl) goes-on s order.no_cycle order.queues t p before runs (value_of s) m d)
-      (unlock-queues finish (λ st r. refl) s.records s.clients s.ports s.mutexes order.queues t p before runs (value_of s) m d there)
+      (unlock-cycle finish (λ st r. refl) goes-on s order.no_cycle order.queues t p before runs (value_of s) m d, unlock-queues finish (λ st r. refl) s.records s.clients s.ports s.mutexes order.queues t p before runs (value_of s) m d there)
 
-  checked-order : (action : Action) (o : Option TrapRefusal) → trap_refusal s t action ≡ o → IsInOrder (finished (checked_effect s o (trap_effect s t action)))
-  checked-order action None allowed = effect-order action allowed
-  checked-order action (Some refusal) refused = kept GoesOn (order.runs_apart, alone, tt) goes-on
+  checked-untangled : (action : Action) (o : Option TrapRefusal) → trap_refusal s t action ≡ o → IsUntangled (finished (checked_effect s o (trap_effect s t action)))
+  checked-untangled action None allowed = effect-untangled action allowed
+  checked-untangled action (Some refusal) refused = nothing-else GoesOn goes-on
 
 pub trap-order : (s : State) (p t before used ran : ℕ) (action : Action) → status_of s.records t ≡ Some (status.Running p before) → RunsAlone s.records p t → IsInOrder s → IsInOrder (trap s p t used ran action).state
-trap-order s p t before used ran action runs alone order = checked-order s order t p before (ran + 1) (used + ran + 1) runs alone action (trap_refusal s t action) refl
+trap-order s p t before used ran action runs alone order =
+    let effect = checked_effect s (trap_refusal s t action) (trap_effect s t action) in
+    let works = checked-leads s t action (trap_refusal s t action) in
+    let leads = finish-leads s p t (ran + 1) (used + ran + 1) effect works (λ queues q other. used-of s.records q t (status.Running p before) runs (used-elsewhere q p before (λ same. other (sym same)))) (λ apart. alone) in
+    processor-order p s (trap s p t used ran action).state order leads (checked-untangled s order t p before (ran + 1) (used + ran + 1) runs action (trap_refusal s t action) refl)
 
 -- ---- events and runs
 
@@ -217,7 +189,7 @@ step-order s (event.Expire p) order =
     unrefused IsInOrder s _ (event_effect s (event.Expire p)) order (λ e.
     let passed = all-pass ((is_bad_processor s p, BadProcessor) ∷ (is_none (thread_on s.records p), NotRunning) ∷ []) e in
     let there = there-runs s p passed.1.0 in
-    expire-order s p (thread_there s p) there.0 (used_there s p) there.1 order)
+    processor-order p s (event_effect s (event.Expire p)).state order (expire-leads s p passed.1.0) (expire-untangled s p (thread_there s p) there.0 (used_there s p) there.1 order))
 step-order s (event.Trap p ran action) order =
     unrefused IsInOrder s _ (event_effect s (event.Trap p ran action)) order (λ e.
     let passed = all-pass ((is_bad_processor s p, BadProcessor) ∷ (is_none (thread_on s.records p), NotRunning) ∷ (nat_lt s.limits.quantum (used_there s p + ran + 1), BadTicks) ∷ []) e in

@@ -137,7 +137,7 @@ put {by} {s} a change t mover tally leads elsewhere runs = at (at_number a.recor
 -- ---- what allowed changes keep
 
 -- the statuses that aren't Running
-pub ready-stops : (p used : ℕ) → ¬ (status.Ready ≡ status.Running p used)
+ready-stops : (p used : ℕ) → ¬ (status.Ready ≡ status.Running p used)
 ready-stops p used e = cc
 
 -- a record that is put is one that changes
@@ -297,6 +297,15 @@ change-funded s a (PutClients t x) allowed funded = absurd (allowed refl)
 change-funded s a (PutPort t x) allowed funded = absurd (allowed refl)
 change-funded s a (PutMutex t x) allowed funded = absurd (allowed refl)
 
+-- what isn't the console's leaves tickets and currencies
+pub change-there : (by : By) (s : State) → ¬ (by ≡ Console) → Keeps by s (λ a. FundsThere (funding_of a))
+change-there by s other a (NewTicket t) allowed there = absurd (other allowed.0)
+change-there by s other a (PutTicket n place) allowed there = absurd (other allowed.0)
+change-there by s other a (NewCurrency name) allowed there = absurd (other allowed)
+change-there by s other a (DropCurrency c) allowed there = absurd (other allowed.0)
+change-there by s other a (NewThread t) allowed there = absurd (other allowed)
+change-there by s other a c allowed there = there
+
 -- those who wait stand where their statuses say
 pub change-queues : (s : State) → Keeps Console s Queues
 change-queues s a (NewThread t) allowed queues = queues-more a.records a.clients a.ports a.mutexes queues newborn
@@ -399,8 +408,13 @@ draw-leads s p d free = at (winner (map (weight_of s) (ready_threads s.records))
         rw is (put s (started p) won (λ e. cc) (λ e. cc) Stays (λ queues q other. index-holds (λ t. used_by s.records q t ≡ None) (ready_threads s.records) w.place refl (ready-used s q w.place))
         (λ r q used e. (ap On (starts q 0 used e), λ apart u more runs. absurd (nobody-runs s.records p u more free (subst (λ x. status_of s.records u ≡ Some (status.Running x more)) (sym (starts q 0 used e)) runs)))))
 
+pub expire-leads : (s : State) (p : ℕ) → is_none (thread_on s.records p) ≡ false → Leads (On p) s (event_effect s (event.Expire p)).state
+expire-leads s p there =
+    put s (λ r. with_ticks (s.limits.quantum - used_there s p) (record r { status = status.Ready; compensation = None })) (thread_there s p) (λ e. cc) (λ e. cc) Stays
+    (λ queues q other. there-used s q p (λ same. other (ap On same)) there) (λ r q used is. cc)
+
 -- how the thread that made a trap goes on, or leaves
-finish-leads : (s : State) (p t ticks used : ℕ) (e : Effect) → Works s e → (Queues s → (q : ℕ) → ¬ (q ≡ p) → used_by s.records q t ≡ None) → (Apart s → RunsAlone s.records p t)
+pub finish-leads : (s : State) (p t ticks used : ℕ) (e : Effect) → Works s e → (Queues s → (q : ℕ) → ¬ (q ≡ p) → used_by s.records q t ≡ None) → (Apart s → RunsAlone s.records p t)
     → Leads (On p) s (record e.state { records = change_record (λ r. with_ticks ticks (after_trap e.after p used s.limits.quantum r)) e.state.records t })
 finish-leads s p t ticks used e (works, stops) idle alone =
     put e.state (λ r. with_ticks ticks (after_trap e.after p used s.limits.quantum r)) t (λ e. cc) (λ e. cc) (working p s e.state works)
@@ -434,8 +448,7 @@ step-leads s (event.Draw p d) =
 step-leads s (event.Expire p) =
     unrefused (Leads (On p) s) s _ (event_effect s (event.Expire p)) Stays (λ e.
     let passed = all-pass ((is_bad_processor s p, BadProcessor) ∷ (is_none (thread_on s.records p), NotRunning) ∷ []) e in
-    put s (λ r. with_ticks (s.limits.quantum - used_there s p) (record r { status = status.Ready; compensation = None })) (thread_there s p) (λ e. cc) (λ e. cc) Stays
-    (λ queues q other. there-used s q p (λ same. other (ap On same)) passed.1.0) (λ r q used is. cc))
+    expire-leads s p passed.1.0)
 step-leads s (event.Trap p ran action) =
     unrefused (Leads (On p) s) s _ (event_effect s (event.Trap p ran action)) Stays (λ e.
     let passed = all-pass ((is_bad_processor s p, BadProcessor) ∷ (is_none (thread_on s.records p), NotRunning) ∷ (nat_lt s.limits.quantum (used_there s p + ran + 1), BadTicks) ∷ []) e in

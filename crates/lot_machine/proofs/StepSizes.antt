@@ -12,8 +12,7 @@ use Rattle.lot_machine.specs.State.{State, change_record}
 use Rattle.lot_machine.specs.Commands.{command_step}
 use Rattle.lot_machine.specs.Step.{trap_effect, checked_effect, step}
 use Rattle.lot_machine.specs.Named.{processor_of}
-pub use Rattle.lot_machine.proofs.StepChanges.{HasSizesOf, HasGrownFrom}
-use Rattle.lot_machine.proofs.StepChanges.{Console, Work, kept, change-grown, change-sizes, change-tickets, checked-leads, by_event, step-leads}
+use Rattle.lot_machine.proofs.StepChanges.{HasSizesOf, HasGrownFrom, Console, Work, kept, change-grown, change-sizes, change-tickets, checked-leads, by_event, step-leads}
 
 -- a change of a thread's record
 pub change-length : (change : Record → Record) (records : List Record) (t : ℕ) → length (change_record change records t) ≡ length records
