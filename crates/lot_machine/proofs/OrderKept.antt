@@ -41,7 +41,7 @@ use Rattle.lot_machine.proofs.Tickets.{at_number-suc, some-injective}
 use Rattle.lot_machine.proofs.CommandsKept.{unrefused, all-pass}
 use Rattle.lot_machine.proofs.RecordsKept.{RunsAlone, apart}
 use Rattle.lot_machine.proofs.Idle.{filter-passes, is-ready, there-runs, there-alone, free-of, used-of, used-elsewhere}
-use Rattle.lot_machine.proofs.StepChanges.{By, On, Leads, kept as all-kept, Apart, Queues, HasAmount, HasRoom, change-apart, change-room, change-there, change-queues, command-keeps, command-leads, draw-leads, expire-leads, checked-leads, finish-leads}
+use Rattle.lot_machine.proofs.StepChanges.{By, On, Leads, kept, Apart, Queues, HasAmount, HasRoom, change-apart, change-room, change-there, change-queues, command-keeps, command-leads, draw-leads, expire-leads, checked-leads, finish-leads}
 use Rattle.lot_machine.proofs.Queues.{queue-empty, queues-live}
 use Rattle.lot_machine.proofs.TrapQueues.{stay-queues, call-queues, receive-queues, reply-queues, replied-queues, lock-queues, unlock-queues}
 use Rattle.lot_machine.proofs.TrapCycles.{cycle-nobody, call-cycle, receive-cycle, reply-cycle, replied-cycle, lock-cycle, unlock-cycle}
@@ -53,24 +53,24 @@ use Rattle.lot_machine.proofs.Bounded.{sound}
 -- all but cycles, queues and what tickets fund
 frame-order : {by : By} (s b : State) → IsInOrder s → Leads by s b → HasNoCycle (funding_of b) → FundsThere (funding_of b) → Queues b → IsInOrder b
 frame-order {by} s b order leads no_cycle there queues =
-    let room = all-kept HasRoom (change-room by s) leads (order.amounts, order.ticket_count, order.bounds) in
-    let runs = all-kept Apart (change-apart by s order.runs_apart) leads order.runs_apart in
+    let room = kept HasRoom (change-room by s) leads (order.amounts, order.ticket_count, order.bounds) in
+    let runs = kept Apart (change-apart by s order.runs_apart) leads order.runs_apart in
     record { no_cycle = no_cycle; funds_there = there; runs_apart = runs; queues = queues; amounts = room.0; ticket_count = room.1; bounds = room.2 }
 
 command-order : (s : State) (c : Command) → IsInOrder s → IsInOrder (command_step s c).state
 command-order s c order =
     let leads = command-leads s c in
     let funded = command-keeps s c order.no_cycle order.funds_there in
-    frame-order s (command_step s c).state order leads funded.0 funded.1 (all-kept Queues (change-queues s) leads order.queues)
+    frame-order s (command_step s c).state order leads funded.0 funded.1 (kept Queues (change-queues s) leads order.queues)
 
--- cycles and queues
+-- nothing makes a cycle, and those who wait stand where their statuses say
 abbrev IsUntangled : State → Type 0
 IsUntangled s = HasNoCycle (funding_of s) × Queues s
 
--- what isn't the console's leaves what tickets fund
+-- an event of a processor leaves what tickets fund
 processor-order : (p : ℕ) (s b : State) → IsInOrder s → Leads (On p) s b → IsUntangled b → IsInOrder b
 processor-order p s b order leads (no_cycle, queues) =
-    frame-order s b order leads no_cycle (all-kept (λ a. FundsThere (funding_of a)) (change-there (On p) s (λ e. cc)) leads order.funds_there) queues
+    frame-order s b order leads no_cycle (kept (λ a. FundsThere (funding_of a)) (change-there (On p) s (λ e. cc)) leads order.funds_there) queues
 
 -- ---- draws and expiries
 
