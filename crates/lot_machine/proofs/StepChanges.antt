@@ -69,7 +69,8 @@ pub record Moves (by : By) (s a : State) (t : ℕ) (r : Record) : Type 0 where
   pub elsewhere : Queues s → (p : ℕ) → ¬ (by ≡ On p) → used_by a.records p t ≡ None
   pub runs : (p used : ℕ) → r.status ≡ status.Running p used → (by ≡ On p) × (Apart s → RunsAlone a.records p t)
 
--- the change is allowed in the second state, which the event has reached from the first
+-- The change is allowed in the second state, which the event has reached from the first. The console alone changes tickets and
+-- currencies and makes threads, and it changes nothing else.
 abbrev pub Allowed : By → State → State → Change → Type 0
 Allowed by s a (NewTicket t) = (by ≡ Console) × (t.amount < 2 ^ 32) × (length a.tickets < a.limits.tickets) × (currency_funded t.target ≡ None)
 Allowed by s a (PutTicket n place) = (by ≡ Console) × (All HasAmount a.tickets → HasAmount place) × (IsFunded a → IsFunded (record a { tickets = set_number a.tickets n place }))
@@ -123,8 +124,12 @@ working p s b leads = kept (Leads (On p) s) (λ a c allowed before. Then before 
     may a (NewCurrency x) allowed = absurd (not-console allowed)
     may a (DropCurrency x) allowed = absurd (not-console allowed.0)
 
+-- a change that leaves what a thread has won and used
+abbrev LeavesTally : (Record → Record) → Type 0
+LeavesTally change = (r : Record) → change r ≡ record r { status = (change r).status; compensation = (change r).compensation; delivered = (change r).delivered }
+
 -- one thread's record changes, if it is there
-put : {by : By} {s : State} (a : State) (change : Record → Record) (t : ℕ) → ¬ (by ≡ Console) → (by ≡ Work → (r : Record) → change r ≡ record r { status = (change r).status; compensation = (change r).compensation; delivered = (change r).delivered }) → Leads by s a
+put : {by : By} {s : State} (a : State) (change : Record → Record) (t : ℕ) → ¬ (by ≡ Console) → (by ≡ Work → LeavesTally change) → Leads by s a
     → (Queues s → (p : ℕ) → ¬ (by ≡ On p) → used_by a.records p t ≡ None)
     → ((r : Record) (p used : ℕ) → (change r).status ≡ status.Running p used → (by ≡ On p) × (Apart s → RunsAlone a.records p t))
     → Leads by s (record a { records = change_record change a.records t })
@@ -327,7 +332,8 @@ abbrev pub Works : State → Effect → Type 0
 Works s e = Leads Work s e.state × StopsIfLeaves e.after
 
 -- a thread that the work of a trap wakes or takes doesn't run before or after
-wakes : {s : State} (a : State) (change : Record → Record) (t : ℕ) → Leads Work s a → (Queues s → (p : ℕ) → used_by a.records p t ≡ None) → ((r : Record) (p used : ℕ) → ¬ ((change r).status ≡ status.Running p used)) → ((r : Record) → change r ≡ record r { status = (change r).status; compensation = (change r).compensation; delivered = (change r).delivered })
+wakes : {s : State} (a : State) (change : Record → Record) (t : ℕ) → Leads Work s a → (Queues s → (p : ℕ) → used_by a.records p t ≡ None)
+    → ((r : Record) (p used : ℕ) → ¬ ((change r).status ≡ status.Running p used)) → LeavesTally change
     → Leads Work s (record a { records = change_record change a.records t })
 wakes a change t leads idle stops tally = put a change t (λ e. cc) (λ _. tally) leads (λ queues p _. idle queues p) (λ r p used is. absurd (stops r p used is))
 
