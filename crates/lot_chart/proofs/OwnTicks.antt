@@ -2,40 +2,34 @@
 use Rattle.std.proofs.Common.{◌≡◌, ◌≢◌, ℕ, zero, suc, ◌+◌, ◌-◌, ◌*◌, ◌^◌, ◌<◌, ◌≤◌, ◌==◌, Bool, true, false, cond, Option, Some, None, is_none, List, [], ◌∷◌, ◌++◌, length, map, sum_by, get_or, slice_index, nat_lt, option_map, refl, sym, ◌∙◌, ap, subst, arith, if◌then◌else◌, set}
 use Rattle.std.proofs.Math.Nat.{min-eq_left}
 use Rattle.std.proofs.lemmas.Bool.{eqb-false, eqb-true, ltb-false}
-use Rattle.std.proofs.lemmas.List.{get_or-map, get_or-set_other, get_or-set_same, map-append, map-set, set-get_or, length-map}
+use Rattle.std.proofs.lemmas.List.{get_or-set_other, get_or-set_same, map-append, map-set, length-map}
 use Rattle.std.proofs.lemmas.List.Sums.{sum_by-cons}
-use Rattle.std.proofs.lemmas.Option.{slice_get_within, get_or_from_slice_get}
 use Rattle.lot_machine.specs.declared.record.Record.{Record}
+use Rattle.lot_machine.specs.declared.record.Status.{Status}
 use Rattle.lot_machine.specs.declared.record.Status.TheVariants as status
 use Rattle.lot_machine.specs.declared.action.Action.{Action}
-use Rattle.lot_machine.specs.declared.action.Action.TheVariants.{Yield, Call, Receive, Reply as ReplyTo, Serve, Lock, Unlock, Exit}
-use Rattle.lot_machine.specs.declared.after.After.{After}
-use Rattle.lot_machine.specs.declared.after.After.TheVariants.{GoesOn, Leaves, Ends}
 use Rattle.lot_machine.specs.declared.command.Command.{Command}
-use Rattle.lot_machine.specs.declared.command.Command.TheVariants.{MakeTicket, RemoveTicket, MakeCurrency, RemoveCurrency, Fund, Unfund, MakeThread, MakeFunded, List as Listing}
 use Rattle.lot_machine.specs.declared.drawn.Drawn.{Drawn}
 use Rattle.lot_machine.specs.declared.event.Event.{Event}
 use Rattle.lot_machine.specs.declared.event.Event.TheVariants as event
 use Rattle.lot_machine.specs.declared.refusal.Refusal.{Refusal}
 use Rattle.lot_machine.specs.declared.refusal.Refusal.TheVariants.{BadProcessor, NotRunning, BadTicks}
-use Rattle.lot_machine.specs.declared.refusal.TrapRefusal.{TrapRefusal}
 use Rattle.lot_machine.specs.declared.reply.Reply.TheVariants.{Idle}
 use Rattle.lot_machine.specs.Bounds.{IsBetween, IsWithinBounds}
 use Rattle.lot_machine.specs.Numbered.{at_number, set_number}
 use Rattle.lot_machine.specs.Lottery.{winner}
-use Rattle.lot_machine.specs.State.{State, QueuedCall, Port, Mutex, thread_on, change_record, ready_threads, value_of, weight_of, saturated}
-use Rattle.lot_machine.specs.Commands.{Step, command_effect, command_step, unless_refused}
+use Rattle.lot_machine.specs.State.{State, thread_on, change_record, ready_threads, weight_of, saturated}
+use Rattle.lot_machine.specs.Commands.{Step, command_step, unless_refused}
 use Rattle.lot_machine.specs.Traps.{after_trap, with_ticks}
-use Rattle.lot_machine.specs.Ports.{port_at, call, receive, reply}
-use Rattle.lot_machine.specs.Mutexes.{mutex_at, lock, unlock}
-use Rattle.lot_machine.specs.Step.{Effect, is_bad_processor, started, draw, expire, trap, trap_refusal, trap_effect, checked_effect, thread_there, used_there, event_effect, step}
+use Rattle.lot_machine.specs.Change.{NewThread, PutRecord, newborn}
+use Rattle.lot_machine.specs.Step.{is_bad_processor, started, draw, expire, trap, trap_refusal, trap_effect, checked_effect, thread_there, used_there, event_effect, step}
 use Rattle.lot_machine.specs.Order.{IsInOrder}
 use Rattle.lot_machine.specs.Rows.{row_of_thread, thread_row}
 use Rattle.lot_machine.specs.declared.row.ThreadRow.{ThreadRow}
 use Rattle.lot_machine.proofs.OrderKept.{opening-order, step-order}
-use Rattle.lot_machine.proofs.CommandsKept.{all-pass, some-of}
-use Rattle.lot_machine.proofs.RecordsKept.{found-runs}
-use Rattle.lot_machine.proofs.Tickets.{at_number-suc}
+use Rattle.lot_machine.proofs.CommandsKept.{all-pass}
+use Rattle.lot_machine.proofs.StepChanges.{Console, Keeps, kept, command-leads}
+use Rattle.lot_machine.proofs.StepSizes.{checked-sizes}
 use Rattle.lot_simulation.specs.World.{Program, World, Turn, Answer, IsLegal, console_turn, processor_turn, processor_event, opening_world, system_turn, system_after, system_answers, system_run}
 use Rattle.lot_simulation.specs.World.Answer.{Answered}
 use Rattle.lot_simulation.specs.Timed.{TimedTurn, last_moment, timed_schedule, timed_turns}
@@ -43,8 +37,8 @@ use Rattle.lot_simulation.specs.TimedReport.{actor_turns}
 use Rattle.lot_simulation.specs.Report.{ActorTurn, beside, turns_made, turns_of, count_in, ticks_in, total_of}
 use Rattle.lot_simulation.proofs.TimedRuns.{timed-made, timed-world}
 use Rattle.lot_simulation.proofs.DrawnThreads.{number-some}
-use Rattle.lot_engine.proofs.ReplyFacts.{numbered}
-use Rattle.lot_engine.proofs.StepFacts.{effect-same, checked-same}
+use Rattle.lot_simulation.proofs.ProcessorCounts.{command-silent}
+use Rattle.lot_simulation.proofs.RecordCounts.{there-has, change-leaves, checked-even, after-even, there-numbered}
 use Rattle.lot_curves.specs.declared.stretch.Stretch.{Stretch}
 use Rattle.lot_curves.specs.Curves.{stretches_made, timed_stretches}
 use Rattle.lot_curves.specs.declared.stretch.Measure.TheVariants.{Ticks}
@@ -53,10 +47,6 @@ use Rattle.lot_curves.proofs.Ends.{ticks-at_last}
 use Rattle.lot_curves.specs.OwnTimes.{ended_after}
 use Rattle.lot_chart.proofs.NotedFacts.{timed_stretch}
 use Rattle.lot_chart.proofs.Notes.{timed-few}
-
--- what stands for a record if there is none
-abbrev nobody : Record
-nobody = record { status = status.Ready; compensation = None; delivered = None; quanta = 0; ticks = 0 }
 
 -- the ticks of each record, and of the one at a place, or none
 abbrev all_ticks : List Record → List ℕ
@@ -67,31 +57,6 @@ own_ticks records i = get_or (all_ticks records) i 0
 
 -- ---- a change to one record
 
-module _ (change : Record → Record) (records : List Record) (u : ℕ) where
-  set-there : (r : Record) → at_number records u ≡ Some r → all_ticks (change_record change records u) ≡ set (all_ticks records) (u - 1) (change r).ticks
-  set-there r is =
-      let now : change_record change records u ≡ set_number records u (change r) = rw is refl in
-      ap all_ticks now ∙ map-set (λ (x : Record). x.ticks) records (u - 1) (change r)
-
-  -- what the record at the place has, if there is one
-  there-has : (r : Record) → at_number records u ≡ Some r → get_or (all_ticks records) (u - 1) 0 ≡ r.ticks
-  there-has r is = has u is
-    where
-      has : (n : ℕ) → at_number records n ≡ Some r → get_or (all_ticks records) (n - 1) 0 ≡ r.ticks
-      has zero there = cc
-      has (suc i) there =
-          let found = sym (at_number-suc records i) ∙ there in
-          let place : suc i - 1 ≡ i = omega arith in
-          ap (λ n. get_or (all_ticks records) n 0) place ∙ get_or-map (λ (x : Record). x.ticks) records i r 0 (slice_get_within records i r found) ∙ ap (λ (x : Record). x.ticks) (get_or_from_slice_get records i r r found)
-
-  -- one that leaves the ticks leaves all
-  leaves : ((r : Record) → (change r).ticks ≡ r.ticks) → all_ticks (change_record change records u) ≡ all_ticks records
-  leaves same = at (at_number records u) refl
-    where
-      at : (o : Option Record) → at_number records u ≡ o → all_ticks (change_record change records u) ≡ all_ticks records
-      at None is = rw is refl
-      at (Some r) is = set-there r is ∙ ap (set (all_ticks records) (u - 1)) (same r ∙ sym (there-has r is)) ∙ set-get_or (all_ticks records) (u - 1) 0
-
 cond-none : (b : Bool) → ◌≡◌ {A = ℕ} (cond b 0 0) 0
 cond-none true = refl
 cond-none false = refl
@@ -99,7 +64,7 @@ cond-none false = refl
 -- ticks that are added to the record of a thread that is there
 module _ (records : List Record) (u n : ℕ) (change : Record → Record) (i : ℕ) (named : IsBetween 1 (length records) u) (same : (x : Record) → (change x).ticks ≡ x.ticks) (small : own_ticks records i + n < 2 ^ 64) where
   abbrev r : Record
-  r = get_or records (u - 1) nobody
+  r = get_or records (u - 1) newborn
 
   abbrev sum : ℕ
   sum = saturated ((change r).ticks + n)
@@ -108,10 +73,12 @@ module _ (records : List Record) (u n : ℕ) (change : Record → Record) (i : �
   after = change_record (λ x. with_ticks n (change x)) records u
 
   there : at_number records u ≡ Some r
-  there = number-some records u nobody named
+  there = number-some records u newborn named
 
   now : all_ticks after ≡ set (all_ticks records) (u - 1) sum
-  now = set-there (λ x. with_ticks n (change x)) records u r there
+  now =
+      let put : after ≡ set_number records u (with_ticks n (change r)) = rw there refl in
+      ap all_ticks put ∙ map-set (λ (x : Record). x.ticks) records (u - 1) (with_ticks n (change r))
 
   ticks-added : own_ticks after i ≡ own_ticks records i + cond (u == suc i) n 0
   ticks-added = at (u == suc i) refl
@@ -120,7 +87,7 @@ module _ (records : List Record) (u n : ℕ) (change : Record → Record) (i : �
       at true is =
           let equal : u ≡ suc i = eqb-true u (suc i) is in
           let place : u - 1 ≡ i = omega (arith, equal) in
-          let has : own_ticks records i ≡ r.ticks = ap (λ k. get_or (all_ticks records) k 0) (sym place) ∙ there-has change records u r there in
+          let has : own_ticks records i ≡ r.ticks = ap (λ k. get_or (all_ticks records) k 0) (sym place) ∙ there-has (λ (x : Record). x.ticks) records u r there in
           let fits : sum ≡ (change r).ticks + n = min-eq_left (omega (arith, small, has, same r)) in
           let within : i < length (all_ticks records) = omega (arith, length-map records (λ (x : Record). x.ticks), named.1, equal) in
           ap (λ xs. get_or xs i 0) (now ∙ ap (λ k. set (all_ticks records) k sum) place) ∙ get_or-set_same (all_ticks records) i sum 0 within ∙ omega (arith, fits, same r, has)
@@ -146,8 +113,8 @@ unless-adds s i None next adds = adds refl
 unless-adds s i (Some refusal) next adds = stays s i (unless_refused s (Some refusal) next) refl refl
 
 -- one thread more has no ticks
-grown : (records : List Record) (i : ℕ) → own_ticks (records ++ nobody ∷ []) i ≡ own_ticks records i
-grown records i = ap (λ xs. get_or xs i 0) (map-append (λ (r : Record). r.ticks) records (nobody ∷ [])) ∙ zeros (all_ticks records) i
+grown : (records : List Record) (i : ℕ) → own_ticks (records ++ newborn ∷ []) i ≡ own_ticks records i
+grown records i = ap (λ xs. get_or xs i 0) (map-append (λ (r : Record). r.ticks) records (newborn ∷ [])) ∙ zeros (all_ticks records) i
   where
     zeros : (xs : List ℕ) (k : ℕ) → get_or (xs ++ 0 ∷ []) k 0 ≡ get_or xs k 0
     zeros [] zero = refl
@@ -155,16 +122,14 @@ grown records i = ap (λ xs. get_or xs i 0) (map-append (λ (r : Record). r.tick
     zeros (x ∷ xs) zero = refl
     zeros (x ∷ xs) (suc k) = zeros xs k
 
+-- and a command changes no other
+change-own : (s : State) (i : ℕ) → Keeps Console s (λ a. own_ticks a.records i ≡ own_ticks s.records i)
+change-own s i a (NewThread t) allowed same = grown a.records i ∙ same
+change-own s i a (PutRecord t r) allowed same = absurd (allowed.mover refl)
+change-own s i a other allowed same = same
+
 command-adds : (s : State) (i : ℕ) (c : Command) → Adds s i (command_step s c)
-command-adds s i (MakeTicket amount currency) = unless-adds s i _ (command_effect s (MakeTicket amount currency)) (λ _. stays s i (command_effect s (MakeTicket amount currency)) refl refl)
-command-adds s i (RemoveTicket n) = unless-adds s i _ (command_effect s (RemoveTicket n)) (λ _. stays s i (command_effect s (RemoveTicket n)) refl refl)
-command-adds s i (MakeCurrency name) = unless-adds s i _ (command_effect s (MakeCurrency name)) (λ _. stays s i (command_effect s (MakeCurrency name)) refl refl)
-command-adds s i (RemoveCurrency currency) = unless-adds s i _ (command_effect s (RemoveCurrency currency)) (λ _. stays s i (command_effect s (RemoveCurrency currency)) refl refl)
-command-adds s i (Fund n name) = unless-adds s i _ (command_effect s (Fund n name)) (λ _. stays s i (command_effect s (Fund n name)) refl refl)
-command-adds s i (Unfund n) = unless-adds s i _ (command_effect s (Unfund n)) (λ _. stays s i (command_effect s (Unfund n)) refl refl)
-command-adds s i (MakeThread name script) = unless-adds s i _ (command_effect s (MakeThread name script)) (λ _. stays s i (command_effect s (MakeThread name script)) (grown s.records i) refl)
-command-adds s i (MakeFunded amount currency name script) = unless-adds s i _ (command_effect s (MakeFunded amount currency name script)) (λ _. stays s i (command_effect s (MakeFunded amount currency name script)) (grown s.records i) refl)
-command-adds s i (Listing kind) = stays s i (command_step s (Listing kind)) refl refl
+command-adds s i c = stays s i (command_step s c) (kept (λ a. own_ticks a.records i ≡ own_ticks s.records i) (change-own s i) (command-leads s c) refl) (command-silent s c).2
 
 draw-adds : (s : State) (i p d : ℕ) → Adds s i (draw s p d)
 draw-adds s i p d = at (winner (map (weight_of s) (ready_threads s.records)) d) refl
@@ -173,7 +138,7 @@ draw-adds s i p d = at (winner (map (weight_of s) (ready_threads s.records)) d) 
     at None is = rw is (stays s i (record { state = s; reply = Idle }) refl refl)
     at (Some w) is =
         let t = slice_index (ready_threads s.records) w.place in
-        rw is (stays s i _ (ap (λ xs. get_or xs i 0) (leaves (started p) s.records t (λ r. refl))) refl)
+        rw is (stays s i _ (ap (λ xs. get_or xs i 0) (change-leaves (λ (x : Record). x.ticks) s.records t (started p) (λ r. refl))) refl)
 
 expire-adds : (s : State) (i t used : ℕ) → IsBetween 1 (length s.records) t → own_ticks s.records i + s.limits.quantum < 2 ^ 64 → Adds s i (expire s t used)
 expire-adds s i t used named space =
@@ -184,77 +149,19 @@ expire-adds s i t used named space =
 
 -- ---- traps leave all ticks but those of the thread that made them
 
-call-leaves : (records : List Record) (clients : List (List ℕ)) (ports : List Port) (caller port number : ℕ) → all_ticks (call records clients ports caller port number).records ≡ all_ticks records
-call-leaves records clients ports caller port number = at (port_at ports port).receivers refl
-  where
-    at : (o : List ℕ) → (port_at ports port).receivers ≡ o → all_ticks (call records clients ports caller port number).records ≡ all_ticks records
-    at [] is = rw is refl
-    at (server ∷ others) is = rw is (leaves _ records server (λ r. refl))
-
-receive-leaves : (records : List Record) (clients : List (List ℕ)) (ports : List Port) (server port : ℕ) → all_ticks (receive records clients ports server port).records ≡ all_ticks records
-receive-leaves records clients ports server port = at (port_at ports port).calls refl
-  where
-    at : (o : List QueuedCall) → (port_at ports port).calls ≡ o → all_ticks (receive records clients ports server port).records ≡ all_ticks records
-    at [] is = rw is refl
-    at (first ∷ others) is = rw is (leaves _ records first.caller (λ r. refl))
-
-lock-leaves : (records : List Record) (mutexes : List Mutex) (u m : ℕ) → all_ticks (lock records mutexes u m).records ≡ all_ticks records
-lock-leaves records mutexes u m = at (mutex_at mutexes m).owner refl
-  where
-    at : (o : Option ℕ) → (mutex_at mutexes m).owner ≡ o → all_ticks (lock records mutexes u m).records ≡ all_ticks records
-    at None is = rw is refl
-    at (Some owner) is = rw is refl
-
-unlock-leaves : (records : List Record) (mutexes : List Mutex) (value : ℕ → ℕ) (m d : ℕ) → all_ticks (unlock records mutexes value m d).records ≡ all_ticks records
-unlock-leaves records mutexes value m d = at (mutex_at mutexes m).waiters refl
-  where
-    at : (o : List ℕ) → (mutex_at mutexes m).waiters ≡ o → all_ticks (unlock records mutexes value m d).records ≡ all_ticks records
-    at [] is = rw is refl
-    at (first ∷ others) is = rw is (leaves _ records _ (λ r. refl))
-
-effect-leaves : (s : State) (t : ℕ) (action : Action) → all_ticks (trap_effect s t action).state.records ≡ all_ticks s.records
-effect-leaves s t Yield = refl
-effect-leaves s t (Call port number) = call-leaves s.records s.clients s.ports t port number
-effect-leaves s t (Receive port) = receive-leaves s.records s.clients s.ports t port
-effect-leaves s t (ReplyTo number) = leaves _ s.records _ (λ r. refl)
-effect-leaves s t (Serve port number) =
-    let first = reply s.records s.clients s.ports t number in
-    receive-leaves first.records first.clients first.ports t port ∙ leaves _ s.records _ (λ r. refl)
-effect-leaves s t (Lock m) = lock-leaves s.records s.mutexes t m
-effect-leaves s t (Unlock m d) = unlock-leaves s.records s.mutexes (value_of s) m d
-effect-leaves s t Exit = refl
-
-checked-leaves : (s : State) (o : Option TrapRefusal) (effect : Effect) → all_ticks effect.state.records ≡ all_ticks s.records → all_ticks (checked_effect s o effect).state.records ≡ all_ticks s.records
-checked-leaves s None effect same = same
-checked-leaves s (Some refusal) effect same = refl
-
-after-leaves : (after : After) (p used quantum : ℕ) (r : Record) → (after_trap after p used quantum r).ticks ≡ r.ticks
-after-leaves GoesOn p used quantum r = at (nat_lt used quantum) refl
-  where
-    at : (b : Bool) → nat_lt used quantum ≡ b → (after_trap GoesOn p used quantum r).ticks ≡ r.ticks
-    at true is = rw is refl
-    at false is = rw is refl
-after-leaves (Leaves st) p used quantum r = refl
-after-leaves Ends p used quantum r = refl
-
 trap-adds : (s : State) (i p t used ran : ℕ) (action : Action) → IsBetween 1 (length s.records) t → used + ran + 1 ≤ s.limits.quantum → own_ticks s.records i + s.limits.quantum < 2 ^ 64 → Adds s i (trap s p t used ran action)
 trap-adds s i p t used ran action named enough space =
     let effect = checked_effect s (trap_refusal s t action) (trap_effect s t action) in
-    let same : own_ticks effect.state.records i ≡ own_ticks s.records i = ap (λ xs. get_or xs i 0) (checked-leaves s (trap_refusal s t action) (trap_effect s t action) (effect-leaves s t action)) in
-    let kept = checked-same s (trap_refusal s t action) (trap_effect s t action) (effect-same s t action) in
+    let ticks_stay : (r : Record) (st : Status) (compensation delivered : Option ℕ) → (record r { status = st; compensation = compensation; delivered = delivered }).ticks ≡ r.ticks = λ r st compensation delivered. refl in
+    let same : own_ticks effect.state.records i ≡ own_ticks s.records i = ap (λ xs. get_or xs i 0) (checked-even (λ r. r.ticks) ticks_stay s t action (trap_refusal s t action)) in
+    let sizes = checked-sizes s t action (trap_refusal s t action) in
     let change : Record → Record = after_trap effect.after p (used + ran + 1) s.limits.quantum in
     record {
-      own = ticks-added effect.state.records t (ran + 1) change i (named.0, omega (arith, named.1, kept.records)) (after-leaves effect.after p (used + ran + 1) s.limits.quantum) (omega (arith, space, enough, same)) ∙ ap (λ n. n + cond (t == suc i) (ran + 1) 0) same;
+      own = ticks-added effect.state.records t (ran + 1) change i (named.0, omega (arith, named.1, sizes.1)) (after-even (λ r. r.ticks) ticks_stay effect.after p (used + ran + 1) s.limits.quantum) (omega (arith, space, enough, same)) ∙ ap (λ n. n + cond (t == suc i) (ran + 1) 0) same;
       short = omega (arith, enough);
     }
 
 -- ---- events
-
-there-numbered : (s : State) (p : ℕ) → is_none (thread_on s.records p) ≡ false → IsBetween 1 (length s.records) (thread_there s p)
-there-numbered s p some = from (some-of (thread_on s.records p) some)
-  where
-    from : ((t : ℕ) × (thread_on s.records p ≡ Some t)) → IsBetween 1 (length s.records) (thread_there s p)
-    from (t, found) = let there = found-runs s.records p t found in rw found (numbered s.records t (status.Running p there.0) there.1)
 
 step-adds : (s : State) (i : ℕ) (e : Event) → own_ticks s.records i + s.limits.quantum < 2 ^ 64 → Adds s i (step s e)
 step-adds s i (event.Command command) space = command-adds s i command
@@ -371,7 +278,7 @@ row-ticks s (suc i) row is = at (at_number s.records (suc i)) refl
         let same : Some (row_of_thread s (suc i) r) ≡ Some row = sym (ap (λ (o : Option Record). option_map (row_of_thread s (suc i)) o) there) ∙ is in
         let shown : row_of_thread s (suc i) r ≡ row = cc in
         let place : suc i - 1 ≡ i = omega arith in
-        (i, refl, sym (ap (λ (x : ThreadRow). x.ticks) shown) ∙ sym (there-has (λ x. x) s.records (suc i) r there) ∙ ap (λ n. get_or (all_ticks s.records) n 0) place)
+        (i, refl, sym (ap (λ (x : ThreadRow). x.ticks) shown) ∙ sym (there-has (λ (x : Record). x.ticks) s.records (suc i) r there) ∙ ap (λ n. get_or (all_ticks s.records) n 0) place)
 
 -- a curve ends at what the record has
 ends-at : (s : State) (stretches : List Stretch) → ((i : ℕ) → own_ticks s.records i ≡ sum_by (λ (x : Stretch). x.ticks) (stretches_of (suc i) stretches)) → (t : ℕ) (row : ThreadRow) → thread_row s t ≡ Some row

@@ -7,7 +7,7 @@ use Rattle.lot_machine.specs.declared.record.Record.{Record}
 use Rattle.lot_machine.specs.declared.record.Status.{Status}
 use Rattle.lot_machine.specs.declared.action.Action.{Action}
 use Rattle.lot_machine.specs.declared.command.Command.{Command}
-use Rattle.lot_machine.specs.declared.command.Command.TheVariants.{MakeTicket, RemoveTicket, MakeCurrency, RemoveCurrency, Fund, Unfund, MakeThread, MakeFunded, List as Listing}
+use Rattle.lot_machine.specs.declared.command.Command.TheVariants.{MakeThread, MakeFunded}
 use Rattle.lot_machine.specs.declared.event.Event.TheVariants as event
 use Rattle.lot_machine.specs.declared.refusal.Refusal.{Refusal}
 use Rattle.lot_machine.specs.declared.refusal.Refusal.TheVariants.{BadName, NameTaken, NoCurrency, BadAmount, Full, NoScript}
@@ -15,7 +15,7 @@ use Rattle.lot_machine.specs.declared.drawn.Drawn.{Drawn}
 use Rattle.lot_machine.specs.Bounds.{IsBetween}
 use Rattle.lot_machine.specs.Lottery.{winner}
 use Rattle.lot_machine.specs.State.{State, status_of, ready_threads, weight_of}
-use Rattle.lot_machine.specs.Commands.{Step, is_bad_amount, is_good_name, is_taken, is_no_script, are_tickets_full, are_threads_full, currency_named, with_thread, command_effect, command_step, unless_refused}
+use Rattle.lot_machine.specs.Commands.{Step, is_bad_amount, is_good_name, is_taken, is_no_script, are_tickets_full, are_threads_full, currency_named, with_thread, command_refusal, command_effect, command_step, unless_refused}
 use Rattle.lot_machine.specs.Step.{draw, thread_there, event_refusal, event_effect, step}
 use Rattle.lot_machine.proofs.CommandsKept.{all-pass}
 use Rattle.lot_machine.proofs.Tickets.{at_number-suc}
@@ -46,12 +46,6 @@ unchanged : (s : State) → KeepsThreads s s
 unchanged s = record { threads = refl; records = refl; limits = refl }
 
 pub command-makes : (s : State) (c : Command) → MakesThread s (command_step s c).state (command_step s c).reply
-command-makes s (MakeTicket amount currency) = kept-same s (MakeTicket amount currency) _ (command_effect s (MakeTicket amount currency)) (unchanged s) (λ _. record { threads = refl; records = refl; limits = refl })
-command-makes s (RemoveTicket n) = kept-same s (RemoveTicket n) _ (command_effect s (RemoveTicket n)) (unchanged s) (λ _. record { threads = refl; records = refl; limits = refl })
-command-makes s (MakeCurrency name) = kept-same s (MakeCurrency name) _ (command_effect s (MakeCurrency name)) (unchanged s) (λ _. record { threads = refl; records = refl; limits = refl })
-command-makes s (RemoveCurrency currency) = kept-same s (RemoveCurrency currency) _ (command_effect s (RemoveCurrency currency)) (unchanged s) (λ _. record { threads = refl; records = refl; limits = refl })
-command-makes s (Fund n name) = kept-same s (Fund n name) _ (command_effect s (Fund n name)) (unchanged s) (λ _. record { threads = refl; records = refl; limits = refl })
-command-makes s (Unfund n) = kept-same s (Unfund n) _ (command_effect s (Unfund n)) (unchanged s) (λ _. record { threads = refl; records = refl; limits = refl })
 command-makes s (MakeThread name script) =
     kept-same s (MakeThread name script) _ (command_effect s (MakeThread name script)) (unchanged s) (λ e.
     let passed = all-pass ((not (is_good_name name), BadName) ∷ (is_taken s name, NameTaken) ∷ (is_no_script s script, NoScript) ∷ (are_threads_full s, Full) ∷ []) e in
@@ -61,7 +55,7 @@ command-makes s (MakeFunded amount currency name script) =
     let passed = all-pass ((is_bad_amount amount, BadAmount) ∷ (is_none (currency_named s currency), NoCurrency) ∷ (not (is_good_name name), BadName) ∷ (is_taken s name, NameTaken) ∷ (is_no_script s script, NoScript) ∷ (are_tickets_full s || are_threads_full s, Full) ∷ []) e in
     let more = with_thread-more s name script passed.1.1.1.1.0 (or_parts (are_tickets_full s) (are_threads_full s) passed.1.1.1.1.1.0).1 in
     record { number = more.number; thread = more.thread; threads = more.threads; records = more.records; script = more.script; limits = more.limits; count = more.count })
-command-makes s (Listing kind) = unchanged s
+command-makes s other = kept-same s other (command_refusal s other) (command_effect s other) (unchanged s) (λ _. record { threads = refl; records = refl; limits = refl })
 
 -- ---- draws
 

@@ -18,7 +18,8 @@ use Rattle.lot_machine.specs.Numbered.{at_number, numbers, option_any}
 use Rattle.lot_machine.specs.Order.{IsInOrder}
 use Rattle.lot_machine.specs.Rows.{thread_name}
 use Rattle.lot_machine.specs.State.{State, Mutex, is_ready, ready_threads, status_of, value_of, weight_of}
-use Rattle.lot_machine.proofs.OrderKept.{filter-passes, is-ready, order-sound}
+use Rattle.lot_machine.proofs.Idle.{filter-passes, is-ready}
+use Rattle.lot_machine.proofs.OrderKept.{order-sound}
 use Rattle.lot_machine.proofs.RecordsKept.{numbered}
 use Rattle.lot_machine.proofs.Tickets.{at_number-suc}
 use Rattle.lot_machine.proofs.WaitersWorth.{waiters-worth}

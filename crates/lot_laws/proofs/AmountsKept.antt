@@ -6,7 +6,7 @@ use Rattle.lot_machine.specs.declared.ticket.Ticket.{Ticket}
 use Rattle.lot_machine.specs.declared.ticket.Target.{Target}
 use Rattle.lot_machine.specs.declared.ticket.Target.TheVariants as target
 use Rattle.lot_machine.specs.declared.command.Command.{Command}
-use Rattle.lot_machine.specs.declared.command.Command.TheVariants.{MakeTicket, RemoveTicket, MakeCurrency, RemoveCurrency, Fund, Unfund, MakeThread, MakeFunded, List as Listing}
+use Rattle.lot_machine.specs.declared.command.Command.TheVariants.{MakeTicket, RemoveTicket, Fund, Unfund, MakeFunded}
 use Rattle.lot_machine.specs.declared.event.Event.{Event}
 use Rattle.lot_machine.specs.declared.event.Event.TheVariants as event
 use Rattle.lot_machine.specs.Numbered.{at_number, set_number}
@@ -20,13 +20,13 @@ use Rattle.lot_machine.specs.declared.sizes.Sizes.{Sizes}
 use Rattle.lot_machine.specs.declared.funding.Node.{Node}
 use Rattle.lot_machine.specs.declared.funding.Node.TheVariants.{Currency, Thread, Mutex}
 use Rattle.lot_machine.specs.State.{State, funding_of, live_of, lend_of}
-use Rattle.lot_machine.specs.Commands.{command_effect, command_step, currency_or_base, target_named}
-use Rattle.lot_machine.specs.Step.{step, draw, event_effect, thread_there, used_there, state_after}
+use Rattle.lot_machine.specs.Named.{processor_of}
+use Rattle.lot_machine.specs.Commands.{command_refusal, command_effect, command_step, currency_or_base, target_named}
+use Rattle.lot_machine.specs.Step.{step, state_after}
 use Rattle.lot_machine.proofs.Changes.{number-push, number-set}
 use Rattle.lot_machine.proofs.CommandsKept.{unrefused}
-use Rattle.lot_machine.proofs.StepSizes.{step-sizes, command-grown, step-limits}
+use Rattle.lot_machine.proofs.StepSizes.{step-tickets, step-grown, step-limits}
 use Rattle.lot_machine.proofs.OrderKept.{run-order, order-sound}
-use Rattle.lot_laws.proofs.TicketsKept.{draw-tickets, trap-tickets}
 use Rattle.lot_laws.proofs.Insulated.{insulated}
 use Rattle.lot_machine.proofs.Tickets.{some-injective}
 
@@ -100,24 +100,21 @@ command-tickets : (s : State) (c : Command) → KeepsIn s (command_step s c).sta
 command-tickets s (MakeTicket amount currency) =
     unrefused (KeepsIn s) s _ (command_effect s (MakeTicket amount currency)) (as-they-were s.tickets) (λ _. one-more s.tickets amount (currency_or_base s currency) target.Unfunded)
 command-tickets s (RemoveTicket n) = unrefused (KeepsIn s) s _ (command_effect s (RemoveTicket n)) (as-they-were s.tickets) (λ _. removed s.tickets n)
-command-tickets s (MakeCurrency name) = unrefused (KeepsIn s) s _ (command_effect s (MakeCurrency name)) (as-they-were s.tickets) (λ _. as-they-were s.tickets)
-command-tickets s (RemoveCurrency currency) = unrefused (KeepsIn s) s _ (command_effect s (RemoveCurrency currency)) (as-they-were s.tickets) (λ _. as-they-were s.tickets)
 command-tickets s (Fund n name) = unrefused (KeepsIn s) s _ (command_effect s (Fund n name)) (as-they-were s.tickets) (λ _. aimed s.tickets n (unwrap_or (target_named s name) target.Unfunded))
 command-tickets s (Unfund n) = unrefused (KeepsIn s) s _ (command_effect s (Unfund n)) (as-they-were s.tickets) (λ _. aimed s.tickets n target.Unfunded)
-command-tickets s (MakeThread name script) = unrefused (KeepsIn s) s _ (command_effect s (MakeThread name script)) (as-they-were s.tickets) (λ _. as-they-were s.tickets)
 command-tickets s (MakeFunded amount currency name script) =
     unrefused (KeepsIn s) s _ (command_effect s (MakeFunded amount currency name script)) (as-they-were s.tickets) (λ _.
     one-more s.tickets amount (currency_or_base s currency) (target.Thread (length s.threads + 1)))
-command-tickets s (Listing kind) = as-they-were s.tickets
+command-tickets s other = unrefused (KeepsIn s) s (command_refusal s other) (command_effect s other) (as-they-were s.tickets) (λ _. as-they-were s.tickets)
+
+unchanged : (s : State) (e : Event) (p : ℕ) → processor_of e ≡ Some p → KeepsIn s (step s e).state
+unchanged s e p on = subst (ComesOf s.tickets) (sym (step-tickets s e p on)) (as-they-were s.tickets)
 
 event-tickets : (s : State) (e : Event) → KeepsIn s (step s e).state
 event-tickets s (event.Command command) = command-tickets s command
-event-tickets s (event.Draw p d) =
-    unrefused (KeepsIn s) s _ (draw s p d) (as-they-were s.tickets) (λ _. subst (ComesOf s.tickets) (sym (draw-tickets s p d)) (as-they-were s.tickets))
-event-tickets s (event.Expire p) = unrefused (KeepsIn s) s _ (event_effect s (event.Expire p)) (as-they-were s.tickets) (λ _. as-they-were s.tickets)
-event-tickets s (event.Trap p ran action) =
-    unrefused (KeepsIn s) s _ (event_effect s (event.Trap p ran action)) (as-they-were s.tickets) (λ _.
-    subst (ComesOf s.tickets) (sym (trap-tickets s p (thread_there s p) (used_there s p) ran action)) (as-they-were s.tickets))
+event-tickets s (event.Draw p d) = unchanged s (event.Draw p d) p refl
+event-tickets s (event.Expire p) = unchanged s (event.Expire p) p refl
+event-tickets s (event.Trap p ran action) = unchanged s (event.Trap p ran action) p refl
 
 run-tickets : (s : State) (events : List Event) → KeepsIn s (state_after s events)
 run-tickets s [] = as-they-were s.tickets
@@ -134,10 +131,7 @@ amounts-kept s events n t u first second = by ((run-tickets s events).keeps n u 
 
 -- threads don't get fewer
 more-threads : (s : State) (e : Event) → length s.records ≤ length (step s e).state.records
-more-threads s (event.Command command) = let grown = command-grown s command in omega (arith, grown.1.1)
-more-threads s (event.Draw p d) = omega (arith, (step-sizes s (event.Draw p d) p refl).1)
-more-threads s (event.Expire p) = omega (arith, (step-sizes s (event.Expire p) p refl).1)
-more-threads s (event.Trap p ran action) = omega (arith, (step-sizes s (event.Trap p ran action) p refl).1)
+more-threads s e = let grown = step-grown s e in omega (arith, grown.1.1)
 
 run-threads : (s : State) (events : List Event) → length s.records ≤ length (state_after s events).records
 run-threads s [] = omega arith

@@ -7,7 +7,7 @@ use Rattle.lot_machine.specs.declared.ticket.Ticket.{Ticket}
 use Rattle.lot_machine.specs.declared.ticket.Target.{Target}
 use Rattle.lot_machine.specs.declared.ticket.Target.TheVariants as target
 use Rattle.lot_machine.specs.declared.command.Command.{Command}
-use Rattle.lot_machine.specs.declared.command.Command.TheVariants.{MakeTicket, RemoveTicket, MakeCurrency, RemoveCurrency, Fund, Unfund, MakeThread, MakeFunded, List as Listing}
+use Rattle.lot_machine.specs.declared.command.Command.TheVariants.{MakeTicket, RemoveTicket, Fund, Unfund, MakeFunded}
 use Rattle.lot_machine.specs.declared.event.Event.{Event}
 use Rattle.lot_machine.specs.declared.event.Event.TheVariants as event
 use Rattle.lot_machine.specs.declared.refusal.Refusal.TheVariants.{BadName, NameTaken, NoCurrency, NoTicket, NoTarget, BadAmount, Funding, Cycle, BaseFixed, DeadThread, Full, NoScript}
@@ -15,9 +15,10 @@ use Rattle.lot_machine.specs.declared.sizes.Sizes.{Sizes}
 use Rattle.lot_machine.specs.Numbered.{at_number, set_number, option_any}
 use Rattle.lot_machine.specs.Funding.{ticket_in, with_new_ticket, without_ticket, with_target, retargeted, is_currency}
 use Rattle.lot_machine.specs.State.{State, opening, funding_of}
-use Rattle.lot_machine.specs.Commands.{currency_named, is_good_name, is_taken, is_bad_amount, is_no_script, are_tickets_full, are_threads_full, is_dead_thread, is_funding, is_cycle, command_effect, command_step, currency_or_base, target_named}
+use Rattle.lot_machine.specs.Named.{processor_of}
+use Rattle.lot_machine.specs.Commands.{currency_named, is_good_name, is_taken, is_bad_amount, is_no_script, are_tickets_full, are_threads_full, is_dead_thread, is_funding, is_cycle, command_refusal, command_effect, command_step, currency_or_base, target_named}
 use Rattle.lot_machine.specs.Order.{IsInOrder}
-use Rattle.lot_machine.specs.Step.{step, draw, event_effect, thread_there, used_there, state_after}
+use Rattle.lot_machine.specs.Step.{step, state_after}
 use Rattle.lot_machine.proofs.Tickets.{some-injective, ticket_in-suc}
 use Rattle.lot_machine.proofs.Changes.{number-push, number-set}
 use Rattle.lot_machine.proofs.CommandsKept.{unrefused, all-pass}
@@ -25,7 +26,7 @@ use Rattle.lot_machine.proofs.OrderKept.{reached-order}
 use Rattle.lot_laws.specs.Conservation.{HasAmounts}
 use Rattle.lot_laws.specs.Insulation.{FundsNoBase}
 use Rattle.lot_laws.specs.Reachable.{IsReachable}
-use Rattle.lot_laws.proofs.TicketsKept.{draw-tickets, trap-tickets}
+use Rattle.lot_machine.proofs.StepSizes.{step-tickets}
 
 -- a target that isn't base
 not-base : (o : Option Target) → option_any (is_currency 0) o ≡ false → unwrap_or o target.Unfunded ≢ target.Currency 0
@@ -77,8 +78,6 @@ module _ (IsSo : Ticket → Type 0)
       let passed = all-pass ((is_bad_amount amount, BadAmount) ∷ (is_none (currency_named s currency), NoCurrency) ∷ (are_tickets_full s, Full) ∷ []) e in
       one-more s.tickets amount (currency_or_base s currency) target.Unfunded passed.0 (λ same. cc) each)
   command-each s (RemoveTicket n) each = unrefused EachIn s _ (command_effect s (RemoveTicket n)) each (λ _. removed s.tickets n each)
-  command-each s (MakeCurrency name) each = unrefused EachIn s _ (command_effect s (MakeCurrency name)) each (λ _. each)
-  command-each s (RemoveCurrency currency) each = unrefused EachIn s _ (command_effect s (RemoveCurrency currency)) each (λ _. each)
   command-each s (Fund n name) each =
       unrefused EachIn s _ (command_effect s (Fund n name)) each (λ e.
       let passed = all-pass ((is_none (ticket_in s.tickets n), NoTicket) ∷ (is_none (target_named s name), NoTarget)
@@ -86,20 +85,21 @@ module _ (IsSo : Ticket → Type 0)
       ∷ (option_any is_funding (ticket_in s.tickets n), Funding) ∷ (option_any (is_cycle s n) (target_named s name), Cycle) ∷ []) e in
       one-aimed s.tickets n (unwrap_or (target_named s name) target.Unfunded) (not-base (target_named s name) passed.1.1.0) each)
   command-each s (Unfund n) each = unrefused EachIn s _ (command_effect s (Unfund n)) each (λ _. one-aimed s.tickets n target.Unfunded (λ same. cc) each)
-  command-each s (MakeThread name script) each = unrefused EachIn s _ (command_effect s (MakeThread name script)) each (λ _. each)
   command-each s (MakeFunded amount currency name script) each =
       unrefused EachIn s _ (command_effect s (MakeFunded amount currency name script)) each (λ e.
       let passed = all-pass ((is_bad_amount amount, BadAmount) ∷ (is_none (currency_named s currency), NoCurrency) ∷ (not (is_good_name name), BadName)
       ∷ (is_taken s name, NameTaken) ∷ (is_no_script s script, NoScript) ∷ (are_tickets_full s || are_threads_full s, Full) ∷ []) e in
       one-more s.tickets amount (currency_or_base s currency) (target.Thread (length s.threads + 1)) passed.0 (λ same. cc) each)
-  command-each s (Listing kind) each = each
+  command-each s other each = unrefused EachIn s (command_refusal s other) (command_effect s other) each (λ _. each)
+
+  unchanged : (s : State) (e : Event) (p : ℕ) → processor_of e ≡ Some p → EachIn s → EachIn (step s e).state
+  unchanged s e p on each = subst Each (sym (step-tickets s e p on)) each
 
   pub event-each : (s : State) (e : Event) → EachIn s → EachIn (step s e).state
   event-each s (event.Command command) each = command-each s command each
-  event-each s (event.Draw p d) each = unrefused EachIn s _ (draw s p d) each (λ _. subst Each (sym (draw-tickets s p d)) each)
-  event-each s (event.Expire p) each = unrefused EachIn s _ (event_effect s (event.Expire p)) each (λ _. each)
-  event-each s (event.Trap p ran action) each =
-      unrefused EachIn s _ (event_effect s (event.Trap p ran action)) each (λ _. subst Each (sym (trap-tickets s p (thread_there s p) (used_there s p) ran action)) each)
+  event-each s (event.Draw p d) each = unchanged s (event.Draw p d) p refl each
+  event-each s (event.Expire p) each = unchanged s (event.Expire p) p refl each
+  event-each s (event.Trap p ran action) each = unchanged s (event.Trap p ran action) p refl each
 
   run-each : (s : State) (events : List Event) → EachIn s → EachIn (state_after s events)
   run-each s [] each = each

@@ -16,30 +16,25 @@ use Rattle.lot_machine.specs.declared.record.Status.TheVariants as status
 use Rattle.lot_machine.specs.declared.command.Command.TheVariants.{Fund, MakeFunded}
 use Rattle.lot_machine.specs.declared.event.Event.{Event}
 use Rattle.lot_machine.specs.declared.event.Event.TheVariants as event
-use Rattle.lot_machine.specs.declared.action.Action.{Action}
-use Rattle.lot_machine.specs.declared.action.Action.TheVariants.{Yield, Call, Receive, Reply as ReplyTo, Serve, Lock, Unlock, Exit}
 use Rattle.lot_machine.specs.declared.refusal.Refusal.{Refusal}
 use Rattle.lot_machine.specs.declared.refusal.Refusal.TheVariants.{NoTicket, NoTarget, Funding as IsFunding, Cycle, BaseFixed, DeadThread}
-use Rattle.lot_machine.specs.declared.refusal.TrapRefusal.{TrapRefusal}
-use Rattle.lot_machine.specs.declared.drawn.Drawn.{Drawn}
 use Rattle.lot_machine.specs.Numbered.{at_number, option_any}
 use Rattle.lot_machine.specs.Funding.{Funding, ticket_at, ticket_in, with_new_ticket, with_target, retargeted, target_node, lend_node, issuer_of, is_currency, ends_of, IsEdge}
 use Rattle.lot_machine.specs.Lends.{IsLive}
 use Rattle.lot_machine.specs.Activity.{IsActive, is_active, active_amount}
-use Rattle.lot_machine.specs.Lottery.{winner}
 use Rattle.lot_machine.specs.Facts.{HasNoCycle, FundsThere}
 use Rattle.lot_machine.specs.Equations.{HasEquation}
 use Rattle.lot_machine.specs.Touched.{IsChangedEdge, IsChangedLife}
-use Rattle.lot_machine.specs.State.{State, opening, funding_of, live_of, lend_of, is_live_status, ready_threads, weight_of}
+use Rattle.lot_machine.specs.State.{State, opening, funding_of, live_of, lend_of, is_live_status}
 use Rattle.lot_machine.specs.Commands.{currency_named, target_named, currency_or_base, is_dead_thread, is_funding, is_unfunded, is_cycle, command_refusal, command_effect, unless_refused, with_thread}
-use Rattle.lot_machine.specs.Step.{step, draw, trap, trap_refusal, trap_effect, checked_effect, event_effect, thread_there, used_there, state_after}
+use Rattle.lot_machine.specs.Step.{step, state_after}
 use Rattle.lot_machine.proofs.Tickets.{at_number-suc, some-injective, issuer-of}
 use Rattle.lot_machine.proofs.TicketDepth.{is_active-exact}
 use Rattle.lot_machine.proofs.NodeBounds.{issuer-amount}
 use Rattle.lot_machine.proofs.Changes.{number-set, number-push}
-use Rattle.lot_machine.proofs.CommandsKept.{unrefused, all-pass}
+use Rattle.lot_machine.proofs.CommandsKept.{all-pass}
 use Rattle.lot_machine.proofs.TrapCycles.{at_number-map}
-use Rattle.lot_machine.proofs.StepSizes.{step-sizes, command-grown}
+use Rattle.lot_machine.proofs.StepSizes.{step-grown}
 use Rattle.lot_laws.specs.Conservation.{HasAmounts}
 use Rattle.lot_laws.specs.Insulation.{Encloses, IsChangeInside, ChangesInside, IsNamedInside, amount_in, worth_in}
 use Rattle.lot_laws.specs.Reachable.{IsReachable, IsWellFormed}
@@ -211,45 +206,8 @@ fund-local s n c name inside reachable encloses issued named some node out has =
 
 -- ---- as many threads as records
 
-draw-threads : (s : State) (p d : ℕ) → (draw s p d).state.threads ≡ s.threads
-draw-threads s p d = at (winner (map (weight_of s) (ready_threads s.records)) d) refl
-  where
-    at : (o : Option Drawn) → winner (map (weight_of s) (ready_threads s.records)) d ≡ o → (draw s p d).state.threads ≡ s.threads
-    at None is = rw is refl
-    at (Some w) is = rw is refl
-
-effect-threads : (s : State) (t : ℕ) (action : Action) → (trap_effect s t action).state.threads ≡ s.threads
-effect-threads s t Yield = refl
-effect-threads s t (Call port number) = refl
-effect-threads s t (Receive port) = refl
-effect-threads s t (ReplyTo number) = refl
-effect-threads s t (Serve port number) = refl
-effect-threads s t (Lock m) = refl
-effect-threads s t (Unlock m d) = refl
-effect-threads s t Exit = refl
-
-trap-threads : (s : State) (p t used ran : ℕ) (action : Action) → (trap s p t used ran action).state.threads ≡ s.threads
-trap-threads s p t used ran action = by (trap_refusal s t action)
-  where
-    by : (o : Option TrapRefusal) → (checked_effect s o (trap_effect s t action)).state.threads ≡ s.threads
-    by None = effect-threads s t action
-    by (Some refusal) = refl
-
-abbrev KeepsThreads : State → State → Type 0
-KeepsThreads s after = after.threads ≡ s.threads
-
 step-many : (s : State) (e : Event) → length s.threads ≡ length s.records → length (step s e).state.threads ≡ length (step s e).state.records
-step-many s (event.Command command) same = let grown = command-grown s command in omega (arith, same, grown.1.1, grown.1.2)
-step-many s (event.Draw p d) same =
-    let kept : KeepsThreads s (step s (event.Draw p d)).state = unrefused (KeepsThreads s) s _ (draw s p d) refl (λ _. draw-threads s p d) in
-    ap length kept ∙ same ∙ sym (step-sizes s (event.Draw p d) p refl).1
-step-many s (event.Expire p) same =
-    let kept : KeepsThreads s (step s (event.Expire p)).state = unrefused (KeepsThreads s) s _ (event_effect s (event.Expire p)) refl (λ _. refl) in
-    ap length kept ∙ same ∙ sym (step-sizes s (event.Expire p) p refl).1
-step-many s (event.Trap p ran action) same =
-    let kept : KeepsThreads s (step s (event.Trap p ran action)).state =
-    unrefused (KeepsThreads s) s _ (event_effect s (event.Trap p ran action)) refl (λ _. trap-threads s p (thread_there s p) (used_there s p) ran action) in
-    ap length kept ∙ same ∙ sym (step-sizes s (event.Trap p ran action) p refl).1
+step-many s e same = let grown = step-grown s e in omega (arith, same, grown.1.1, grown.1.2)
 
 run-many : (s : State) (events : List Event) → length s.threads ≡ length s.records → length (state_after s events).threads ≡ length (state_after s events).records
 run-many s [] same = same

@@ -1,5 +1,4 @@
 pub mod AllDraws
-pub mod TicketsKept
 pub mod EachTicket
 pub mod KeptPaths
 pub mod Conserved

@@ -19,7 +19,7 @@ use Rattle.lot_machine.specs.Traps.{after_trap, with_ticks}
 use Rattle.lot_machine.specs.Step.{is_bad_processor, trap_refusal, trap_effect, checked_effect, finish_trap, thread_there, used_there, event_refusal, event_effect, step}
 use Rattle.lot_machine.proofs.CommandsKept.{all-pass}
 use Rattle.lot_machine.proofs.TrapCycles.{at_number-map}
-use Rattle.lot_machine.proofs.OrderKept.{there-runs}
+use Rattle.lot_machine.proofs.Idle.{there-runs}
 
 -- the thread ran on the processor, its trap wasn't refused and had this outcome, and this is the state then
 pub record IsDone (s : State) (p ran : ℕ) (action : Action) (t : ℕ) (outcome : Outcome) (after : State) : Type 0 where

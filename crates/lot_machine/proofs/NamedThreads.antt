@@ -23,8 +23,7 @@ use Rattle.lot_machine.proofs.Queues.{record-of}
 use Rattle.lot_machine.proofs.Tickets.{some-injective}
 use Rattle.lot_machine.proofs.CommandsKept.{all-pass}
 use Rattle.lot_machine.proofs.RecordsKept.{found-runs, runs-used_by}
-use Rattle.lot_machine.proofs.OrderKept.{filter-passes, is-ready, there-runs}
-use Rattle.lot_machine.proofs.RunsElsewhere.{used-elsewhere, used-of}
+use Rattle.lot_machine.proofs.Idle.{filter-passes, is-ready, there-runs, used-elsewhere, used-of}
 
 -- ---- the place of a winner
 

@@ -1,10 +1,8 @@
 -- A state that is in order stays so through each event, and is sound.
-use Rattle.std.proofs.Common.{◌≡◌, ℕ, zero, suc, ◌+◌, ◌-◌, ◌^◌, ◌<◌, ◌≤◌, ◌==◌, Bool, true, false, not, ◌||◌, ◌⊎◌, inl, inr, Option, Some, None, is_some, is_none, List, [], ◌∷◌, length, map, filter, replicate, refl, sym, ◌∙◌, ap, subst, arith, cond, nat_lt, option_map, option_and_then, unwrap_or, get_or, slice_get, slice_index, All, IfSome}
+use Rattle.std.proofs.Common.{◌≡◌, ℕ, zero, suc, ◌+◌, ◌-◌, ◌<◌, ◌≤◌, Bool, true, false, not, ◌⊎◌, inl, inr, Option, Some, None, is_some, is_none, List, [], ◌∷◌, length, map, replicate, refl, sym, ◌∙◌, ap, subst, arith, nat_lt, option_map, option_and_then, unwrap_or, get_or, slice_get, slice_index}
 use Rattle.std.specs.Option.{option_flatten}
-use Rattle.std.proofs.lemmas.Bool.{ltb-false, leb-false, or_parts}
-use Rattle.std.proofs.lemmas.List.{get_or_past, length-append}
-use Rattle.std.proofs.Math.ListN.{length-set}
-use Rattle.std.proofs.lemmas.List.Elements.{All-nil, All-head, All-tail, All-push, All-set}
+use Rattle.std.proofs.lemmas.List.{get_or_past}
+use Rattle.std.proofs.lemmas.List.Elements.{All-nil}
 use Rattle.std.proofs.lemmas.Option.{slice_get_cases, get_or_from_slice_get}
 use Rattle.lot_machine.specs.declared.ticket.Ticket.{Ticket}
 use Rattle.lot_machine.specs.declared.ticket.Target.{Target}
@@ -17,150 +15,64 @@ use Rattle.lot_machine.specs.declared.funding.Lend.TheVariants.{Nobody}
 use Rattle.lot_machine.specs.declared.action.Action.{Action}
 use Rattle.lot_machine.specs.declared.action.Action.TheVariants.{Yield, Call, Receive, Reply as ReplyTo, Serve, Lock, Unlock, Exit}
 use Rattle.lot_machine.specs.declared.command.Command.{Command}
-use Rattle.lot_machine.specs.declared.command.Command.TheVariants.{MakeTicket, RemoveTicket, MakeCurrency, RemoveCurrency, Fund, Unfund, MakeThread, MakeFunded, List as Listing}
 use Rattle.lot_machine.specs.declared.event.Event.{Event}
 use Rattle.lot_machine.specs.declared.event.Event.TheVariants as event
-use Rattle.lot_machine.specs.declared.refusal.Refusal.TheVariants.{BadName, NameTaken, NoCurrency, BadAmount, Full, NoScript, BadProcessor, Busy, NotRunning, BadTicks}
+use Rattle.lot_machine.specs.declared.refusal.Refusal.TheVariants.{BadProcessor, Busy, NotRunning, BadTicks}
 use Rattle.lot_machine.specs.declared.refusal.TrapRefusal.{TrapRefusal}
 use Rattle.lot_machine.specs.declared.refusal.TrapRefusal.TheVariants.{NoPort, NothingToReply, NoMutex, NotOwner, AlreadyOwner, LockCycle}
 use Rattle.lot_machine.specs.declared.drawn.Drawn.{Drawn}
 use Rattle.lot_machine.specs.Bounds.{IsWithinBounds}
 use Rattle.lot_machine.specs.declared.sizes.Sizes.{Sizes}
-use Rattle.lot_machine.specs.Numbered.{at_number, set_number, numbers, option_any}
-use Rattle.lot_machine.specs.Funding.{ticket_in, with_new_ticket, retargeted, target_of, issuer_of}
+use Rattle.lot_machine.specs.Numbered.{at_number, numbers, option_any}
+use Rattle.lot_machine.specs.Funding.{target_of, issuer_of}
 use Rattle.lot_machine.specs.Lends.{lends_on_to, LendsTo, borrower}
 use Rattle.lot_machine.specs.Lottery.{winner}
 use Rattle.lot_machine.specs.State.{State, Port, Mutex, QueuedCall, opening, funding_of, lend_of, status_of, is_ready, ready_threads, thread_on, change_record, value_of, weight_of}
-use Rattle.lot_machine.specs.Commands.{currency_named, target_named, currency_or_base, is_good_name, is_taken, is_no_script, is_bad_amount, are_tickets_full, are_threads_full, with_thread, command_effect, command_step}
+use Rattle.lot_machine.specs.Commands.{command_step}
 use Rattle.lot_machine.specs.declared.after.After.{After}
 use Rattle.lot_machine.specs.Traps.{after_trap, with_ticks}
 use Rattle.lot_machine.specs.declared.after.After.TheVariants.{GoesOn, Leaves, Ends}
 use Rattle.lot_machine.specs.Ports.{first_client, reply}
 use Rattle.lot_machine.specs.Mutexes.{mutex_at}
 use Rattle.lot_machine.specs.Step.{Effect, is_bad_processor, started, draw, expire, owns, trap_refusal, trap_effect, checked_effect, trap, thread_there, used_there, event_effect, step, state_after}
-use Rattle.lot_machine.specs.Facts.{HasNoCycle, RunsApart, IsSound}
+use Rattle.lot_machine.specs.Facts.{HasNoCycle, FundsThere, IsSound}
 use Rattle.lot_machine.specs.Order.{IsQueue, HasQueues, IsInOrder}
 use Rattle.lot_machine.proofs.Tickets.{at_number-suc, some-injective}
-use Rattle.lot_machine.proofs.CommandsKept.{unrefused, all-pass, some-of, command-keeps}
-use Rattle.lot_machine.proofs.RecordsKept.{RunsAlone, found-runs, RunsApart-trapped, apart}
-use Rattle.lot_machine.proofs.StepsKept.{command-apart, draw-apart, expire-apart, IsApart, effect-apart, there-alone, free-of}
-use Rattle.lot_machine.proofs.Queues.{queue-empty, queues-live, queues-more}
+use Rattle.lot_machine.proofs.CommandsKept.{unrefused, all-pass}
+use Rattle.lot_machine.proofs.RecordsKept.{RunsAlone, apart}
+use Rattle.lot_machine.proofs.Idle.{filter-passes, is-ready, there-runs, there-alone, free-of, used-of, used-elsewhere}
+use Rattle.lot_machine.proofs.StepChanges.{By, On, Leads, kept, Apart, Queues, HasAmount, HasRoom, change-apart, change-room, change-there, change-queues, command-keeps, command-leads, draw-leads, expire-leads, checked-leads, finish-leads}
+use Rattle.lot_machine.proofs.Queues.{queue-empty, queues-live}
 use Rattle.lot_machine.proofs.TrapQueues.{stay-queues, call-queues, receive-queues, reply-queues, replied-queues, lock-queues, unlock-queues}
 use Rattle.lot_machine.proofs.TrapCycles.{cycle-nobody, call-cycle, receive-cycle, reply-cycle, replied-cycle, lock-cycle, unlock-cycle}
 use Rattle.lot_machine.proofs.BaseKept.{base-bounded}
 use Rattle.lot_machine.proofs.Bounded.{sound}
 
--- ---- commands: tickets and sizes
+-- ---- what allowed changes keep of the order
 
--- a ticket that is there has an amount of 32 bits
-abbrev HasAmount : Option Ticket → Type 0
-HasAmount place = IfSome place (λ t. t.amount < 2 ^ 32)
+-- all but cycles, queues and what tickets fund
+frame-order : {by : By} (s b : State) → IsInOrder s → Leads by s b → HasNoCycle (funding_of b) → FundsThere (funding_of b) → Queues b → IsInOrder b
+frame-order {by} s b order leads no_cycle there queues =
+    let room = kept HasRoom (change-room by s) leads (order.amounts, order.ticket_count, order.bounds) in
+    let runs = kept Apart (change-apart by s order.runs_apart) leads order.runs_apart in
+    record { no_cycle = no_cycle; funds_there = there; runs_apart = runs; queues = queues; amounts = room.0; ticket_count = room.1; bounds = room.2 }
 
--- tickets and sizes are within their bounds
-abbrev HasRoom : State → Type 0
-HasRoom s = All HasAmount s.tickets × (length s.tickets ≤ s.limits.tickets) × IsWithinBounds s.limits
-
-amount-at : (tickets : List (Option Ticket)) (i : ℕ) → All HasAmount tickets → IfSome (slice_get tickets i) HasAmount
-amount-at [] i all = tt
-amount-at (t ∷ ts) zero all = All-head HasAmount t ts all
-amount-at (t ∷ ts) (suc i) all = amount-at ts i (All-tail HasAmount t ts all)
-
-amount-in : (tickets : List (Option Ticket)) (n : ℕ) (to : Target) → All HasAmount tickets → HasAmount (option_map (retargeted to) (ticket_in tickets n))
-amount-in tickets n to all = at (n == 0)
-  where
-    found : (o : Option (Option Ticket)) → IfSome o HasAmount → HasAmount (option_map (retargeted to) (option_flatten o))
-    found None is = tt
-    found (Some None) is = tt
-    found (Some (Some t)) is = is
-
-    at : (b : Bool) → HasAmount (option_map (retargeted to) (option_flatten (cond {A = Option (Option Ticket)} b None (slice_get tickets (n - 1)))))
-    at true = tt
-    at false = found (slice_get tickets (n - 1)) (amount-at tickets (n - 1) all)
-
-room-new : (s : State) (amount issuer : ℕ) (to : Target) → is_bad_amount amount ≡ false → are_tickets_full s ≡ false → HasRoom s → HasRoom (record s { tickets = with_new_ticket s.tickets amount issuer to })
-room-new s amount issuer to good free (amounts, few, bounds) =
-    let small : amount < 2 ^ 32 = omega (arith, ltb-false 4294967295 amount (or_parts (amount == 0) (nat_lt 4294967295 amount) good).1) in
-    let place : length s.tickets < s.limits.tickets = leb-false s.limits.tickets (length s.tickets) free in
-    let new : Option Ticket = Some (record { amount = amount; issuer = issuer; target = to }) in
-    (All-push HasAmount s.tickets new amounts small, omega (arith, place, length-append s.tickets (new ∷ [])), bounds)
-
-room-put : (s : State) (n : ℕ) (put : Option Ticket) → HasAmount put → HasRoom s → HasRoom (record s { tickets = set_number s.tickets n put })
-room-put s n put small (amounts, few, bounds) = (All-set HasAmount s.tickets (n - 1) put small amounts, omega (arith, few, length-set s.tickets (n - 1) put), bounds)
-
-command-room : (s : State) (c : Command) → HasRoom s → HasRoom (command_step s c).state
-command-room s (MakeTicket amount currency) room =
-    unrefused HasRoom s _ (command_effect s (MakeTicket amount currency)) room (λ e.
-    let passed = all-pass ((is_bad_amount amount, BadAmount) ∷ (is_none (currency_named s currency), NoCurrency) ∷ (are_tickets_full s, Full) ∷ []) e in
-    room-new s amount (currency_or_base s currency) target.Unfunded passed.0 passed.1.1.0 room)
-command-room s (RemoveTicket n) room = unrefused HasRoom s _ (command_effect s (RemoveTicket n)) room (λ _. room-put s n None tt room)
-command-room s (MakeCurrency name) room = unrefused HasRoom s _ (command_effect s (MakeCurrency name)) room (λ _. room)
-command-room s (RemoveCurrency currency) room = unrefused HasRoom s _ (command_effect s (RemoveCurrency currency)) room (λ _. room)
-command-room s (Fund n name) room =
-    unrefused HasRoom s _ (command_effect s (Fund n name)) room (λ _.
-    let to = unwrap_or (target_named s name) target.Unfunded in
-    room-put s n (option_map (retargeted to) (ticket_in s.tickets n)) (amount-in s.tickets n to room.0) room)
-command-room s (Unfund n) room =
-    unrefused HasRoom s _ (command_effect s (Unfund n)) room (λ _.
-    room-put s n (option_map (retargeted target.Unfunded) (ticket_in s.tickets n)) (amount-in s.tickets n target.Unfunded room.0) room)
-command-room s (MakeThread name script) room = unrefused HasRoom s _ (command_effect s (MakeThread name script)) room (λ _. room)
-command-room s (MakeFunded amount currency name script) room =
-    unrefused HasRoom s _ (command_effect s (MakeFunded amount currency name script)) room (λ e.
-    let passed = all-pass ((is_bad_amount amount, BadAmount) ∷ (is_none (currency_named s currency), NoCurrency) ∷ (not (is_good_name name), BadName)
-    ∷ (is_taken s name, NameTaken) ∷ (is_no_script s script, NoScript) ∷ (are_tickets_full s || are_threads_full s, Full) ∷ []) e in
-    room-new (with_thread s name script) amount (currency_or_base s currency) (target.Thread (length s.threads + 1)) passed.0
-    (or_parts (are_tickets_full s) (are_threads_full s) passed.1.1.1.1.1.0).0 room)
-command-room s (Listing kind) room = room
-
--- ---- commands: queues
-
-abbrev Queues : State → Type 0
-Queues s = HasQueues s.records s.clients s.ports s.mutexes
-
-thread-queues : (s : State) (name : List ℕ) (script : ℕ) → Queues s → Queues (with_thread s name script)
-thread-queues s name script queues =
-    queues-more s.records s.clients s.ports s.mutexes queues (record { status = status.Ready; compensation = None; delivered = None; quanta = 0; ticks = 0 })
-
-command-queues : (s : State) (c : Command) → Queues s → Queues (command_step s c).state
-command-queues s (MakeTicket amount currency) queues = unrefused Queues s _ (command_effect s (MakeTicket amount currency)) queues (λ _. queues)
-command-queues s (RemoveTicket n) queues = unrefused Queues s _ (command_effect s (RemoveTicket n)) queues (λ _. queues)
-command-queues s (MakeCurrency name) queues = unrefused Queues s _ (command_effect s (MakeCurrency name)) queues (λ _. queues)
-command-queues s (RemoveCurrency currency) queues = unrefused Queues s _ (command_effect s (RemoveCurrency currency)) queues (λ _. queues)
-command-queues s (Fund n name) queues = unrefused Queues s _ (command_effect s (Fund n name)) queues (λ _. queues)
-command-queues s (Unfund n) queues = unrefused Queues s _ (command_effect s (Unfund n)) queues (λ _. queues)
-command-queues s (MakeThread name script) queues = unrefused Queues s _ (command_effect s (MakeThread name script)) queues (λ _. thread-queues s name script queues)
-command-queues s (MakeFunded amount currency name script) queues = unrefused Queues s _ (command_effect s (MakeFunded amount currency name script)) queues (λ _. thread-queues s name script queues)
-command-queues s (Listing kind) queues = queues
-
-pub command-order : (s : State) (c : Command) → IsInOrder s → IsInOrder (command_step s c).state
+command-order : (s : State) (c : Command) → IsInOrder s → IsInOrder (command_step s c).state
 command-order s c order =
+    let leads = command-leads s c in
     let funded = command-keeps s c order.no_cycle order.funds_there in
-    let room = command-room s c (order.amounts, order.ticket_count, order.bounds) in
-    record { no_cycle = funded.0; funds_there = funded.1; runs_apart = command-apart s c order.runs_apart; queues = command-queues s c order.queues; amounts = room.0; ticket_count = room.1; bounds = room.2 }
+    frame-order s (command_step s c).state order leads funded.0 funded.1 (kept Queues (change-queues s) leads order.queues)
+
+-- nothing makes a cycle, and those who wait stand where their statuses say
+abbrev IsUntangled : State → Type 0
+IsUntangled s = HasNoCycle (funding_of s) × Queues s
+
+-- an event of a processor leaves what tickets fund
+processor-order : (p : ℕ) (s b : State) → IsInOrder s → Leads (On p) s b → IsUntangled b → IsInOrder b
+processor-order p s b order leads (no_cycle, queues) =
+    frame-order s b order leads no_cycle (kept (λ a. FundsThere (funding_of a)) (change-there (On p) s (λ e. cc)) leads order.funds_there) queues
 
 -- ---- draws and expiries
-
--- what a filter keeps passes
-pub filter-passes : (test : ℕ → Bool) (xs : List ℕ) (i x : ℕ) → slice_get (filter test xs) i ≡ Some x → test x ≡ true
-filter-passes test [] i x e = cc
-filter-passes test (y ∷ ys) i x e = at (λ j. filter-passes test ys j x) (test y) refl
-  where
-    at : ((j : ℕ) → slice_get (filter test ys) j ≡ Some x → test x ≡ true) → (b : Bool) → test y ≡ b → test x ≡ true
-    at more false is = let same : filter test (y ∷ ys) ≡ filter test ys = rw is refl in more i (sym (ap (λ zs. slice_get zs i) same) ∙ e)
-    at more true is = let same : filter test (y ∷ ys) ≡ y ∷ filter test ys = rw is refl in from i (sym (ap (λ zs. slice_get zs i) same) ∙ e)
-      where
-        from : (j : ℕ) → slice_get (y ∷ filter test ys) j ≡ Some x → test x ≡ true
-        from zero here = ap test (sym (some-injective y x here)) ∙ is
-        from (suc j) here = more j here
-
-pub is-ready : (o : Option Status) → option_any is_ready o ≡ true → o ≡ Some status.Ready
-is-ready None e = cc
-is-ready (Some status.Ready) e = refl
-is-ready (Some (status.Running p used)) e = cc
-is-ready (Some (status.Receiving p)) e = cc
-is-ready (Some (status.Queued p)) e = cc
-is-ready (Some (status.Served server)) e = cc
-is-ready (Some (status.Waiting m)) e = cc
-is-ready (Some status.Dead) e = cc
 
 -- who stands at a place of the Ready threads changes
 ready-queues : (s : State) (change : Record → Record) (place : ℕ) → Queues s → HasQueues (change_record change s.records (slice_index (ready_threads s.records) place)) s.clients s.ports s.mutexes
@@ -179,43 +91,19 @@ ready-queues s change place queues = from (slice_get_cases (ready_threads s.reco
         let nobody : slice_index (ready_threads s.records) place ≡ 0 = get_or_past (ready_threads s.records) place 0 past in
         subst (λ u. HasQueues (change_record change s.records u) s.clients s.ports s.mutexes) (sym nobody) queues
 
-pub draw-order : (s : State) (p d : ℕ) → thread_on s.records p ≡ None → IsInOrder s → IsInOrder (draw s p d).state
-draw-order s p d free order = at (winner (map (weight_of s) (ready_threads s.records)) d) refl (draw-apart s p d free order.runs_apart)
+draw-order : (s : State) (p d : ℕ) → thread_on s.records p ≡ None → IsInOrder s → IsInOrder (draw s p d).state
+draw-order s p d free order = processor-order p s (draw s p d).state order (draw-leads s p d free) (at (winner (map (weight_of s) (ready_threads s.records)) d) refl)
   where
-    won : (w : Drawn) → RunsApart (change_record (started p) s.records (slice_index (ready_threads s.records) w.place)) → IsInOrder (record s { records = change_record (started p) s.records (slice_index (ready_threads s.records) w.place) })
-    won w runs = record {
-      no_cycle = cycle-nobody s (started p) (slice_index (ready_threads s.records) w.place) (λ r. refl) order.no_cycle;
-      funds_there = order.funds_there;
-      runs_apart = runs;
-      queues = ready-queues s (started p) w.place order.queues;
-      amounts = order.amounts;
-      ticket_count = order.ticket_count;
-      bounds = order.bounds;
-    }
+    at : (o : Option Drawn) → winner (map (weight_of s) (ready_threads s.records)) d ≡ o → IsUntangled (draw s p d).state
+    at None is = rw is (order.no_cycle, order.queues)
+    at (Some w) is =
+        let t = slice_index (ready_threads s.records) w.place in
+        rw is (cycle-nobody s (started p) t (λ r. refl) order.no_cycle, ready-queues s (started p) w.place order.queues)
 
-    at : (o : Option Drawn) → winner (map (weight_of s) (ready_threads s.records)) d ≡ o → RunsApart (draw s p d).state.records → IsInOrder (draw s p d).state
-    at None is runs = rw is order
-    at (Some w) is runs = rw is (won w (rw is at runs))
-
--- the thread that is found on a processor runs there
-pub there-runs : (s : State) (p : ℕ) → is_none (thread_on s.records p) ≡ false → (used : ℕ) × (status_of s.records (thread_there s p) ≡ Some (status.Running p used))
-there-runs s p some = from (some-of (thread_on s.records p) some)
-  where
-    from : ((t : ℕ) × (thread_on s.records p ≡ Some t)) → (used : ℕ) × (status_of s.records (thread_there s p) ≡ Some (status.Running p used))
-    from (t, found) = let there = found-runs s.records p t found in (there.0, ap (λ o. status_of s.records (unwrap_or o 0)) found ∙ there.1)
-
-pub expire-order : (s : State) (p t before used : ℕ) → status_of s.records t ≡ Some (status.Running p before) → IsInOrder s → IsInOrder (expire s t used).state
-expire-order s p t before used runs order =
+expire-untangled : (s : State) (p t before used : ℕ) → status_of s.records t ≡ Some (status.Running p before) → IsInOrder s → IsUntangled (expire s t used).state
+expire-untangled s p t before used runs order =
     let change : Record → Record = λ r. with_ticks (s.limits.quantum - used) (record r { status = status.Ready; compensation = None }) in
-    record {
-      no_cycle = cycle-nobody s change t (λ r. refl) order.no_cycle;
-      funds_there = order.funds_there;
-      runs_apart = expire-apart s t used order.runs_apart;
-      queues = queues-live s.records s.clients s.ports s.mutexes order.queues change t (status.Running p before) runs refl;
-      amounts = order.amounts;
-      ticket_count = order.ticket_count;
-      bounds = order.bounds;
-    }
+    (cycle-nobody s change t (λ r. refl) order.no_cycle, queues-live s.records s.clients s.ports s.mutexes order.queues change t (status.Running p before) runs refl)
 
 -- ---- traps
 
@@ -224,7 +112,7 @@ default-of : {A : Type 0} (o : Option A) (d : A) → is_none o ≡ false → o �
 default-of None d e = cc
 default-of (Some x) d e = refl
 
-module _ (s : State) (order : IsInOrder s) (t p before ticks used : ℕ) (runs : status_of s.records t ≡ Some (status.Running p before)) (alone : RunsAlone s.records p t) where
+module _ (s : State) (order : IsInOrder s) (t p before ticks used : ℕ) (runs : status_of s.records t ≡ Some (status.Running p before)) where
   -- what becomes of the thread that made the trap
   abbrev finish : After → Record → Record
   finish after r = with_ticks ticks (after_trap after p used s.limits.quantum r)
@@ -241,76 +129,53 @@ module _ (s : State) (order : IsInOrder s) (t p before ticks used : ℕ) (runs :
   abbrev finished : Effect → State
   finished e = record e.state { records = change_record (finish e.after) e.state.records t }
 
-  built : (records : List Record) (clients : List (List ℕ)) (ports : List Port) (mutexes : List Mutex) (after : After) → IsApart p t records after
-      → HasNoCycle (funding_of (record s { records = change_record (finish after) records t; clients = clients; ports = ports; mutexes = mutexes }))
-      → HasQueues (change_record (finish after) records t) clients ports mutexes
-      → IsInOrder (record s { records = change_record (finish after) records t; clients = clients; ports = ports; mutexes = mutexes })
-  built records clients ports mutexes after is no_cycle queues = record {
-    no_cycle = no_cycle;
-    funds_there = order.funds_there;
-    runs_apart = RunsApart-trapped after ticks s.limits.quantum records p t used is.2 is.1 is.0;
-    queues = queues;
-    amounts = order.amounts;
-    ticket_count = order.ticket_count;
-    bounds = order.bounds;
-  }
-
   -- one that changes nothing besides
-  kept : (after : After) → IsApart p t s.records after → ((r : Record) → lend_of (finish after r).status ≡ Nobody) → IsInOrder (record s { records = change_record (finish after) s.records t })
-  kept after is nobody =
-      built s.records s.clients s.ports s.mutexes after is (cycle-nobody s (finish after) t nobody order.no_cycle)
-      (stay-queues finish (λ st r. refl) s.records s.clients s.ports s.mutexes order.queues t p before runs after)
+  nothing-else : (after : After) → ((r : Record) → lend_of (finish after r).status ≡ Nobody) → IsUntangled (record s { records = change_record (finish after) s.records t })
+  nothing-else after nobody =
+      (cycle-nobody s (finish after) t nobody order.no_cycle, stay-queues finish (λ st r. refl) s.records s.clients s.ports s.mutexes order.queues t p before runs after)
 
-  effect-order : (action : Action) → trap_refusal s t action ≡ None → IsInOrder (finished (trap_effect s t action))
-  effect-order Yield allowed = kept (Leaves status.Ready) (effect-apart s p t t Yield order.runs_apart alone) (λ r. refl)
-  effect-order Exit allowed = kept Ends (effect-apart s p t t Exit order.runs_apart alone) (λ r. refl)
-  effect-order (Call port number) allowed =
+  effect-untangled : (action : Action) → trap_refusal s t action ≡ None → IsUntangled (finished (trap_effect s t action))
+  effect-untangled Yield allowed = nothing-else (Leaves status.Ready) (λ r. refl)
+  effect-untangled Exit allowed = nothing-else Ends (λ r. refl)
+  effect-untangled (Call port number) allowed =
       let passed = all-pass ((is_none (at_number s.ports port), NoPort) ∷ []) allowed in
       let there = default-of (at_number s.ports port) (record { calls = []; receivers = [] }) passed.0 in
-      built _ _ _ _ (trap_effect s t (Call port number)).after (effect-apart s p t t (Call port number) order.runs_apart alone)
-      (call-cycle finish (λ st r. refl) goes-on s order.no_cycle order.queues t p before runs port number there)
-      (call-queues finish (λ st r. refl) s.records s.clients s.ports s.mutexes order.queues t p before runs port number there)
-  effect-order (Receive port) allowed =
+      (call-cycle finish (λ st r. refl) goes-on s order.no_cycle order.queues t p before runs port number there, call-queues finish (λ st r. refl) s.records s.clients s.ports s.mutexes order.queues t p before runs port number there)
+  effect-untangled (Receive port) allowed =
       let passed = all-pass ((is_none (at_number s.ports port), NoPort) ∷ []) allowed in
       let there = default-of (at_number s.ports port) (record { calls = []; receivers = [] }) passed.0 in
-      built _ _ _ _ (trap_effect s t (Receive port)).after (effect-apart s p t t (Receive port) order.runs_apart alone)
-      (receive-cycle finish (λ st r. refl) goes-on s order.no_cycle order.queues t p before runs port there)
-      (receive-queues finish (λ st r. refl) s.records s.clients s.ports s.mutexes order.queues t p before runs port there)
-  effect-order (ReplyTo number) allowed =
+      (receive-cycle finish (λ st r. refl) goes-on s order.no_cycle order.queues t p before runs port there, receive-queues finish (λ st r. refl) s.records s.clients s.ports s.mutexes order.queues t p before runs port there)
+  effect-untangled (ReplyTo number) allowed =
       let passed = all-pass ((is_none (first_client s.clients t), NothingToReply) ∷ []) allowed in
-      built _ _ _ _ (trap_effect s t (ReplyTo number)).after (effect-apart s p t t (ReplyTo number) order.runs_apart alone)
-      (reply-cycle finish (λ st r. refl) goes-on s order.no_cycle order.queues t p before runs number)
-      (reply-queues finish (λ st r. refl) s.records s.clients s.ports s.mutexes order.queues t p before runs number passed.0)
-  effect-order (Serve port number) allowed =
+      (reply-cycle finish (λ st r. refl) goes-on s order.no_cycle order.queues t p before runs number, reply-queues finish (λ st r. refl) s.records s.clients s.ports s.mutexes order.queues t p before runs number passed.0)
+  effect-untangled (Serve port number) allowed =
       let passed = all-pass ((is_none (at_number s.ports port), NoPort) ∷ (is_none (first_client s.clients t), NothingToReply) ∷ []) allowed in
       let there = default-of (at_number s.ports port) (record { calls = []; receivers = [] }) passed.0 in
       let replied = reply s.records s.clients s.ports t number in
       let middle : State = record s { records = replied.records; clients = replied.clients; ports = replied.ports } in
       let left = replied-queues finish (λ st r. refl) s.records s.clients s.ports s.mutexes order.queues t p before runs number passed.1.0 in
       let no_cycle = replied-cycle finish (λ st r. refl) goes-on s order.no_cycle order.queues t p before runs number in
-      built _ _ _ _ (trap_effect s t (Serve port number)).after (effect-apart s p t t (Serve port number) order.runs_apart alone)
-      (receive-cycle finish (λ st r. refl) goes-on middle no_cycle left.0 t p before left.1 port there)
-      (receive-queues finish (λ st r. refl) replied.records replied.clients replied.ports s.mutexes left.0 t p before left.1 port there)
-  effect-order (Lock m) allowed =
+      (receive-cycle finish (λ st r. refl) goes-on middle no_cycle left.0 t p before left.1 port there, receive-queues finish (λ st r. refl) replied.records replied.clients replied.ports s.mutexes left.0 t p before left.1 port there)
+  effect-untangled (Lock m) allowed =
       let passed = all-pass ((is_none (at_number s.mutexes m), NoMutex) ∷ (owns s t m, AlreadyOwner)
       ∷ (option_any (λ owner. lends_on_to (funding_of s) owner t) (mutex_at s.mutexes m).owner, LockCycle) ∷ []) allowed in
       let there = default-of (at_number s.mutexes m) (record { owner = None; waiters = [] }) passed.0 in
-      built _ _ _ _ (trap_effect s t (Lock m)).after (effect-apart s p t t (Lock m) order.runs_apart alone)
-      (lock-cycle finish (λ st r. refl) goes-on s order.no_cycle order.queues t p before runs m there passed.1.0 passed.1.1.0)
-      (lock-queues finish (λ st r. refl) s.records s.clients s.ports s.mutexes order.queues t p before runs m there)
-  effect-order (Unlock m d) allowed =
+      (lock-cycle finish (λ st r. refl) goes-on s order.no_cycle order.queues t p before runs m there passed.1.0 passed.1.1.0, lock-queues finish (λ st r. refl) s.records s.clients s.ports s.mutexes order.queues t p before runs m there)
+  effect-untangled (Unlock m d) allowed =
       let passed = all-pass ((is_none (at_number s.mutexes m), NoMutex) ∷ (not (owns s t m), NotOwner) ∷ []) allowed in
       let there = default-of (at_number s.mutexes m) (record { owner = None; waiters = [] }) passed.0 in
-      built _ _ _ _ (trap_effect s t (Unlock m d)).after (effect-apart s p t t (Unlock m d) order.runs_apart alone)
-      (unlock-cycle finish (λ st r. refl) goes-on s order.no_cycle order.queues t p before runs (value_of s) m d)
-      (unlock-queues finish (λ st r. refl) s.records s.clients s.ports s.mutexes order.queues t p before runs (value_of s) m d there)
+      (unlock-cycle finish (λ st r. refl) goes-on s order.no_cycle order.queues t p before runs (value_of s) m d, unlock-queues finish (λ st r. refl) s.records s.clients s.ports s.mutexes order.queues t p before runs (value_of s) m d there)
 
-  checked-order : (action : Action) (o : Option TrapRefusal) → trap_refusal s t action ≡ o → IsInOrder (finished (checked_effect s o (trap_effect s t action)))
-  checked-order action None allowed = effect-order action allowed
-  checked-order action (Some refusal) refused = kept GoesOn (order.runs_apart, alone, tt) goes-on
+  checked-untangled : (action : Action) (o : Option TrapRefusal) → trap_refusal s t action ≡ o → IsUntangled (finished (checked_effect s o (trap_effect s t action)))
+  checked-untangled action None allowed = effect-untangled action allowed
+  checked-untangled action (Some refusal) refused = nothing-else GoesOn goes-on
 
 pub trap-order : (s : State) (p t before used ran : ℕ) (action : Action) → status_of s.records t ≡ Some (status.Running p before) → RunsAlone s.records p t → IsInOrder s → IsInOrder (trap s p t used ran action).state
-trap-order s p t before used ran action runs alone order = checked-order s order t p before (ran + 1) (used + ran + 1) runs alone action (trap_refusal s t action) refl
+trap-order s p t before used ran action runs alone order =
+    let effect = checked_effect s (trap_refusal s t action) (trap_effect s t action) in
+    let works = checked-leads s t action (trap_refusal s t action) in
+    let leads = finish-leads s p t (ran + 1) (used + ran + 1) effect works (λ queues q other. used-of s.records q t (status.Running p before) runs (used-elsewhere q p before (λ same. other (sym same)))) (λ apart. alone) in
+    processor-order p s (trap s p t used ran action).state order leads (checked-untangled s order t p before (ran + 1) (used + ran + 1) runs action (trap_refusal s t action) refl)
 
 -- ---- events and runs
 
@@ -324,7 +189,7 @@ step-order s (event.Expire p) order =
     unrefused IsInOrder s _ (event_effect s (event.Expire p)) order (λ e.
     let passed = all-pass ((is_bad_processor s p, BadProcessor) ∷ (is_none (thread_on s.records p), NotRunning) ∷ []) e in
     let there = there-runs s p passed.1.0 in
-    expire-order s p (thread_there s p) there.0 (used_there s p) there.1 order)
+    processor-order p s (event_effect s (event.Expire p)).state order (expire-leads s p passed.1.0) (expire-untangled s p (thread_there s p) there.0 (used_there s p) there.1 order))
 step-order s (event.Trap p ran action) order =
     unrefused IsInOrder s _ (event_effect s (event.Trap p ran action)) order (λ e.
     let passed = all-pass ((is_bad_processor s p, BadProcessor) ∷ (is_none (thread_on s.records p), NotRunning) ∷ (nat_lt s.limits.quantum (used_there s p + ran + 1), BadTicks) ∷ []) e in

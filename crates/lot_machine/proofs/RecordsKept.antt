@@ -1,5 +1,5 @@
 -- Changes of threads' records after which each processor still has its own thread.
-use Rattle.std.proofs.Common.{◌≡◌, ℕ, zero, suc, ◌+◌, ◌-◌, ◌<◌, ◌≤◌, ◌==◌, Bool, true, false, ◌⊎◌, inl, inr, Option, Some, None, is_some, List, [], ◌∷◌, ◌++◌, length, find, refl, sym, ◌∙◌, ap, subst, arith, option_map, option_and_then, slice_get, nat_lt}
+use Rattle.std.proofs.Common.{◌≡◌, ℕ, zero, suc, ◌+◌, ◌-◌, ◌<◌, ◌≤◌, ◌==◌, Bool, true, false, ◌⊎◌, inl, inr, Option, Some, None, is_some, List, [], ◌∷◌, ◌++◌, length, find, refl, sym, ◌∙◌, ap, subst, arith, option_map, option_and_then, slice_get}
 use Rattle.std.specs.Bool.{then_some}
 use Rattle.std.specs.List.{range_with_len}
 use Rattle.std.proofs.lemmas.Bool.{eqb-true, eq-eqb, cases_eq}
@@ -10,8 +10,7 @@ use Rattle.lot_machine.specs.declared.record.Status.TheVariants.{Ready, Running,
 use Rattle.lot_machine.specs.Numbered.{at_number, set_number, numbers}
 use Rattle.lot_machine.specs.State.{status_of, used_on, used_by, thread_on, change_record}
 use Rattle.lot_machine.specs.declared.after.After.{After}
-use Rattle.lot_machine.specs.Traps.{after_trap, with_ticks}
-use Rattle.lot_machine.specs.declared.after.After.TheVariants.{GoesOn, Leaves, Ends}
+use Rattle.lot_machine.specs.declared.after.After.TheVariants.{Leaves}
 use Rattle.lot_machine.specs.Facts.{RunsApart}
 use Rattle.lot_machine.proofs.Changes.{number-set, number-push, number-there}
 use Rattle.lot_machine.proofs.Tickets.{at_number-suc, some-injective}
@@ -200,19 +199,3 @@ RunsApart-more records r idle runs = apart (records ++ r ∷ []) (λ t u p used 
 abbrev pub StopsIfLeaves : After → Type 0
 StopsIfLeaves (Leaves status) = (p used : ℕ) → ¬ (status ≡ Running p used)
 StopsIfLeaves other = Unit {0}
-
-pub RunsApart-trapped : (after : After) (ticks quantum : ℕ) (records : List Record) (p t used : ℕ) → StopsIfLeaves after → RunsAlone records p t → RunsApart records
-    → RunsApart (change_record (λ r. with_ticks ticks (after_trap after p used quantum r)) records t)
-RunsApart-trapped GoesOn ticks quantum records p t used stops alone =
-    RunsApart-changed (λ r. with_ticks ticks (after_trap GoesOn p used quantum r)) records t (λ r q more there new. subst (λ x. RunsAlone records x t) (place r q more (nat_lt used quantum) refl new) alone)
-  where
-    place : (r : Record) (q more : ℕ) (b : Bool) → nat_lt used quantum ≡ b → (with_ticks ticks (after_trap GoesOn p used quantum r)).status ≡ Running q more → p ≡ q
-    place r q more true is new = let e : Running p used ≡ Running q more = rw is at new in cc
-    place r q more false is new = let e : Ready ≡ Running q more = rw is at new in cc
-RunsApart-trapped (Leaves status) ticks quantum records p t used stops alone =
-    RunsApart-stops (λ r. with_ticks ticks (after_trap (Leaves status) p used quantum r)) records t (λ r q more new. stops q more new)
-RunsApart-trapped Ends ticks quantum records p t used stops alone =
-    RunsApart-stops (λ r. with_ticks ticks (after_trap Ends p used quantum r)) records t (λ r q more new. dead q more new)
-  where
-    dead : (q more : ℕ) → ¬ (Dead ≡ Running q more)
-    dead q more e = cc

@@ -15,6 +15,7 @@ ghost use Rattle.lot_machine.specs.declared.funding.Lend.TheVariants.{Nobody};
 ghost use Rattle.lot_machine.specs.State.{State, opening, funding_of, change_record, thread_on, used_by};
 ghost use Rattle.lot_machine.specs.Commands.{command_step};
 ghost use Rattle.lot_machine.specs.Step.{step, state_after};
+ghost use Rattle.lot_machine.specs.Change.{Change, applied_all};
 ghost use Rattle.lot_machine.specs.Named.{processor_of, thread_in};
 ghost use Rattle.lot_machine.specs.Bounds.{IsWithinBounds};
 ghost use Rattle.lot_machine.specs.declared.sizes.Sizes.{Sizes};
@@ -130,6 +131,11 @@ pub fn going_on_keeps()
 pub fn one_thread_more_keeps()
     ensures { (records : List Record) (r : Record) → ((p used : ℕ) → ¬ (r.status ≡ Running p used))
         → RunsApart records → RunsApart (records ++ r ∷ []) }
+{}
+
+/// Each event is a list of primitive changes.
+pub fn steps_are_changes()
+    ensures { (s : State) (e : Event) → (changes : List Change) × (applied_all s changes ≡ (step s e).state) }
 {}
 
 /// Each processor still has its own thread after any event.

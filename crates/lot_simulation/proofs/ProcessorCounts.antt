@@ -4,33 +4,26 @@ use Rattle.std.specs.List.{range_with_len}
 use Rattle.std.proofs.Math.Dec.{eqb-suc-zero}
 use Rattle.std.proofs.lemmas.List.Sums.{sum_by-cons}
 use Rattle.lot_machine.specs.declared.command.Command.{Command}
-use Rattle.lot_machine.specs.declared.command.Command.TheVariants.{MakeTicket, RemoveTicket, MakeCurrency, RemoveCurrency, Fund, Unfund, MakeThread, MakeFunded, List as Listing}
+use Rattle.lot_machine.specs.declared.command.Command.TheVariants.{List as Listing}
 use Rattle.lot_machine.specs.declared.refusal.Refusal.{Refusal}
 use Rattle.lot_machine.specs.declared.reply.Reply.{Reply}
 use Rattle.lot_machine.specs.State.{State}
-use Rattle.lot_machine.specs.Commands.{Step, command_effect, command_step, unless_refused}
+use Rattle.lot_machine.specs.Commands.{Step, command_refusal, command_effect, command_step, unless_refused}
 use Rattle.lot_simulation.specs.World.{Program, World, IsLegal, console_turn, opening_world, system_turn, system_answers}
 use Rattle.lot_simulation.specs.Report.{ActorTurn, beside, turns_made, quanta_in, idles_in, ticks_in, count_in, total_of, turns_of}
 use Rattle.lot_simulation.proofs.ActorCounts.{counts-add_up, turns_made-actors}
 
 -- nothing is counted in the reply
-abbrev IsSilent : Reply → Type 0
+abbrev pub IsSilent : Reply → Type 0
 IsSilent r = (quanta_in r ≡ 0) × (idles_in r ≡ 0) × (ticks_in r ≡ 0)
 
 unless-silent : (s : State) (o : Option Refusal) (next : Step) → IsSilent next.reply → IsSilent (unless_refused s o next).reply
 unless-silent s None next is = is
 unless-silent s (Some refusal) next is = (refl, refl, refl)
 
-command-silent : (s : State) (c : Command) → IsSilent (command_step s c).reply
-command-silent s (MakeTicket amount currency) = unless-silent s _ (command_effect s (MakeTicket amount currency)) (refl, refl, refl)
-command-silent s (RemoveTicket n) = unless-silent s _ (command_effect s (RemoveTicket n)) (refl, refl, refl)
-command-silent s (MakeCurrency name) = unless-silent s _ (command_effect s (MakeCurrency name)) (refl, refl, refl)
-command-silent s (RemoveCurrency currency) = unless-silent s _ (command_effect s (RemoveCurrency currency)) (refl, refl, refl)
-command-silent s (Fund n name) = unless-silent s _ (command_effect s (Fund n name)) (refl, refl, refl)
-command-silent s (Unfund n) = unless-silent s _ (command_effect s (Unfund n)) (refl, refl, refl)
-command-silent s (MakeThread name script) = unless-silent s _ (command_effect s (MakeThread name script)) (refl, refl, refl)
-command-silent s (MakeFunded amount currency name script) = unless-silent s _ (command_effect s (MakeFunded amount currency name script)) (refl, refl, refl)
+pub command-silent : (s : State) (c : Command) → IsSilent (command_step s c).reply
 command-silent s (Listing kind) = (refl, refl, refl)
+command-silent s other = unless-silent s (command_refusal s other) (command_effect s other) (refl, refl, refl)
 
 module _ (count : Reply → ℕ) (silent : (s : State) (c : Command) → count (command_step s c).reply ≡ 0) (program : Program) where
   console-silent : (w : World) (commands : List Command) → count_in count (console_turn program w commands).answer ≡ 0

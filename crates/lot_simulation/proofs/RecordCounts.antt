@@ -1,18 +1,17 @@
 -- The quanta and the ticks of the threads' records add up to what is counted in the turns that led to them.
-use Rattle.std.proofs.Common.{◌≡◌, ℕ, zero, suc, ◌+◌, ◌-◌, ◌*◌, ◌^◌, ◌<◌, ◌≤◌, ◌==◌, Bool, true, false, Option, Some, None, is_none, List, [], ◌∷◌, length, map, sum_by, get_or, slice_get, slice_index, nat_lt, refl, sym, ◌∙◌, ap, subst, arith, if◌then◌else◌}
+use Rattle.std.proofs.Common.{◌≡◌, ℕ, zero, suc, ◌+◌, ◌-◌, ◌*◌, ◌^◌, ◌<◌, ◌≤◌, ◌==◌, Bool, true, false, Option, Some, None, is_none, List, [], ◌∷◌, length, map, sum, sum_by, get_or, set, slice_get, slice_index, nat_lt, refl, sym, ◌∙◌, ap, subst, arith, if◌then◌else◌}
 use Rattle.std.proofs.Math.Nat.{min-eq_left}
 use Rattle.std.proofs.lemmas.Bool.{ltb-false}
 use Rattle.std.proofs.lemmas.Option.{slice_get_within, get_or_from_slice_get}
-use Rattle.std.proofs.lemmas.List.Sums.{sum_by-cons, sum_by_push, sum_by-set, get_or-le-sum_by}
+use Rattle.std.proofs.lemmas.List.{get_or-map, map-set, set-get_or}
+use Rattle.std.proofs.lemmas.List.Sums.{sum-map, sum_by-cons, sum_by_push, sum_by-set, get_or-le-sum_by}
 use Rattle.lot_machine.specs.declared.record.Record.{Record}
 use Rattle.lot_machine.specs.declared.record.Status.{Status}
 use Rattle.lot_machine.specs.declared.record.Status.TheVariants as status
 use Rattle.lot_machine.specs.declared.action.Action.{Action}
-use Rattle.lot_machine.specs.declared.action.Action.TheVariants.{Yield, Call, Receive, Reply as ReplyTo, Serve, Lock, Unlock, Exit}
 use Rattle.lot_machine.specs.declared.after.After.{After}
 use Rattle.lot_machine.specs.declared.after.After.TheVariants.{GoesOn, Leaves, Ends}
 use Rattle.lot_machine.specs.declared.command.Command.{Command}
-use Rattle.lot_machine.specs.declared.command.Command.TheVariants.{MakeTicket, RemoveTicket, MakeCurrency, RemoveCurrency, Fund, Unfund, MakeThread, MakeFunded, List as Listing}
 use Rattle.lot_machine.specs.declared.event.Event.{Event}
 use Rattle.lot_machine.specs.declared.event.Event.TheVariants as event
 use Rattle.lot_machine.specs.declared.refusal.Refusal.{Refusal}
@@ -22,12 +21,11 @@ use Rattle.lot_machine.specs.declared.drawn.Drawn.{Drawn}
 use Rattle.lot_machine.specs.Bounds.{IsBetween, IsWithinBounds}
 use Rattle.lot_machine.specs.Numbered.{at_number, set_number}
 use Rattle.lot_machine.specs.Lottery.{winner}
-use Rattle.lot_machine.specs.State.{State, QueuedCall, Port, Mutex, thread_on, change_record, ready_threads, value_of, weight_of, saturated}
-use Rattle.lot_machine.specs.Commands.{Step, with_thread, command_effect, command_step, unless_refused}
+use Rattle.lot_machine.specs.State.{State, thread_on, change_record, ready_threads, weight_of, saturated}
+use Rattle.lot_machine.specs.Commands.{Step, command_step, unless_refused}
 use Rattle.lot_machine.specs.Traps.{after_trap, with_ticks}
-use Rattle.lot_machine.specs.Ports.{port_at, call, receive, reply, serve}
-use Rattle.lot_machine.specs.Mutexes.{mutex_at, lock, unlock}
-use Rattle.lot_machine.specs.Step.{Effect, is_bad_processor, started, draw, expire, trap, trap_refusal, trap_effect, checked_effect, thread_there, used_there, event_effect, step}
+use Rattle.lot_machine.specs.Change.{NewThread, PutRecord, newborn}
+use Rattle.lot_machine.specs.Step.{is_bad_processor, started, draw, expire, trap, trap_refusal, trap_effect, checked_effect, thread_there, used_there, event_effect, step}
 use Rattle.lot_machine.specs.Order.{IsInOrder}
 use Rattle.lot_simulation.specs.World.{Program, World, Turn, console_turn, processor_turn, processor_event, opening_world, system_turn, system_after, system_answers, system_run}
 use Rattle.lot_simulation.specs.World.Answer.{Answered}
@@ -36,45 +34,50 @@ use Rattle.lot_machine.proofs.OrderKept.{opening-order, step-order}
 use Rattle.lot_machine.proofs.CommandsKept.{all-pass, some-of}
 use Rattle.lot_machine.proofs.RecordsKept.{found-runs, numbered}
 use Rattle.lot_machine.proofs.Tickets.{at_number-suc}
+use Rattle.lot_machine.proofs.StepChanges.{Console, Work, Keeps, kept, command-leads, checked-leads}
 use Rattle.lot_machine.proofs.StepSizes.{checked-sizes}
 use Rattle.lot_simulation.proofs.DrawnThreads.{drawn-numbered, number-some}
+use Rattle.lot_simulation.proofs.ProcessorCounts.{command-silent}
 
--- what stands for a record if there is none
-nobody : Record
-nobody = record { status = status.Ready; compensation = None; delivered = None; quanta = 0; ticks = 0 }
+-- ---- something of each record, and its sum, after a change to one of them
 
--- ---- sums over the records after a change to one of them
+number-get : {A : Type 0} (xs : List A) (n : ℕ) (x : A) → at_number xs n ≡ Some x → slice_get xs (n - 1) ≡ Some x
+number-get xs zero x there = cc
+number-get xs (suc i) x there = let place : suc i - 1 ≡ i = omega arith in ap (slice_get xs) place ∙ sym (at_number-suc xs i) ∙ there
 
-module _ (g : Record → ℕ) (change : Record → Record) (records : List Record) (t : ℕ) where
-  change-there : (r : Record) → at_number records t ≡ Some r → sum_by g (change_record change records t) + g r ≡ sum_by g records + g (change r)
-  change-there r is =
+module _ (g : Record → ℕ) (records : List Record) (t : ℕ) where
+  -- what a record that is there has
+  pub there-has : (r : Record) → at_number records t ≡ Some r → get_or (map g records) (t - 1) 0 ≡ g r
+  there-has r is =
+      let there = number-get records t r is in
+      get_or-map g records (t - 1) r 0 (slice_get_within records (t - 1) r there) ∙ ap g (get_or_from_slice_get records (t - 1) r r there)
+
+  -- it is no more than the sum
+  there-within : (r : Record) → at_number records t ≡ Some r → g r ≤ sum_by g records
+  there-within r is =
+      let there = number-get records t r is in
+      omega (arith, get_or-le-sum_by g records (t - 1) r (slice_get_within records (t - 1) r there), ap g (get_or_from_slice_get records (t - 1) r r there))
+
+  -- one that has as much in its place leaves all
+  put-leaves : (r old : Record) → at_number records t ≡ Some old → g r ≡ g old → map g (set_number records t r) ≡ map g records
+  put-leaves r old is same = map-set g records (t - 1) r ∙ ap (set (map g records) (t - 1)) (same ∙ sym (there-has old is)) ∙ set-get_or (map g records) (t - 1) 0
+
+  pub change-leaves : (change : Record → Record) → ((r : Record) → g (change r) ≡ g r) → map g (change_record change records t) ≡ map g records
+  change-leaves change same = at (at_number records t) refl
+    where
+      at : (o : Option Record) → at_number records t ≡ o → map g (change_record change records t) ≡ map g records
+      at None is = rw is refl
+      at (Some r) is = rw is (put-leaves (change r) r is (same r))
+
+  change-there : (change : Record → Record) (r : Record) → at_number records t ≡ Some r → sum_by g (change_record change records t) + g r ≡ sum_by g records + g (change r)
+  change-there change r is =
       let there = number-get records t r is in
       let now : change_record change records t ≡ set_number records t (change r) = rw is refl in
       ap (λ rs. sum_by g rs + g r) now ∙ ap (λ x. sum_by g (set_number records t (change r)) + g x) (sym (get_or_from_slice_get records (t - 1) r r there))
       ∙ sum_by-set g records (t - 1) (change r) r (slice_get_within records (t - 1) r there)
-    where
-      number-get : {A : Type 0} (xs : List A) (n : ℕ) (x : A) → at_number xs n ≡ Some x → slice_get xs (n - 1) ≡ Some x
-      number-get xs zero x there = cc
-      number-get xs (suc i) x there = let place : suc i - 1 ≡ i = omega arith in ap (slice_get xs) place ∙ sym (at_number-suc xs i) ∙ there
 
-  -- one that leaves what is summed up leaves the sum
-  change-leaves : ((r : Record) → g (change r) ≡ g r) → sum_by g (change_record change records t) ≡ sum_by g records
-  change-leaves same = at (at_number records t) refl
-    where
-      at : (o : Option Record) → at_number records t ≡ o → sum_by g (change_record change records t) ≡ sum_by g records
-      at None is = rw is refl
-      at (Some r) is = omega (arith, change-there r is, same r)
-
-  -- what is there is no more than the sum
-  change-within : (r : Record) → at_number records t ≡ Some r → g r ≤ sum_by g records
-  change-within r is = within t is
-    where
-      within : (n : ℕ) → at_number records n ≡ Some r → g r ≤ sum_by g records
-      within zero there = cc
-      within (suc i) there =
-          let found = sym (at_number-suc records i) ∙ there in
-          let most = get_or-le-sum_by g records i r (slice_get_within records i r found) in
-          omega (arith, most, ap g (get_or_from_slice_get records i r r found))
+sum-same : (g : Record → ℕ) (xs ys : List Record) → map g xs ≡ map g ys → sum_by g xs ≡ sum_by g ys
+sum-same g xs ys same = sym (sum-map g xs) ∙ ap sum same ∙ sum-map g ys
 
 saturated-small : (n : ℕ) → n < 2 ^ 64 → saturated n ≡ n
 saturated-small n small = min-eq_left (omega (arith, small))
@@ -105,33 +108,18 @@ unless-adds s (Some refusal) next adds = record { quanta = omega arith; ticks = 
 
 -- ---- commands
 
--- the records stay as they are
-stays : (s : State) (c : Command) → (command_effect s c).state.records ≡ s.records → quanta_in (command_effect s c).reply ≡ 0 → ticks_in (command_effect s c).reply ≡ 0 → Adds s (command_effect s c)
-stays s c same quanta ticks =
-    record { quanta = omega (arith, ap quanta_of same, quanta); ticks = omega (arith, ap ticks_of same, ticks); bounded = omega (arith, quanta); short = omega (arith, ticks) }
-
--- one thread more, which has won and used nothing
-grows : (s : State) (c : Command) (name : List ℕ) (script : ℕ) → (command_effect s c).state.records ≡ (with_thread s name script).records → quanta_in (command_effect s c).reply ≡ 0 → ticks_in (command_effect s c).reply ≡ 0 → Adds s (command_effect s c)
-grows s c name script same quanta ticks =
-    let new : Record = record { status = status.Ready; compensation = None; delivered = None; quanta = 0; ticks = 0 } in
-    record {
-      quanta = omega (arith, ap quanta_of same, sum_by_push (λ (r : Record). r.quanta) s.records new, quanta);
-      ticks = omega (arith, ap ticks_of same, sum_by_push (λ (r : Record). r.ticks) s.records new, ticks);
-      bounded = omega (arith, quanta);
-      short = omega (arith, ticks);
-    }
+-- a new thread has won and used nothing, and a command changes no other
+change-sum : (g : Record → ℕ) (s : State) → g newborn ≡ 0 → Keeps Console s (λ a. sum_by g a.records ≡ sum_by g s.records)
+change-sum g s none a (NewThread t) allowed same = omega (arith, sum_by_push g a.records newborn, none, same)
+change-sum g s none a (PutRecord t r) allowed same = absurd (allowed.mover refl)
+change-sum g s none a other allowed same = same
 
 command-adds : (s : State) (c : Command) → Adds s (command_step s c)
-command-adds s (MakeTicket amount currency) = unless-adds s _ (command_effect s (MakeTicket amount currency)) (λ _. stays s (MakeTicket amount currency) refl refl refl)
-command-adds s (RemoveTicket n) = unless-adds s _ (command_effect s (RemoveTicket n)) (λ _. stays s (RemoveTicket n) refl refl refl)
-command-adds s (MakeCurrency name) = unless-adds s _ (command_effect s (MakeCurrency name)) (λ _. stays s (MakeCurrency name) refl refl refl)
-command-adds s (RemoveCurrency currency) = unless-adds s _ (command_effect s (RemoveCurrency currency)) (λ _. stays s (RemoveCurrency currency) refl refl refl)
-command-adds s (Fund n name) = unless-adds s _ (command_effect s (Fund n name)) (λ _. stays s (Fund n name) refl refl refl)
-command-adds s (Unfund n) = unless-adds s _ (command_effect s (Unfund n)) (λ _. stays s (Unfund n) refl refl refl)
-command-adds s (MakeThread name script) = unless-adds s _ (command_effect s (MakeThread name script)) (λ _. grows s (MakeThread name script) name script refl refl refl)
-command-adds s (MakeFunded amount currency name script) =
-    unless-adds s _ (command_effect s (MakeFunded amount currency name script)) (λ _. grows s (MakeFunded amount currency name script) name script refl refl refl)
-command-adds s (Listing kind) = stays s (Listing kind) refl refl refl
+command-adds s c =
+    let silent = command-silent s c in
+    let quanta = kept (λ a. quanta_of a.records ≡ quanta_of s.records) (change-sum (λ r. r.quanta) s refl) (command-leads s c) refl in
+    let ticks = kept (λ a. ticks_of a.records ≡ ticks_of s.records) (change-sum (λ r. r.ticks) s refl) (command-leads s c) refl in
+    record { quanta = omega (arith, quanta, silent.0); ticks = omega (arith, ticks, silent.2); bounded = omega (arith, silent.0); short = omega (arith, silent.2) }
 
 -- ---- draws
 
@@ -142,14 +130,15 @@ draw-adds s p d space = at (winner (map (weight_of s) (ready_threads s.records))
     won w is =
         let t = slice_index (ready_threads s.records) w.place in
         let named : IsBetween 1 (length s.records) t = drawn-numbered s d w is in
-        let r = get_or s.records (t - 1) nobody in
-        let there : at_number s.records t ≡ Some r = number-some s.records t nobody named in
-        let most = change-within (λ (x : Record). x.quanta) (started p) s.records t r there in
+        let r = get_or s.records (t - 1) newborn in
+        let there : at_number s.records t ≡ Some r = number-some s.records t newborn named in
+        let most = there-within (λ (x : Record). x.quanta) s.records t r there in
         let one : saturated (r.quanta + 1) ≡ r.quanta + 1 = saturated-small (r.quanta + 1) (omega (arith, most, space.quanta)) in
-        let more = change-there (λ (x : Record). x.quanta) (started p) s.records t r there in
+        let more = change-there (λ (x : Record). x.quanta) s.records t (started p) r there in
+        let left = change-leaves (λ (x : Record). x.ticks) s.records t (started p) (λ x. refl) in
         rw is (record {
           quanta = omega (arith, more, one);
-          ticks = omega (arith, change-leaves (λ (x : Record). x.ticks) (started p) s.records t (λ x. refl));
+          ticks = omega (arith, sum-same (λ (x : Record). x.ticks) (change_record (started p) s.records t) s.records left);
           bounded = omega arith;
           short = omega arith;
         })
@@ -164,73 +153,36 @@ draw-adds s p d space = at (winner (map (weight_of s) (ready_threads s.records))
 ticks-added : (records : List Record) (t n : ℕ) (change : Record → Record) (r : Record) → at_number records t ≡ Some r → ((x : Record) → (change x).ticks ≡ x.ticks)
     → ticks_of records + n < 2 ^ 64 → ticks_of (change_record (λ x. with_ticks n (change x)) records t) ≡ ticks_of records + n
 ticks-added records t n change r there same small =
-    let most = change-within (λ (x : Record). x.ticks) change records t r there in
+    let most = there-within (λ (x : Record). x.ticks) records t r there in
     let sum : saturated ((change r).ticks + n) ≡ (change r).ticks + n = saturated-small ((change r).ticks + n) (omega (arith, most, small, same r)) in
-    omega (arith, change-there (λ (x : Record). x.ticks) (λ x. with_ticks n (change x)) records t r there, sum, same r)
+    omega (arith, change-there (λ (x : Record). x.ticks) records t (λ x. with_ticks n (change x)) r there, sum, same r)
 
 expire-adds : (s : State) (t used : ℕ) (r : Record) → at_number s.records t ≡ Some r → HasSpace s → Adds s (expire s t used)
-expire-adds s t used r there space = record {
-  quanta = omega (arith, change-leaves (λ (x : Record). x.quanta) (λ x. with_ticks (s.limits.quantum - used) (record x { status = status.Ready; compensation = None })) s.records t (λ x. refl));
-  ticks = ticks-added s.records t (s.limits.quantum - used) (λ x. record x { status = status.Ready; compensation = None }) r there (λ x. refl) (omega (arith, space.ticks));
-  bounded = omega arith;
-  short = omega arith;
-}
+expire-adds s t used r there space =
+    let change : Record → Record = λ x. record x { status = status.Ready; compensation = None } in
+    let expired : Record → Record = λ x. with_ticks (s.limits.quantum - used) (change x) in
+    record {
+      quanta = omega (arith, sum-same (λ (x : Record). x.quanta) (change_record expired s.records t) s.records (change-leaves (λ (x : Record). x.quanta) s.records t expired (λ x. refl)));
+      ticks = ticks-added s.records t (s.limits.quantum - used) change r there (λ x. refl) (omega (arith, space.ticks));
+      bounded = omega arith;
+      short = omega arith;
+    }
 
 -- ---- traps
 
 -- something of a record that says nothing of what its thread does
 module _ (g : Record → ℕ) (even : (r : Record) (st : Status) (compensation delivered : Option ℕ) → g (record r { status = st; compensation = compensation; delivered = delivered }) ≡ g r) where
-  call-even : (records : List Record) (clients : List (List ℕ)) (ports : List Port) (caller port number : ℕ) → sum_by g (call records clients ports caller port number).records ≡ sum_by g records
-  call-even records clients ports caller port number = at (port_at ports port).receivers refl
-    where
-      at : (o : List ℕ) → (port_at ports port).receivers ≡ o → sum_by g (call records clients ports caller port number).records ≡ sum_by g records
-      at [] is = rw is refl
-      at (server ∷ others) is = rw is (change-leaves g _ records server (λ r. even r status.Ready r.compensation (Some number)))
+  -- the work of a trap leaves it, in each record
+  change-even : (s : State) → Keeps Work s (λ a. map g a.records ≡ map g s.records)
+  change-even s a (NewThread t) allowed same = cc
+  change-even s a (PutRecord t r) allowed same =
+      put-leaves g a.records t r allowed.there.0 allowed.there.1 (ap g (allowed.tally refl) ∙ even allowed.there.0 r.status r.compensation r.delivered) ∙ same
+  change-even s a other allowed same = same
 
-  receive-even : (records : List Record) (clients : List (List ℕ)) (ports : List Port) (server port : ℕ) → sum_by g (receive records clients ports server port).records ≡ sum_by g records
-  receive-even records clients ports server port = at (port_at ports port).calls refl
-    where
-      at : (o : List QueuedCall) → (port_at ports port).calls ≡ o → sum_by g (receive records clients ports server port).records ≡ sum_by g records
-      at [] is = rw is refl
-      at (first ∷ others) is = rw is (change-leaves g _ records first.caller (λ r. even r (status.Served server) r.compensation r.delivered))
+  pub checked-even : (s : State) (t : ℕ) (action : Action) (o : Option TrapRefusal) → map g (checked_effect s o (trap_effect s t action)).state.records ≡ map g s.records
+  checked-even s t action o = kept (λ a. map g a.records ≡ map g s.records) (change-even s) (checked-leads s t action o).0 refl
 
-  reply-even : (records : List Record) (clients : List (List ℕ)) (ports : List Port) (server number : ℕ) → sum_by g (reply records clients ports server number).records ≡ sum_by g records
-  reply-even records clients ports server number = change-leaves g _ records _ (λ r. even r status.Ready r.compensation (Some number))
-
-  serve-even : (records : List Record) (clients : List (List ℕ)) (ports : List Port) (server port number : ℕ) → sum_by g (serve records clients ports server port number).records ≡ sum_by g records
-  serve-even records clients ports server port number =
-      let replied = reply records clients ports server number in
-      receive-even replied.records replied.clients replied.ports server port ∙ reply-even records clients ports server number
-
-  lock-even : (records : List Record) (mutexes : List Mutex) (u m : ℕ) → sum_by g (lock records mutexes u m).records ≡ sum_by g records
-  lock-even records mutexes u m = at (mutex_at mutexes m).owner refl
-    where
-      at : (o : Option ℕ) → (mutex_at mutexes m).owner ≡ o → sum_by g (lock records mutexes u m).records ≡ sum_by g records
-      at None is = rw is refl
-      at (Some owner) is = rw is refl
-
-  unlock-even : (records : List Record) (mutexes : List Mutex) (value : ℕ → ℕ) (m d : ℕ) → sum_by g (unlock records mutexes value m d).records ≡ sum_by g records
-  unlock-even records mutexes value m d = at (mutex_at mutexes m).waiters refl
-    where
-      at : (o : List ℕ) → (mutex_at mutexes m).waiters ≡ o → sum_by g (unlock records mutexes value m d).records ≡ sum_by g records
-      at [] is = rw is refl
-      at (first ∷ others) is = rw is (change-leaves g _ records _ (λ r. even r status.Ready r.compensation r.delivered))
-
-  effect-even : (s : State) (t : ℕ) (action : Action) → sum_by g (trap_effect s t action).state.records ≡ sum_by g s.records
-  effect-even s t Yield = refl
-  effect-even s t (Call port number) = call-even s.records s.clients s.ports t port number
-  effect-even s t (Receive port) = receive-even s.records s.clients s.ports t port
-  effect-even s t (ReplyTo number) = reply-even s.records s.clients s.ports t number
-  effect-even s t (Serve port number) = serve-even s.records s.clients s.ports t port number
-  effect-even s t (Lock m) = lock-even s.records s.mutexes t m
-  effect-even s t (Unlock m d) = unlock-even s.records s.mutexes (value_of s) m d
-  effect-even s t Exit = refl
-
-  checked-even : (s : State) (o : Option TrapRefusal) (effect : Effect) → sum_by g effect.state.records ≡ sum_by g s.records → sum_by g (checked_effect s o effect).state.records ≡ sum_by g s.records
-  checked-even s None effect same = same
-  checked-even s (Some refusal) effect same = refl
-
-  after-even : (after : After) (p used quantum : ℕ) (r : Record) → g (after_trap after p used quantum r) ≡ g r
+  pub after-even : (after : After) (p used quantum : ℕ) (r : Record) → g (after_trap after p used quantum r) ≡ g r
   after-even GoesOn p used quantum r = at (nat_lt used quantum) refl
     where
       at : (b : Bool) → nat_lt used quantum ≡ b → g (after_trap GoesOn p used quantum r) ≡ g r
@@ -239,23 +191,20 @@ module _ (g : Record → ℕ) (even : (r : Record) (st : Status) (compensation d
   after-even (Leaves st) p used quantum r = even r st _ r.delivered
   after-even Ends p used quantum r = even r status.Dead None r.delivered
 
-quanta-even : (r : Record) (st : Status) (compensation delivered : Option ℕ) → (record r { status = st; compensation = compensation; delivered = delivered }).quanta ≡ r.quanta
-quanta-even r st compensation delivered = refl
-
-ticks-even : (r : Record) (st : Status) (compensation delivered : Option ℕ) → (record r { status = st; compensation = compensation; delivered = delivered }).ticks ≡ r.ticks
-ticks-even r st compensation delivered = refl
-
 trap-adds : (s : State) (p t used ran : ℕ) (action : Action) → IsBetween 1 (length s.records) t → used + ran + 1 ≤ s.limits.quantum → HasSpace s → Adds s (trap s p t used ran action)
 trap-adds s p t used ran action named enough space =
     let effect = checked_effect s (trap_refusal s t action) (trap_effect s t action) in
-    let quanta = checked-even (λ r. r.quanta) quanta-even s (trap_refusal s t action) (trap_effect s t action) (effect-even (λ r. r.quanta) quanta-even s t action) in
-    let ticks = checked-even (λ r. r.ticks) ticks-even s (trap_refusal s t action) (trap_effect s t action) (effect-even (λ r. r.ticks) ticks-even s t action) in
-    let kept = checked-sizes s t action (trap_refusal s t action) in
     let change : Record → Record = after_trap effect.after p (used + ran + 1) s.limits.quantum in
-    let there = number-some effect.state.records t nobody (named.0, omega (arith, named.1, kept.1)) in
+    let trapped : Record → Record = λ r. with_ticks (ran + 1) (change r) in
+    let sizes = checked-sizes s t action (trap_refusal s t action) in
+    let there = number-some effect.state.records t newborn (named.0, omega (arith, named.1, sizes.1)) in
+    let quanta = checked-even (λ r. r.quanta) (λ r st compensation delivered. refl) s t action (trap_refusal s t action) in
+    let ticks = checked-even (λ r. r.ticks) (λ r st compensation delivered. refl) s t action (trap_refusal s t action) in
+    let won = change-leaves (λ r. r.quanta) effect.state.records t trapped (after-even (λ r. r.quanta) (λ r st compensation delivered. refl) effect.after p (used + ran + 1) s.limits.quantum) in
+    let used_up = sum-same (λ r. r.ticks) effect.state.records s.records ticks in
     record {
-      quanta = change-leaves (λ r. r.quanta) (λ r. with_ticks (ran + 1) (change r)) effect.state.records t (after-even (λ r. r.quanta) quanta-even effect.after p (used + ran + 1) s.limits.quantum) ∙ omega (arith, quanta);
-      ticks = ticks-added effect.state.records t (ran + 1) change _ there (after-even (λ r. r.ticks) ticks-even effect.after p (used + ran + 1) s.limits.quantum) (omega (arith, space.ticks, enough, ticks)) ∙ omega (arith, ticks);
+      quanta = omega (arith, sum-same (λ r. r.quanta) (change_record trapped effect.state.records t) s.records (won ∙ quanta));
+      ticks = ticks-added effect.state.records t (ran + 1) change _ there (after-even (λ r. r.ticks) (λ r st compensation delivered. refl) effect.after p (used + ran + 1) s.limits.quantum) (omega (arith, space.ticks, enough, used_up)) ∙ omega (arith, used_up);
       bounded = omega arith;
       short = omega (arith, enough);
     }
@@ -263,7 +212,7 @@ trap-adds s p t used ran action named enough space =
 -- ---- events
 
 -- the thread that is found on a processor is one of the numbered
-there-numbered : (s : State) (p : ℕ) → is_none (thread_on s.records p) ≡ false → IsBetween 1 (length s.records) (thread_there s p)
+pub there-numbered : (s : State) (p : ℕ) → is_none (thread_on s.records p) ≡ false → IsBetween 1 (length s.records) (thread_there s p)
 there-numbered s p some = from (some-of (thread_on s.records p) some)
   where
     from : ((t : ℕ) × (thread_on s.records p ≡ Some t)) → IsBetween 1 (length s.records) (thread_there s p)
@@ -277,7 +226,7 @@ step-adds s (event.Draw p d) space = unless-adds s _ (draw s p d) (λ _. draw-ad
 step-adds s (event.Expire p) space =
     unless-adds s _ (event_effect s (event.Expire p)) (λ e.
     let passed = all-pass ((is_bad_processor s p, BadProcessor) ∷ (is_none (thread_on s.records p), NotRunning) ∷ []) e in
-    expire-adds s (thread_there s p) (used_there s p) _ (number-some s.records (thread_there s p) nobody (there-numbered s p passed.1.0)) space)
+    expire-adds s (thread_there s p) (used_there s p) _ (number-some s.records (thread_there s p) newborn (there-numbered s p passed.1.0)) space)
 step-adds s (event.Trap p ran action) space =
     unless-adds s _ (event_effect s (event.Trap p ran action)) (λ e.
     let passed = all-pass ((is_bad_processor s p, BadProcessor) ∷ (is_none (thread_on s.records p), NotRunning) ∷ (nat_lt s.limits.quantum (used_there s p + ran + 1), BadTicks) ∷ []) e in

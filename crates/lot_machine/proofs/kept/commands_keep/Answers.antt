@@ -1,4 +1,4 @@
-use Rattle.lot_machine.proofs.CommandsKept.{command-keeps}
+use Rattle.lot_machine.proofs.StepChanges.{command-keeps}
 use Rattle.lot_machine.proofs.kept.commands_keep.Goals as goal
 
 pub returns-clause-no_cycle : goal.returns-clause-no_cycle

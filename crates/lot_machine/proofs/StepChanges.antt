@@ -1,0 +1,463 @@
+-- Each event is a list of changes, each of which is allowed where it is made. So what each allowed change keeps, each event keeps.
+use Rattle.std.proofs.Common.{◌≡◌, ℕ, zero, suc, ◌+◌, ◌-◌, ◌^◌, ◌<◌, ◌≤◌, ◌==◌, Bool, true, false, not, ◌||◌, Option, Some, None, is_some, is_none, List, [], ◌∷◌, ◌++◌, length, drop, map, remove, refl, sym, ◌∙◌, ap, subst, arith, cond, nat_lt, option_map, unwrap_or, slice_get, slice_set, slice_index, All, IfSome}
+use Rattle.std.specs.Option.{option_flatten}
+use Rattle.std.proofs.lemmas.Bool.{ltb-false, leb-false, or_parts}
+use Rattle.std.proofs.lemmas.List.{length-append, map-append, map-set}
+use Rattle.std.proofs.Math.ListN.{length-set}
+use Rattle.std.proofs.lemmas.List.Elements.{All-head, All-tail, All-push, All-set}
+use Rattle.lot_machine.specs.declared.ticket.Ticket.{Ticket}
+use Rattle.lot_machine.specs.declared.ticket.Target.{Target}
+use Rattle.lot_machine.specs.declared.ticket.Target.TheVariants as target
+use Rattle.lot_machine.specs.declared.record.Record.{Record}
+use Rattle.lot_machine.specs.declared.record.Status.TheVariants as status
+use Rattle.lot_machine.specs.declared.action.Action.{Action}
+use Rattle.lot_machine.specs.declared.action.Action.TheVariants.{Yield, Call, Receive, Reply as ReplyTo, Serve, Lock, Unlock, Exit}
+use Rattle.lot_machine.specs.declared.command.Command.{Command}
+use Rattle.lot_machine.specs.declared.command.Command.TheVariants.{MakeTicket, RemoveTicket, MakeCurrency, RemoveCurrency, Fund, Unfund, MakeThread, MakeFunded, List as Listing}
+use Rattle.lot_machine.specs.declared.event.Event.{Event}
+use Rattle.lot_machine.specs.declared.event.Event.TheVariants as event
+use Rattle.lot_machine.specs.declared.refusal.Refusal.TheVariants.{BadName, NameTaken, NoCurrency, NoTicket, NoTarget, BadAmount, InUse, Funding as IsFunding, Cycle, BaseFixed, DeadThread, Full, NoScript, BadProcessor, Busy, NotRunning, BadTicks}
+use Rattle.lot_machine.specs.declared.refusal.TrapRefusal.{TrapRefusal}
+use Rattle.lot_machine.specs.declared.drawn.Drawn.{Drawn}
+use Rattle.lot_machine.specs.declared.after.After.{After}
+use Rattle.lot_machine.specs.declared.after.After.TheVariants.{GoesOn, Leaves, Ends}
+use Rattle.lot_machine.specs.Numbered.{at_number, set_number, option_any}
+use Rattle.lot_machine.specs.Funding.{ticket_in, with_target, retargeted, issued_in, backing_currency, is_currency, currency_funded}
+use Rattle.lot_machine.specs.Bounds.{IsWithinBounds}
+use Rattle.lot_machine.specs.Lottery.{winner}
+use Rattle.lot_machine.specs.State.{State, funding_of, lend_of, QueuedCall, status_of, used_by, thread_on, ready_threads, change_record, value_of, weight_of}
+use Rattle.lot_machine.specs.Commands.{currency_named, target_named, currency_or_base, is_good_name, is_taken, is_no_script, is_bad_amount, are_tickets_full, are_threads_full, is_in_use, is_dead_thread, is_funding, is_cycle, command_effect, command_step}
+use Rattle.lot_machine.specs.Traps.{after_trap, with_ticks}
+use Rattle.lot_machine.specs.Ports.{clients_of, port_at, first_client, call, receive, reply}
+use Rattle.lot_machine.specs.Mutexes.{mutex_at, lock, unlock}
+use Rattle.lot_machine.specs.Step.{Effect, of_ports, of_mutexes, is_bad_processor, started, draw, trap_refusal, trap_effect, checked_effect, thread_there, used_there, event_effect, step}
+use Rattle.lot_machine.specs.Facts.{HasNoCycle, FundsThere, RunsApart}
+use Rattle.lot_machine.specs.Order.{HasQueues}
+use Rattle.lot_machine.specs.Change.{Change, NewTicket, PutTicket, NewCurrency, DropCurrency, NewThread, PutRecord, PutClients, PutPort, PutMutex, newborn, applied, applied_all}
+use Rattle.lot_machine.proofs.Idle.{there-alone, free-of, SameUsed, used-changed, used-more, used-stopped_on, index-holds, ready-used, receiver-used, caller-used, client-used, waiter-used, there-used}
+use Rattle.lot_machine.proofs.CommandsKept.{IsFunded, unrefused, all-pass, none-of, named-there, target-currency, keeps-remove_ticket, keeps-unfund, keeps-target}
+use Rattle.lot_machine.proofs.FundingKept.{HasNoCycle-new_ticket, FundsThere-new_ticket, HasNoCycle-currencies, FundsThere-after, FundsThere-removed}
+use Rattle.lot_machine.proofs.LendsKept.{HasNoCycle-lends_more}
+use Rattle.lot_machine.proofs.Queues.{queues-more}
+use Rattle.lot_machine.proofs.RecordsKept.{RunsAlone, StopsIfLeaves, nobody-runs, RunsAlone-stops, RunsApart-changed, RunsApart-more}
+
+-- ---- changes that are allowed
+
+-- who makes a change: the console, the work of a trap, or the thread that an event of this processor names
+pub data By : Type 0 where
+  Console : By
+  Work : By
+  On : ℕ → By
+
+abbrev pub Apart : State → Type 0
+Apart s = RunsApart s.records
+
+abbrev pub Queues : State → Type 0
+Queues s = HasQueues s.records s.clients s.ports s.mutexes
+
+-- a ticket that is there has an amount of 32 bits
+abbrev pub HasAmount : Option Ticket → Type 0
+HasAmount place = IfSome place (λ t. t.amount < 2 ^ 32)
+
+-- A thread's record changes: the thread is there; it runs on no other processor than the event's, if those who wait stood where
+-- their statuses say at the start; it runs afterwards only there, where nobody else does if each processor had its own thread; and
+-- the work of a trap leaves what it has won and used.
+pub record Moves (by : By) (s a : State) (t : ℕ) (r : Record) : Type 0 where
+  pub there : (old : Record) × (at_number a.records t ≡ Some old)
+  pub mover : ¬ (by ≡ Console)
+  pub tally : by ≡ Work → r ≡ record there.0 { status = r.status; compensation = r.compensation; delivered = r.delivered }
+  pub elsewhere : Queues s → (p : ℕ) → ¬ (by ≡ On p) → used_by a.records p t ≡ None
+  pub runs : (p used : ℕ) → r.status ≡ status.Running p used → (by ≡ On p) × (Apart s → RunsAlone a.records p t)
+
+-- The change is allowed in the second state, which the event has reached from the first. The console alone changes tickets and
+-- currencies and makes threads, and it changes nothing else.
+abbrev pub Allowed : By → State → State → Change → Type 0
+Allowed by s a (NewTicket t) = (by ≡ Console) × (t.amount < 2 ^ 32) × (length a.tickets < a.limits.tickets) × (currency_funded t.target ≡ None)
+Allowed by s a (PutTicket n place) = (by ≡ Console) × (All HasAmount a.tickets → HasAmount place) × (IsFunded a → IsFunded (record a { tickets = set_number a.tickets n place }))
+Allowed by s a (NewCurrency name) = by ≡ Console
+Allowed by s a (DropCurrency c) = (by ≡ Console) × (length (backing_currency (funding_of a) c) ≡ 0)
+Allowed by s a (NewThread t) = by ≡ Console
+Allowed by s a (PutRecord t r) = Moves by s a t r
+Allowed by s a other = ¬ (by ≡ Console)
+
+-- allowed changes lead from the first state to the second
+pub data Leads (by : By) (s : State) : State → Type 0 where
+  Stays : Leads by s s
+  Then : {a : State} → Leads by s a → (c : Change) → Allowed by s a c → Leads by s (applied a c)
+
+-- each allowed change keeps it
+abbrev pub Keeps : By → State → (State → Type 0) → Type 0
+Keeps by s P = (a : State) (c : Change) → Allowed by s a c → P a → P (applied a c)
+
+-- what each allowed change keeps is kept
+pub kept : {by : By} {s b : State} (P : State → Type 0) → Keeps by s P → Leads by s b → P s → P b
+kept P each Stays p = p
+kept P each (Then {a} leads c allowed) p = each a c allowed (kept P each leads p)
+
+-- the changes that lead there
+pub changes-of : {by : By} {s b : State} → Leads by s b → (cs : List Change) × (applied_all s cs ≡ b)
+changes-of {by} {s} leads = kept (λ b. (cs : List Change) × (applied_all s cs ≡ b)) (λ a c allowed (cs, is). (cs ++ c ∷ [], one-more s cs c ∙ ap (λ x. applied x c) is)) leads ([], refl)
+  where
+    one-more : (s : State) (cs : List Change) (c : Change) → applied_all s (cs ++ c ∷ []) ≡ applied (applied_all s cs) c
+    one-more s [] c = refl
+    one-more s (d ∷ cs) c = one-more (applied s d) cs c
+
+-- what a trap's work changes, the event may
+pub working : (p : ℕ) (s b : State) → Leads Work s b → Leads (On p) s b
+working p s b leads = kept (Leads (On p) s) (λ a c allowed before. Then before c (may a c allowed)) leads Stays
+  where
+    not-on : (q : ℕ) → ¬ (Work ≡ On q)
+    not-on q e = cc
+
+    not-console : ¬ (Work ≡ Console)
+    not-console e = cc
+
+    may : (a : State) (c : Change) → Allowed Work s a c → Allowed (On p) s a c
+    may a (NewThread t) allowed = absurd (not-console allowed)
+    may a (PutRecord t r) allowed =
+        record { there = allowed.there; mover = λ e. cc; tally = λ e. cc; elsewhere = λ queues q other. allowed.elsewhere queues q (not-on q); runs = λ q used is. absurd (not-on q (allowed.runs q used is).0) }
+    may a (PutClients t x) allowed = λ e. cc
+    may a (PutPort t x) allowed = λ e. cc
+    may a (PutMutex t x) allowed = λ e. cc
+    may a (NewTicket t) allowed = absurd (not-console allowed.0)
+    may a (PutTicket n x) allowed = absurd (not-console allowed.0)
+    may a (NewCurrency x) allowed = absurd (not-console allowed)
+    may a (DropCurrency x) allowed = absurd (not-console allowed.0)
+
+-- a change that leaves what a thread has won and used
+abbrev LeavesTally : (Record → Record) → Type 0
+LeavesTally change = (r : Record) → change r ≡ record r { status = (change r).status; compensation = (change r).compensation; delivered = (change r).delivered }
+
+-- one thread's record changes, if it is there
+put : {by : By} {s : State} (a : State) (change : Record → Record) (t : ℕ) → ¬ (by ≡ Console) → (by ≡ Work → LeavesTally change) → Leads by s a
+    → (Queues s → (p : ℕ) → ¬ (by ≡ On p) → used_by a.records p t ≡ None)
+    → ((r : Record) (p used : ℕ) → (change r).status ≡ status.Running p used → (by ≡ On p) × (Apart s → RunsAlone a.records p t))
+    → Leads by s (record a { records = change_record change a.records t })
+put {by} {s} a change t mover tally leads elsewhere runs = at (at_number a.records t) refl
+  where
+    at : (o : Option Record) → at_number a.records t ≡ o → Leads by s (record a { records = change_record change a.records t })
+    at None is = rw is leads
+    at (Some r) is = rw is (Then leads (PutRecord t (change r)) (record { there = (r, is); mover = mover; tally = λ work. tally work r; elsewhere = elsewhere; runs = runs r }))
+
+-- ---- what allowed changes keep
+
+-- the statuses that aren't Running
+ready-stops : (p used : ℕ) → ¬ (status.Ready ≡ status.Running p used)
+ready-stops p used e = cc
+
+-- a record that is put is one that changes
+put-changes : (records : List Record) (t : ℕ) (r old : Record) → at_number records t ≡ Some old → change_record (λ _. r) records t ≡ set_number records t r
+put-changes records t r old is = rw is refl
+
+-- each processor still has its own thread
+pub change-apart : (by : By) (s : State) → Apart s → Keeps by s Apart
+change-apart by s apart a (NewThread t) allowed runs = RunsApart-more a.records newborn ready-stops runs
+change-apart by s apart a (PutRecord t r) allowed runs =
+    subst RunsApart (put-changes a.records t r allowed.there.0 allowed.there.1) (RunsApart-changed (λ _. r) a.records t (λ x p used there is. (allowed.runs p used is).1 apart) runs)
+change-apart by s apart a other allowed runs = runs
+
+-- the work of a trap puts nobody else on a processor
+pub change-alone : (s : State) (p t : ℕ) → Keeps Work s (λ a. RunsAlone a.records p t)
+change-alone s p t a (NewThread x) allowed alone = absurd (differs allowed)
+  where
+    differs : Work ≡ Console → ⊥
+    differs e = cc
+change-alone s p t a (PutRecord u r) allowed alone =
+    subst (λ (rs : List Record). RunsAlone rs p t) (put-changes a.records u r allowed.there.0 allowed.there.1) (RunsAlone-stops (λ _. r) a.records u p t (λ x q used is. differs q (allowed.runs q used is).0) alone)
+  where
+    differs : (q : ℕ) → Work ≡ On q → ⊥
+    differs q e = cc
+change-alone s p t a other allowed alone = alone
+
+-- each thread has used as many ticks on a processor that isn't the event's as at the start
+pub change-used : (by : By) (s : State) (p : ℕ) → Queues s → ¬ (by ≡ On p) → Keeps by s (λ a. SameUsed p s.records a.records)
+change-used by s p queues other a (NewThread t) allowed same u = used-more a.records newborn p refl u ∙ same u
+change-used by s p queues other a (PutRecord t r) allowed same u =
+    subst (SameUsed p a.records) (put-changes a.records t r allowed.there.0 allowed.there.1)
+    (used-changed (λ _. r) a.records t p (allowed.elsewhere queues p other) (λ _. used-stopped_on p r.status (λ used is. other (allowed.runs p used is).0))) u ∙ same u
+change-used by s p queues other a c allowed same u = same u
+
+-- tickets stay within their bounds
+abbrev pub HasRoom : State → Type 0
+HasRoom s = All HasAmount s.tickets × (length s.tickets ≤ s.limits.tickets) × IsWithinBounds s.limits
+
+pub change-room : (by : By) (s : State) → Keeps by s HasRoom
+change-room by s a (NewTicket t) (console, small, free, target) (amounts, few, bounds) = (All-push HasAmount a.tickets (Some t) amounts small, omega (arith, free, length-append a.tickets (Some t ∷ [])), bounds)
+change-room by s a (PutTicket n place) allowed (amounts, few, bounds) = (All-set HasAmount a.tickets (n - 1) place (allowed.1 amounts) amounts, omega (arith, few, length-set a.tickets (n - 1) place), bounds)
+change-room by s a other allowed room = room
+
+-- the same limits, and as many more records as threads
+abbrev pub HasGrownFrom : State → State → Type 0
+HasGrownFrom s after = (after.limits ≡ s.limits) × ((more : ℕ) × (length after.records ≡ length s.records + more) × (length after.threads ≡ length s.threads + more))
+
+pub change-grown : (by : By) (s : State) → Keeps by s (HasGrownFrom s)
+change-grown by s a (NewThread t) allowed (limits, (more, records, threads)) =
+    (limits, (more + 1, omega (arith, records, length-append a.records (newborn ∷ [])), omega (arith, threads, length-append a.threads (t ∷ []))))
+change-grown by s a (PutRecord t r) allowed (limits, (more, records, threads)) = (limits, (more, length-set a.records (t - 1) r ∙ records, threads))
+change-grown by s a other allowed grown = grown
+
+-- the same limits, as many records, and the same threads
+abbrev pub HasSizesOf : State → State → Type 0
+HasSizesOf s after = (after.limits ≡ s.limits) × (length after.records ≡ length s.records) × (after.threads ≡ s.threads)
+
+pub change-sizes : (by : By) (s : State) → ¬ (by ≡ Console) → Keeps by s (HasSizesOf s)
+change-sizes by s other a (NewThread t) allowed sizes = absurd (other allowed)
+change-sizes by s other a (PutRecord t r) allowed (limits, records, threads) = (limits, length-set a.records (t - 1) r ∙ records, threads)
+change-sizes by s other a c allowed sizes = sizes
+
+-- the same tickets
+pub change-tickets : (by : By) (s : State) → ¬ (by ≡ Console) → Keeps by s (λ a. a.tickets ≡ s.tickets)
+change-tickets by s other a (NewTicket t) allowed same = absurd (other allowed.0)
+change-tickets by s other a (PutTicket n place) allowed same = absurd (other allowed.0)
+change-tickets by s other a c allowed same = same
+
+-- ---- commands
+
+amount-at : (tickets : List (Option Ticket)) (i : ℕ) → All HasAmount tickets → IfSome (slice_get tickets i) HasAmount
+amount-at [] i all = tt
+amount-at (t ∷ ts) zero all = All-head HasAmount t ts all
+amount-at (t ∷ ts) (suc i) all = amount-at ts i (All-tail HasAmount t ts all)
+
+amount-in : (tickets : List (Option Ticket)) (n : ℕ) (to : Target) → All HasAmount tickets → HasAmount (option_map (retargeted to) (ticket_in tickets n))
+amount-in tickets n to all = at (n == 0)
+  where
+    found : (o : Option (Option Ticket)) → IfSome o HasAmount → HasAmount (option_map (retargeted to) (option_flatten o))
+    found None is = tt
+    found (Some None) is = tt
+    found (Some (Some t)) is = is
+
+    at : (b : Bool) → HasAmount (option_map (retargeted to) (option_flatten (cond {A = Option (Option Ticket)} b None (slice_get tickets (n - 1)))))
+    at true = tt
+    at false = found (slice_get tickets (n - 1)) (amount-at tickets (n - 1) all)
+
+-- a ticket's amount is checked, and that there is room for it
+may-issue : (s : State) (amount : ℕ) (to : Target) → is_bad_amount amount ≡ false → are_tickets_full s ≡ false → currency_funded to ≡ None
+    → ◌≡◌ {A = By} Console Console × (amount < 2 ^ 32) × (length s.tickets < s.limits.tickets) × (currency_funded to ≡ None)
+may-issue s amount to good free none =
+    (refl, omega (arith, ltb-false 4294967295 amount (or_parts (amount == 0) (nat_lt 4294967295 amount) good).1), leb-false s.limits.tickets (length s.tickets) free, none)
+
+-- Each command: its checks say that its changes are allowed.
+pub command-leads : (s : State) (c : Command) → Leads Console s (command_step s c).state
+command-leads s (MakeTicket amount currency) =
+    unrefused (Leads Console s) s _ (command_effect s (MakeTicket amount currency)) Stays (λ e.
+    let passed = all-pass ((is_bad_amount amount, BadAmount) ∷ (is_none (currency_named s currency), NoCurrency) ∷ (are_tickets_full s, Full) ∷ []) e in
+    Then Stays (NewTicket (record { amount = amount; issuer = currency_or_base s currency; target = target.Unfunded })) (may-issue s amount target.Unfunded passed.0 passed.1.1.0 refl))
+command-leads s (RemoveTicket n) =
+    unrefused (Leads Console s) s _ (command_effect s (RemoveTicket n)) Stays (λ _. Then Stays (PutTicket n None) (refl, λ _. tt, λ (cycle, there). keeps-remove_ticket s cycle there n))
+command-leads s (MakeCurrency name) = unrefused (Leads Console s) s _ (command_effect s (MakeCurrency name)) Stays (λ _. Then Stays (NewCurrency name) refl)
+command-leads s (RemoveCurrency currency) =
+    unrefused (Leads Console s) s _ (command_effect s (RemoveCurrency currency)) Stays (λ e.
+    let passed = all-pass ((is_none (currency_named s currency), NoCurrency) ∷ (option_any (λ c. c == 0) (currency_named s currency), BaseFixed)
+    ∷ (option_any (is_in_use s) (currency_named s currency), InUse) ∷ []) e in
+    Then Stays (DropCurrency (currency_or_base s currency)) (refl, unused (currency_named s currency) passed.0 passed.1.1.0))
+  where
+    unused : (o : Option ℕ) → is_none o ≡ false → option_any (is_in_use s) o ≡ false → length (backing_currency (funding_of s) (unwrap_or o 0)) ≡ 0
+    unused None named not_used = cc
+    unused (Some c) named not_used = none-of (backing_currency (funding_of s) c) (or_parts (nat_lt 0 (length (issued_in (funding_of s) c))) _ not_used).1
+command-leads s (Fund n name) =
+    unrefused (Leads Console s) s _ (command_effect s (Fund n name)) Stays (λ e.
+    let passed = all-pass ((is_none (ticket_in s.tickets n), NoTicket) ∷ (is_none (target_named s name), NoTarget)
+    ∷ (option_any (is_currency 0) (target_named s name), BaseFixed) ∷ (option_any (is_dead_thread s) (target_named s name), DeadThread)
+    ∷ (option_any is_funding (ticket_in s.tickets n), IsFunding) ∷ (option_any (is_cycle s n) (target_named s name), Cycle) ∷ []) e in
+    let to = unwrap_or (target_named s name) target.Unfunded in
+    Then Stays (PutTicket n (option_map (retargeted to) (ticket_in s.tickets n))) (refl, amount-in s.tickets n to, funds (target_named s name) refl passed.1.0 passed.1.1.1.1.1.0 passed.0))
+  where
+    funds : (o : Option Target) → target_named s name ≡ o → is_none o ≡ false → option_any (is_cycle s n) o ≡ false → is_none (ticket_in s.tickets n) ≡ false
+        → IsFunded s → IsFunded (record s { tickets = with_target s.tickets n (unwrap_or o target.Unfunded) })
+    funds None is named apart here funded = cc
+    funds (Some to) is named apart here (no_cycle, there) =
+        keeps-target s no_cycle there n to (λ c same. (apart, named-there name s.currencies c (target-currency s name c (is ∙ ap Some same)))) here
+command-leads s (Unfund n) =
+    unrefused (Leads Console s) s _ (command_effect s (Unfund n)) Stays (λ _.
+    Then Stays (PutTicket n (option_map (retargeted target.Unfunded) (ticket_in s.tickets n))) (refl, amount-in s.tickets n target.Unfunded, λ (cycle, there). keeps-unfund s cycle there n target.Unfunded refl))
+command-leads s (MakeThread name script) =
+    unrefused (Leads Console s) s _ (command_effect s (MakeThread name script)) Stays (λ _. Then Stays (NewThread (record { name = name; script = script })) refl)
+command-leads s (MakeFunded amount currency name script) =
+    unrefused (Leads Console s) s _ (command_effect s (MakeFunded amount currency name script)) Stays (λ e.
+    let passed = all-pass ((is_bad_amount amount, BadAmount) ∷ (is_none (currency_named s currency), NoCurrency) ∷ (not (is_good_name name), BadName)
+    ∷ (is_taken s name, NameTaken) ∷ (is_no_script s script, NoScript) ∷ (are_tickets_full s || are_threads_full s, Full) ∷ []) e in
+    let to = target.Thread (length s.threads + 1) in
+    Then (Then Stays (NewThread (record { name = name; script = script })) refl)
+    (NewTicket (record { amount = amount; issuer = currency_or_base s currency; target = to }))
+    (may-issue s amount to passed.0 (or_parts (are_tickets_full s) (are_threads_full s) passed.1.1.1.1.1.0).0 refl))
+command-leads s (Listing kind) = Stays
+
+-- nothing makes a cycle, and tickets fund only currencies that are there
+pub change-funded : (s : State) → Keeps Console s IsFunded
+change-funded s a (NewTicket t) (console, small, room, none) (no_cycle, there) =
+    (HasNoCycle-new_ticket (funding_of a) t.amount t.issuer t.target none no_cycle, FundsThere-new_ticket (funding_of a) t.amount t.issuer t.target none there)
+change-funded s a (PutTicket n place) allowed funded = allowed.2 funded
+change-funded s a (NewCurrency name) allowed (no_cycle, there) = (
+  HasNoCycle-currencies (funding_of a) (map is_some (a.currencies ++ Some name ∷ [])) no_cycle,
+  subst (λ xs. FundsThere (record (funding_of a) { currencies = xs })) (sym (map-append is_some a.currencies (Some name ∷ []))) (FundsThere-after (funding_of a) (true ∷ []) there),
+)
+change-funded s a (DropCurrency c) (console, unused) (no_cycle, there) = (
+  HasNoCycle-currencies (funding_of a) (map is_some (slice_set a.currencies c None)) no_cycle,
+  subst (λ xs. FundsThere (record (funding_of a) { currencies = xs })) (sym (map-set is_some a.currencies c None)) (FundsThere-removed (funding_of a) c unused there),
+)
+change-funded s a (NewThread t) allowed (no_cycle, there) =
+    (subst (λ xs. HasNoCycle (record (funding_of a) { lends = xs })) (sym (map-append (λ (r : Record). lend_of r.status) a.records (newborn ∷ []))) (HasNoCycle-lends_more (funding_of a) no_cycle), there)
+change-funded s a (PutRecord t r) allowed funded = absurd (allowed.mover refl)
+change-funded s a (PutClients t x) allowed funded = absurd (allowed refl)
+change-funded s a (PutPort t x) allowed funded = absurd (allowed refl)
+change-funded s a (PutMutex t x) allowed funded = absurd (allowed refl)
+
+-- what isn't the console's leaves tickets and currencies
+pub change-there : (by : By) (s : State) → ¬ (by ≡ Console) → Keeps by s (λ a. FundsThere (funding_of a))
+change-there by s other a (NewTicket t) allowed there = absurd (other allowed.0)
+change-there by s other a (PutTicket n place) allowed there = absurd (other allowed.0)
+change-there by s other a (NewCurrency name) allowed there = absurd (other allowed)
+change-there by s other a (DropCurrency c) allowed there = absurd (other allowed.0)
+change-there by s other a (NewThread t) allowed there = absurd (other allowed)
+change-there by s other a c allowed there = there
+
+-- those who wait stand where their statuses say
+pub change-queues : (s : State) → Keeps Console s Queues
+change-queues s a (NewThread t) allowed queues = queues-more a.records a.clients a.ports a.mutexes queues newborn
+change-queues s a (PutRecord t r) allowed queues = absurd (allowed.mover refl)
+change-queues s a (PutClients t x) allowed queues = absurd (allowed refl)
+change-queues s a (PutPort t x) allowed queues = absurd (allowed refl)
+change-queues s a (PutMutex t x) allowed queues = absurd (allowed refl)
+change-queues s a other allowed queues = queues
+
+-- a command leaves no ticket that makes a cycle, or that funds a currency which isn't there
+pub command-keeps : (s : State) (c : Command) → HasNoCycle (funding_of s) → FundsThere (funding_of s)
+    → HasNoCycle (funding_of (command_step s c).state) × FundsThere (funding_of (command_step s c).state)
+command-keeps s c no_cycle there = kept IsFunded (change-funded s) (command-leads s c) (no_cycle, there)
+
+-- ---- what traps do besides
+
+-- allowed changes lead to the effect's state, and who leaves its processor doesn't run
+abbrev pub Works : State → Effect → Type 0
+Works s e = Leads Work s e.state × StopsIfLeaves e.after
+
+-- a thread that the work of a trap wakes or takes doesn't run before or after
+wakes : {s : State} (a : State) (change : Record → Record) (t : ℕ) → Leads Work s a → (Queues s → (p : ℕ) → used_by a.records p t ≡ None)
+    → ((r : Record) (p used : ℕ) → ¬ ((change r).status ≡ status.Running p used)) → LeavesTally change
+    → Leads Work s (record a { records = change_record change a.records t })
+wakes a change t leads idle stops tally = put a change t (λ e. cc) (λ _. tally) leads (λ queues p _. idle queues p) (λ r p used is. absurd (stops r p used is))
+
+call-leads : (s : State) (t port number : ℕ) → Works s (of_ports s (call s.records s.clients s.ports t port number))
+call-leads s t port number = at (port_at s.ports port).receivers refl
+  where
+    at : (o : List ℕ) → (port_at s.ports port).receivers ≡ o → Works s (of_ports s (call s.records s.clients s.ports t port number))
+    at [] is = rw is (Then Stays (PutPort port (record { calls = (port_at s.ports port).calls ++ record { caller = t; number = number } ∷ []; receivers = [] })) (λ e. cc), λ p used e. cc)
+    at (server ∷ others) is =
+        let woken = wakes s (λ r. record r { status = status.Ready; delivered = Some number }) server Stays
+        (λ queues p. receiver-used p s.records s.clients s.ports s.mutexes queues port server others is) (λ r. ready-stops) (λ r. refl) in
+        rw is (Then (Then woken (PutClients server (clients_of s.clients server ++ t ∷ [])) (λ e. cc)) (PutPort port (record { calls = (port_at s.ports port).calls; receivers = others })) (λ e. cc), λ p used e. cc)
+
+receive-leads : {s : State} (a : State) (server port : ℕ) → Leads Work s a
+    → ((first : QueuedCall) (others : List QueuedCall) → (port_at a.ports port).calls ≡ first ∷ others → Queues s → (p : ℕ) → used_by a.records p first.caller ≡ None)
+    → Works s (of_ports a (receive a.records a.clients a.ports server port))
+receive-leads {s} a server port leads callers = at (port_at a.ports port).calls refl
+  where
+    at : (o : List QueuedCall) → (port_at a.ports port).calls ≡ o → Works s (of_ports a (receive a.records a.clients a.ports server port))
+    at [] is = rw is (Then leads (PutPort port (record { calls = []; receivers = (port_at a.ports port).receivers ++ server ∷ [] })) (λ e. cc), λ p used e. cc)
+    at (first ∷ others) is =
+        let taken = wakes a (λ r. record r { status = status.Served server }) first.caller leads (callers first others is) (λ r p used e. cc) (λ r. refl) in
+        rw is (Then (Then taken (PutClients server (clients_of a.clients server ++ first.caller ∷ [])) (λ e. cc)) (PutPort port (record { calls = others; receivers = (port_at a.ports port).receivers })) (λ e. cc), tt)
+
+reply-leads : (s : State) (server number : ℕ) → Works s (of_ports s (reply s.records s.clients s.ports server number))
+reply-leads s server number =
+    let woken = wakes s (λ r. record r { status = status.Ready; delivered = Some number }) (unwrap_or (first_client s.clients server) 0) Stays
+    (λ queues p. client-used p s.records s.clients s.ports s.mutexes queues server) (λ r. ready-stops) (λ r. refl) in
+    (Then woken (PutClients server (drop 1 (clients_of s.clients server))) (λ e. cc), tt)
+
+lock-leads : (s : State) (t m : ℕ) → Works s (of_mutexes s (lock s.records s.mutexes t m))
+lock-leads s t m = at (mutex_at s.mutexes m).owner refl
+  where
+    at : (o : Option ℕ) → (mutex_at s.mutexes m).owner ≡ o → Works s (of_mutexes s (lock s.records s.mutexes t m))
+    at None is = rw is (Then Stays (PutMutex m (record { owner = Some t; waiters = (mutex_at s.mutexes m).waiters })) (λ e. cc), tt)
+    at (Some owner) is = rw is (Then Stays (PutMutex m (record { owner = Some owner; waiters = (mutex_at s.mutexes m).waiters ++ t ∷ [] })) (λ e. cc), λ p used e. cc)
+
+unlock-leads : (s : State) (value : ℕ → ℕ) (m d : ℕ) → Works s (of_mutexes s (unlock s.records s.mutexes value m d))
+unlock-leads s value m d = at (mutex_at s.mutexes m).waiters refl
+  where
+    at : (o : List ℕ) → (mutex_at s.mutexes m).waiters ≡ o → Works s (of_mutexes s (unlock s.records s.mutexes value m d))
+    at [] is = rw is (Then Stays (PutMutex m (record { owner = None; waiters = [] })) (λ e. cc), tt)
+    at (w ∷ ws) is =
+        let place = unwrap_or (option_map (λ (drawn : Drawn). drawn.place) (winner (map value (w ∷ ws)) d)) 0 in
+        let passed = slice_index (w ∷ ws) place in
+        let woken = wakes s (λ r. record r { status = status.Ready }) passed Stays (λ queues p. waiter-used p s.records s.clients s.ports s.mutexes queues m place (w ∷ ws) is) (λ r. ready-stops) (λ r. refl) in
+        rw is (Then woken (PutMutex m (record { owner = Some passed; waiters = remove (w ∷ ws) place })) (λ e. cc), ready-stops)
+
+pub effect-leads : (s : State) (t : ℕ) (action : Action) → Works s (trap_effect s t action)
+effect-leads s t Yield = (Stays, ready-stops)
+effect-leads s t (Call port number) = call-leads s t port number
+effect-leads s t (Receive port) = receive-leads s t port Stays (λ first others is queues p. caller-used p s.records s.clients s.ports s.mutexes queues port first others is)
+effect-leads s t (ReplyTo number) = reply-leads s t number
+effect-leads s t (Serve port number) =
+    let replied = (reply-leads s t number).0 in
+    receive-leads (of_ports s (reply s.records s.clients s.ports t number)).state t port replied (λ first others is queues p.
+    kept (λ a. SameUsed p s.records a.records) (change-used Work s p queues (λ e. cc)) replied (λ u. refl) first.caller ∙ caller-used p s.records s.clients s.ports s.mutexes queues port first others is)
+effect-leads s t (Lock m) = lock-leads s t m
+effect-leads s t (Unlock m d) = unlock-leads s (value_of s) m d
+effect-leads s t Exit = (Stays, tt)
+
+pub checked-leads : (s : State) (t : ℕ) (action : Action) (o : Option TrapRefusal) → Works s (checked_effect s o (trap_effect s t action))
+checked-leads s t action None = effect-leads s t action
+checked-leads s t action (Some refusal) = (Stays, tt)
+
+-- ---- draws, expiries and whole traps
+
+pub draw-leads : (s : State) (p d : ℕ) → thread_on s.records p ≡ None → Leads (On p) s (draw s p d).state
+draw-leads s p d free = at (winner (map (weight_of s) (ready_threads s.records)) d) refl
+  where
+    starts : (q used more : ℕ) → status.Running p used ≡ status.Running q more → p ≡ q
+    starts q used more e = cc
+
+    at : (o : Option Drawn) → winner (map (weight_of s) (ready_threads s.records)) d ≡ o → Leads (On p) s (draw s p d).state
+    at None is = rw is Stays
+    at (Some w) is =
+        let won = slice_index (ready_threads s.records) w.place in
+        rw is (put s (started p) won (λ e. cc) (λ e. cc) Stays (λ queues q other. index-holds (λ t. used_by s.records q t ≡ None) (ready_threads s.records) w.place refl (ready-used s q w.place))
+        (λ r q used e. (ap On (starts q 0 used e), λ apart u more runs. absurd (nobody-runs s.records p u more free (subst (λ x. status_of s.records u ≡ Some (status.Running x more)) (sym (starts q 0 used e)) runs)))))
+
+pub expire-leads : (s : State) (p : ℕ) → is_none (thread_on s.records p) ≡ false → Leads (On p) s (event_effect s (event.Expire p)).state
+expire-leads s p there =
+    put s (λ r. with_ticks (s.limits.quantum - used_there s p) (record r { status = status.Ready; compensation = None })) (thread_there s p) (λ e. cc) (λ e. cc) Stays
+    (λ queues q other. there-used s q p (λ same. other (ap On same)) there) (λ r q used is. cc)
+
+-- how the thread that made a trap goes on, or leaves
+pub finish-leads : (s : State) (p t ticks used : ℕ) (e : Effect) → Works s e → (Queues s → (q : ℕ) → ¬ (q ≡ p) → used_by s.records q t ≡ None) → (Apart s → RunsAlone s.records p t)
+    → Leads (On p) s (record e.state { records = change_record (λ r. with_ticks ticks (after_trap e.after p used s.limits.quantum r)) e.state.records t })
+finish-leads s p t ticks used e (works, stops) idle alone =
+    put e.state (λ r. with_ticks ticks (after_trap e.after p used s.limits.quantum r)) t (λ e. cc) (λ e. cc) (working p s e.state works)
+    (λ queues q other. kept (λ a. SameUsed q s.records a.records) (change-used Work s q queues (λ e. cc)) works (λ u. refl) t ∙ idle queues q (λ same. other (ap On (sym same))))
+    (λ r q more is. let here = runs e.after stops r q more is in (ap On here, λ apart. subst (λ x. RunsAlone e.state.records x t) here (kept (λ a. RunsAlone a.records p t) (change-alone s p t) works (alone apart))))
+  where
+    runs : (after : After) → StopsIfLeaves after → (r : Record) (q more : ℕ) → (after_trap after p used s.limits.quantum r).status ≡ status.Running q more → p ≡ q
+    runs GoesOn stops r q more is = at (nat_lt used s.limits.quantum) refl
+      where
+        at : (b : Bool) → nat_lt used s.limits.quantum ≡ b → p ≡ q
+        at true on = let e : status.Running p used ≡ status.Running q more = rw on at is in cc
+        at false on = let e : status.Ready ≡ status.Running q more = rw on at is in cc
+    runs (Leaves now) stops r q more is = absurd (stops q more is)
+    runs Ends stops r q more is = cc
+
+-- ---- events
+
+-- whose changes an event's are
+abbrev pub by_event : Event → By
+by_event (event.Command command) = Console
+by_event (event.Draw p d) = On p
+by_event (event.Expire p) = On p
+by_event (event.Trap p ran action) = On p
+
+pub step-leads : (s : State) (e : Event) → Leads (by_event e) s (step s e).state
+step-leads s (event.Command command) = command-leads s command
+step-leads s (event.Draw p d) =
+    unrefused (Leads (On p) s) s _ (draw s p d) Stays (λ e.
+    let passed = all-pass ((is_bad_processor s p, BadProcessor) ∷ (is_some (thread_on s.records p), Busy) ∷ []) e in
+    draw-leads s p d (free-of (thread_on s.records p) passed.1.0))
+step-leads s (event.Expire p) =
+    unrefused (Leads (On p) s) s _ (event_effect s (event.Expire p)) Stays (λ e.
+    let passed = all-pass ((is_bad_processor s p, BadProcessor) ∷ (is_none (thread_on s.records p), NotRunning) ∷ []) e in
+    expire-leads s p passed.1.0)
+step-leads s (event.Trap p ran action) =
+    unrefused (Leads (On p) s) s _ (event_effect s (event.Trap p ran action)) Stays (λ e.
+    let passed = all-pass ((is_bad_processor s p, BadProcessor) ∷ (is_none (thread_on s.records p), NotRunning) ∷ (nat_lt s.limits.quantum (used_there s p + ran + 1), BadTicks) ∷ []) e in
+    let t = thread_there s p in
+    finish-leads s p t (ran + 1) (used_there s p + ran + 1) (checked_effect s (trap_refusal s t action) (trap_effect s t action)) (checked-leads s t action (trap_refusal s t action))
+    (λ queues q other. there-used s q p (λ same. other (sym same)) passed.1.0) (there-alone s p passed.1.0))
