@@ -96,30 +96,17 @@ impl Active {
         self.amount(currency as usize)
     }
 
-    /// A thread becomes live.
-    pub fn wake(&mut self, graph: &Graph, thread: u32)
+    /// A thread becomes live, or is no longer live.
+    pub fn set_live(&mut self, graph: &Graph, thread: u32, live: bool)
         requires thread { IsThread graph.now.funding thread }
-        requires kept { (live : List Bool) × IsKeptFor self.old graph.now live }
-        ensures kept { (live : List Bool) → IsKeptFor self.old graph.now live → thread ≤ length live
-            → IsKeptFor self.new graph.now (set_number live thread true) }
-        ensures changes { (live : List Bool) → IsKeptFor self.old graph.now live → thread ≤ length live
-            → ChangesNodes graph.now live graph.now (set_number live thread true) (ThreadNode thread) self.new }
+        requires kept { (before : List Bool) × IsKeptFor self.old graph.now before }
+        ensures kept { (before : List Bool) → IsKeptFor self.old graph.now before → thread ≤ length before
+            → IsKeptFor self.new graph.now (set_number before thread live) }
+        ensures changes { (before : List Bool) → IsKeptFor self.old graph.now before → thread ≤ length before
+            → ChangesNodes graph.now before graph.now (set_number before thread live) (ThreadNode thread) self.new }
     {
         let node = self.layout.list_of(Node::Thread(thread));
-        self.wake_node(graph, node);
-    }
-
-    /// A thread is no longer live.
-    pub fn sleep(&mut self, graph: &Graph, thread: u32)
-        requires thread { IsThread graph.now.funding thread }
-        requires kept { (live : List Bool) × IsKeptFor self.old graph.now live }
-        ensures kept { (live : List Bool) → IsKeptFor self.old graph.now live → thread ≤ length live
-            → IsKeptFor self.new graph.now (set_number live thread false) }
-        ensures changes { (live : List Bool) → IsKeptFor self.old graph.now live → thread ≤ length live
-            → ChangesNodes graph.now live graph.now (set_number live thread false) (ThreadNode thread) self.new }
-    {
-        let node = self.layout.list_of(Node::Thread(thread));
-        self.sleep_node(graph, node);
+        self.set_awake(graph, node, live);
     }
 
     /// Takes up an edge that was put into the graph.
@@ -198,34 +185,19 @@ impl Active {
         self.marks.amount(node)
     }
 
-    fn wake_node(&mut self, graph: &Graph, node: usize)
+    fn set_awake(&mut self, graph: &Graph, node: usize, awake: bool)
         requires node { node < node_count (layout_of graph.now) }
         requires graph { IsNet (graph_net graph.now) }
         requires no_cycle { HasNoCycle (graph_net graph.now) }
         requires kept { IsKept (graph_net graph.now) self.old }
         ensures layout { self.new.layout ≡ self.old.layout }
-        ensures awake { self.new.awake ≡ slice_set self.old.awake node true }
+        ensures awake { self.new.awake ≡ slice_set self.old.awake node awake }
         ensures kept { IsKept (graph_net graph.now) self.new }
         ensures changes { Changes (graph_net graph.now) node self.old self.new }
     {
         self.marks.clear();
-        self.marks.set_awake(node, true);
-        self.marks.propagate(graph, true);
-    }
-
-    fn sleep_node(&mut self, graph: &Graph, node: usize)
-        requires node { node < node_count (layout_of graph.now) }
-        requires graph { IsNet (graph_net graph.now) }
-        requires no_cycle { HasNoCycle (graph_net graph.now) }
-        requires kept { IsKept (graph_net graph.now) self.old }
-        ensures layout { self.new.layout ≡ self.old.layout }
-        ensures awake { self.new.awake ≡ slice_set self.old.awake node false }
-        ensures kept { IsKept (graph_net graph.now) self.new }
-        ensures changes { Changes (graph_net graph.now) node self.old self.new }
-    {
-        self.marks.clear();
-        self.marks.set_awake(node, false);
-        self.marks.propagate(graph, false);
+        self.marks.set_awake(node, awake);
+        self.marks.propagate(graph, awake);
     }
 
     fn attach_places(&mut self, graph: &Graph, places: EdgePlaces)

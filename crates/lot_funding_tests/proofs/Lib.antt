@@ -1,2 +1,3 @@
 pub mod SumLemmas
 pub mod BothLemmas
+pub mod RoomLemmas

@@ -7,4 +7,4 @@ mod nodes;
 #[cfg(test)]
 mod tests;
 
-pub use nodes::{is_mutex, is_target, is_thread};
+pub use nodes::{is_mutex, is_target, is_thread, may_fund};

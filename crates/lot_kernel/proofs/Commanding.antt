@@ -41,7 +41,8 @@ target-funded s (Thread t) there other = (there.0, omega (arith, there.1, length
 target-funded s (Currency zero) there other = cc
 target-funded s (Currency (suc c)) there other = (omega arith, there)
 
-thread-no-cycle : (f : Funding) (n u : ℕ) → ¬ IsCycle f n (Thread u)
+-- a thread makes none
+pub thread-no-cycle : (f : Funding) (n u : ℕ) → ¬ IsCycle f n (Thread u)
 thread-no-cycle f n u (c, issuer, same, of, cycle) = cc
 
 -- whether a cycle would be made, as the graph says and as the definitions test

@@ -26,7 +26,8 @@ use Rattle.lot_graph.specs.Graphs.{IsBorrower}
 use Rattle.lot_queues.specs.QueueLists.{IsThere}
 use Rattle.lot_threads.proofs.Ending.{may-lend}
 use Rattle.lot_value.specs.declared.meter.Meter.{Meter}
-use Rattle.lot_threads.specs.Threaded.{CanChange, CanLend, CanRun}
+use Rattle.lot_value.specs.Changing.{CanLend}
+use Rattle.lot_threads.specs.Threaded.{CanChange, CanRun}
 use Rattle.lot_threads.specs.Timely.{IsBelowQuantum, IsTimely}
 use Rattle.lot_kernel.specs.declared.ending.Trap.{Trap}
 use Rattle.lot_kernel.specs.Snapshots.{threads_of}

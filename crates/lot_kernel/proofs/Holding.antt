@@ -46,18 +46,18 @@ module _ (sizes : Sizes) (names : List (Option (List ℕ))) (v new : Threaded) (
       (subst (λ n. IsHeld sizes names n (record q { mutexes = trap.mutexes })) (sym is) (ap (λ (w : Threaded). record (with_mutexes w trap new.stale) { meter = meter }) was))
 
   -- one currency more
-  pub held-made : (name : List ℕ) → new ≡ record v { currencies = v.currencies ++ true ∷ [] } → IsHeld sizes (names ++ Some name ∷ []) new q
+  pub held-made : (name : List ℕ) → new ≡ record v { currencies = v.currencies ++ true ∷ []; stale = new.stale } → IsHeld sizes (names ++ Some name ∷ []) new q
   held-made name is =
       subst (λ n. IsHeld sizes (names ++ Some name ∷ []) n q) (sym is)
-      (ap (λ (w : Threaded). record w { currencies = w.currencies ++ true ∷ [] }) was
-      ∙ ap (λ flags. record (threads_of (held sizes names v q) v.stale v.meter) { currencies = flags }) (sym (map-append is_some names (Some name ∷ []))))
+      (ap (λ (w : Threaded). record w { currencies = w.currencies ++ true ∷ []; stale = new.stale }) was
+      ∙ ap (λ flags. record (threads_of (held sizes names v q) new.stale v.meter) { currencies = flags }) (sym (map-append is_some names (Some name ∷ []))))
 
   -- one currency less
-  pub held-removed : (c : ℕ) → new ≡ record v { currencies = slice_set v.currencies c false } → IsHeld sizes (slice_set names c None) new q
+  pub held-removed : (c : ℕ) → new ≡ record v { currencies = slice_set v.currencies c false; stale = new.stale } → IsHeld sizes (slice_set names c None) new q
   held-removed c is =
       subst (λ n. IsHeld sizes (slice_set names c None) n q) (sym is)
-      (ap (λ (w : Threaded). record w { currencies = slice_set w.currencies c false }) was
-      ∙ ap (λ flags. record (threads_of (held sizes names v q) v.stale v.meter) { currencies = flags }) (sym (map-set is_some names c None)))
+      (ap (λ (w : Threaded). record w { currencies = slice_set w.currencies c false; stale = new.stale }) was
+      ∙ ap (λ flags. record (threads_of (held sizes names v q) new.stale v.meter) { currencies = flags }) (sym (map-set is_some names c None)))
 
 -- what the clauses of a kernel see of the threads, the names and the queues
 abbrev pub snapshot_of : Sizes → List (Option (List ℕ)) → QueueLists → Threaded → Snapshot

@@ -1,5 +1,5 @@
 -- Who owns each mutex, as the queues have it and as the threads have it.
-use Rattle.std.proofs.Common.{◌≡◌, ◌≢◌, ◌∙◌, ℕ, ◌-◌, ◌<◌, arith, suc, length, map, remove, slice_get, slice_index, Option, Some, None, is_some, List, [], ◌∷◌, ◌++◌, unwrap_or, option_map, ap, sym, refl}
+use Rattle.std.proofs.Common.{◌≡◌, ◌≢◌, ◌∙◌, ℕ, ◌-◌, ◌<◌, ◌≤◌, arith, suc, length, map, remove, slice_get, slice_index, Option, Some, None, is_some, List, [], ◌∷◌, ◌++◌, unwrap_or, option_map, ap, sym, refl}
 use Rattle.std.specs.Bool.{IsTrue}
 use Rattle.std.specs.Option.{IfSome, option_flatten}
 use Rattle.std.proofs.lemmas.List.{length-map, map-set}
@@ -18,7 +18,7 @@ use Rattle.lot_machine.proofs.Tickets.{at_number-suc, some-injective}
 use Rattle.lot_machine.proofs.TrapCycles.{at_number-map}
 use Rattle.lot_queues.specs.QueueLists.{IsThere}
 use Rattle.lot_threads.specs.Threaded.{Threaded}
-use Rattle.lot_threads.proofs.Lending.{number-some}
+use Rattle.lot_value.proofs.Lending.{number-some}
 use Rattle.lot_mutex.specs.Listed.{owners_of, with_mutexes}
 
 -- a mutex's owner is the one with its number
@@ -27,6 +27,10 @@ owner-at mutexes m there =
     let (mutex, is) = number-some mutexes m there.0 there.1 in
     at_number-map (λ (x : Mutex). x.owner) mutexes m ∙ ap (option_map (λ (x : Mutex). x.owner)) is
     ∙ ap (λ (o : Option Mutex). Some (unwrap_or {T = Mutex} o (record { owner = None; waiters = [] })).owner) (sym is)
+
+-- a mutex that is there has a place among the owners
+pub owned-there : (mutexes : List Mutex) (owners : List (Option ℕ)) (m : ℕ) → IsThere mutexes m → owners_of mutexes ≡ owners → (0 < m) × (m ≤ length owners)
+owned-there mutexes owners m there same = (there.0, omega (arith, there.1, ap (λ (os : List (Option ℕ)). length os) same, length-map mutexes (λ (x : Mutex). x.owner)))
 
 -- one without an owner is free
 pub free-owner : (mutexes : List Mutex) (m : ℕ) (owner : Option ℕ) → owner ≡ (mutex_at mutexes m).owner → ¬ IsTrue (is_some owner) → (mutex_at mutexes m).owner ≡ None

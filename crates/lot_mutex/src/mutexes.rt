@@ -19,6 +19,7 @@ use crate::lottery::Lottery;
 use lot_machine::{After, Drawn, Outcome, Status};
 use lot_queues::Queues;
 use lot_threads::{Effect, Threads};
+use lot_value::Change;
 
 /// A lock by a thread that runs: it takes a free mutex; otherwise it waits, after earlier threads.
 pub fn lock(threads: &mut Threads, queues: &mut Queues, thread: u32, mutex: u32) -> Effect
@@ -46,7 +47,7 @@ pub fn lock(threads: &mut Threads, queues: &mut Queues, thread: u32, mutex: u32)
         };
     }
     queues.set_owner(mutex, Some(thread));
-    threads.take_mutex(mutex, thread);
+    threads.apply(Change::PutOwner(mutex, Some(thread)));
     Effect {
         outcome: Outcome::Locked,
         after: After::GoesOn,
@@ -123,7 +124,7 @@ fn free(threads: &mut Threads, queues: &mut Queues, mutex: u32) -> Effect
     ensures stale { MakesStaleIn threads.old threads.new }
 {
     queues.set_owner(mutex, None);
-    threads.give_up_mutex(mutex);
+    threads.apply(Change::PutOwner(mutex, None));
     Effect {
         outcome: Outcome::Freed,
         after: After::GoesOn,
@@ -163,5 +164,5 @@ fn pass(threads: &mut Threads, queues: &mut Queues, owner: u32, mutex: u32, next
     queues.take_waiter(next);
     queues.set_owner(mutex, Some(next));
     threads.set_status(next, Status::Ready);
-    threads.move_mutex(mutex, owner, next);
+    threads.apply(Change::MoveOwner { mutex, owner, next });
 }

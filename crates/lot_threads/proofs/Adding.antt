@@ -32,9 +32,9 @@ use Rattle.lot_draw.proofs.Together.{queue-set, competes-more, weights-follow}
 use Rattle.lot_threads.specs.Timely.{IsTimely}
 use Rattle.lot_threads.specs.Runners.{AreRunners, runner_at}
 use Rattle.lot_threads.specs.Threaded.{AreOf, newborn}
-use Rattle.lot_threads.proofs.Lending.{number-some, lent_ends}
+use Rattle.lot_value.proofs.Lending.{number-some, lent_ends}
 use Rattle.lot_threads.proofs.Together.{number-other}
-use Rattle.lot_threads.proofs.TwoChanges.{makes-both}
+use Rattle.lot_value.proofs.TwoChanges.{makes-both}
 
 -- ---- lists with one more
 

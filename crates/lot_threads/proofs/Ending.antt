@@ -14,8 +14,8 @@ use Rattle.lot_machine.proofs.Edges.{no-way-back}
 use Rattle.lot_machine.proofs.Queues.{number-set_same}
 use Rattle.lot_graph.specs.Graphs.{IsBorrower, IsWay, LendReaches}
 use Rattle.lot_graph.proofs.WayLemmas.{lend-edge}
-use Rattle.lot_threads.specs.Threaded.{CanLend}
-use Rattle.lot_threads.proofs.Lending.{lent_ends}
+use Rattle.lot_value.specs.Changing.{CanLend}
+use Rattle.lot_value.proofs.Lending.{lent_ends}
 
 module _ (f : Funding) (t : ℕ) (lend : Lend) (alone : at_number f.lends t ≡ Some Nobody) where
   -- each edge stays when a thread that lent to nobody lends

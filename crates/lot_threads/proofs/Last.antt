@@ -11,7 +11,7 @@ use Rattle.lot_machine.proofs.Changes.{number-set, number-there}
 use Rattle.lot_machine.proofs.TwoSteps.{edges-between, live-between}
 use Rattle.lot_machine.proofs.TrapCycles.{at_number-map}
 use Rattle.lot_threads.specs.Threaded.{Threaded, MakesStaleIn, funding_in, lends_in, with_records}
-use Rattle.lot_threads.proofs.Lending.{lent_ends}
+use Rattle.lot_value.proofs.Lending.{lent_ends}
 use Rattle.lot_threads.proofs.TwoChanges.{makes-both-in}
 
 module _ (a b c : Threaded) (t : ℕ) (was next : Record) (left : at_number a.records t ≡ Some was) (there : at_number b.records t ≡ Some was)

@@ -12,7 +12,7 @@ use Rattle.lot_machine.specs.Lends.{LendsLead, LendsTo, borrower}
 use Rattle.lot_machine.proofs.Tickets.{some-injective}
 use Rattle.lot_graph.specs.Graphs.{IsWay, Reaches}
 use Rattle.lot_graph.proofs.WayLemmas.{lead-reaches}
-use Rattle.lot_threads.proofs.Lending.{lent_ends}
+use Rattle.lot_value.proofs.Lending.{lent_ends}
 
 abbrev from_of : Option (Node × Node) → Node
 from_of None = node.Currency 0

@@ -1,9 +1,8 @@
 -- Lemmas, in the order in which they stand on each other.
 pub mod TwoChanges
-pub mod Lending
 pub mod Running
 pub mod Together
-pub mod OnlyGraph
+pub mod Applying
 pub mod Adding
 pub mod Moving
 pub mod Leads

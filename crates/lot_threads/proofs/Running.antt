@@ -13,7 +13,7 @@ use Rattle.lot_machine.proofs.Changes.{number-set, number-there}
 use Rattle.lot_machine.proofs.Queues.{number-set_same}
 use Rattle.lot_machine.proofs.RecordsKept.{nobody-runs, found-runs, runs-used_by}
 use Rattle.lot_machine.proofs.LendSums.{number-within}
-use Rattle.lot_threads.proofs.Lending.{number-some}
+use Rattle.lot_value.proofs.Lending.{number-some}
 use Rattle.lot_threads.specs.Threaded.{Threaded, CanRun}
 use Rattle.lot_threads.specs.Runners.{AreRunners, runner_at, with_runner, without_runner}
 

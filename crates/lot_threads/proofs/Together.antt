@@ -1,12 +1,10 @@
 -- What is kept of the threads, after a change of one record.
 use Rattle.std.proofs.Common.{◌≡◌, ◌⊎◌, inl, inr, ℕ, zero, suc, ◌-◌, ◌≤◌, Option, Some, None, List, [], All, Bool, option_map, slice_get, length, ap, sym, ◌∙◌, refl, subst, arith, length-set, option_and_then, replicate}
 use Rattle.std.specs.Option.{option_flatten}
-use Rattle.std.specs.Prelude.{Result, Ok, Err, OnOk, OnErr}
 use Rattle.std.proofs.lemmas.Bool.{cases_eq}
 use Rattle.std.proofs.lemmas.List.{map-set, length-map}
 use Rattle.std.proofs.lemmas.List.Elements.{All-set}
 use Rattle.lot_machine.specs.declared.funding.Node.{Node}
-use Rattle.lot_machine.specs.declared.ticket.Ticket.{Ticket}
 use Rattle.lot_machine.specs.declared.funding.Lend.{Lend}
 use Rattle.lot_machine.specs.declared.record.Record.{Record}
 use Rattle.lot_machine.specs.declared.record.Thread.{Thread}
@@ -19,7 +17,7 @@ use Rattle.lot_machine.specs.Touched.{IsTouched, PathLeads}
 use Rattle.lot_machine.proofs.Tickets.{at_number-suc}
 use Rattle.lot_machine.proofs.Changes.{number-set}
 use Rattle.lot_machine.proofs.Queues.{number-set_same}
-use Rattle.lot_graph.specs.Changes.{with_lends, with_tickets}
+use Rattle.lot_graph.specs.Changes.{with_lends}
 use Rattle.lot_graph.specs.Graphs.{LimitedFunding, IsThread}
 use Rattle.lot_value.specs.Caches.{Known, IsStale}
 use Rattle.lot_value.specs.Valued.{Valued, MakesStale}
@@ -29,8 +27,9 @@ use Rattle.lot_draw.specs.Queued.{Queued, AreWeights, CompetesIn}
 use Rattle.lot_draw.proofs.Together.{queue-set, competes-more, competes-none, weights-follow}
 use Rattle.lot_threads.specs.Timely.{IsTimely}
 use Rattle.lot_threads.specs.Runners.{AreRunners, runner_at, with_runner, without_runner}
-use Rattle.lot_threads.specs.Threaded.{AreOf, CanLend, lends_in}
-use Rattle.lot_threads.proofs.Lending.{number-some}
+use Rattle.lot_value.specs.Changing.{CanLend}
+use Rattle.lot_threads.specs.Threaded.{AreOf, lends_in}
+use Rattle.lot_value.proofs.Lending.{number-some}
 use Rattle.lot_threads.proofs.Running.{runs-changed}
 
 -- another number has what it had
@@ -129,12 +128,6 @@ drawn-of v new q then threads records runners is now live queue weights = record
   where
     competitors : then.competitors ≡ q.competitors
     competitors = ap (λ (x : Queued). x.competitors) queue
-
--- whether a ticket came to fund something or not, the same is lent, and there is the same room
-pub fund-same : {A E : Type 0} (old new : Valued) (tickets : List (Option Ticket)) (result : Result A E) → OnOk result (new.now ≡ with_tickets old.now tickets) → OnErr result (new ≡ old)
-    → (new.now.funding.lends ≡ old.now.funding.lends) × (new.now.thread_limit ≡ old.now.thread_limit)
-fund-same old new tickets (Ok a) is same = (ap (λ (w : LimitedFunding). w.funding.lends) is, ap (λ (w : LimitedFunding). w.thread_limit) is)
-fund-same old new tickets (Err e) is same = (ap (λ (v : Valued). v.now.funding.lends) same, ap (λ (v : Valued). v.now.thread_limit) same)
 
 -- the graph is that of the records
 pub graph-is : (v : Valued) (q : Queued) (threads : List Thread) (records : List Record) (runners : List (Option ℕ)) → AreOf v q threads records runners → v.now ≡ with_lends v.now (lends_in records)

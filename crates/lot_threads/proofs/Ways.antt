@@ -15,7 +15,8 @@ use Rattle.lot_machine.specs.State.{is_live_status, lend_of, live_in, status_of}
 use Rattle.lot_machine.proofs.Tickets.{at_number-suc, some-injective}
 use Rattle.lot_machine.proofs.TrapCycles.{at_number-map, lend-at}
 use Rattle.lot_graph.specs.Graphs.{IsThread, LendReaches, Reaches}
-use Rattle.lot_threads.specs.Threaded.{Threaded, CanLend, IsLiveIn, IsThreadOf, funding_in, lends_in}
+use Rattle.lot_value.specs.Changing.{CanLend}
+use Rattle.lot_threads.specs.Threaded.{Threaded, IsLiveIn, IsThreadOf, funding_in, lends_in}
 use Rattle.lot_threads.proofs.Leads.{lender-next}
 
 -- who competes or runs lends to nobody

@@ -2,7 +2,6 @@
 use Rattle.std.specs.Prelude.{◌≡◌, Bool, ⊤, ◌⊎◌, ℕ, Option, Some, None, List, [], All, Contains, length, map, option_and_then}
 use Rattle.lot_machine.specs.declared.funding.Node.{Node}
 use Rattle.lot_machine.specs.declared.funding.Lend.{Lend}
-use Rattle.lot_machine.specs.declared.funding.Lend.TheVariants.{Nobody, ToThread, ToMutex}
 use Rattle.lot_machine.specs.declared.ticket.Ticket.{Ticket}
 use Rattle.lot_machine.specs.declared.record.Record.{Record}
 use Rattle.lot_machine.specs.declared.record.Thread.{Thread}
@@ -16,11 +15,14 @@ use Rattle.lot_machine.specs.Numbered.{at_number}
 use Rattle.lot_machine.specs.State.{lend_of, live_in, ready_threads, status_of}
 use Rattle.lot_machine.specs.Value.{thread_value}
 use Rattle.lot_machine.specs.Touched.{IsTouched, PathLeads}
-use Rattle.lot_graph.specs.Graphs.{LimitedFunding, IsBorrower, LendReaches}
+use Rattle.lot_graph.specs.Graphs.{LimitedFunding}
 use Rattle.lot_value.specs.declared.meter.Meter.{Meter}
 use Rattle.lot_value.specs.Caches.{edges_into_all}
 use Rattle.lot_value.specs.Counts.{counted_up}
 use Rattle.lot_value.specs.Valued.{Valued}
+use Rattle.lot_value.specs.declared.change.Change.{Change}
+use Rattle.lot_value.specs.declared.change.Change.TheVariants.{PutThread}
+use Rattle.lot_value.specs.Changing.{CanLend, HoldsOfOwners, MovesNothing, currencies_after, tickets_after, owners_after}
 use Rattle.lot_draw.specs.declared.competing.Winner.{Winner}
 use Rattle.lot_draw.specs.Competing.{AreReady, winner_among}
 use Rattle.lot_draw.specs.Queued.{Queued, AreWeights, CompetesIn}
@@ -81,12 +83,6 @@ newborn = record { status = Ready; compensation = None; delivered = None; quanta
 abbrev pub IsStaleIn : Threaded → Node → Type 0
 IsStaleIn v node = Contains v.stale node
 
--- the thread may lend this: the borrower is there, and doesn't reach the thread
-abbrev pub CanLend : Funding → ℕ → Lend → Type 0
-CanLend f t Nobody = ⊤
-CanLend f t (ToThread s) = IsBorrower f (ToThread s) × (¬ LendReaches f (ToThread s) t)
-CanLend f t (ToMutex m) = IsBorrower f (ToMutex m) × (¬ LendReaches f (ToMutex m) t)
-
 -- the thread may have this status: if it runs, the processor is there, and no other thread runs on it
 abbrev pub CanRun : Threaded → ℕ → Status → Type 0
 CanRun v t (Running p used) = IsBetween 1 v.processors p × ((u more : ℕ) → status_of v.records u ≡ Some (Running p more) → u ≡ t)
@@ -116,6 +112,23 @@ drawn_in v d = winner_among (ready_threads v.records) (winner (map (weight_in v)
 abbrev pub MakesStaleIn : Threaded → Threaded → Type 0
 MakesStaleIn old new =
     (x : Node) → IsStaleIn new x → IsStaleIn old x ⊎ ((node : Node) × IsTouched (funding_in old) (funding_in new) (live_in old.records) (live_in new.records) node × PathLeads (funding_in old) (funding_in new) node x)
+
+-- the change leaves the threads as they are: what a thread lends, and whether it is live, follows from its record
+abbrev pub LeavesThreads : Change → Type 0
+LeavesThreads (PutThread t lend live) = ⊥
+LeavesThreads other = ⊤
+
+-- all after such a change, with these nodes stale
+abbrev pub applied_in : Threaded → Change → List Node → Threaded
+applied_in v c stale = record v { currencies = currencies_after v.currencies c; tickets = tickets_after v.tickets c; owners = owners_after v.owners c; stale = stale }
+
+-- What was stale stays so, what gets stale is reached from what the change touched, nothing gets stale if it moves nothing, and
+-- both owners of a mutex that moves are stale.
+pub record StaleByIn (change : Change) (old new : Threaded) : Type 0 where
+  pub kept : (node : Node) → IsStaleIn old node → IsStaleIn new node
+  pub reached : MakesStaleIn old new
+  pub same : MovesNothing change → new.stale ≡ old.stale
+  pub owners : HoldsOfOwners change (IsStaleIn new)
 
 -- The graph and the queue are those of the records: what is lent, who is live, who competes, and who runs where.
 pub record AreOf (v : Valued) (q : Queued) (threads : List Thread) (records : List Record) (runners : List (Option ℕ)) : Type 0 where

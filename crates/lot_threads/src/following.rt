@@ -1,21 +1,18 @@
 //! The funding graph's view of a thread: whether it is live, and what it lends.
 ghost use Rattle.std.specs.Prelude.{◌≡◌, ◌↔◌, ◌≤◌, Some, IsTrue};
-ghost use Rattle.lot_machine.specs.declared.funding.Node.{Node as ANode};
 ghost use Rattle.lot_machine.specs.declared.funding.Node.TheVariants.{Thread as ThreadNode};
-ghost use Rattle.lot_machine.specs.declared.funding.Lend.TheVariants.{Nobody};
 ghost use Rattle.lot_machine.specs.Numbered.{at_number, set_number};
 ghost use Rattle.lot_machine.specs.State as states;
 ghost use Rattle.lot_draw.specs.Competing as competing;
 ghost use Rattle.lot_graph.specs.Changes.{with_lends};
 ghost use Rattle.lot_graph.specs.Graphs.{IsMutex, IsNodeOf, IsThread};
-ghost use Rattle.lot_value.specs.Caches.{IsStale};
-ghost use Rattle.lot_value.specs.Valued.{MakesStale};
-ghost use Rattle.lot_threads.specs.Threaded.{CanLend};
+ghost use Rattle.lot_value.specs.Changing.{CanLend};
+ghost use Rattle.lot_value.specs.Valued.{Becomes};
 ghost use Rattle.lot_threads.specs.Timely.{IsBelowQuantum, IsTimely};
 
 use lot_draw::Competitor;
 use lot_machine::{Lend, Node, Record, Status};
-use lot_value::ValuedGraph;
+use lot_value::{Change, ValuedGraph};
 
 /// What a thread lends to: a served one to its server, a waiting one to its mutex, any other to nobody (4.6, 6.1).
 pub(crate) fn lend_of(status: Status) -> Lend
@@ -43,81 +40,15 @@ pub(crate) fn follow_status(graph: &mut ValuedGraph, thread: u32, before: Status
     requires lend { CanLend graph.old.now.funding thread (states.lend_of now) }
     requires lent { at_number graph.old.now.funding.lends thread ≡ Some (states.lend_of before) }
     requires lived { at_number graph.old.live thread ≡ Some (states.is_live_status before) }
-    ensures now { graph.new.now ≡ with_lends graph.old.now (set_number graph.old.now.funding.lends thread
-        (states.lend_of now)) }
-    ensures live { graph.new.live ≡ set_number graph.old.live thread (states.is_live_status now) }
-    ensures known { graph.new.known ≡ record graph.old.known { stale = graph.new.known.stale } }
-    ensures kept { (node : ANode) → IsStale graph.old.known node → IsStale graph.new.known node }
-    ensures stale { MakesStale graph.old graph.new }
+    ensures follows { Becomes graph.old graph.new
+        (with_lends graph.old.now (set_number graph.old.now.funding.lends thread (states.lend_of now)))
+        (set_number graph.old.live thread (states.is_live_status now)) }
 {
     let live = is_live(now);
     let lend = lend_of(now);
     if live != is_live(before) || lend != lend_of(before) {
-        follow(graph, thread, live, lend);
+        graph.apply(Change::PutThread { thread, lend, live });
     }
-}
-
-/// Makes a thread live or not, and makes it lend this. A thread that is live before or after is so all the time, so
-/// that a server doesn't sleep while a client's funding moves to it.
-#[inline(always)]
-fn follow(graph: &mut ValuedGraph, thread: u32, live: bool, lend: Lend)
-    requires thread { IsThread graph.old.now.funding thread }
-    requires lend { CanLend graph.old.now.funding thread lend }
-    ensures now { graph.new.now ≡ with_lends graph.old.now (set_number graph.old.now.funding.lends thread lend) }
-    ensures live { graph.new.live ≡ set_number graph.old.live thread live }
-    ensures known { graph.new.known ≡ record graph.old.known { stale = graph.new.known.stale } }
-    ensures kept { (node : ANode) → IsStale graph.old.known node → IsStale graph.new.known node }
-    ensures stale { MakesStale graph.old graph.new }
-{
-    if live {
-        graph.set_live(thread, true);
-        relend(graph, thread, lend);
-    } else {
-        relend(graph, thread, lend);
-        graph.set_live(thread, false);
-    }
-}
-
-/// Makes a thread lend this.
-#[inline(always)]
-fn relend(graph: &mut ValuedGraph, thread: u32, lend: Lend)
-    requires thread { IsThread graph.old.now.funding thread }
-    requires lend { CanLend graph.old.now.funding thread lend }
-    ensures now { graph.new.now ≡ with_lends graph.old.now (set_number graph.old.now.funding.lends thread lend) }
-    ensures live { graph.new.live ≡ graph.old.live }
-    ensures known { graph.new.known ≡ record graph.old.known { stale = graph.new.known.stale } }
-    ensures kept { (node : ANode) → IsStale graph.old.known node → IsStale graph.new.known node }
-    ensures stale { MakesStale graph.old graph.new }
-{
-    if lends(graph, thread, lend) {
-        return;
-    }
-    unlend(graph, thread);
-    if lend != Lend::Nobody {
-        graph.lend(thread, lend);
-    }
-}
-
-/// Makes a thread lend to nobody.
-#[inline(always)]
-fn unlend(graph: &mut ValuedGraph, thread: u32)
-    requires thread { IsThread graph.old.now.funding thread }
-    ensures now { graph.new.now ≡ with_lends graph.old.now (set_number graph.old.now.funding.lends thread Nobody) }
-    ensures live { graph.new.live ≡ graph.old.live }
-    ensures known { graph.new.known ≡ record graph.old.known { stale = graph.new.known.stale } }
-    ensures kept { (node : ANode) → IsStale graph.old.known node → IsStale graph.new.known node }
-    ensures stale { MakesStale graph.old graph.new }
-{
-    if !lends(graph, thread, Lend::Nobody) {
-        graph.unlend(thread);
-    }
-}
-
-/// Whether the thread lends this.
-fn lends(graph: &ValuedGraph, thread: u32, lend: Lend) -> bool
-    ensures { IsTrue result ↔ (at_number graph.now.now.funding.lends thread ≡ Some lend) }
-{
-    graph.graph().lend_of(thread) == Some(lend)
 }
 
 /// How a thread with this record competes: with its compensation if it is Ready, otherwise not at all (4.2, 4.5).

@@ -8,7 +8,8 @@ ghost use Rattle.lot_machine.specs.State as states;
 ghost use Rattle.lot_machine.specs.State.{change_record, thread_on};
 ghost use Rattle.lot_machine.specs.Step.{started};
 ghost use Rattle.lot_machine.specs.Traps.{with_ticks};
-ghost use Rattle.lot_threads.specs.Threaded.{IsThreadOf, IsStaleIn, CanLend, CanRun, MakesStaleIn, funding_in};
+ghost use Rattle.lot_value.specs.Changing.{CanLend};
+ghost use Rattle.lot_threads.specs.Threaded.{IsThreadOf, IsStaleIn, CanRun, MakesStaleIn, funding_in};
 ghost use Rattle.lot_threads.specs.Threaded.{with_records};
 ghost use Rattle.lot_threads.specs.Timely.{IsBelowQuantum};
 

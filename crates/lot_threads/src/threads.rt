@@ -5,22 +5,21 @@ ghost use Rattle.std.specs.Prelude.{slice_set, vec_capacity};
 ghost use Rattle.std.specs.Option.{SomeIff};
 ghost use Rattle.lot_machine.specs.declared.funding.Node.{Node as ANode};
 ghost use Rattle.lot_machine.specs.declared.funding.Node.TheVariants.{Currency as CurrencyNode, Thread as ThreadNode};
-ghost use Rattle.lot_machine.specs.declared.funding.Node.TheVariants.{Mutex as MutexNode};
 ghost use Rattle.lot_machine.specs.declared.record.Status.TheVariants.{Ready};
 ghost use Rattle.lot_machine.specs.declared.ticket.Ticket.{Ticket as ATicket};
 ghost use Rattle.lot_machine.specs.declared.ticket.Target.TheVariants.{Unfunded};
 ghost use Rattle.lot_machine.specs.Numbered.{at_number, set_number};
-ghost use Rattle.lot_machine.specs.Funding.{ticket_at, target_of, owner_of, issued_in, backing_currency, with_target};
-ghost use Rattle.lot_machine.specs.Funding.{with_new_ticket, without_ticket};
+ghost use Rattle.lot_machine.specs.Funding.{ticket_at, target_of};
 ghost use Rattle.lot_machine.specs.Activity.{IsActive, active_amount};
 ghost use Rattle.lot_machine.specs.Equations.{HasEquation, Reaches};
 ghost use Rattle.lot_machine.specs.State.{live_in, status_of, thread_on, used_by};
 ghost use Rattle.lot_machine.specs.Value.{node_value, ticket_value};
-ghost use Rattle.lot_graph.specs.Graphs.{IsNodeOf, IsThread, IsMutex, IsCurrency, IsUserCurrency, IsTarget, IsCycle};
-ghost use Rattle.lot_graph.specs.Graphs.{IsFunding};
+ghost use Rattle.lot_graph.specs.Graphs.{IsNodeOf, IsTarget, IsCycle, IsFunding};
 ghost use Rattle.lot_tree.specs.Visits.{CountsReads};
 ghost use Rattle.lot_value.specs.Counts.{counted_up};
 ghost use Rattle.lot_value.specs.Caches.{HasNoneTwice, edges_into_all};
+ghost use Rattle.lot_value.specs.Changing.{CanApply};
+ghost use Rattle.lot_threads.specs.Threaded.{LeavesThreads, StaleByIn, applied_in};
 ghost use Rattle.lot_threads.specs.Threaded.{IsLiveIn, IsThreadOf, IsStaleIn, CanRun, CanChange, MakesStaleIn};
 ghost use Rattle.lot_threads.specs.Threaded.{drawn_in, funding_in, limited_in, newborn, settled_in, with_records};
 ghost use Rattle.lot_threads.specs.Threaded.{worth_in};
@@ -31,9 +30,9 @@ use crate::following::{
 };
 use crate::runners::{Runner, move_runner, runner_on};
 use lot_draw::{RunQueue, Winner};
-use lot_graph::{Cycle, Graph};
+use lot_graph::Graph;
 use lot_machine::{Limits, Node, Record, Status, Target, Thread};
-use lot_value::{Meter, ValuedGraph};
+use lot_value::{Change, Meter, ValuedGraph};
 use std::alloc::{AllocError, Global};
 use std::marker::Model;
 
@@ -153,6 +152,17 @@ impl Threads {
         number
     }
 
+    /// Makes one change of tickets, currencies or owners, and makes stale what it has to. Computes no value.
+    #[inline(always)]
+    pub fn apply(&mut self, change: Change)
+        requires allowed { CanApply (limited_in self.old) (live_in self.old.records) change }
+        requires others { LeavesThreads change }
+        ensures applied { self.new ≡ applied_in self.old change self.new.stale }
+        ensures stale { StaleByIn change self.old self.new }
+    {
+        self.graph.apply(change);
+    }
+
     /// Gives a thread another record, and updates all that follows from it: whether the thread is live and what it
     /// lends, whether it competes and with what, and where it runs. Computes no value.
     #[inline(always)]
@@ -209,125 +219,14 @@ impl Threads {
         }
     }
 
-    /// Makes a currency and returns its number, one more than the last, or `None` if the currencies made have reached
-    /// the limit.
-    pub fn make_currency(&mut self) -> Option<u32>
-        ensures number { SomeIff result (length self.old.currencies ≤ self.old.currency_limit)
-            (length self.old.currencies) }
-        ensures made { OnSome result (self.new ≡ record self.old { currencies = self.old.currencies ++ true ∷ [] }) }
-        ensures unchanged { IfNone result (self.new ≡ self.old) }
-    {
-        self.graph.make_currency()
-    }
-
-    /// Removes a user currency that has neither issued nor backing tickets. No later currency gets its number.
-    pub fn remove_currency(&mut self, currency: u32)
-        requires currency { IsUserCurrency (funding_in self.old) currency }
-        requires none_issued { issued_in (funding_in self.old) currency ≡ [] }
-        requires none_backing { backing_currency (funding_in self.old) currency ≡ [] }
-        ensures removed { self.new ≡ record self.old { currencies = slice_set self.old.currencies currency false } }
-    {
-        self.graph.remove_currency(currency);
-    }
-
-    /// Issues a ticket in a currency and returns its number, one more than the last, or `None` if the tickets made
-    /// have reached the limit. The amount is at least 1.
-    pub fn issue(&mut self, currency: u32, amount: u32) -> Option<u32>
-        requires currency { IsCurrency (funding_in self.old) currency }
-        requires amount { 0 < amount }
-        ensures number { SomeIff result (length self.old.tickets < self.old.ticket_limit)
-            (length self.old.tickets + 1) }
-        ensures issued { OnSome result (self.new
-            ≡ record self.old { tickets = with_new_ticket self.old.tickets amount currency Unfunded }) }
-        ensures unchanged { IfNone result (self.new ≡ self.old) }
-    {
-        self.graph.issue(currency, amount)
-    }
-
-    /// Removes a ticket that funds nothing. No later ticket gets its number.
-    pub fn destroy(&mut self, ticket: u32)
-        requires unfunded { target_of (funding_in self.old) ticket ≡ Some Unfunded }
-        ensures destroyed { self.new ≡ record self.old { tickets = without_ticket self.old.tickets ticket } }
-    {
-        self.graph.destroy(ticket);
-    }
-
-    /// Makes a ticket that funds nothing fund a user currency or a thread. `Cycle` if and only if it would make one
-    /// (4.4). Computes no value.
-    pub fn fund(&mut self, ticket: u32, target: Target) -> Result<(), Cycle>
+    /// Whether the ticket would make a cycle if it funded the target (4.4).
+    pub fn would_cycle(&mut self, ticket: u32, target: Target) -> bool
         requires unfunded { target_of (funding_in self.old) ticket ≡ Some Unfunded }
         requires target { IsTarget (funding_in self.old) target }
-        ensures cycle { IsErr result ↔ IsCycle (funding_in self.old) ticket target }
-        ensures funded { OnOk result (self.new
-            ≡ record self.old { tickets = with_target self.old.tickets ticket target; stale = self.new.stale }) }
-        ensures unchanged { OnErr result (self.new ≡ self.old) }
-        ensures kept { (node : ANode) → IsStaleIn self.old node → IsStaleIn self.new node }
-        ensures stale { MakesStaleIn self.old self.new }
+        ensures cycle { IsTrue result ↔ IsCycle (funding_in self.old) ticket target }
+        ensures unchanged { self.new ≡ self.old }
     {
-        self.graph.fund(ticket, target)
-    }
-
-    /// Takes a ticket from what it funds. Computes no value.
-    pub fn unfund(&mut self, ticket: u32)
-        requires funding { IsFunding (funding_in self.old) ticket }
-        ensures unfunded { self.new ≡ record self.old {
-          tickets = with_target self.old.tickets ticket Unfunded;
-          stale = self.new.stale;
-        } }
-        ensures kept { (node : ANode) → IsStaleIn self.old node → IsStaleIn self.new node }
-        ensures stale { MakesStaleIn self.old self.new }
-    {
-        self.graph.unfund(ticket);
-    }
-
-    /// Makes a mutex free, if it isn't. The lends of waiting threads then go no further than the mutex (6.1). Computes
-    /// no value.
-    pub fn give_up_mutex(&mut self, mutex: u32)
-        requires mutex { IsMutex (funding_in self.old) mutex }
-        ensures freed { self.new ≡ record self.old {
-          owners = set_number self.old.owners mutex None;
-          stale = self.new.stale;
-        } }
-        ensures kept { (node : ANode) → IsStaleIn self.old node → IsStaleIn self.new node }
-        ensures stale { MakesStaleIn self.old self.new }
-    {
-        self.graph.give_up_mutex(mutex);
-    }
-
-    /// Makes a thread the owner of a free mutex that it doesn't reach. The lends of waiting threads to the mutex go on
-    /// to the owner (6.1). Computes no value.
-    pub fn take_mutex(&mut self, mutex: u32, owner: u32)
-        requires mutex { IsMutex (funding_in self.old) mutex }
-        requires free { owner_of (funding_in self.old) mutex ≡ None }
-        requires owner { IsThread (funding_in self.old) owner }
-        requires apart { ¬ Reaches (funding_in self.old) (ThreadNode owner) (MutexNode mutex) }
-        ensures owned { self.new ≡ record self.old {
-          owners = set_number self.old.owners mutex (Some owner);
-          stale = self.new.stale;
-        } }
-        ensures kept { (node : ANode) → IsStaleIn self.old node → IsStaleIn self.new node }
-        ensures stale { MakesStaleIn self.old self.new }
-    {
-        self.graph.take_mutex(mutex, owner);
-    }
-
-    /// Makes another live thread the owner of a mutex that a live thread owns. The lends of waiting threads to the
-    /// mutex go on to the new owner (6.1). Computes no value, and puts nothing to sleep.
-    pub fn move_mutex(&mut self, mutex: u32, owner: u32, next: u32)
-        requires mutex { IsMutex (funding_in self.old) mutex }
-        requires owner { owner_of (funding_in self.old) mutex ≡ Some owner }
-        requires next { IsThread (funding_in self.old) next }
-        requires other { owner ≢ next }
-        requires live { IsLiveIn self.old owner × IsLiveIn self.old next }
-        ensures moved { self.new ≡ record self.old {
-          owners = set_number self.old.owners mutex (Some next);
-          stale = self.new.stale;
-        } }
-        ensures kept { (node : ANode) → IsStaleIn self.old node → IsStaleIn self.new node }
-        ensures stale { MakesStaleIn self.old self.new }
-        ensures owners { IsStaleIn self.new (ThreadNode owner) × IsStaleIn self.new (ThreadNode next) }
-    {
-        self.graph.move_mutex(mutex, owner, next);
+        self.graph.would_cycle(ticket, target)
     }
 
     /// Holds a draw with the number `d` among the Ready threads (2, 4.2): `None` if their weights sum to 0. Settles

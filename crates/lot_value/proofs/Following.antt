@@ -27,7 +27,7 @@ use Rattle.lot_active.proofs.Lists.{set-same}
 use Rattle.lot_active.specs.Fundings.{AwakeAre, IsKeptFor, ends_of_edge}
 use Rattle.lot_value.specs.Caches.{Known, IsStale, IsRight, IsSmall, TouchesListed}
 use Rattle.lot_value.specs.Touched.{Touched, IsUser, IsListed}
-use Rattle.lot_value.specs.Valued.{live_of, AreTogether}
+use Rattle.lot_value.specs.Valued.{live_of, AreTogether, Follows}
 use Rattle.lot_value.proofs.Listed.{contains-first}
 use Rattle.lot_value.proofs.Mapped.{length-mapped}
 use Rattle.lot_value.proofs.Nodes.{node-number}
@@ -206,10 +206,10 @@ pub low : (w : LimitedFunding) (v : Activity) (t : ℕ) → IsThread w.funding t
 low w v t there = omega (arith, there.1, live-length w v)
 
 module _ (w : LimitedFunding) (v new : Activity) (c known : Known) (t : ℕ) (b : Bool) (there : IsThread w.funding t) (together : AreTogether w v c) (kept : IsKeptFor new w (set_number (live_of w v) t b)) (changes : ChangesNodes w (live_of w v) w (set_number (live_of w v) t b) (Thread t) new) (touched : Touched w c known (IsListed w new)) where
-  pub live-set : set_number (live_of w v) t b ≡ live_of w new
+  live-set : set_number (live_of w v) t b ≡ live_of w new
   live-set = live-is w new (set_number (live_of w v) t b) kept.fits kept.awake (length-set (live_of w v) (t - 1) b ∙ live-length w v)
 
-  pub together-set : TouchesListed w new known.stale → AreTogether w new known
+  together-set : TouchesListed w new known.stale → AreTogether w new known
   together-set listed = record {
     kept = subst (IsKeptFor new w) live-set kept;
     right =
@@ -219,7 +219,7 @@ module _ (w : LimitedFunding) (v new : Activity) (c known : Known) (t : ℕ) (b 
     unit = subst IsUnit (ap (λ (k : Known). k.unit) (sym touched.others)) together.unit;
   }
 
-  pub stale-set : (x : Node) → IsStale known x → IsStale c x ⊎ ((node : Node) × IsTouched w.funding w.funding (live_of w v) (live_of w new) node × PathLeads w.funding w.funding node x)
+  stale-set : (x : Node) → IsStale known x → IsStale c x ⊎ ((node : Node) × IsTouched w.funding w.funding (live_of w v) (live_of w new) node × PathLeads w.funding w.funding node x)
   stale-set x is = subst (λ (live : List Bool). IsStale c x ⊎ ((node : Node) × IsTouched w.funding w.funding (live_of w v) live node × PathLeads w.funding w.funding node x)) live-set (by (touched.only x is) (set-life (live_of w v) t b there.0 (low w v t there)))
     where
       by : IsStale c x ⊎ ((node : Node) × IsListed w new node × Reaches w.funding node x) → (set_number (live_of w v) t b ≡ live_of w v) ⊎ IsChangedLife (live_of w v) (set_number (live_of w v) t b) t
@@ -227,6 +227,10 @@ module _ (w : LimitedFunding) (v new : Activity) (c known : Known) (t : ℕ) (b 
       by (inl was) life = inl was
       by (inr (node, listed, reached)) (inl same) = absurd (listed-none w (live_of w v) (Thread t) new (subst (λ (live : List Bool). ChangesNodes w (live_of w v) w live (Thread t) new) same changes) node listed)
       by (inr (node, listed, reached)) (inr life) = inr (listed-downstream w w (live_of w v) (set_number (live_of w v) t b) (Thread t) new changes (inr (t, refl, life)) node listed x reached)
+
+  -- what is kept together follows the thread's life
+  pub follows-set : TouchesListed w new known.stale → Follows w w v new c known (set_number (live_of w v) t b)
+  follows-set listed = record { together = together-set listed; live = sym live-set; stale = stale-set }
 
 -- ---- the start
 

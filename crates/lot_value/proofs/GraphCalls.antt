@@ -139,11 +139,3 @@ free-same w m there none = sym (ap (λ (owners : List (Option ℕ)). with_owners
     by None is = is
     by (Some owner) is = absurd (none (edge_between (counted_amount w.funding (OfMutex m)) (Mutex m) (Thread owner)) (edge-there w.funding (OfMutex m) (Mutex m) (Thread owner) (ends-mutex w.funding m owner is)))
 
--- what a result that is an error says
-pub on-ok-none : {A E : Type 0} (r : Result A E) (P : Type 0) → IsErr r → OnOk r P
-on-ok-none (Ok x) P is = cc
-on-ok-none (Err e) P is = tt
-
-pub on-err-all : {A E : Type 0} (r : Result A E) (P : Type 0) → P → OnErr r P
-on-err-all (Ok x) P p = tt
-on-err-all (Err e) P p = p

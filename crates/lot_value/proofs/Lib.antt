@@ -19,3 +19,6 @@ pub mod GraphCalls
 pub mod Moving
 pub mod Unchanged
 pub mod TicketWorth
+pub mod Lending
+pub mod TwoChanges
+pub mod Applied

@@ -101,11 +101,8 @@ module _ (w now : LimitedFunding) (v : Activity) (c : Known) (together : AreToge
         live = sym (live-one w now v v threads kept);
       }
 
-  -- a ticket is issued, if there may be one more
-  pub stays-issue : (number : Option ℕ) (amount issuer : ℕ) → OnSome number (now ≡ with_tickets w (with_new_ticket w.funding.tickets amount issuer target.Unfunded)) → IfNone number (now ≡ w) → IsSound now.funding → FitsLimits now
-      → Stays now v c (live_of w v)
-  stays-issue None amount issuer issued unchanged sound fits = stays-same unchanged
-  stays-issue (Some n) amount issuer issued unchanged sound fits =
+  pub stays-issue : (amount issuer : ℕ) → now ≡ with_tickets w (with_new_ticket w.funding.tickets amount issuer target.Unfunded) → IsSound now.funding → FitsLimits now → Stays now v c (live_of w v)
+  stays-issue amount issuer issued sound fits =
       stays-alike (issue-kept v w now (live_of w v) together.kept sound fits amount issuer issued) (ap layout_of issued) (ap (λ (x : LimitedFunding). length x.funding.lends) issued)
       (λ edge. ap (λ (x : LimitedFunding). ends_of_edge x.funding edge) issued ∙ issue-ends w.funding amount issuer edge)
 
@@ -118,11 +115,6 @@ module _ (w now : LimitedFunding) (v : Activity) (c : Known) (together : AreToge
   pub stays-currencies : (currencies : List Bool) → now ≡ with_currencies w currencies → IsSound now.funding → FitsLimits now → Stays now v c (live_of w v)
   stays-currencies currencies made sound fits =
       stays-alike (currencies-kept v w now (live_of w v) together.kept sound fits currencies made) (ap layout_of made) (ap (λ (x : LimitedFunding). length x.funding.lends) made) (λ edge. ap (λ (x : LimitedFunding). ends_of_edge x.funding edge) made)
-
-  -- a currency is made, if there may be one more
-  pub stays-made : (number : Option ℕ) → OnSome number (now ≡ with_currencies w (w.funding.currencies ++ true ∷ [])) → IfNone number (now ≡ w) → IsSound now.funding → FitsLimits now → Stays now v c (live_of w v)
-  stays-made None made unchanged sound fits = stays-same unchanged
-  stays-made (Some n) made unchanged sound fits = stays-currencies (w.funding.currencies ++ true ∷ []) made sound fits
 
   pub stays-thread : now ≡ with_lends w (w.funding.lends ++ Nobody ∷ []) → IsSound now.funding → FitsLimits now → Stays now v c (live_of w v ++ false ∷ [])
   stays-thread added sound fits =

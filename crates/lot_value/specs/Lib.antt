@@ -5,3 +5,4 @@ pub mod Marking
 pub mod Sources
 pub mod Touched
 pub mod Valued
+pub mod Changing

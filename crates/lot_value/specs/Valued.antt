@@ -35,6 +35,23 @@ abbrev pub MakesStale : Valued → Valued → Type 0
 MakesStale old new =
     (x : Node) → IsStale new.known x → IsStale old.known x ⊎ ((node : Node) × IsTouched old.now.funding new.now.funding old.live new.live node × PathLeads old.now.funding new.now.funding node x)
 
+-- This is the graph now, and these threads are live. Nothing is known anew; what was stale stays so, and what gets stale is
+-- reached from what the change touched.
+pub record Becomes (old new : Valued) (graph : LimitedFunding) (lives : List Bool) : Type 0 where
+  pub now : new.now ≡ graph
+  pub live : new.live ≡ lives
+  pub known : new.known ≡ record old.known { stale = new.known.stale }
+  pub kept : (node : Node) → IsStale old.known node → IsStale new.known node
+  pub reached : MakesStale old new
+
+-- the same, and nobody's life changes
+abbrev pub FollowsGraph : Valued → Valued → LimitedFunding → Type 0
+FollowsGraph old new graph = Becomes old new graph old.live
+
+-- the same, and the graph doesn't change
+abbrev pub FollowsLives : Valued → Valued → List Bool → Type 0
+FollowsLives old new lives = Becomes old new old.now lives
+
 -- The change from the first graph to the second is taken up: activity and values are together again, these threads are live, and
 -- what gets stale is what a path of edges reaches from a node that the change touched.
 pub record Follows (w now : LimitedFunding) (v new : Activity) (c known : Known) (after : List Bool) : Type 0 where

@@ -4,20 +4,24 @@
 //! stale nodes again, in an order along the edges, so that each edge into a stale node is read once, and counts these
 //! readings.
 //!
-//! A `ValuedGraph` holds a graph, what is active in it and its values together. Each of its calls is one change of the
-//! graph, or of who is live, and makes stale what the change asks for. No call but `new` takes memory.
+//! A `ValuedGraph` holds a graph, what is active in it and its values together. `ValuedGraph::apply` makes one `Change`
+//! of them, and makes stale what the change asks for. No call but `new` takes memory.
 #![tactic(auto)]
 
+mod change;
 mod edges;
 pub mod laws;
+
 mod marking;
 mod meter;
 mod readings;
+mod relending;
 mod settling;
 mod touching;
 mod valued_graph;
 mod values;
 
+pub use change::Change;
 pub use meter::Meter;
 pub use valued_graph::ValuedGraph;
 pub use values::Values;

@@ -1,15 +1,13 @@
 //! A funding graph with what is active in it and what everything is worth, kept together.
 ghost use Rattle.std.specs.Prelude.{◌≡◌, ◌+◌, ◌<◌, ◌≤◌, ◌↔◌, ◌++◌, ◌∷◌, ◌≢◌, Bool, true, false, List, [], Some, None};
-ghost use Rattle.std.specs.Prelude.{IfOk, IfSome, IfNone, IsErr, IsTrue, OnOk, OnErr, OnSome, length, slice_set};
-ghost use Rattle.std.specs.Option.{SomeIff};
+ghost use Rattle.std.specs.Prelude.{IfOk, IfSome, IfNone, IsTrue, length};
 ghost use Rattle.lot_machine.specs.declared.funding.Node.{Node as ANode};
 ghost use Rattle.lot_machine.specs.declared.funding.Node.TheVariants.{Currency as CurrencyNode, Thread as ThreadNode};
 ghost use Rattle.lot_machine.specs.declared.funding.Node.TheVariants.{Mutex as MutexNode};
 ghost use Rattle.lot_machine.specs.declared.ticket.Ticket.{Ticket as ATicket};
 ghost use Rattle.lot_machine.specs.declared.ticket.Target.TheVariants.{Unfunded};
 ghost use Rattle.lot_machine.specs.Numbered.{at_number, set_number};
-ghost use Rattle.lot_machine.specs.Funding.{edge_count_into, ticket_at, target_of, owner_of, issued_in};
-ghost use Rattle.lot_machine.specs.Funding.{backing_currency, with_target, with_new_ticket, without_ticket};
+ghost use Rattle.lot_machine.specs.Funding.{edge_count_into, ticket_at, target_of, owner_of, with_target};
 ghost use Rattle.lot_machine.specs.Activity.{IsActive, active_amount};
 ghost use Rattle.lot_machine.specs.Lends.{IsLive};
 ghost use Rattle.lot_machine.specs.declared.funding.Lend.TheVariants.{Nobody};
@@ -18,19 +16,22 @@ ghost use Rattle.lot_machine.specs.Value.{node_value, ticket_value};
 ghost use Rattle.lot_graph.specs.Graphs.{IsNodeOf, IsThread, IsMutex, IsCurrency, IsUserCurrency, IsTarget, IsCycle};
 ghost use Rattle.lot_graph.specs.Graphs.{IsFunding, IsLender, IsBorrower, LendReaches, opening_funding};
 ghost use Rattle.lot_graph.specs.Places.{layout_of};
-ghost use Rattle.lot_active.specs.Changes.{ChangesNodes};
-ghost use Rattle.lot_active.specs.Fundings.{IsKeptFor};
 ghost use Rattle.lot_value.specs.Counts.{counted_up};
 ghost use Rattle.lot_value.specs.Caches.{IsStale, IsOnce, Settles, edges_into_all, value_in};
-ghost use Rattle.lot_value.specs.Valued.{MakesStale};
+ghost use Rattle.lot_value.specs.Valued.{FollowsGraph, FollowsLives};
+ghost use Rattle.lot_value.specs.Changing.{CanApply, StaleBy, applied};
+ghost use Rattle.lot_value.specs.declared.change.Change.TheVariants.{NewTicket, PutTicket, DropTicket, NewCurrency};
+ghost use Rattle.lot_value.specs.declared.change.Change.TheVariants.{DropCurrency, PutOwner};
 ghost use Rattle.lot_graph.specs.Changes.{with_currencies, with_lends, with_owners, with_tickets};
 
+use crate::change::Change;
 use crate::edges::{attach, detach};
+use crate::relending::put_thread;
 use crate::touching::touch_listed;
 use crate::values::Values;
 use lot_active::{Active, ends_of_edge};
-use lot_graph::{Cycle, Graph};
-use lot_machine::{Edge, Lend, Limits, Node, Target};
+use lot_graph::Graph;
+use lot_machine::{Edge, Lend, Limits, Node, Target, Ticket};
 use std::alloc::{AllocError, Global};
 use std::marker::Model;
 
@@ -89,71 +90,157 @@ impl ValuedGraph {
         })
     }
 
-    /// Makes a thread live, or not.
+    /// Makes one change, and makes stale what it has to. It computes no value.
     #[inline(always)]
-    pub fn set_live(&mut self, thread: u32, live: bool)
-        requires thread { IsThread self.old.now.funding thread }
-        ensures now { self.new.now ≡ self.old.now }
-        ensures live { self.new.live ≡ set_number self.old.live thread live }
-        ensures known { self.new.known ≡ record self.old.known { stale = self.new.known.stale } }
-        ensures kept { (node : ANode) → IsStale self.old.known node → IsStale self.new.known node }
-        ensures stale { MakesStale self.old self.new }
+    pub fn apply(&mut self, change: Change)
+        requires allowed { CanApply self.old.now self.old.live change }
+        ensures applied { self.new ≡ applied self.old change self.new.known.stale }
+        ensures stale { StaleBy change self.old self.new }
     {
-        set_awake(&self.graph, &mut self.active, thread, live);
-        touch_listed(&self.graph, &self.active, &mut self.values);
+        match change {
+            Change::NewTicket(ticket) => self.new_ticket(ticket),
+            Change::PutTicket(number, ticket) => self.put_ticket(number, ticket),
+            Change::DropTicket(number) => self.drop_ticket(number),
+            Change::NewCurrency => self.new_currency(),
+            Change::DropCurrency(currency) => self.drop_currency(currency),
+            Change::PutOwner(mutex, owner) => self.put_owner(mutex, owner),
+            Change::MoveOwner { mutex, owner, next } => self.move_owner(mutex, owner, next),
+            Change::PutThread { thread, lend, live } => put_thread(self, thread, lend, live),
+        }
     }
 
-    /// Makes a currency and answers its number, one more than the last, or `None` if as many were made as there may be.
-    pub fn make_currency(&mut self) -> Option<u32>
-        ensures number { SomeIff result (length self.old.now.funding.currencies ≤ self.old.now.currency_limit)
-            (length self.old.now.funding.currencies) }
-        ensures made { OnSome result (self.new.now
-            ≡ with_currencies self.old.now (self.old.now.funding.currencies ++ true ∷ [])) }
-        ensures unchanged { IfNone result (self.new ≡ self.old) }
-        ensures live { self.new.live ≡ self.old.live }
-        ensures known { self.new.known ≡ self.old.known }
+    #[inline(always)]
+    fn new_ticket(&mut self, ticket: Ticket)
+        requires allowed { CanApply self.old.now self.old.live (NewTicket ticket) }
+        ensures applied { self.new ≡ applied self.old (NewTicket ticket) self.new.known.stale }
+        ensures stale { StaleBy (NewTicket ticket) self.old self.new }
     {
-        self.graph.make_currency()
+        let _ = self.graph.issue(ticket.issuer, ticket.amount);
     }
 
-    /// Removes a user currency that has neither issued nor backing tickets. Its number is never given again.
-    pub fn remove_currency(&mut self, currency: u32)
-        requires currency { IsUserCurrency self.old.now.funding currency }
-        requires none_issued { issued_in self.old.now.funding currency ≡ [] }
-        requires none_backing { backing_currency self.old.now.funding currency ≡ [] }
-        ensures removed { self.new.now
-            ≡ with_currencies self.old.now (slice_set self.old.now.funding.currencies currency false) }
-        ensures live { self.new.live ≡ self.old.live }
-        ensures known { self.new.known ≡ self.old.known }
+    #[inline(always)]
+    fn put_ticket(&mut self, number: u32, ticket: Ticket)
+        requires allowed { CanApply self.old.now self.old.live (PutTicket number ticket) }
+        ensures applied { self.new ≡ applied self.old (PutTicket number ticket) self.new.known.stale }
+        ensures stale { StaleBy (PutTicket number ticket) self.old self.new }
+    {
+        match ticket.target {
+            Target::Unfunded => self.unfund(number),
+            target => self.give(number, target),
+        }
+    }
+
+    /// Makes a ticket that funds nothing fund a user currency or a thread.
+    #[inline(always)]
+    fn give(&mut self, ticket: u32, target: Target)
+        requires unfunded { target_of self.old.now.funding ticket ≡ Some Unfunded }
+        requires target { IsTarget self.old.now.funding target }
+        requires apart { ¬ IsCycle self.old.now.funding ticket target }
+        ensures follows { FollowsGraph self.old self.new
+            (with_tickets self.old.now (with_target self.old.now.funding.tickets ticket target)) }
+    {
+        self.graph.give(ticket, target);
+        let edge = Edge::OfTicket(ticket);
+        attach(&self.graph, &mut self.active, &mut self.values, edge);
+    }
+
+    /// Takes a ticket from what it funds.
+    fn unfund(&mut self, ticket: u32)
+        requires funding { IsFunding self.old.now.funding ticket }
+        ensures follows { FollowsGraph self.old self.new
+            (with_tickets self.old.now (with_target self.old.now.funding.tickets ticket Unfunded)) }
+    {
+        let Some(ends) = ends_of_edge(&self.graph, Edge::OfTicket(ticket)) else {
+            unreachable!()
+        };
+        self.graph.unfund(ticket);
+        detach(&self.graph, &mut self.active, &mut self.values, ends);
+    }
+
+    #[inline(always)]
+    fn drop_ticket(&mut self, number: u32)
+        requires allowed { CanApply self.old.now self.old.live (DropTicket number) }
+        ensures applied { self.new ≡ applied self.old (DropTicket number) self.new.known.stale }
+        ensures stale { StaleBy (DropTicket number) self.old self.new }
+    {
+        self.graph.destroy(number);
+    }
+
+    #[inline(always)]
+    fn new_currency(&mut self)
+        requires allowed { CanApply self.old.now self.old.live NewCurrency }
+        ensures applied { self.new ≡ applied self.old NewCurrency self.new.known.stale }
+        ensures stale { StaleBy NewCurrency self.old self.new }
+    {
+        let _ = self.graph.make_currency();
+    }
+
+    #[inline(always)]
+    fn drop_currency(&mut self, currency: u32)
+        requires allowed { CanApply self.old.now self.old.live (DropCurrency currency) }
+        ensures applied { self.new ≡ applied self.old (DropCurrency currency) self.new.known.stale }
+        ensures stale { StaleBy (DropCurrency currency) self.old self.new }
     {
         self.graph.remove_currency(currency);
     }
 
-    /// Issues a ticket in a currency and answers its number, one more than the last, or `None` if as many were made as
-    /// there may be. The amount is at least 1.
-    pub fn issue(&mut self, currency: u32, amount: u32) -> Option<u32>
-        requires currency { IsCurrency self.old.now.funding currency }
-        requires amount { 0 < amount }
-        ensures number { SomeIff result (length self.old.now.funding.tickets < self.old.now.ticket_limit)
-            (length self.old.now.funding.tickets + 1) }
-        ensures issued { OnSome result (self.new.now
-            ≡ with_tickets self.old.now (with_new_ticket self.old.now.funding.tickets amount currency Unfunded)) }
-        ensures unchanged { IfNone result (self.new ≡ self.old) }
-        ensures live { self.new.live ≡ self.old.live }
-        ensures known { self.new.known ≡ self.old.known }
+    #[inline(always)]
+    fn put_owner(&mut self, mutex: u32, owner: Option<u32>)
+        requires allowed { CanApply self.old.now self.old.live (PutOwner mutex owner) }
+        ensures applied { self.new ≡ applied self.old (PutOwner mutex owner) self.new.known.stale }
+        ensures stale { StaleBy (PutOwner mutex owner) self.old self.new }
     {
-        self.graph.issue(currency, amount)
+        match owner {
+            Some(owner) => self.take_mutex(mutex, owner),
+            None => self.give_up_mutex(mutex),
+        }
     }
 
-    /// Removes a ticket that funds nothing. Its number is never given again.
-    pub fn destroy(&mut self, ticket: u32)
-        requires unfunded { target_of self.old.now.funding ticket ≡ Some Unfunded }
-        ensures destroyed { self.new.now
-            ≡ with_tickets self.old.now (without_ticket self.old.now.funding.tickets ticket) }
-        ensures live { self.new.live ≡ self.old.live }
-        ensures known { self.new.known ≡ self.old.known }
+    /// Makes a mutex free, if it isn't. What waiting threads lend to it goes no further then (6.1).
+    fn give_up_mutex(&mut self, mutex: u32)
+        requires mutex { IsMutex self.old.now.funding mutex }
+        ensures follows { FollowsGraph self.old self.new
+            (with_owners self.old.now (set_number self.old.now.funding.owners mutex None)) }
     {
-        self.graph.destroy(ticket);
+        let Some(ends) = ends_of_edge(&self.graph, Edge::OfMutex(mutex)) else {
+            return;
+        };
+        self.graph.give_up_mutex(mutex);
+        detach(&self.graph, &mut self.active, &mut self.values, ends);
+    }
+
+    /// Makes a thread the owner of a free mutex that it doesn't reach. What waiting threads lend to the mutex goes on
+    /// to it (6.1).
+    fn take_mutex(&mut self, mutex: u32, owner: u32)
+        requires mutex { IsMutex self.old.now.funding mutex }
+        requires free { owner_of self.old.now.funding mutex ≡ None }
+        requires owner { IsThread self.old.now.funding owner }
+        requires apart { ¬ Reaches self.old.now.funding (ThreadNode owner) (MutexNode mutex) }
+        ensures follows { FollowsGraph self.old self.new
+            (with_owners self.old.now (set_number self.old.now.funding.owners mutex (Some owner))) }
+    {
+        self.graph.take_mutex(mutex, owner);
+        let edge = Edge::OfMutex(mutex);
+        attach(&self.graph, &mut self.active, &mut self.values, edge);
+    }
+
+    /// Makes another live thread, which doesn't reach it, the owner of a mutex that a live thread owns (6.1).
+    fn move_owner(&mut self, mutex: u32, owner: u32, next: u32)
+        requires mutex { IsMutex self.old.now.funding mutex }
+        requires owner { owner_of self.old.now.funding mutex ≡ Some owner }
+        requires next { IsThread self.old.now.funding next }
+        requires other { owner ≢ next }
+        requires live { IsLive self.old.live owner × IsLive self.old.live next }
+        requires apart { ¬ Reaches self.old.now.funding (ThreadNode next) (MutexNode mutex) }
+        ensures follows { FollowsGraph self.old self.new
+            (with_owners self.old.now (set_number self.old.now.funding.owners mutex (Some next))) }
+        ensures owners { IsStale self.new.known (ThreadNode owner) × IsStale self.new.known (ThreadNode next) }
+    {
+        let graph = &mut self.graph;
+        graph.give_up_mutex(mutex);
+        graph.take_mutex(mutex, next);
+        self.values.touch(&self.graph, Node::Thread(owner));
+        self.values.touch(&self.graph, Node::Thread(next));
     }
 
     /// Makes a thread, which isn't live and lends to nobody. Its number is one more than the last.
@@ -166,53 +253,23 @@ impl ValuedGraph {
         self.graph.add_thread();
     }
 
-    /// Makes a ticket that funds nothing fund a user currency or a thread. `Cycle` if and only if it would make one
-    /// (4.4).
-    pub fn fund(&mut self, ticket: u32, target: Target) -> Result<(), Cycle>
-        requires unfunded { target_of self.old.now.funding ticket ≡ Some Unfunded }
-        requires target { IsTarget self.old.now.funding target }
-        ensures cycle { IsErr result ↔ IsCycle self.old.now.funding ticket target }
-        ensures funded { OnOk result (self.new.now
-            ≡ with_tickets self.old.now (with_target self.old.now.funding.tickets ticket target)) }
-        ensures unchanged { OnErr result (self.new ≡ self.old) }
-        ensures live { self.new.live ≡ self.old.live }
-        ensures known { self.new.known ≡ record self.old.known { stale = self.new.known.stale } }
-        ensures kept { (node : ANode) → IsStale self.old.known node → IsStale self.new.known node }
-        ensures stale { MakesStale self.old self.new }
+    /// Makes a thread live, or not.
+    #[inline(always)]
+    pub fn set_live(&mut self, thread: u32, live: bool)
+        requires thread { IsThread self.old.now.funding thread }
+        ensures follows { FollowsLives self.old self.new (set_number self.old.live thread live) }
     {
-        self.graph.fund(ticket, target)?;
-        let edge = Edge::OfTicket(ticket);
-        attach(&self.graph, &mut self.active, &mut self.values, edge);
-        Ok(())
-    }
-
-    /// Takes a ticket from what it funds.
-    pub fn unfund(&mut self, ticket: u32)
-        requires funding { IsFunding self.old.now.funding ticket }
-        ensures unfunded { self.new.now
-            ≡ with_tickets self.old.now (with_target self.old.now.funding.tickets ticket Unfunded) }
-        ensures live { self.new.live ≡ self.old.live }
-        ensures known { self.new.known ≡ record self.old.known { stale = self.new.known.stale } }
-        ensures kept { (node : ANode) → IsStale self.old.known node → IsStale self.new.known node }
-        ensures stale { MakesStale self.old self.new }
-    {
-        let Some(ends) = ends_of_edge(&self.graph, Edge::OfTicket(ticket)) else {
-            unreachable!()
-        };
-        self.graph.unfund(ticket);
-        detach(&self.graph, &mut self.active, &mut self.values, ends);
+        self.active.set_live(&self.graph, thread, live);
+        touch_listed(&self.graph, &self.active, &mut self.values);
     }
 
     /// Makes a thread lend to another thread, or to a mutex, that doesn't reach it.
-    pub fn lend(&mut self, thread: u32, lend: Lend)
+    pub(crate) fn lend(&mut self, thread: u32, lend: Lend)
         requires nobody { at_number self.old.now.funding.lends thread ≡ Some Nobody }
         requires borrower { IsBorrower self.old.now.funding lend }
         requires apart { ¬ LendReaches self.old.now.funding lend thread }
-        ensures lent { self.new.now ≡ with_lends self.old.now (set_number self.old.now.funding.lends thread lend) }
-        ensures live { self.new.live ≡ self.old.live }
-        ensures known { self.new.known ≡ record self.old.known { stale = self.new.known.stale } }
-        ensures kept { (node : ANode) → IsStale self.old.known node → IsStale self.new.known node }
-        ensures stale { MakesStale self.old self.new }
+        ensures follows { FollowsGraph self.old self.new
+            (with_lends self.old.now (set_number self.old.now.funding.lends thread lend)) }
     {
         self.graph.lend(thread, lend);
         let edge = Edge::OfLender(thread);
@@ -220,13 +277,10 @@ impl ValuedGraph {
     }
 
     /// Makes a thread that lends lend to nobody.
-    pub fn unlend(&mut self, thread: u32)
+    pub(crate) fn unlend(&mut self, thread: u32)
         requires lender { IsLender self.old.now.funding thread }
-        ensures unlent { self.new.now ≡ with_lends self.old.now (set_number self.old.now.funding.lends thread Nobody) }
-        ensures live { self.new.live ≡ self.old.live }
-        ensures known { self.new.known ≡ record self.old.known { stale = self.new.known.stale } }
-        ensures kept { (node : ANode) → IsStale self.old.known node → IsStale self.new.known node }
-        ensures stale { MakesStale self.old self.new }
+        ensures follows { FollowsGraph self.old self.new
+            (with_lends self.old.now (set_number self.old.now.funding.lends thread Nobody)) }
     {
         let Some(ends) = ends_of_edge(&self.graph, Edge::OfLender(thread)) else {
             unreachable!()
@@ -235,63 +289,14 @@ impl ValuedGraph {
         detach(&self.graph, &mut self.active, &mut self.values, ends);
     }
 
-    /// Makes a mutex free, if it isn't. What waiting threads lend to it goes no further then (6.1).
-    pub fn give_up_mutex(&mut self, mutex: u32)
-        requires mutex { IsMutex self.old.now.funding mutex }
-        ensures freed { self.new.now ≡ with_owners self.old.now (set_number self.old.now.funding.owners mutex None) }
-        ensures live { self.new.live ≡ self.old.live }
-        ensures known { self.new.known ≡ record self.old.known { stale = self.new.known.stale } }
-        ensures kept { (node : ANode) → IsStale self.old.known node → IsStale self.new.known node }
-        ensures stale { MakesStale self.old self.new }
+    /// Whether the ticket would make a cycle if it funded the target (4.4).
+    pub fn would_cycle(&mut self, ticket: u32, target: Target) -> bool
+        requires unfunded { target_of self.old.now.funding ticket ≡ Some Unfunded }
+        requires target { IsTarget self.old.now.funding target }
+        ensures cycle { IsTrue result ↔ IsCycle self.old.now.funding ticket target }
+        ensures unchanged { self.new ≡ self.old }
     {
-        let Some(ends) = ends_of_edge(&self.graph, Edge::OfMutex(mutex)) else {
-            return;
-        };
-        self.graph.give_up_mutex(mutex);
-        detach(&self.graph, &mut self.active, &mut self.values, ends);
-    }
-
-    /// Makes a thread the owner of a free mutex that it doesn't reach. What waiting threads lend to the mutex goes on
-    /// to it (6.1).
-    pub fn take_mutex(&mut self, mutex: u32, owner: u32)
-        requires mutex { IsMutex self.old.now.funding mutex }
-        requires free { owner_of self.old.now.funding mutex ≡ None }
-        requires owner { IsThread self.old.now.funding owner }
-        requires apart { ¬ Reaches self.old.now.funding (ThreadNode owner) (MutexNode mutex) }
-        ensures owned { self.new.now
-            ≡ with_owners self.old.now (set_number self.old.now.funding.owners mutex (Some owner)) }
-        ensures live { self.new.live ≡ self.old.live }
-        ensures known { self.new.known ≡ record self.old.known { stale = self.new.known.stale } }
-        ensures kept { (node : ANode) → IsStale self.old.known node → IsStale self.new.known node }
-        ensures stale { MakesStale self.old self.new }
-    {
-        self.graph.take_mutex(mutex, owner);
-        let edge = Edge::OfMutex(mutex);
-        attach(&self.graph, &mut self.active, &mut self.values, edge);
-    }
-
-    /// Makes another live thread, which doesn't reach it, the owner of a mutex that a live thread owns (6.1). Both are
-    /// backed before it and after it, so that nothing is put to sleep or woken, and both are stale then.
-    pub fn move_mutex(&mut self, mutex: u32, owner: u32, next: u32)
-        requires mutex { IsMutex self.old.now.funding mutex }
-        requires owner { owner_of self.old.now.funding mutex ≡ Some owner }
-        requires next { IsThread self.old.now.funding next }
-        requires other { owner ≢ next }
-        requires live { IsLive self.old.live owner × IsLive self.old.live next }
-        requires apart { ¬ Reaches self.old.now.funding (ThreadNode next) (MutexNode mutex) }
-        ensures moved { self.new.now
-            ≡ with_owners self.old.now (set_number self.old.now.funding.owners mutex (Some next)) }
-        ensures live { self.new.live ≡ self.old.live }
-        ensures known { self.new.known ≡ record self.old.known { stale = self.new.known.stale } }
-        ensures kept { (node : ANode) → IsStale self.old.known node → IsStale self.new.known node }
-        ensures stale { MakesStale self.old self.new }
-        ensures owners { IsStale self.new.known (ThreadNode owner) × IsStale self.new.known (ThreadNode next) }
-    {
-        let graph = &mut self.graph;
-        graph.give_up_mutex(mutex);
-        graph.take_mutex(mutex, next);
-        self.values.touch(&self.graph, Node::Thread(owner));
-        self.values.touch(&self.graph, Node::Thread(next));
+        self.graph.would_cycle(ticket, target)
     }
 
     /// The graph, to read.
@@ -399,21 +404,5 @@ impl ValuedGraph {
         ensures none { IfNone result ((self.old.known.stale ≡ []) × (self.new ≡ self.old)) }
     {
         self.values.settle_next(&self.graph, &self.active)
-    }
-}
-
-/// Wakes a thread, or puts it to sleep.
-fn set_awake(graph: &Graph, active: &mut Active, thread: u32, live: bool)
-    requires thread { IsThread graph.now.funding thread }
-    requires kept { (before : List Bool) × IsKeptFor active.old graph.now before }
-    ensures kept { (before : List Bool) → IsKeptFor active.old graph.now before → thread ≤ length before
-        → IsKeptFor active.new graph.now (set_number before thread live) }
-    ensures changes { (before : List Bool) → IsKeptFor active.old graph.now before → thread ≤ length before
-        → ChangesNodes graph.now before graph.now (set_number before thread live) (ThreadNode thread) active.new }
-{
-    if live {
-        active.wake(graph, thread);
-    } else {
-        active.sleep(graph, thread);
     }
 }

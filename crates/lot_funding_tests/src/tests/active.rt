@@ -126,14 +126,9 @@ impl Kept {
         self.active.detach(&self.graph, ends);
     }
 
-    fn wake(&mut self, rt: &impl Abort, thread: u32) {
+    fn set_live(&mut self, rt: &impl Abort, thread: u32, live: bool) {
         assert!(rt; 0 < thread && thread <= self.graph.threads());
-        self.active.wake(&self.graph, thread);
-    }
-
-    fn sleep(&mut self, rt: &impl Abort, thread: u32) {
-        assert!(rt; 0 < thread && thread <= self.graph.threads());
-        self.active.sleep(&self.graph, thread);
+        self.active.set_live(&self.graph, thread, live);
     }
 
     fn amount(&self, rt: &impl Abort, currency: u32) -> u64 {
@@ -189,8 +184,8 @@ impl Kept {
             Step::Unlend(thread) => self.unlend(thread),
             Step::Take(mutex, owner) => self.take_mutex(rt, mutex, owner),
             Step::GiveUp(mutex) => self.give_up_mutex(rt, mutex),
-            Step::Wake(thread) => self.wake(rt, thread),
-            Step::Sleep(thread) => self.sleep(rt, thread),
+            Step::Wake(thread) => self.set_live(rt, thread, true),
+            Step::Sleep(thread) => self.set_live(rt, thread, false),
             _ => {}
         }
     }

@@ -1,8 +1,8 @@
 //! Draws among the threads of small graphs, and of large ones.
-use crate::{is_target, is_thread};
+use crate::{is_thread, may_fund};
 use lot_draw::{Competitor, RunQueue, Winner};
-use lot_machine::{Limits, Sizes, Target};
-use lot_value::ValuedGraph;
+use lot_machine::{Limits, Sizes, Target, Ticket};
+use lot_value::{Change, ValuedGraph};
 use std::alloc::{AllocError, Global};
 use std::marker::Model;
 use std::process::Abort;
@@ -38,7 +38,10 @@ impl Room {
     }
 
     fn make_currency(&mut self, rt: &impl Abort) -> u32 {
-        self.graph.make_currency().expect(rt, "no currency is left")
+        let number = self.graph.graph().currency_count();
+        assert!(rt; number <= self.graph.graph().layout().currencies, "no currency is left");
+        self.graph.apply(Change::NewCurrency);
+        number
     }
 
     /// A thread that is live and competes.
@@ -73,19 +76,33 @@ impl Room {
     fn fund(&mut self, rt: &impl Abort, amount: u32, currency: u32, target: Target) {
         let graph = self.graph.graph();
         assert!(rt; 0 < amount && graph.is_currency(currency));
-        assert!(rt; is_target(graph, target));
-        let ticket = self
-            .graph
-            .issue(currency, amount)
-            .expect(rt, "no ticket is left");
-        assert!(rt; self.graph.graph().is_unfunded(ticket));
-        assert!(rt; self.graph.fund(ticket, target).is_ok());
+        let made = graph.ticket_count();
+        assert!(rt; made < graph.layout().tickets, "no ticket is left");
+        self.graph.apply(Change::NewTicket(Ticket {
+            amount,
+            issuer: currency,
+            target: Target::Unfunded,
+        }));
+        self.put_target(rt, made + 1, target);
+    }
+
+    /// Makes a ticket fund a target in place of nothing.
+    fn put_target(&mut self, rt: &impl Abort, ticket: u32, target: Target) {
+        assert!(rt; may_fund(&mut self.graph, ticket, target));
+        let found = self.graph.graph().ticket(ticket).expect(rt, "a ticket");
+        self.graph
+            .apply(Change::PutTicket(ticket, Ticket { target, ..found }));
     }
 
     /// Takes a ticket from what it funds.
     fn unfund(&mut self, rt: &impl Abort, ticket: u32) {
-        assert!(rt; self.graph.graph().is_funding(ticket));
-        self.graph.unfund(ticket);
+        let found = self.graph.graph().ticket(ticket).expect(rt, "a ticket");
+        assert!(rt; found.target != Target::Unfunded);
+        let unfunded = Ticket {
+            target: Target::Unfunded,
+            ..found
+        };
+        self.graph.apply(Change::PutTicket(ticket, unfunded));
     }
 
     /// A draw, with the counts of what it read and visited.

@@ -1,12 +1,13 @@
 //! Worked rows over a graph with what everything is worth.
 ghost use Rattle.std.specs.Prelude.{◌≡◌, ◌<◌, ◌≤◌, IfOk, IsTrue};
-ghost use Rattle.lot_graph.specs.Graphs.{IsBorrower, LendReaches};
+ghost use Rattle.lot_graph.specs.Graphs.{IsThread};
+ghost use Rattle.lot_value.specs.Changing.{CanLend};
 
 use super::same::check_same;
-use crate::{is_mutex, is_target, is_thread};
+use crate::{is_mutex, is_thread, may_fund};
 use lot_graph::Graph;
-use lot_machine::{Lend, Limits, Node, Sizes, Target};
-use lot_value::{ValuedGraph, Values};
+use lot_machine::{Lend, Limits, Node, Sizes, Target, Ticket};
+use lot_value::{Change, ValuedGraph, Values};
 use std::alloc::Global;
 use std::process::Abort;
 use std::test::Fail;
@@ -44,7 +45,7 @@ fn touched_nodes_are_stale(rt: HostRuntime) -> Result<(), Fail> {
 
 /// A change of a valued graph that a row makes.
 #[derive(Clone, Copy)]
-enum Change {
+enum Step {
     Funding(u32, u32, Target),
     Unfund(u32),
     Destroy(u32),
@@ -59,26 +60,59 @@ enum Change {
 
 fn fund(rt: &impl Abort, graph: &mut ValuedGraph, currency: u32, amount: u32, target: Target) {
     assert!(rt; 0 < amount && graph.graph().is_currency(currency));
-    let ticket = graph.issue(currency, amount);
-    let ticket = ticket.expect(rt, "there is no room for a ticket");
-    assert!(rt; graph.graph().is_unfunded(ticket) && is_target(graph.graph(), target));
-    let funded = graph.fund(ticket, target);
-    assert!(rt; funded.is_ok());
+    let made = graph.graph().ticket_count();
+    assert!(rt; made < graph.graph().layout().tickets, "there is no room for a ticket");
+    let issued = Ticket {
+        amount,
+        issuer: currency,
+        target: Target::Unfunded,
+    };
+    graph.apply(Change::NewTicket(issued));
+    put_target(rt, graph, made + 1, target);
+}
+
+/// Makes a ticket fund a target in place of nothing.
+fn put_target(rt: &impl Abort, graph: &mut ValuedGraph, ticket: u32, target: Target) {
+    assert!(rt; may_fund(graph, ticket, target));
+    let found = graph.graph().ticket(ticket).expect(rt, "a ticket");
+    graph.apply(Change::PutTicket(ticket, Ticket { target, ..found }));
+}
+
+/// Takes a ticket from what it funds.
+fn unfund(rt: &impl Abort, graph: &mut ValuedGraph, ticket: u32) {
+    let found = graph.graph().ticket(ticket).expect(rt, "a ticket");
+    assert!(rt; found.target != Target::Unfunded);
+    let unfunded = Ticket {
+        target: Target::Unfunded,
+        ..found
+    };
+    graph.apply(Change::PutTicket(ticket, unfunded));
 }
 
 fn lend(rt: &impl Abort, graph: &mut ValuedGraph, thread: u32, lend: Lend) {
     assert!(rt; is_thread(graph.graph(), thread));
     assert!(rt; matches!(graph.graph().lend_of(thread), Some(Lend::Nobody)));
     assert!(rt; may_lend(graph, thread, lend));
-    graph.lend(thread, lend);
+    put_lend(graph, thread, lend);
+}
+
+/// Makes a thread that is asleep lend this.
+fn put_lend(graph: &mut ValuedGraph, thread: u32, lend: Lend)
+    requires thread { IsThread graph.old.now.funding thread }
+    requires lend { CanLend graph.old.now.funding thread lend }
+{
+    graph.apply(Change::PutThread {
+        thread,
+        lend,
+        live: false,
+    });
 }
 
 /// Whether a thread may lend this way.
 fn may_lend(graph: &mut ValuedGraph, thread: u32, lend: Lend) -> bool
     requires thread { 0 < thread }
     requires within { thread ≤ graph.old.now.thread_limit }
-    ensures borrower { IsTrue result → IsBorrower graph.new.now.funding lend }
-    ensures apart { IsTrue result → ¬ LendReaches graph.new.now.funding lend thread }
+    ensures may { IsTrue result → CanLend graph.new.now.funding thread lend }
     ensures unchanged { graph.new ≡ graph.old }
 {
     let thread = Node::Thread(thread);
@@ -97,7 +131,7 @@ fn take(rt: &impl Abort, graph: &mut ValuedGraph, mutex: u32, owner: u32) {
     assert!(rt; is_mutex(graph.graph(), mutex) && is_thread(graph.graph(), owner));
     assert!(rt; graph.graph().owner(mutex).is_none());
     assert!(rt; !graph.reaches(Node::Thread(owner), Node::Mutex(mutex)));
-    graph.take_mutex(mutex, owner);
+    graph.apply(Change::PutOwner(mutex, Some(owner)));
 }
 
 fn set_live(rt: &impl Abort, graph: &mut ValuedGraph, thread: u32, live: bool) {
@@ -108,38 +142,39 @@ fn set_live(rt: &impl Abort, graph: &mut ValuedGraph, thread: u32, live: bool) {
 fn remove_currency(rt: &impl Abort, graph: &mut ValuedGraph, currency: u32) {
     assert!(rt; 0 < currency && graph.graph().is_currency(currency));
     assert!(rt; graph.graph().is_unused(currency));
-    graph.remove_currency(currency);
+    graph.apply(Change::DropCurrency(currency));
 }
 
-fn make(rt: &impl Abort, graph: &mut ValuedGraph, change: Change) {
+fn make(rt: &impl Abort, graph: &mut ValuedGraph, change: Step) {
     match change {
-        Change::Funding(currency, amount, target) => fund(rt, graph, currency, amount, target),
-        Change::Unfund(ticket) => {
+        Step::Funding(currency, amount, target) => fund(rt, graph, currency, amount, target),
+        Step::Unfund(ticket) => {
             assert!(rt; graph.graph().is_funding(ticket));
-            graph.unfund(ticket);
+            unfund(rt, graph, ticket);
         }
-        Change::Destroy(ticket) => {
+        Step::Destroy(ticket) => {
             assert!(rt; graph.graph().is_unfunded(ticket));
-            graph.destroy(ticket);
+            graph.apply(Change::DropTicket(ticket));
         }
-        Change::RemoveCurrency(currency) => remove_currency(rt, graph, currency),
-        Change::Lend(thread, to) => lend(rt, graph, thread, to),
-        Change::Unlend(thread) => {
+        Step::RemoveCurrency(currency) => remove_currency(rt, graph, currency),
+        Step::Lend(thread, to) => lend(rt, graph, thread, to),
+        Step::Unlend(thread) => {
             assert!(rt;
                 matches!(
                     graph.graph().lend_of(thread),
                     Some(Lend::ToThread(_) | Lend::ToMutex(_))
                 )
             );
-            graph.unlend(thread);
+            assert!(rt; is_thread(graph.graph(), thread));
+            put_lend(graph, thread, Lend::Nobody);
         }
-        Change::Take(mutex, owner) => take(rt, graph, mutex, owner),
-        Change::GiveUp(mutex) => {
+        Step::Take(mutex, owner) => take(rt, graph, mutex, owner),
+        Step::GiveUp(mutex) => {
             assert!(rt; is_mutex(graph.graph(), mutex));
-            graph.give_up_mutex(mutex);
+            graph.apply(Change::PutOwner(mutex, None));
         }
-        Change::Wake(thread) => set_live(rt, graph, thread, true),
-        Change::Sleep(thread) => set_live(rt, graph, thread, false),
+        Step::Wake(thread) => set_live(rt, graph, thread, true),
+        Step::Sleep(thread) => set_live(rt, graph, thread, false),
     }
 }
 
@@ -173,9 +208,14 @@ fn opening(
         add_thread(rt, &mut graph);
     }
     for _ in 0..currencies {
-        assert!(rt; graph.make_currency().is_some());
+        make_currency(rt, &mut graph);
     }
     Ok(graph)
+}
+
+fn make_currency(rt: &impl Abort, graph: &mut ValuedGraph) {
+    assert!(rt; graph.graph().currency_count() <= graph.graph().layout().currencies);
+    graph.apply(Change::NewCurrency);
 }
 
 fn add_thread(rt: &impl Abort, graph: &mut ValuedGraph) {
@@ -212,7 +252,7 @@ fn is_ticket_worth(graph: &mut ValuedGraph, number: u32, value: u64) -> bool {
 /// Some changes, how many edges the next settling reads, and what nodes are worth after it.
 #[derive(Clone, Copy)]
 struct Row<'a> {
-    changes: &'a [Change],
+    changes: &'a [Step],
     reads: u64,
     worth: &'a [(Node, u64)],
 }
@@ -243,13 +283,13 @@ fn shared_currency(rt: HostRuntime) -> Result<(), Fail> {
     let rows = [
         Row {
             changes: &[
-                Change::Funding(0, 100, Target::Currency(1)),
-                Change::Funding(1, 33, Target::Thread(1)),
-                Change::Funding(1, 33, Target::Thread(2)),
-                Change::Funding(1, 33, Target::Thread(3)),
-                Change::Wake(1),
-                Change::Wake(2),
-                Change::Wake(3),
+                Step::Funding(0, 100, Target::Currency(1)),
+                Step::Funding(1, 33, Target::Thread(1)),
+                Step::Funding(1, 33, Target::Thread(2)),
+                Step::Funding(1, 33, Target::Thread(3)),
+                Step::Wake(1),
+                Step::Wake(2),
+                Step::Wake(3),
             ],
             reads: 4,
             worth: &[
@@ -265,7 +305,7 @@ fn shared_currency(rt: HostRuntime) -> Result<(), Fail> {
             worth: &[(Node::Currency(1), 100), (Node::Thread(3), 33)],
         },
         Row {
-            changes: &[Change::Funding(0, 50, Target::Currency(1))],
+            changes: &[Step::Funding(0, 50, Target::Currency(1))],
             reads: 5,
             worth: &[(Node::Currency(1), 150), (Node::Thread(2), 50)],
         },
@@ -283,17 +323,17 @@ fn unfunded_upstream(rt: HostRuntime) -> Result<(), Fail> {
     let rows = [
         Row {
             changes: &[
-                Change::Funding(0, 100, Target::Currency(1)),
-                Change::Funding(1, 10, Target::Currency(2)),
-                Change::Funding(2, 7, Target::Thread(1)),
-                Change::Funding(0, 60, Target::Thread(1)),
-                Change::Wake(1),
+                Step::Funding(0, 100, Target::Currency(1)),
+                Step::Funding(1, 10, Target::Currency(2)),
+                Step::Funding(2, 7, Target::Thread(1)),
+                Step::Funding(0, 60, Target::Thread(1)),
+                Step::Wake(1),
             ],
             reads: 4,
             worth: &[(Node::Currency(2), 100), (Node::Thread(1), 160)],
         },
         Row {
-            changes: &[Change::Unfund(1)],
+            changes: &[Step::Unfund(1)],
             reads: 3,
             worth: &[(Node::Currency(1), 0), (Node::Thread(1), 60)],
         },
@@ -309,29 +349,29 @@ fn the_last_goes_and_another_comes(rt: HostRuntime) -> Result<(), Fail> {
     let rows = [
         Row {
             changes: &[
-                Change::Wake(1),
-                Change::Wake(2),
-                Change::Funding(0, 60, Target::Currency(1)),
-                Change::Funding(1, 10, Target::Thread(1)),
+                Step::Wake(1),
+                Step::Wake(2),
+                Step::Funding(0, 60, Target::Currency(1)),
+                Step::Funding(1, 10, Target::Thread(1)),
             ],
             reads: 2,
             worth: &[(Node::Thread(1), 60), (Node::Thread(2), 0)],
         },
         Row {
-            changes: &[Change::Unfund(2), Change::Funding(1, 25, Target::Thread(2))],
+            changes: &[Step::Unfund(2), Step::Funding(1, 25, Target::Thread(2))],
             reads: 2,
             worth: &[(Node::Thread(1), 0), (Node::Thread(2), 60)],
         },
         Row {
-            changes: &[Change::Destroy(2), Change::Unfund(3), Change::Destroy(3)],
+            changes: &[Step::Destroy(2), Step::Unfund(3), Step::Destroy(3)],
             reads: 1,
             worth: &[(Node::Currency(1), 0), (Node::Thread(2), 0)],
         },
         Row {
             changes: &[
-                Change::Unfund(1),
-                Change::RemoveCurrency(1),
-                Change::Sleep(2),
+                Step::Unfund(1),
+                Step::RemoveCurrency(1),
+                Step::Sleep(2),
             ],
             reads: 0,
             worth: &[(Node::Thread(1), 0), (Node::Thread(2), 0)],
@@ -348,26 +388,26 @@ fn lent_and_inherited(rt: HostRuntime) -> Result<(), Fail> {
     let rows = [
         Row {
             changes: &[
-                Change::Funding(0, 10, Target::Thread(1)),
-                Change::Funding(0, 20, Target::Thread(2)),
-                Change::Funding(0, 30, Target::Thread(3)),
-                Change::Wake(4),
-                Change::Lend(1, Lend::ToThread(4)),
+                Step::Funding(0, 10, Target::Thread(1)),
+                Step::Funding(0, 20, Target::Thread(2)),
+                Step::Funding(0, 30, Target::Thread(3)),
+                Step::Wake(4),
+                Step::Lend(1, Lend::ToThread(4)),
             ],
             reads: 4,
             worth: &[(Node::Thread(1), 10), (Node::Thread(4), 10)],
         },
         Row {
             changes: &[
-                Change::Take(1, 4),
-                Change::Lend(2, Lend::ToMutex(1)),
-                Change::Lend(3, Lend::ToMutex(1)),
+                Step::Take(1, 4),
+                Step::Lend(2, Lend::ToMutex(1)),
+                Step::Lend(3, Lend::ToMutex(1)),
             ],
             reads: 6,
             worth: &[(Node::Mutex(1), 50), (Node::Thread(4), 60)],
         },
         Row {
-            changes: &[Change::Unlend(1), Change::GiveUp(1), Change::GiveUp(2)],
+            changes: &[Step::Unlend(1), Step::GiveUp(1), Step::GiveUp(2)],
             reads: 5,
             worth: &[
                 (Node::Thread(1), 0),
@@ -388,18 +428,18 @@ fn stale_before_its_source(rt: HostRuntime) -> Result<(), Fail> {
     let rows = [
         Row {
             changes: &[
-                Change::Funding(0, 1, Target::Thread(1)),
-                Change::Funding(1, 1, Target::Thread(1)),
-                Change::Funding(0, 1, Target::Currency(1)),
-                Change::Wake(1),
+                Step::Funding(0, 1, Target::Thread(1)),
+                Step::Funding(1, 1, Target::Thread(1)),
+                Step::Funding(0, 1, Target::Currency(1)),
+                Step::Wake(1),
             ],
             reads: 3,
             worth: &[(Node::Currency(1), 1), (Node::Thread(1), 2)],
         },
         Row {
             changes: &[
-                Change::Funding(0, 1, Target::Thread(1)),
-                Change::Funding(0, 1, Target::Currency(1)),
+                Step::Funding(0, 1, Target::Thread(1)),
+                Step::Funding(0, 1, Target::Currency(1)),
             ],
             reads: 5,
             worth: &[(Node::Currency(1), 2), (Node::Thread(1), 4)],

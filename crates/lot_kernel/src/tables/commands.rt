@@ -1,18 +1,18 @@
 //! The commands of the console (4.7).
-ghost use Rattle.std.specs.Prelude.{◌≡◌, ◌<◌, ◌+◌, ◌^◌, true, Some, IfNone, IfSome, OnSome, is_some, length, map};
-ghost use Rattle.std.specs.Prelude.{slice_get, if◌then◌else◌};
+ghost use Rattle.std.specs.Prelude.{◌≡◌, ◌↔◌, ◌<◌, ◌+◌, ◌^◌, true, Some, IfNone, IfSome, IsTrue, OnSome, is_some, length};
+ghost use Rattle.std.specs.Prelude.{map, slice_get, if◌then◌else◌};
 ghost use Rattle.std.specs.Option.{SomeIff};
 ghost use Rattle.lot_machine.specs.declared.refusal.Refusal.TheVariants.{Cycle};
 ghost use Rattle.lot_machine.specs.declared.reply.Reply.TheVariants.{Done, Refused};
-ghost use Rattle.lot_machine.specs.declared.ticket.Target.TheVariants.{Thread as ToThread, Unfunded};
+ghost use Rattle.lot_machine.specs.declared.ticket.Target.TheVariants.{Unfunded};
 ghost use Rattle.lot_machine.specs.declared.command.Command.TheVariants.{MakeTicket, RemoveTicket, MakeCurrency};
 ghost use Rattle.lot_machine.specs.declared.command.Command.TheVariants.{RemoveCurrency, Fund, Unfund, MakeThread};
 ghost use Rattle.lot_machine.specs.declared.command.Command.TheVariants.{MakeFunded};
 ghost use Rattle.lot_machine.specs.Commands as names;
 ghost use Rattle.lot_machine.specs.Commands.{command_step};
-ghost use Rattle.lot_machine.specs.Funding.{target_of, ticket_in, with_new_ticket, with_target};
-ghost use Rattle.lot_graph.specs.Graphs.{IsTarget};
-ghost use Rattle.lot_queues.specs.QueueLists.{IsThere};
+ghost use Rattle.lot_machine.specs.Funding.{target_of, ticket_at, ticket_in, with_new_ticket, with_target};
+ghost use Rattle.lot_graph.specs.Graphs.{IsCycle, IsTarget};
+ghost use Rattle.lot_value.specs.Changing.{CanTarget};
 ghost use Rattle.lot_machine.specs.Order.{IsInOrder};
 ghost use Rattle.lot_machine.specs.State.{funding_of};
 ghost use Rattle.lot_kernel.specs.Counted.{KeepsStale};
@@ -21,6 +21,7 @@ ghost use Rattle.lot_kernel.specs.Snapshots.{IsTargetThere, MakesStale};
 use crate::names::{currency_place, thread_place};
 use crate::tables::Tables;
 use lot_machine::{Command, Name, Refusal, Reply, Status, Target, Thread, Ticket, is_good_name};
+use lot_value::Change;
 
 impl Tables {
     /// One command.
@@ -78,7 +79,16 @@ impl Tables {
             ≡ record self.old { state = record self.old.state { tickets = with_new_ticket self.old.state.tickets amount issuer Unfunded } }) }
         ensures unchanged { IfNone result (self.new ≡ self.old) }
     {
-        self.threads.issue(issuer, amount)
+        let count = self.ticket_count();
+        if count >= self.limits.tickets {
+            return None;
+        }
+        self.threads.apply(Change::NewTicket(Ticket {
+            amount,
+            issuer,
+            target: Target::Unfunded,
+        }));
+        Some(count + 1)
     }
 
     fn remove_ticket(&mut self, ticket: u64) -> Reply
@@ -94,7 +104,7 @@ impl Tables {
         if found.target != Target::Unfunded {
             return Reply::Refused(Refusal::Funding);
         }
-        self.threads.destroy(ticket as u32);
+        self.threads.apply(Change::DropTicket(ticket as u32));
         Reply::Done
     }
 
@@ -110,9 +120,11 @@ impl Tables {
         if self.target_named(name).is_some() {
             return Reply::Refused(Refusal::NameTaken);
         }
-        let Some(number) = self.threads.make_currency() else {
+        let number = self.currency_count();
+        if number > self.limits.currencies {
             return Reply::Refused(Refusal::Full);
-        };
+        }
+        self.threads.apply(Change::NewCurrency);
         self.currencies.push_reserved(Some(name.copied()));
         Reply::Currency(number)
     }
@@ -132,7 +144,7 @@ impl Tables {
         if !self.threads.graph().is_unused(place as u32) {
             return Reply::Refused(Refusal::InUse);
         }
-        self.threads.remove_currency(place as u32);
+        self.threads.apply(Change::DropCurrency(place as u32));
         self.currencies[place] = None;
         Reply::Done
     }
@@ -205,21 +217,28 @@ impl Tables {
             return Reply::Refused(Refusal::Full);
         };
         let thread = self.add_thread(name, script);
-        self.fund_thread(ticket, thread);
+        let issued = Ticket {
+            amount: amount as u32,
+            issuer: issuer as u32,
+            target: Target::Unfunded,
+        };
+        self.put_target(ticket, issued, Target::Thread(thread));
         Reply::Funded { ticket, thread }
     }
 
-    /// Makes a ticket that funds nothing fund a thread.
-    fn fund_thread(&mut self, ticket: u32, thread: u32)
-        requires unfunded { target_of (funding_of self.old.state) ticket ≡ Some Unfunded }
-        requires thread { IsThere self.old.state.records thread }
+    /// Makes a ticket fund a target in place of nothing, or nothing in place of what it funds.
+    #[inline(always)]
+    fn put_target(&mut self, ticket: u32, found: Ticket, target: Target)
+        requires found { ticket_at (funding_of self.old.state) ticket ≡ Some found }
+        requires target { CanTarget (funding_of self.old.state) ticket found.target target }
         ensures state { self.new.state
-            ≡ record self.old.state { tickets = with_target self.old.state.tickets ticket (ToThread thread) } }
+            ≡ record self.old.state { tickets = with_target self.old.state.tickets ticket target } }
         ensures stale { MakesStale self.old self.new }
         ensures kept { KeepsStale self.old self.new }
         ensures meter { self.new.meter ≡ self.old.meter }
     {
-        let _ = self.threads.fund(ticket, Target::Thread(thread));
+        self.threads
+            .apply(Change::PutTicket(ticket, Ticket { target, ..found }));
     }
 
     fn fund(&mut self, ticket: u64, target: &Name) -> Reply
@@ -245,13 +264,14 @@ impl Tables {
         if found.target != Target::Unfunded {
             return Reply::Refused(Refusal::Funding);
         }
-        self.fund_target(ticket as u32, to)
+        self.fund_target(ticket as u32, found, to)
     }
 
     /// Makes a ticket that funds nothing fund a target, unless that would make a cycle.
-    fn fund_target(&mut self, ticket: u32, to: Target) -> Reply
+    fn fund_target(&mut self, ticket: u32, found: Ticket, to: Target) -> Reply
         requires order { IsInOrder self.old.state }
-        requires unfunded { target_of (funding_of self.old.state) ticket ≡ Some Unfunded }
+        requires found { ticket_at (funding_of self.old.state) ticket ≡ Some found }
+        requires unfunded { found.target ≡ Unfunded }
         requires target { IsTarget (funding_of self.old.state) to }
         ensures reply { result ≡ (if names.is_cycle self.old.state ticket to then Refused Cycle else Done) }
         ensures state { self.new.state
@@ -261,10 +281,23 @@ impl Tables {
         ensures kept { KeepsStale self.old self.new }
         ensures meter { self.new.meter ≡ self.old.meter }
     {
-        if self.threads.fund(ticket, to).is_err() {
+        if self.would_cycle(ticket, to) {
             return Reply::Refused(Refusal::Cycle);
         }
+        self.put_target(ticket, found, to);
         Reply::Done
+    }
+
+    /// Whether the ticket would make a cycle if it funded the target (4.4).
+    fn would_cycle(&mut self, ticket: u32, to: Target) -> bool
+        requires order { IsInOrder self.old.state }
+        requires unfunded { target_of (funding_of self.old.state) ticket ≡ Some Unfunded }
+        requires target { IsTarget (funding_of self.old.state) to }
+        ensures cycle { IsTrue result ↔ IsCycle (funding_of self.old.state) ticket to }
+        ensures tested { names.is_cycle self.old.state ticket to ≡ result }
+        ensures unchanged { self.new ≡ self.old }
+    {
+        self.threads.would_cycle(ticket, to)
     }
 
     fn unfund(&mut self, ticket: u64) -> Reply
@@ -281,7 +314,7 @@ impl Tables {
         if found.target == Target::Unfunded {
             return Reply::Refused(Refusal::NotFunding);
         }
-        self.threads.unfund(ticket as u32);
+        self.put_target(ticket as u32, found, Target::Unfunded);
         Reply::Done
     }
 

@@ -11,7 +11,7 @@ ghost use Rattle.lot_machine.specs.Step as steps;
 ghost use Rattle.lot_machine.specs.Step.{step};
 ghost use Rattle.lot_machine.specs.Traps.{after_trap, with_ticks};
 ghost use Rattle.lot_machine.proofs.RecordsKept.{RunsAlone, StopsIfLeaves};
-ghost use Rattle.lot_threads.specs.Threaded.{CanLend};
+ghost use Rattle.lot_value.specs.Changing.{CanLend};
 ghost use Rattle.lot_kernel.specs.Counted.{Counts, KeepsStale};
 ghost use Rattle.lot_kernel.specs.Snapshots.{MakesStale};
 ghost use Rattle.lot_kernel.specs.Trapped.{RunsOn, trapped};

@@ -1,8 +1,17 @@
 //! What the rows of threads, mutexes and ports share.
+ghost use Rattle.std.specs.Prelude.{◌≡◌, Some, IsTrue};
+ghost use Rattle.lot_machine.specs.declared.ticket.Target.TheVariants.{Unfunded};
+ghost use Rattle.lot_machine.specs.Funding.{target_of};
+ghost use Rattle.lot_graph.specs.Graphs.{IsTarget};
+ghost use Rattle.lot_value.specs.Changing.{CanTarget};
+ghost use Rattle.lot_threads.specs.Threaded.{funding_in};
+
 use lot_draw::Winner;
-use lot_machine::{After, Name, Record, Target, Thread};
+use lot_graph::Graph;
+use lot_machine::{After, Name, Record, Target, Thread, Ticket};
 use lot_queues::Queues;
 use lot_threads::Threads;
+use lot_value::Change;
 use std::process::Abort;
 
 /// A thread that wins a draw, its number, and the total.
@@ -29,11 +38,60 @@ pub(crate) fn add_thread(rt: &impl Abort, threads: &mut Threads, queues: &mut Qu
     let name = Name::new("thread").expect(rt, "a name");
     let thread = threads.add_thread(Thread { name, script: 1 });
     queues.add_thread();
-    assert!(rt; 0 < amount && threads.graph().is_currency(0));
-    let ticket = threads.issue(0, amount).expect(rt, "a ticket");
-    assert!(rt; threads.graph().is_unfunded(ticket));
-    assert!(rt; 0 < thread && thread <= threads.graph().threads());
-    assert!(rt; threads.fund(ticket, Target::Thread(thread)).is_ok());
+    fund(rt, threads, amount, 0, Target::Thread(thread));
+}
+
+/// A new ticket of this amount and currency, which funds the target.
+pub(crate) fn fund(
+    rt: &impl Abort,
+    threads: &mut Threads,
+    amount: u32,
+    currency: u32,
+    target: Target,
+) {
+    let graph = threads.graph();
+    assert!(rt; 0 < amount && graph.is_currency(currency));
+    let made = graph.ticket_count();
+    assert!(rt; made < graph.layout().tickets, "no ticket is left");
+    threads.apply(Change::NewTicket(Ticket {
+        amount,
+        issuer: currency,
+        target: Target::Unfunded,
+    }));
+    put_target(rt, threads, made + 1, target);
+}
+
+/// Makes a ticket fund a target in place of nothing.
+fn put_target(rt: &impl Abort, threads: &mut Threads, ticket: u32, target: Target) {
+    assert!(rt; may_fund(threads, ticket, target));
+    let found = threads.graph().ticket(ticket).expect(rt, "a ticket");
+    threads.apply(Change::PutTicket(ticket, Ticket { target, ..found }));
+}
+
+/// Whether a ticket may fund the target in place of nothing.
+fn may_fund(threads: &mut Threads, ticket: u32, target: Target) -> bool
+    ensures unfunded { IsTrue result → target_of (funding_in threads.new) ticket ≡ Some Unfunded }
+    ensures target { IsTrue result → CanTarget (funding_in threads.new) ticket Unfunded target }
+    ensures unchanged { threads.new ≡ threads.old }
+{
+    if !threads.graph().is_unfunded(ticket) {
+        return false;
+    }
+    if !is_target(threads.graph(), target) {
+        return false;
+    }
+    !threads.would_cycle(ticket, target)
+}
+
+/// Whether a ticket may fund the target, but for a cycle.
+fn is_target(graph: &Graph, target: Target) -> bool
+    ensures { IsTrue result → IsTarget graph.now.funding target }
+{
+    match target {
+        Target::Unfunded => false,
+        Target::Currency(currency) => 0 < currency && graph.is_currency(currency),
+        Target::Thread(thread) => 0 < thread && thread <= graph.threads(),
+    }
 }
 
 /// The thread that made a trap goes on, or gets the status that it leaves with.

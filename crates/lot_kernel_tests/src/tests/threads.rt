@@ -1,13 +1,14 @@
 //! Threads of small graphs and of large ones, whose records change between draws.
 ghost use Rattle.std.specs.Prelude.{IsTrue};
-ghost use Rattle.lot_graph.specs.Graphs.{IsNodeOf, IsTarget};
+ghost use Rattle.lot_graph.specs.Graphs.{IsNodeOf};
 
-use super::helpers::{Won, check_step, is_won};
+use super::helpers::{Won, check_step, fund, is_won};
 use super::same::check_same;
 use lot_draw::Winner;
 use lot_graph::Graph;
-use lot_machine::{Limits, Name, Node, Record, Sizes, Status, Target, Thread};
+use lot_machine::{Limits, Name, Node, Record, Sizes, Status, Target, Thread, Ticket};
 use lot_threads::Threads;
+use lot_value::Change;
 use std::alloc::Global;
 use std::process::Abort;
 
@@ -42,17 +43,6 @@ enum Step {
     Active(u32, u64),
 }
 
-/// Whether a ticket may fund the target.
-fn is_target(graph: &Graph, target: Target) -> bool
-    ensures { IsTrue result → IsTarget graph.now.funding target }
-{
-    match target {
-        Target::Unfunded => false,
-        Target::Currency(currency) => 0 < currency && graph.is_currency(currency),
-        Target::Thread(thread) => 0 < thread && thread <= graph.threads(),
-    }
-}
-
 fn is_node(graph: &Graph, node: Node) -> bool
     ensures { IsTrue result → IsNodeOf graph.now node }
 {
@@ -73,25 +63,21 @@ fn add_thread(rt: &impl Abort, threads: &mut Threads) {
 }
 
 fn make_currency(rt: &impl Abort, threads: &mut Threads) {
-    assert!(rt; threads.make_currency().is_some());
-}
-
-fn fund(rt: &impl Abort, threads: &mut Threads, amount: u32, currency: u32, target: Target) {
     let graph = threads.graph();
-    assert!(rt; 0 < amount && graph.is_currency(currency));
-    assert!(rt; is_target(graph, target));
-    let ticket = threads
-        .issue(currency, amount)
-        .expect(rt, "no ticket is left");
-    assert!(rt; threads.graph().is_unfunded(ticket));
-    assert!(rt; threads.fund(ticket, target).is_ok());
+    assert!(rt; graph.currency_count() <= graph.layout().currencies);
+    threads.apply(Change::NewCurrency);
 }
 
 fn unfund(rt: &impl Abort, threads: &mut Threads, ticket: u32) {
-    assert!(rt; threads.graph().is_funding(ticket));
-    threads.unfund(ticket);
+    let found = threads.graph().ticket(ticket).expect(rt, "a ticket");
+    assert!(rt; found.target != Target::Unfunded);
+    let unfunded = Ticket {
+        target: Target::Unfunded,
+        ..found
+    };
+    threads.apply(Change::PutTicket(ticket, unfunded));
     assert!(rt; threads.graph().is_unfunded(ticket));
-    threads.destroy(ticket);
+    threads.apply(Change::DropTicket(ticket));
 }
 
 /// The thread's record, with another status and compensation.
@@ -128,12 +114,12 @@ fn take(rt: &impl Abort, threads: &mut Threads, mutex: u32, owner: u32) {
     assert!(rt; 0 < mutex && mutex <= graph.mutexes() && graph.owner(mutex).is_none());
     assert!(rt; 0 < owner && owner <= graph.threads());
     assert!(rt; !threads.reaches(Node::Thread(owner), Node::Mutex(mutex)));
-    threads.take_mutex(mutex, owner);
+    threads.apply(Change::PutOwner(mutex, Some(owner)));
 }
 
 fn give_up(rt: &impl Abort, threads: &mut Threads, mutex: u32) {
     assert!(rt; 0 < mutex && mutex <= threads.graph().mutexes());
-    threads.give_up_mutex(mutex);
+    threads.apply(Change::PutOwner(mutex, None));
 }
 
 fn move_mutex(rt: &impl Abort, threads: &mut Threads, mutex: u32, owner: u32, next: u32) {
@@ -141,7 +127,8 @@ fn move_mutex(rt: &impl Abort, threads: &mut Threads, mutex: u32, owner: u32, ne
     assert!(rt; 0 < mutex && mutex <= graph.mutexes() && graph.owner(mutex) == Some(owner));
     assert!(rt; 0 < next && next <= graph.threads() && owner != next);
     assert!(rt; threads.is_live(owner) && threads.is_live(next));
-    threads.move_mutex(mutex, owner, next);
+    assert!(rt; !threads.reaches(Node::Thread(next), Node::Mutex(mutex)));
+    threads.apply(Change::MoveOwner { mutex, owner, next });
 }
 
 /// A draw, and how many edges it read.

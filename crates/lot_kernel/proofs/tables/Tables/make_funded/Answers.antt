@@ -1,14 +1,13 @@
-use Rattle.std.proofs.Common.{Contains, List, Some, ap, arith, length, option_map, rules, subst, sym, ℕ, ◌+◌, ◌∙◌, ◌≡◌}
+use Rattle.std.proofs.Common.{Contains, List, Some, ap, arith, length, refl, rules, subst, sym, ℕ, ◌+◌, ◌∙◌, ◌≡◌}
 use Rattle.std.proofs.lemmas.List.{length-append}
 use Rattle.lot_kernel.specs.Snapshots.{Snapshot}
 use Rattle.lot_machine.specs.declared.reply.Reply.TheVariants.{Funded}
 use Rattle.lot_machine.specs.State.{State, funding_of}
 use Rattle.lot_machine.specs.declared.ticket.Target.TheVariants.{Thread, Unfunded}
-use Rattle.lot_machine.specs.declared.ticket.Ticket.{Ticket}
-use Rattle.lot_kernel.proofs.Commanding.{funded-new, last-number, makes-funded}
+use Rattle.lot_kernel.proofs.Commanding.{funded-new, last-number, makes-funded, target-funded, thread-no-cycle}
 use Rattle.lot_machine.proofs.CommandsKept.{named-there}
 use Rattle.std.specs.Option.{option_flatten}
-use Rattle.lot_machine.specs.Funding.{target_of, with_new_ticket, with_target}
+use Rattle.lot_machine.specs.Funding.{ticket_at, with_new_ticket, with_target}
 use Rattle.lot_kernel.specs.contracts.tables.Tables.{the_view}
 use Rattle.lot_machine.specs.Commands.{with_thread}
 use Rattle.lot_kernel.proofs.tables.Tables.make_funded.Goals as goal
@@ -29,14 +28,14 @@ issue-requires-clause-issuer c =
     let i = c.self.inside in
     rw (← c.self.view_is) (named-there c.args.currency.now i.currencies.items c.in-Some.issuer (search rules))
 
-pub fund_thread-requires-clause-unfunded : goal.fund_thread-requires-clause-unfunded
-fund_thread-requires-clause-unfunded c =
+pub put_target-requires-clause-found : goal.put_target-requires-clause-found
+put_target-requires-clause-found c =
     let old = the_view c.self.inside in
     let issued : c.issue.new.self ≡ record old { state = record old.state { tickets = with_new_ticket old.state.tickets c.args.amount c.in-Some.issuer Unfunded } } = search rules in
     let number : c.in-Some-issue.ticket ≡ length old.state.tickets + 1 = search rules in
-    ap (λ (x : State). target_of (funding_of x) c.in-Some-issue.ticket) (c.add_thread-thread.ensures.state ∙ ap (λ (x : Snapshot). with_thread x.state c.args.name.now c.args.script) issued)
-    ∙ ap (λ n. target_of (funding_of (with_thread (record old.state { tickets = with_new_ticket old.state.tickets c.args.amount c.in-Some.issuer Unfunded }) c.args.name.now c.args.script)) n) number
-    ∙ ap (λ o. option_map (λ (t : Ticket). t.target) (option_flatten o)) (last-number old.state.tickets (Some (record { amount = c.args.amount; issuer = c.in-Some.issuer; target = Unfunded })))
+    ap (λ (x : State). ticket_at (funding_of x) c.in-Some-issue.ticket) (c.add_thread-thread.ensures.state ∙ ap (λ (x : Snapshot). with_thread x.state c.args.name.now c.args.script) issued)
+    ∙ ap (λ n. ticket_at (funding_of (with_thread (record old.state { tickets = with_new_ticket old.state.tickets c.args.amount c.in-Some.issuer Unfunded }) c.args.name.now c.args.script)) n) number
+    ∙ ap option_flatten (last-number old.state.tickets (Some (record { amount = c.args.amount; issuer = c.in-Some.issuer; target = Unfunded })))
 
 pub returns-clause-state : goal.returns-clause-state
 returns-clause-state c =
@@ -44,36 +43,37 @@ returns-clause-state c =
     let issued : c.issue.new.self ≡ record old { state = record old.state { tickets = with_new_ticket old.state.tickets c.args.amount c.in-Some.issuer Unfunded } } = search rules in
     let number : c.in-Some-issue.ticket ≡ length old.state.tickets + 1 = search rules in
     let thread : c.add_thread-thread.result ≡ length old.state.threads + 1 = c.add_thread-thread.ensures.number ∙ ap (λ (x : Snapshot). length x.state.threads + 1) issued in
-    let made = made-state old.state c.issue.new.self.state c.add_thread-thread.new.self.state c.fund_thread.new.self.state c.args.amount c.in-Some.issuer c.args.script c.in-Some-issue.ticket c.add_thread-thread.result c.args.name.now
-    (ap (λ (x : Snapshot). x.state) issued) c.add_thread-thread.ensures.state c.fund_thread.ensures.state number thread in
+    let made = made-state old.state c.issue.new.self.state c.add_thread-thread.new.self.state c.put_target.new.self.state c.args.amount c.in-Some.issuer c.args.script c.in-Some-issue.ticket c.add_thread-thread.result c.args.name.now
+    (ap (λ (x : Snapshot). x.state) issued) c.add_thread-thread.ensures.state c.put_target.ensures.state number thread in
     search (rules, made)
 
 pub returns-clause-stale : goal.returns-clause-stale
 returns-clause-stale c =
     let old = the_view c.self.inside in
     let issued : c.issue.new.self ≡ record old { state = record old.state { tickets = with_new_ticket old.state.tickets c.args.amount c.in-Some.issuer Unfunded } } = search rules in
-    rw (← c.self.view_is) (makes-funded old c.issue.new.self c.add_thread-thread.new.self c.fund_thread.new.self c.args.amount c.in-Some.issuer c.args.script c.in-Some-issue.ticket c.add_thread-thread.result c.args.name.now
-    issued c.add_thread-thread.ensures.state c.fund_thread.ensures.state c.add_thread-thread.ensures.stale c.fund_thread.ensures.stale)
+    rw (← c.self.view_is) (makes-funded old c.issue.new.self c.add_thread-thread.new.self c.put_target.new.self c.args.amount c.in-Some.issuer c.args.script c.in-Some-issue.ticket c.add_thread-thread.result c.args.name.now
+    issued c.add_thread-thread.ensures.state c.put_target.ensures.state c.add_thread-thread.ensures.stale c.put_target.ensures.stale)
 
 pub returns-clause-kept : goal.returns-clause-kept
 returns-clause-kept c x stale =
     let old = the_view c.self.inside in
     let issued : c.issue.new.self ≡ record old { state = record old.state { tickets = with_new_ticket old.state.tickets c.args.amount c.in-Some.issuer Unfunded } } = search rules in
     let here : Contains old.stale x = rw (← c.self.view_is) at stale in
-    c.fund_thread.ensures.kept x (c.add_thread-thread.ensures.kept x (subst (λ (y : Snapshot). Contains y.stale x) (sym issued) here))
+    c.put_target.ensures.kept x (c.add_thread-thread.ensures.kept x (subst (λ (y : Snapshot). Contains y.stale x) (sym issued) here))
 
 pub issue-requires-clause-amount : goal.issue-requires-clause-amount
 issue-requires-clause-amount c = omega (arith, c.if-amount-eq0.false)
 
-pub fund_thread-requires-clause-thread : goal.fund_thread-requires-clause-thread
-fund_thread-requires-clause-thread c =
+pub put_target-requires-clause-target : goal.put_target-requires-clause-target
+put_target-requires-clause-target c =
     let old = the_view c.self.inside in
     let issued : c.issue.new.self ≡ record old { state = record old.state { tickets = with_new_ticket old.state.tickets c.args.amount c.in-Some.issuer Unfunded } } = search rules in
     let count : length c.issue.new.self.state.threads ≡ length c.issue.new.self.state.records =
     ap (λ (x : Snapshot). length x.state.threads) issued ∙ c.self.invariant.count ∙ sym (ap (λ (x : Snapshot). length x.state.records) issued) in
-    let size : length c.add_thread-thread.new.self.state.records ≡ length c.issue.new.self.state.records + 1 =
-    ap (λ (x : State). length x.records) c.add_thread-thread.ensures.state ∙ length-append c.issue.new.self.state.records _ in
-    (omega (arith, c.add_thread-thread.ensures.number), omega (arith, c.add_thread-thread.ensures.number, count, size))
+    let after = c.add_thread-thread.new.self.state in
+    let size : length after.records ≡ length c.issue.new.self.state.records + 1 = ap (λ (x : State). length x.records) c.add_thread-thread.ensures.state ∙ length-append c.issue.new.self.state.records _ in
+    let there = target-funded after (Thread c.add_thread-thread.result) (omega (arith, c.add_thread-thread.ensures.number), omega (arith, c.add_thread-thread.ensures.number, count, size)) refl in
+    (refl, there, thread-no-cycle (funding_of after) c.in-Some-issue.ticket c.add_thread-thread.result)
 
 pub returns-clause-reply : goal.returns-clause-reply
 returns-clause-reply c =
@@ -89,4 +89,4 @@ pub returns-clause-meter : goal.returns-clause-meter
 returns-clause-meter c =
     let old = the_view c.self.inside in
     let issued : c.issue.new.self ≡ record old { state = record old.state { tickets = with_new_ticket old.state.tickets c.args.amount c.in-Some.issuer Unfunded } } = search rules in
-    rw (← c.self.view_is) (c.fund_thread.ensures.meter ∙ c.add_thread-thread.ensures.meter ∙ ap (λ (x : Snapshot). x.meter) issued)
+    rw (← c.self.view_is) (c.put_target.ensures.meter ∙ c.add_thread-thread.ensures.meter ∙ ap (λ (x : Snapshot). x.meter) issued)

@@ -1,7 +1,7 @@
 use Rattle.lot_kernel.proofs.Metering.{trap-then}
 use Rattle.std.proofs.Common.{ap, option_map, refl, subst, sym, ℕ, ◌∙◌, ◌≡◌}
 use Rattle.lot_machine.specs.declared.action.Action.{Action}
-use Rattle.lot_threads.specs.Threaded.{CanLend}
+use Rattle.lot_value.specs.Changing.{CanLend}
 use Rattle.lot_machine.specs.Order.{IsInOrder}
 use Rattle.lot_machine.specs.declared.record.Record.{Record}
 use Rattle.lot_machine.specs.declared.record.Status.TheVariants.{Running}

@@ -1,19 +1,23 @@
-use Rattle.std.proofs.Common.{ap, arith, rules, slice_get, ◌∙◌}
+use Rattle.std.proofs.Common.{◌≡◌, ◌∙◌, [], ap, arith, rules, slice_get, subst}
+use Rattle.lot_machine.proofs.CommandsKept.{named-there}
+use Rattle.lot_machine.specs.Funding.{backing_currency, issued_in}
+use Rattle.lot_machine.specs.State.{sizes_of}
+use Rattle.lot_graph.specs.Graphs.{LimitedFunding}
 use Rattle.lot_threads.specs.Threaded.{Threaded}
 use Rattle.lot_kernel.proofs.Holding.{held-removed}
-use Rattle.lot_machine.proofs.CommandsKept.{named-there}
-use Rattle.lot_machine.specs.State.{sizes_of}
 use Rattle.lot_kernel.proofs.tables.Tables.remove_currency.Goals as goal
 
-pub remove_currency-requires-clause-currency : goal.remove_currency-requires-clause-currency
-remove_currency-requires-clause-currency c =
+pub apply-requires-clause-allowed : goal.apply-requires-clause-allowed
+apply-requires-clause-allowed c =
     let i = c.self.inside in
-    let there = named-there c.args.currency.now i.currencies.items c.in-Some.place (search rules) in
-    let flags = ap (λ (v : Threaded). slice_get v.currencies c.in-Some.place) c.self.invariant.threads in
-    (omega (arith, c.if-place-eq0.false), flags ∙ there)
+    let place = c.in-Some.place in
+    let there = named-there c.args.currency.now i.currencies.items place (search rules) in
+    let flags = ap (λ (v : Threaded). slice_get v.currencies place) c.self.invariant.threads in
+    let unused = subst (λ (w : LimitedFunding). (issued_in w.funding place ≡ []) × (backing_currency w.funding place ≡ [])) c.graph.ensures (c.is_unused.ensures.0 c.if-not-is_unused.false) in
+    ((omega (arith, c.if-place-eq0.false), flags ∙ there), unused.0, unused.1)
 
 pub invariant_of-self : goal.invariant_of-self
 invariant_of-self c =
     let i = c.self.inside in
-    let threads = held-removed (sizes_of i.limits) i.currencies.items i.threads c.remove_currency.new.self i.queues c.self.invariant.threads c.in-Some.place c.remove_currency.ensures.removed in
+    let threads = held-removed (sizes_of i.limits) i.currencies.items i.threads c.apply.new.self i.queues c.self.invariant.threads c.in-Some.place c.apply.ensures.applied in
     search (rules, threads)

@@ -13,13 +13,13 @@ use Rattle.lot_graph.specs.Changes.{with_lends}
 use Rattle.lot_graph.specs.Graphs.{LimitedFunding}
 use Rattle.lot_machine.specs.Funding.{Funding}
 use Rattle.lot_machine.proofs.TrapCycles.{at_number-map}
-use Rattle.lot_threads.specs.Threaded.{Threaded, AreOf, IsThreadOf, CanLend, CanRun, lends_in}
+use Rattle.lot_value.specs.Changing.{CanLend}
+use Rattle.lot_threads.specs.Threaded.{Threaded, AreOf, IsThreadOf, CanRun, lends_in}
 use Rattle.lot_threads.specs.Runners.{with_runner, without_runner}
 use Rattle.lot_threads.specs.Timely.{IsTimely}
-use Rattle.lot_threads.proofs.Lending.{number-read}
+use Rattle.lot_value.proofs.Lending.{number-read}
 use Rattle.lot_threads.proofs.Running.{runner-within}
 use Rattle.lot_threads.proofs.Together.{changed-of, graph-is, stale-of}
-use Rattle.lot_threads.proofs.OnlyGraph.{funding-is}
 use Rattle.lot_threads.specs.Threaded.{funding_in}
 use Rattle.lot_threads.proofs.threads.Threads.change.Goals as goal
 use Rattle.lot_threads.proofs.threads.Threads.change.Goals.{After-set_competitor}
@@ -45,7 +45,7 @@ move_runner-requires-clause-now c p used is =
     subst (λ (x : Threaded). IsBetween 1 x.processors p) (sym c.self.view_is) (run-on c.args.self.now c.args.thread c.args.next.status p used is c.requires.run).0
 
 pub returns-clause-kept : goal.returns-clause-kept
-returns-clause-kept c = λ node stale. c.follow_status.ensures.kept node (subst (λ (x : Threaded). Contains x.stale node) (sym c.self.view_is) stale)
+returns-clause-kept c = λ node stale. c.follow_status.ensures.follows.kept node (subst (λ (x : Threaded). Contains x.stale node) (sym c.self.view_is) stale)
 
 pub move_runner-requires-clause-before : goal.move_runner-requires-clause-before
 move_runner-requires-clause-before c p used is =
@@ -65,14 +65,14 @@ kept-after c =
     let timely = subst (λ (x : Threaded). IsTimely x.quantum next) (sym c.self.view_is) c.requires.timely in
     let there = number-read i.records.items t c.index.result.now thread.0 thread.1 c.index.ensures in
     let set = c.set_competitor.ensures.set ∙ ap (λ (o : Option Competitor). record i.queue { competitors = set_number i.queue.competitors t o; changed = c.set_competitor.new.self.changed }) c.competitor_of.ensures in
-    let follows = c.follow_status.ensures in
+    let follows = c.follow_status.ensures.follows in
     changed-of i.graph c.follow_status.new.graph i.queue c.set_competitor.new.self i.threads.items i.records.items i.runners.items t next c.self.invariant.together thread.0 thread.1 c.index.result.now there follows.now follows.live follows.known follows.kept set c.set_competitor.ensures.weights timely
     (λ p used is. subst (λ (x : Threaded). IsBetween 1 x.processors p × ((u more : ℕ) → status_of x.records u ≡ Some (Running p more) → u ≡ t)) (sym c.self.view_is) (run-on c.args.self.now t next.status p used is c.requires.run))
 
 pub invariant_of-self : goal.invariant_of-self
 invariant_of-self c =
     let i = c.self.inside in
-    let now = c.follow_status.ensures.now in
+    let now = c.follow_status.ensures.follows.now in
     let together = kept-after (goal.at.invariant_of-self c).After-set_competitor in
     record {
       together = subst (λ (rs : List (Option ℕ)). AreOf c.follow_status.new.graph c.set_competitor.new.self i.threads.items (set_number i.records.items c.args.thread c.args.next) rs) (sym c.move_runner.ensures.table) together;
@@ -87,11 +87,13 @@ returns-clause-stale c =
     let together = kept-after (goal.at.returns-clause-stale c).After-set_competitor in
     let was = graph-is i.graph i.queue i.threads.items i.records.items i.runners.items c.self.invariant.together in
     let then = graph-is c.follow_status.new.graph c.set_competitor.new.self i.threads.items after (with_runner c.args.thread c.args.next.status (without_runner c.index.result.now.status i.runners.items)) together in
-    rw (← c.self.view_is) (stale-of i.graph c.follow_status.new.graph (with_lends i.graph.now (lends_in i.records.items)) (with_lends c.follow_status.new.graph.now (lends_in after)) (live_in i.records.items) (live_in after) was then c.self.invariant.together.live together.live c.follow_status.ensures.stale)
+    rw (← c.self.view_is) (stale-of i.graph c.follow_status.new.graph (with_lends i.graph.now (lends_in i.records.items)) (with_lends c.follow_status.new.graph.now (lends_in after)) (live_in i.records.items) (live_in after) was then c.self.invariant.together.live together.live c.follow_status.ensures.follows.reached)
 
 pub follow_status-requires-clause-lend : goal.follow_status-requires-clause-lend
 follow_status-requires-clause-lend c =
-    let same = funding-is _ _ _ _ _ c.self.invariant.together ∙ ap funding_in c.self.view_is in
+    let i = c.self.inside in
+    let was = graph-is i.graph i.queue i.threads.items i.records.items i.runners.items c.self.invariant.together in
+    let same = ap (λ (w : LimitedFunding). w.funding) was ∙ ap funding_in c.self.view_is in
     subst (λ (f : Funding). CanLend f c.args.thread (lend_of c.args.next.status)) (sym same) c.requires.lend
 
 pub follow_status-requires-clause-lent : goal.follow_status-requires-clause-lent

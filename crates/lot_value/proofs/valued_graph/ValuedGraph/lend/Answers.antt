@@ -1,39 +1,33 @@
 use Rattle.std.proofs.Common.{◌≡◌, Some, sym, subst}
+use Rattle.lot_machine.specs.declared.funding.Edge.TheVariants.{OfLender}
 use Rattle.lot_machine.specs.declared.funding.Lend.TheVariants.{Nobody}
 use Rattle.lot_machine.specs.Numbered.{at_number}
 use Rattle.lot_graph.specs.Graphs.{IsBorrower}
-use Rattle.lot_value.specs.Valued.{Valued}
+use Rattle.lot_active.specs.declared.edge_ends.EdgeEnds.{EdgeEnds}
+use Rattle.lot_active.specs.Fundings.{AddsEdge}
+use Rattle.lot_value.specs.Valued.{Valued, StandsFor}
+use Rattle.lot_value.proofs.Applied.{becomes}
 use Rattle.lot_value.proofs.GraphCalls.{lend-came}
 use Rattle.lot_value.proofs.valued_graph.ValuedGraph.lend.Goals as goal
+use Rattle.lot_value.proofs.valued_graph.ValuedGraph.lend.Goals.{After-lend}
+
+-- the edge came, and where it leads stands for it
+came : (c : After-lend) → (ends : EdgeEnds) × AddsEdge c.self.inside.graph c.lend.new.self (OfLender c.args.thread) ends × StandsFor c.self.inside.graph c.lend.new.self ends
+came c =
+    let i = c.self.inside in
+    let nobody = subst (λ (x : Valued). at_number x.now.funding.lends c.args.thread ≡ Some Nobody) (sym c.self.view_is) c.requires.nobody in
+    let is = subst (λ (x : Valued). IsBorrower x.now.funding c.args.lend) (sym c.self.view_is) c.requires.borrower in
+    lend-came i.graph c.lend.new.self i.active i.values c.self.invariant c.args.thread c.args.lend nobody is c.lend.ensures.lent c.lend.ensures.fits
 
 pub attach-requires : goal.attach-requires
-attach-requires c =
-    let inv = c.self.invariant in
-    let nobody = subst (λ (x : Valued). at_number x.now.funding.lends c.args.thread ≡ Some Nobody) (sym c.self.view_is) c.requires.nobody in
-    let is = subst (λ (x : Valued). IsBorrower x.now.funding c.args.lend) (sym c.self.view_is) c.requires.borrower in
-    let (ends, adds, stands) = lend-came c.self.inside.graph c.lend.new.self c.self.inside.active c.self.inside.values inv c.args.thread c.args.lend nobody is c.lend.ensures.lent c.lend.ensures.fits in
-    record { before = (c.self.inside.graph, ends, adds, stands, inv) }
+attach-requires c = let (ends, adds, stands) = came (goal.at.attach-requires c).After-lend in record { before = (c.self.inside.graph, ends, adds, stands, c.self.invariant) }
 
 pub invariant_of-self : goal.invariant_of-self
-invariant_of-self c =
-    let inv = c.self.invariant in
-    let nobody = subst (λ (x : Valued). at_number x.now.funding.lends c.args.thread ≡ Some Nobody) (sym c.self.view_is) c.requires.nobody in
-    let is = subst (λ (x : Valued). IsBorrower x.now.funding c.args.lend) (sym c.self.view_is) c.requires.borrower in
-    let (ends, adds, stands) = lend-came c.self.inside.graph c.lend.new.self c.self.inside.active c.self.inside.values inv c.args.thread c.args.lend nobody is c.lend.ensures.lent c.lend.ensures.fits in
-    (c.attach.ensures.follows c.self.inside.graph ends adds stands inv).together
+invariant_of-self c = let (ends, adds, stands) = came (goal.at.invariant_of-self c).After-lend in (c.attach.ensures.follows c.self.inside.graph ends adds stands c.self.invariant).together
 
-pub returns-clause-live : goal.returns-clause-live
-returns-clause-live c =
-    let inv = c.self.invariant in
-    let nobody = subst (λ (x : Valued). at_number x.now.funding.lends c.args.thread ≡ Some Nobody) (sym c.self.view_is) c.requires.nobody in
-    let is = subst (λ (x : Valued). IsBorrower x.now.funding c.args.lend) (sym c.self.view_is) c.requires.borrower in
-    let (ends, adds, stands) = lend-came c.self.inside.graph c.lend.new.self c.self.inside.active c.self.inside.values inv c.args.thread c.args.lend nobody is c.lend.ensures.lent c.lend.ensures.fits in
-    rw (← c.self.view_is) (c.attach.ensures.follows c.self.inside.graph ends adds stands inv).live
-
-pub returns-clause-stale : goal.returns-clause-stale
-returns-clause-stale c =
-    let inv = c.self.invariant in
-    let nobody = subst (λ (x : Valued). at_number x.now.funding.lends c.args.thread ≡ Some Nobody) (sym c.self.view_is) c.requires.nobody in
-    let is = subst (λ (x : Valued). IsBorrower x.now.funding c.args.lend) (sym c.self.view_is) c.requires.borrower in
-    let (ends, adds, stands) = lend-came c.self.inside.graph c.lend.new.self c.self.inside.active c.self.inside.values inv c.args.thread c.args.lend nobody is c.lend.ensures.lent c.lend.ensures.fits in
-    rw (← c.self.view_is) (c.attach.ensures.follows c.self.inside.graph ends adds stands inv).stale
+pub returns : goal.returns
+returns c =
+    let i = c.self.inside in
+    let (ends, adds, stands) = came (goal.at.returns c).After-lend in
+    let follows = c.attach.ensures.follows i.graph ends adds stands c.self.invariant in
+    rw (← c.self.view_is) (record { follows = becomes i.graph c.lend.new.self i.active c.attach.new.active i.values c.attach.new.values _ _ c.lend.ensures.lent follows c.attach.ensures.others c.attach.ensures.kept })

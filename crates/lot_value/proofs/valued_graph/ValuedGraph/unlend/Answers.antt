@@ -2,6 +2,7 @@ use Rattle.std.proofs.Common.{◌∙◌, sym}
 use Rattle.lot_machine.specs.declared.funding.Edge.TheVariants.{OfLender}
 use Rattle.lot_active.specs.Fundings.{AddsEdge}
 use Rattle.lot_value.specs.Valued.{StandsFor}
+use Rattle.lot_value.proofs.Applied.{becomes}
 use Rattle.lot_value.proofs.GraphCalls.{unlend-went}
 use Rattle.lot_value.proofs.valued_graph.ValuedGraph.unlend.Goals as goal
 use Rattle.lot_value.proofs.valued_graph.ValuedGraph.unlend.Goals.{After-unlend}
@@ -16,8 +17,9 @@ detach-requires-clause-before c = let (adds, stands) = went (goal.at.detach-requ
 pub invariant_of-self : goal.invariant_of-self
 invariant_of-self c = let (adds, stands) = went (goal.at.invariant_of-self c).After-unlend in (c.detach.ensures.follows c.self.inside.graph (OfLender c.args.thread) adds stands c.self.invariant).together
 
-pub returns-clause-live : goal.returns-clause-live
-returns-clause-live c = let (adds, stands) = went (goal.at.returns-clause-live c).After-unlend in rw (← c.self.view_is) (c.detach.ensures.follows c.self.inside.graph (OfLender c.args.thread) adds stands c.self.invariant).live
-
-pub returns-clause-stale : goal.returns-clause-stale
-returns-clause-stale c = let (adds, stands) = went (goal.at.returns-clause-stale c).After-unlend in rw (← c.self.view_is) (c.detach.ensures.follows c.self.inside.graph (OfLender c.args.thread) adds stands c.self.invariant).stale
+pub returns : goal.returns
+returns c =
+    let i = c.self.inside in
+    let (adds, stands) = went (goal.at.returns c).After-unlend in
+    let follows = c.detach.ensures.follows i.graph (OfLender c.args.thread) adds stands c.self.invariant in
+    rw (← c.self.view_is) (record { follows = becomes i.graph c.unlend.new.self i.active c.detach.new.active i.values c.detach.new.values _ _ c.unlend.ensures.unlent follows c.detach.ensures.others c.detach.ensures.kept })

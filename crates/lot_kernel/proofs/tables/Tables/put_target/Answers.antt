@@ -1,0 +1,28 @@
+use Rattle.std.proofs.Common.{◌≡◌, ◌∙◌, Option, Some, ap, option_map, refl, subst, sym}
+use Rattle.lot_machine.specs.Funding.{Funding, retargeted, with_target}
+use Rattle.lot_machine.specs.Numbered.{set_number}
+use Rattle.lot_machine.specs.State.{sizes_of}
+use Rattle.lot_machine.specs.declared.ticket.Ticket.{Ticket}
+use Rattle.lot_value.specs.Changing.{CanTarget}
+use Rattle.lot_threads.specs.Threaded.{Threaded, funding_in}
+use Rattle.lot_kernel.specs.Snapshots.{held}
+use Rattle.lot_kernel.proofs.Holding.{held-tickets, makes-held}
+use Rattle.lot_kernel.proofs.tables.Tables.put_target.Goals as goal
+
+pub apply-requires-clause-allowed : goal.apply-requires-clause-allowed
+apply-requires-clause-allowed c =
+    let may = subst (λ (f : Funding). CanTarget f c.args.ticket c.args.found.target c.args.target) (sym (ap funding_in c.self.invariant.threads)) (rw (← c.self.view_is) at c.requires.target) in
+    (c.args.found, rw (← c.self.view_is) at c.requires.found, refl, may)
+
+pub returns-clause-state : goal.returns-clause-state
+returns-clause-state c =
+    let i = c.self.inside in
+    let put : set_number i.threads.tickets c.args.ticket (Some (retargeted c.args.target c.args.found)) ≡ with_target i.threads.tickets c.args.ticket c.args.target =
+    ap (λ (o : Option Ticket). set_number i.threads.tickets c.args.ticket (option_map (retargeted c.args.target) o)) (sym (rw (← c.self.view_is) at c.requires.found)) in
+    rw (← c.self.view_is) (ap (λ (v : Threaded). held (sizes_of i.limits) i.currencies.items v i.queues) (c.apply.ensures.applied ∙ ap (λ ts. record i.threads { tickets = ts; stale = c.apply.new.self.stale }) put))
+
+pub returns-clause-stale : goal.returns-clause-stale
+returns-clause-stale c =
+    let i = c.self.inside in
+    let threads = held-tickets (sizes_of i.limits) i.currencies.items i.threads c.apply.new.self i.queues c.self.invariant.threads _ c.apply.ensures.applied in
+    rw (← c.self.view_is) (makes-held (sizes_of i.limits) i.currencies.items i.currencies.items i.threads c.apply.new.self i.queues i.queues c.self.invariant.threads threads c.apply.ensures.stale.reached)

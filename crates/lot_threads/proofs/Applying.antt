@@ -1,0 +1,47 @@
+-- A change of tickets, currencies or owners, as one of all that is kept of the threads.
+use Rattle.std.proofs.Common.{◌≡◌, ◌∙◌, ◌≤◌, ◌⊎◌, ℕ, Bool, Option, List, ap, refl, subst, sym}
+use Rattle.lot_machine.specs.declared.funding.Lend.{Lend}
+use Rattle.lot_machine.specs.declared.funding.Node.{Node}
+use Rattle.lot_machine.specs.declared.record.Record.{Record}
+use Rattle.lot_machine.specs.declared.record.Thread.{Thread}
+use Rattle.lot_machine.specs.State.{live_in}
+use Rattle.lot_graph.specs.Changes.{with_lends}
+use Rattle.lot_value.specs.declared.change.Change.{Change}
+use Rattle.lot_value.specs.declared.change.Change.TheVariants.{PutThread}
+use Rattle.lot_value.specs.Caches.{IsStale}
+use Rattle.lot_value.specs.Changing.{StaleBy, applied, lends_after, live_after}
+use Rattle.lot_value.specs.Valued.{Valued}
+use Rattle.lot_draw.specs.Queued.{Queued}
+use Rattle.lot_threads.specs.Threaded.{AreOf, LeavesThreads, lends_in}
+use Rattle.lot_threads.proofs.Together.{IsReached, graph-is, graph-of, stale-of}
+
+lends-stay : (lends : List Lend) (c : Change) → LeavesThreads c → lends_after lends c ≡ lends
+lends-stay lends (PutThread t lend live) leaves = absurd leaves
+lends-stay lends other leaves = refl
+
+lives-stay : (lives : List Bool) (c : Change) → LeavesThreads c → live_after lives c ≡ lives
+lives-stay lives (PutThread t lend live) leaves = absurd leaves
+lives-stay lives other leaves = refl
+
+module _ (v new : Valued) (q : Queued) (threads : List Thread) (records : List Record) (runners : List (Option ℕ)) (is : AreOf v q threads records runners)
+    (c : Change) (leaves : LeavesThreads c) (done : new ≡ applied v c new.known.stale) (stale : StaleBy c v new) where
+  limit : new.now.thread_limit ≡ v.now.thread_limit
+  limit = ap (λ (x : Valued). x.now.thread_limit) done
+
+  live-then : new.live ≡ v.live
+  live-then = ap (λ (x : Valued). x.live) done ∙ lives-stay v.live c leaves
+
+  -- all is kept together
+  pub together-then : AreOf new q threads records runners
+  together-then = graph-of v new q threads records runners is (ap (λ (x : Valued). x.now.funding.lends) done ∙ lends-stay v.now.funding.lends c leaves) limit live-then (ap (λ (x : Valued). x.known) done) stale.kept
+
+  -- there is room for as many threads as there was
+  pub room-then : (room : ℕ) → v.now.thread_limit ≤ room → new.now.thread_limit ≤ room
+  room-then room fits = subst (λ n. n ≤ room) (sym limit) fits
+
+  -- what the change made stale, by what the records lend and who of them is live
+  pub reached-then : (x : Node) → IsStale new.known x
+      → IsStale v.known x ⊎ IsReached (record v.now.funding { lends = lends_in records }) (record new.now.funding { lends = lends_in records }) (live_in records) (live_in records) x
+  reached-then =
+      stale-of v new (with_lends v.now (lends_in records)) (with_lends new.now (lends_in records)) (live_in records) (live_in records) (graph-is v q threads records runners is)
+      (graph-is new q threads records runners together-then) is.live (live-then ∙ is.live) stale.reached

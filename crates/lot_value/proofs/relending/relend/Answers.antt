@@ -1,0 +1,38 @@
+use Rattle.std.proofs.Common.{◌≡◌, Some, refl, ◌∙◌, ap}
+use Rattle.lot_machine.specs.declared.funding.Lend.TheVariants.{Nobody}
+use Rattle.lot_value.specs.Caches.{Known}
+use Rattle.lot_value.proofs.TwoChanges.{edges-both}
+use Rattle.lot_value.proofs.Lending.{lend-kept, lend-twice, lends-nobody, edges-lent, apart-fewer, number-some}
+use Rattle.lot_value.proofs.Applied.{follows-none}
+use Rattle.lot_value.proofs.relending.relend.Goals as goal
+
+pub returns-then-lends : goal.returns-then-lends
+returns-then-lends c = record { follows = follows-none c.args.graph.now _ (lend-kept c.args.graph.now.now c.args.thread c.args.lend (c.if-lends.ensures.0 refl)) }
+
+pub lend-requires-clause-nobody : goal.lend-requires-clause-nobody
+lend-requires-clause-nobody c = lends-nobody c.args.graph.now.now c.unlend.new.graph.now c.args.thread c.requires.thread c.unlend.ensures.follows.now
+
+pub lend-requires-clause-apart : goal.lend-requires-clause-apart
+lend-requires-clause-apart c = apart-fewer c.args.graph.now.now c.unlend.new.graph.now c.args.thread c.args.lend c.unlend.ensures.follows.now c.requires.lend
+
+pub returns-then-ne : goal.returns-then-ne
+returns-then-ne c =
+    let first = c.args.graph.now in
+    let mid = c.unlend.new.graph in
+    let last = c.lend.new.self in
+    let t = c.args.thread in
+    let (old, there) = number-some first.now.funding.lends t c.requires.thread.0 c.requires.thread.1 in
+    let other : ¬ (old ≡ c.args.lend) = λ same. let no = c.if-lends.ensures.1 (there ∙ ap Some same) in cc in
+    let lent = lend-twice first.now mid.now last.now t Nobody c.args.lend c.unlend.ensures.follows.now c.lend.ensures.follows.now in
+    let edges = edges-lent first.now mid.now last.now t old c.args.lend there other c.unlend.ensures.follows.now lent in
+    let went = c.unlend.ensures.follows in
+    let came = c.lend.ensures.follows in
+    record {
+      follows = record {
+        now = lent;
+        live = came.live ∙ went.live;
+        known = came.known ∙ ap (λ (k : Known). record k { stale = last.known.stale }) went.known;
+        kept = λ node is. came.kept node (went.kept node is);
+        reached = edges-both first mid last went.live edges went.reached came.reached;
+      };
+    }

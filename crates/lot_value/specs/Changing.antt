@@ -1,0 +1,104 @@
+-- What a change makes of a valued graph, and when it may be made.
+use Rattle.std.specs.Prelude.{◌≡◌, ◌≢◌, ◌<◌, ◌≤◌, ◌∷◌, ◌++◌, ℕ, ⊤, Bool, true, false, Option, Some, None, List, [], length, slice_set}
+use Rattle.lot_machine.specs.declared.ticket.Ticket.{Ticket}
+use Rattle.lot_machine.specs.declared.ticket.Target.{Target}
+use Rattle.lot_machine.specs.declared.ticket.Target.TheVariants as target
+use Rattle.lot_machine.specs.declared.funding.Node.{Node}
+use Rattle.lot_machine.specs.declared.funding.Node.TheVariants.{Thread, Mutex}
+use Rattle.lot_machine.specs.declared.funding.Lend.{Lend}
+use Rattle.lot_machine.specs.declared.funding.Lend.TheVariants.{Nobody, ToThread, ToMutex}
+use Rattle.lot_machine.specs.Numbered.{set_number}
+use Rattle.lot_machine.specs.Funding.{Funding, ticket_at, target_of, owner_of, issued_in, backing_currency, retargeted}
+use Rattle.lot_machine.specs.Lends.{IsLive}
+use Rattle.lot_machine.specs.Equations.{Reaches}
+use Rattle.lot_graph.specs.Graphs.{LimitedFunding, IsCurrency, IsUserCurrency, IsThread, IsMutex, IsTarget, IsCycle, IsBorrower, LendReaches}
+use Rattle.lot_value.specs.declared.change.Change.{Change}
+use Rattle.lot_value.specs.declared.change.Change.TheVariants.{NewTicket, PutTicket, DropTicket, NewCurrency, DropCurrency, PutOwner, MoveOwner, PutThread}
+use Rattle.lot_value.specs.Caches.{IsStale}
+use Rattle.lot_value.specs.Valued.{Valued, MakesStale}
+
+-- the currencies after a change
+abbrev pub currencies_after : List Bool → Change → List Bool
+currencies_after there NewCurrency = there ++ true ∷ []
+currencies_after there (DropCurrency c) = slice_set there c false
+currencies_after there other = there
+
+-- the tickets after a change
+abbrev pub tickets_after : List (Option Ticket) → Change → List (Option Ticket)
+tickets_after tickets (NewTicket t) = tickets ++ Some t ∷ []
+tickets_after tickets (PutTicket n t) = set_number tickets n (Some t)
+tickets_after tickets (DropTicket n) = set_number tickets n None
+tickets_after tickets other = tickets
+
+-- what threads lend after a change
+abbrev pub lends_after : List Lend → Change → List Lend
+lends_after lends (PutThread t lend live) = set_number lends t lend
+lends_after lends other = lends
+
+-- who owns each mutex after a change
+abbrev pub owners_after : List (Option ℕ) → Change → List (Option ℕ)
+owners_after owners (PutOwner m owner) = set_number owners m owner
+owners_after owners (MoveOwner m owner next) = set_number owners m (Some next)
+owners_after owners other = owners
+
+-- who is live after a change
+abbrev pub live_after : List Bool → Change → List Bool
+live_after lives (PutThread t lend live) = set_number lives t live
+live_after lives other = lives
+
+-- the graph after a change
+abbrev pub graph_after : LimitedFunding → Change → LimitedFunding
+graph_after w c = record w { funding = record { currencies = currencies_after w.funding.currencies c; tickets = tickets_after w.funding.tickets c; lends = lends_after w.funding.lends c; owners = owners_after w.funding.owners c } }
+
+-- all after a change, with these nodes stale
+abbrev pub applied : Valued → Change → List Node → Valued
+applied v c stale = record { now = graph_after v.now c; live = live_after v.live c; known = record v.known { stale = stale } }
+
+-- the change moves no edge, and nobody's life
+abbrev pub MovesNothing : Change → Type 0
+MovesNothing (NewTicket t) = ⊤
+MovesNothing (DropTicket n) = ⊤
+MovesNothing NewCurrency = ⊤
+MovesNothing (DropCurrency c) = ⊤
+MovesNothing other = ⊥
+
+-- if a mutex moves from one owner to another, this holds of both
+abbrev pub HoldsOfOwners : Change → (Node → Type 0) → Type 0
+HoldsOfOwners (MoveOwner m owner next) Is = Is (Thread owner) × Is (Thread next)
+HoldsOfOwners other Is = ⊤
+
+-- What was stale stays so, what gets stale is reached from what the change touched, nothing gets stale if it moves nothing, and
+-- both owners of a mutex that moves are stale.
+pub record StaleBy (change : Change) (old new : Valued) : Type 0 where
+  pub kept : (node : Node) → IsStale old.known node → IsStale new.known node
+  pub reached : MakesStale old new
+  pub same : MovesNothing change → new.known ≡ old.known
+  pub owners : HoldsOfOwners change (IsStale new.known)
+
+-- the thread may lend this: the borrower is there, and doesn't reach the thread
+abbrev pub CanLend : Funding → ℕ → Lend → Type 0
+CanLend f t Nobody = ⊤
+CanLend f t (ToThread s) = IsBorrower f (ToThread s) × (¬ LendReaches f (ToThread s) t)
+CanLend f t (ToMutex m) = IsBorrower f (ToMutex m) × (¬ LendReaches f (ToMutex m) t)
+
+-- a ticket may fund another target than before: something in place of nothing, or nothing in place of something
+abbrev pub CanTarget : Funding → ℕ → Target → Target → Type 0
+CanTarget f n before target.Unfunded = before ≢ target.Unfunded
+CanTarget f n before to = (before ≡ target.Unfunded) × IsTarget f to × (¬ IsCycle f n to)
+
+-- a thread may own a mutex: both are there, and the thread doesn't reach the mutex
+abbrev pub CanOwn : Funding → ℕ → ℕ → Type 0
+CanOwn f m t = IsMutex f m × IsThread f t × (¬ Reaches f (Thread t) (Mutex m))
+
+-- The change may be made: the ticket, currency, mutex or thread is there, and no cycle comes about. A mutex that moves does so
+-- from a live thread to another.
+abbrev pub CanApply : LimitedFunding → List Bool → Change → Type 0
+CanApply w live (NewTicket t) = IsCurrency w.funding t.issuer × (0 < t.amount) × (t.target ≡ target.Unfunded) × (length w.funding.tickets < w.ticket_limit)
+CanApply w live (PutTicket n t) = (before : Ticket) × (ticket_at w.funding n ≡ Some before) × (t ≡ retargeted t.target before) × CanTarget w.funding n before.target t.target
+CanApply w live (DropTicket n) = target_of w.funding n ≡ Some target.Unfunded
+CanApply w live NewCurrency = length w.funding.currencies ≤ w.currency_limit
+CanApply w live (DropCurrency c) = IsUserCurrency w.funding c × (issued_in w.funding c ≡ []) × (backing_currency w.funding c ≡ [])
+CanApply w live (PutOwner m None) = IsMutex w.funding m
+CanApply w live (PutOwner m (Some t)) = CanOwn w.funding m t × (owner_of w.funding m ≡ None)
+CanApply w live (MoveOwner m owner next) = CanOwn w.funding m next × (owner_of w.funding m ≡ Some owner) × (owner ≢ next) × IsLive live owner × IsLive live next
+CanApply w live (PutThread t lend flag) = IsThread w.funding t × CanLend w.funding t lend
