@@ -20,7 +20,7 @@ use crate::runs::{ActorRun, actors_of, have_room};
 use crate::{ParseFault, Program};
 use lot_machine::{Command, Limits, Name, Sizes};
 use lot_script::{Script, ScriptBuilder};
-use lot_simulation::{Format, InputFault, InputRefusal};
+use lot_simulation::{Format, HEADER_WORDS, InputFault, InputRefusal};
 use std::alloc::{AllocError, Global};
 use std::marker::Model;
 
@@ -56,7 +56,7 @@ impl Model for OpenScript {
 }
 
 /// The place of the body, after those of the header's lines.
-pub(crate) const BODY: u32 = 7;
+pub(crate) const BODY: u32 = HEADER_WORDS.len() as u32;
 
 /// How many entries a schedule may have.
 pub(crate) const MOST_ENTRIES: usize = 1000000;

@@ -7,11 +7,11 @@ ghost use Rattle.lot_text.specs.Readings.{line_added, within_script};
 
 use crate::fault::LineFault;
 use crate::name::known_name;
-use crate::number::number_between;
+use crate::number::number_in;
 use crate::reading::{NamedScript, OpenScript, Reading};
 use crate::tokens::Tokens;
 use lot_script::ScriptBuilder;
-use lot_simulation::{InputRefusal, Line, ScriptWord};
+use lot_simulation::{InputRefusal, Line, ScriptWord, ranges};
 
 /// A line of this script, which stays open until `endscript`.
 pub(crate) fn script_line(
@@ -40,40 +40,40 @@ pub(crate) fn script_line(
     }
 }
 
-/// `compute N`
+/// `compute TICKS`
 fn compute(reading: &mut Reading, script: OpenScript, tokens: Tokens<'_>) -> Result<(), LineFault>
     requires { length reading.old.scripts < 256 }
     ensures { Gives reading.new result
         (script_line_read (within_script reading.old script) script ScriptWord.Compute tokens.entry) }
 {
     let ticks = tokens.only()?;
-    let ticks = number_between(1, 4294967295, ticks)?;
+    let ticks = number_in(ranges::WORK, ticks)?;
     add_line(reading, script, Line::Compute(ticks))
 }
 
-/// `set N`
+/// `set NUMBER`
 fn set(reading: &mut Reading, script: OpenScript, tokens: Tokens<'_>) -> Result<(), LineFault>
     requires { length reading.old.scripts < 256 }
     ensures { Gives reading.new result
         (script_line_read (within_script reading.old script) script ScriptWord.Set tokens.entry) }
 {
     let number = tokens.only()?;
-    let number = number_between(0, 4294967295, number)?;
+    let number = number_in(ranges::NUMBER, number)?;
     add_line(reading, script, Line::Set(number))
 }
 
-/// `add N`
+/// `add NUMBER`
 fn add(reading: &mut Reading, script: OpenScript, tokens: Tokens<'_>) -> Result<(), LineFault>
     requires { length reading.old.scripts < 256 }
     ensures { Gives reading.new result
         (script_line_read (within_script reading.old script) script ScriptWord.Add tokens.entry) }
 {
     let number = tokens.only()?;
-    let number = number_between(0, 4294967295, number)?;
+    let number = number_in(ranges::NUMBER, number)?;
     add_line(reading, script, Line::Add(number))
 }
 
-/// `loop N`
+/// `loop TIMES`
 fn begin_loop(
     reading: &mut Reading,
     script: OpenScript,
@@ -84,7 +84,7 @@ fn begin_loop(
         (script_line_read (within_script reading.old script) script ScriptWord.Loop tokens.entry) }
 {
     let times = tokens.only()?;
-    let times = number_between(1, 65535, times)?;
+    let times = number_in(ranges::TIMES, times)?;
     if 8 <= script.builder.open_loops() {
         return Err(LineFault::Refused(InputRefusal::TooDeep));
     }

@@ -1,7 +1,7 @@
 //! What is wrong with a line.
 
 use crate::forms::Shape;
-use crate::names::Kind;
+use crate::names::Declared;
 use crate::nearest::Nearest;
 use lot_simulation::InputRefusal;
 use thiserror::Error;
@@ -125,12 +125,12 @@ pub(crate) enum NameProblem<'a> {
     #[error("'{word}' is the name of an earlier {kind}")]
     Taken {
         word: &'a str,
-        kind: Kind,
+        kind: Declared,
     },
     #[error("'{word}' is no {kind} of an earlier line{nearest}")]
     Unknown {
         word: &'a str,
-        kind: Kind,
+        kind: Declared,
         nearest: Nearest<'a>,
     },
 }
