@@ -22,7 +22,7 @@ pub use format::Format;
 pub use forms::{Argument, Form, Range};
 pub use input::{BodyWord, HeaderWord, InputFault, InputRefusal, ScriptWord};
 pub use manner::Manner;
-pub use script::{Line, ScriptTrap};
+pub use script::{Line, MutexTrap, PortTrap, ScriptTrap};
 pub use timed::{Clock, Due, WaitChange, Waits};
 pub use words::{
     BODY_WORDS, FIRST_WORD, HEADER_WORDS, RUNS_WORD, SCHEDULE_WORD, SCRIPT_WORDS, WordRow,

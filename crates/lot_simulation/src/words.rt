@@ -14,6 +14,7 @@ use crate::forms::Form;
 use crate::forms::Form::{Command, Once, PerProcessor, Repeated};
 use crate::input::{BodyWord, HeaderWord, ScriptWord};
 use crate::ranges;
+use crate::script::{MutexTrap, PortTrap};
 
 /// A word, its spelling, and how a line is written that it begins.
 pub type WordRow<W> = (&'static [u8], W, Form);
@@ -152,7 +153,7 @@ pub const BODY_WORDS: [WordRow<BodyWord>; 17] = [
 pub const SCRIPT_WORDS: [WordRow<ScriptWord>; 13] = [
     (
         b"serve",
-        ScriptWord::Serve,
+        ScriptWord::AtPort(PortTrap::Serve),
         Once(&[("PORT", KnownName(BodyWord::Port))]),
     ),
     (
@@ -180,22 +181,22 @@ pub const SCRIPT_WORDS: [WordRow<ScriptWord>; 13] = [
     (b"reply", ScriptWord::Reply, Once(&[])),
     (
         b"call",
-        ScriptWord::Call,
+        ScriptWord::AtPort(PortTrap::Call),
         Once(&[("PORT", KnownName(BodyWord::Port))]),
     ),
     (
         b"receive",
-        ScriptWord::Receive,
+        ScriptWord::AtPort(PortTrap::Receive),
         Once(&[("PORT", KnownName(BodyWord::Port))]),
     ),
     (
         b"lock",
-        ScriptWord::Lock,
+        ScriptWord::OnMutex(MutexTrap::Lock),
         Once(&[("MUTEX", KnownName(BodyWord::Mutex))]),
     ),
     (
         b"unlock",
-        ScriptWord::Unlock,
+        ScriptWord::OnMutex(MutexTrap::Unlock),
         Once(&[("MUTEX", KnownName(BodyWord::Mutex))]),
     ),
     (b"endscript", ScriptWord::EndScript, Once(&[])),

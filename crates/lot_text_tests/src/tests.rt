@@ -5,7 +5,7 @@ mod slices;
 use crate::fault_of;
 use lot_machine::{Command, Kind, Limits, Name, Sizes};
 use lot_script::Script;
-use lot_simulation::{InputFault, InputRefusal, Line};
+use lot_simulation::{InputFault, InputRefusal, Line, MutexTrap, PortTrap, ScriptTrap};
 use lot_text::{ParseFault, Program, parse};
 use same::{check_same, check_same_at};
 use std::alloc::Global;
@@ -235,13 +235,13 @@ const WHOLE_GRAMMAR_SAYS: Said<'_> = Said {
             Line::Loop(2),
             Line::Add(3),
             Line::Compute(4),
-            Line::Call(1),
+            Line::Trap(ScriptTrap::AtPort(PortTrap::Call, 1)),
             Line::End,
-            Line::Receive(2),
-            Line::Reply,
-            Line::Lock(1),
-            Line::Unlock(2),
-            Line::Yield,
+            Line::Trap(ScriptTrap::AtPort(PortTrap::Receive, 2)),
+            Line::Trap(ScriptTrap::Reply),
+            Line::Trap(ScriptTrap::OnMutex(MutexTrap::Lock, 1)),
+            Line::Trap(ScriptTrap::OnMutex(MutexTrap::Unlock, 2)),
+            Line::Trap(ScriptTrap::Yield),
         ],
         &[],
     ],
@@ -288,7 +288,7 @@ const TIMED_SAYS: Said<'_> = Said {
     },
     seeds: &[48271, 182605794],
     turns: 5,
-    scripts: &[&[Line::Loop(2), Line::Serve(1), Line::Yield, Line::End]],
+    scripts: &[&[Line::Loop(2), Line::Trap(ScriptTrap::AtPort(PortTrap::Serve, 1)), Line::Trap(ScriptTrap::Yield), Line::End]],
     commands: &[
         Asked::MakeThread("a", 1),
         Asked::List(Kind::Tickets),

@@ -11,8 +11,8 @@ use crate::problem::{
 };
 use crate::word::word_problem;
 use lot_simulation::{
-    BODY_WORDS, BodyWord, FIRST_WORD, Form, Format, HeaderWord, InputRefusal, SCRIPT_WORDS,
-    ScriptWord,
+    BODY_WORDS, BodyWord, FIRST_WORD, Form, Format, HeaderWord, InputRefusal, PortTrap,
+    SCRIPT_WORDS, ScriptWord,
 };
 use std::alloc::Global;
 
@@ -105,7 +105,7 @@ fn script_problem<'a>(
         let problem = no_script_word(alloc, refused, script, word);
         return Some(Problem::Keyword(problem));
     };
-    if *keyword == ScriptWord::Serve {
+    if *keyword == ScriptWord::AtPort(PortTrap::Serve) {
         return Some(Problem::Keyword(KeywordProblem::OnlyTimed(word)));
     }
     let problem = form_problem(alloc, refused, word, *form);
