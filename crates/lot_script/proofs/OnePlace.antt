@@ -8,7 +8,7 @@ use Rattle.lot_simulation.specs.declared.script.Line.{Line}
 use Rattle.lot_simulation.specs.declared.script.Line.TheVariants as line
 use Rattle.lot_simulation.specs.declared.script.ScriptTrap.{ScriptTrap}
 use Rattle.lot_simulation.specs.declared.script.ScriptTrap.TheVariants.{Yield, Reply, AtPort, OnMutex, Exit}
-use Rattle.lot_simulation.specs.Script.{items_of, rest_after, unrolled}
+use Rattle.lot_simulation.specs.Script.{Item, rest_after, unrolled}
 use Rattle.lot_simulation.specs.Script.Item.{Traps}
 use Rattle.lot_script.specs.declared.open_loops.OpenLoop.{OpenLoop}
 use Rattle.lot_script.specs.Drafts.{loops_after, IsLine, IsScript}

@@ -1,5 +1,5 @@
 -- What is passed from a place, line by line.
-use Rattle.std.proofs.Common.{inl, inr, ◌⊎◌, min, ◌≡◌, ◌<◌, ◌≤◌, ◌+◌, ◌-◌, ◌%◌, ℕ, zero, suc, sym, ◌∙◌, Option, Some, None, List, [], ◌∷◌, ◌++◌, length, drop, replicate, refl, ap, arith, subst, true}
+use Rattle.std.proofs.Common.{inl, inr, ◌⊎◌, min, ◌≡◌, ◌<◌, ◌≤◌, ◌+◌, ◌-◌, ◌%◌, ℕ, suc, sym, ◌∙◌, Option, Some, None, List, [], ◌∷◌, ◌++◌, length, drop, replicate, refl, ap, arith, subst, true}
 use Rattle.std.specs.Prelude.{slice_get}
 use Rattle.std.specs.List.{prefix_len}
 use Rattle.std.proofs.lemmas.List.{drop_all}

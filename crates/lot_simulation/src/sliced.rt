@@ -20,7 +20,8 @@ pub fn sliced_loop()
           end = record { rest = replicate 5 Work ++ Traps trap.Exit ∷ []; accumulator = 0 };
         } }
     ensures empty_loop { unrolled (line.Loop 3 ∷ line.End ∷ []) ≡ replicate 4 Work ++ Traps trap.Exit ∷ [] }
-    ensures sent { slice (start (line.Set 4294967295 ∷ line.Add 3 ∷ line.Trap (trap.AtPort Call 1) ∷ line.Trap trap.Yield ∷ [])) 10
+    ensures sent { slice (start (line.Set 4294967295 ∷ line.Add 3 ∷ line.Trap (trap.AtPort Call 1)
+        ∷ line.Trap trap.Yield ∷ [])) 10
         ≡ record {
           ticks = 2;
           trap = Some (trap.AtPort Call 1);

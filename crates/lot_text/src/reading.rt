@@ -87,56 +87,16 @@ pub(crate) struct Reading {
 }
 
 impl Model for Reading {
-    ghost use Rattle.std.specs.Prelude.{option_map};
-    ghost use Rattle.lot_simulation.specs.Formats.{is_timed, unit_of};
     ghost use Rattle.lot_simulation.specs.Reading.{Reading as ReadingRecord};
-    ghost use Rattle.lot_text.specs.Readings.{IsReading};
 
     ghost Value = { ReadingRecord };
 
-    ghost view = { λ r. record {
-      place = r.place;
-      is_timed = is_timed r.format;
-      unit = unit_of r.format;
-      processors = r.processors;
-      quantum = r.quantum;
-      turns = r.turns;
-      duration = r.duration;
-      seeds = option_map (λ s. s.items) r.seeds;
-      tickets = r.tickets;
-      currencies = r.currencies;
-      threads = r.threads;
-      ports = r.ports.items;
-      mutexes = r.mutexes.items;
-      scripts = r.scripts.items;
-      unclosed = r.unclosed;
-      commands = r.commands.items;
-      time = r.time;
-      times = r.times.items;
-      schedule = r.schedule.items;
-    } };
+    ghost use Rattle.lot_text.specs.ReadingFields.{reading_of};
+    ghost use Rattle.lot_text.specs.Readings.{IsReading};
 
-    ghost invariant = { λ r. IsReading (record {
-      place = r.place;
-      is_timed = is_timed r.format;
-      unit = unit_of r.format;
-      processors = r.processors;
-      quantum = r.quantum;
-      turns = r.turns;
-      duration = r.duration;
-      seeds = option_map (λ s. s.items) r.seeds;
-      tickets = r.tickets;
-      currencies = r.currencies;
-      threads = r.threads;
-      ports = r.ports.items;
-      mutexes = r.mutexes.items;
-      scripts = r.scripts.items;
-      unclosed = r.unclosed;
-      commands = r.commands.items;
-      time = r.time;
-      times = r.times.items;
-      schedule = r.schedule.items;
-    }) };
+    ghost view = { reading_of };
+
+    ghost invariant = { λ r. IsReading (reading_of r) };
 }
 
 impl Reading {

@@ -150,7 +150,11 @@ fn on_mutex(
 {
     let mutex = tokens.only()?;
     let mutex = known_name(reading.mutexes.as_slice(), mutex)?;
-    add_line(reading, script, Line::Trap(ScriptTrap::OnMutex(asked, mutex)))
+    add_line(
+        reading,
+        script,
+        Line::Trap(ScriptTrap::OnMutex(asked, mutex)),
+    )
 }
 
 /// `endscript`

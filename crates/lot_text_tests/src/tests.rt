@@ -270,8 +270,8 @@ fn reads_the_whole_grammar(rt: HostRuntime) {
 
 /// What only inputs have whose turns come in the order of time.
 const TIMED: &str =
-    "lottery 3\nprocessors 2\nturns 5\nfor 4294967295\nport p\nscript s\nloop 2 serve p yield\nend endscript\nmkthr a s\n\
-    at 10\nat 20\nlstkt\nlscur\nat 20\nlsthr\nat 4294967295";
+    "lottery 3\nprocessors 2\nturns 5\nfor 4294967295\nport p\nscript s\nloop 2 serve p yield\nend endscript\n\
+    mkthr a s\nat 10\nat 20\nlstkt\nlscur\nat 20\nlsthr\nat 4294967295";
 
 /// The seeds are those after 1 of the generator that multiplies by 48271 modulo 2147483647.
 const TIMED_SAYS: Said<'_> = Said {
@@ -288,7 +288,12 @@ const TIMED_SAYS: Said<'_> = Said {
     },
     seeds: &[48271, 182605794],
     turns: 5,
-    scripts: &[&[Line::Loop(2), Line::Trap(ScriptTrap::AtPort(PortTrap::Serve, 1)), Line::Trap(ScriptTrap::Yield), Line::End]],
+    scripts: &[&[
+        Line::Loop(2),
+        Line::Trap(ScriptTrap::AtPort(PortTrap::Serve, 1)),
+        Line::Trap(ScriptTrap::Yield),
+        Line::End,
+    ]],
     commands: &[
         Asked::MakeThread("a", 1),
         Asked::List(Kind::Tickets),

@@ -7,12 +7,19 @@ use std::process::Abort;
 
 // Traps at ports and mutexes of these numbers.
 const REPLY: ScriptTrap = ScriptTrap::Reply;
+
 const YIELD: ScriptTrap = ScriptTrap::Yield;
+
 const CALL_1: ScriptTrap = ScriptTrap::AtPort(PortTrap::Call, 1);
+
 const LOCK_1: ScriptTrap = ScriptTrap::OnMutex(MutexTrap::Lock, 1);
+
 const UNLOCK_1: ScriptTrap = ScriptTrap::OnMutex(MutexTrap::Unlock, 1);
+
 const RECEIVE_2: ScriptTrap = ScriptTrap::AtPort(PortTrap::Receive, 2);
+
 const SERVE_2: ScriptTrap = ScriptTrap::AtPort(PortTrap::Serve, 2);
+
 const CALL_3: ScriptTrap = ScriptTrap::AtPort(PortTrap::Call, 3);
 
 /// Adds a line that can come next.
@@ -87,7 +94,12 @@ fn nothing_to_do(rt: HostRuntime) {
 
 #[test]
 fn traps(rt: HostRuntime) {
-    let lines = [Line::Loop(1), Line::Trap(YIELD), Line::End, Line::Trap(RECEIVE_2)];
+    let lines = [
+        Line::Loop(1),
+        Line::Trap(YIELD),
+        Line::End,
+        Line::Trap(RECEIVE_2),
+    ];
     let script = script_of(&rt, rt.alloc(), &lines);
     let exit = Some(ScriptTrap::Exit);
     slices_in_turn(

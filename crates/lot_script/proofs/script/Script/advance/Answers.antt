@@ -17,7 +17,7 @@ leave_line-requires c = stands-within _ _ _ (stands _ _ _ _ c.next_line.ensures.
 
 pub returns-in-Trap : goal.returns-in-Trap
 returns-in-Trap c =
-    rw c.leave_line.ensures (MakesTrap-line _ _ _ (stands _ _ _ _ c.next_line.ensures.legal c.requires.fits c.next_line.ensures.line c.in-Some.is))
+    rw c.leave_line.ensures (MakesTrap-line _ _ _ (rw c.in-Trap.is at (stands _ _ _ _ c.next_line.ensures.legal c.requires.fits c.next_line.ensures.line c.in-Some.is)))
 
 pub pass-requires-clause-stands : goal.pass-requires-clause-stands
 pass-requires-clause-stands c = stands _ _ _ _ c.next_line.ensures.legal c.requires.fits c.next_line.ensures.line c.in-Some.is
