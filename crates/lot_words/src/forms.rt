@@ -15,12 +15,16 @@ impl fmt::Display for Shape<'_> {
     fn fmt<W: fmt::Write>(&self, f: &mut fmt::Formatter<W>) -> fmt::Result {
         f.write_str(self.word)?;
         for (name, _) in self.form.arguments() {
-            write!(f, " {name}")?;
+            match self.form {
+                Form::PerProcessor(_) => {
+                    write!(f, " {name}1 .. {name}P, with a number for each processor")?
+                }
+                _ => write!(f, " {name}")?,
+            }
         }
         match self.form {
-            Form::Once(_) | Form::Command(_) => Ok(()),
             Form::Repeated(_) => f.write_str(" .."),
-            Form::PerProcessor(_) => f.write_str("1 .. SP, with a number for each processor"),
+            _ => Ok(()),
         }
     }
 }

@@ -24,13 +24,7 @@ pub(crate) fn word_problem<'a>(
         Argument::Actor => actor_problem(refused, word),
         Argument::Time(range) => {
             let first = refused.now;
-            range_problem(
-                word,
-                Range {
-                    first,
-                    last: range.last,
-                },
-            )
+            range_problem(word, Range { first, ..range })
         }
         Argument::Version => None,
     }
