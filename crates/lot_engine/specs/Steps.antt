@@ -10,6 +10,7 @@ use Rattle.lot_machine.specs.Numbered.{at_number, set_number}
 use Rattle.lot_simulation.specs.declared.script.Line.{Line}
 use Rattle.lot_simulation.specs.declared.script.ScriptTrap.{ScriptTrap}
 use Rattle.lot_simulation.specs.declared.script.ScriptTrap.TheVariants as script_trap
+use Rattle.lot_simulation.specs.declared.script.MutexTrap.TheVariants.{Unlock}
 use Rattle.lot_simulation.specs.Script.{Slice}
 use Rattle.lot_machine.specs.State.{State}
 use Rattle.lot_simulation.specs.World.{event_of_slice, number_delivered}
@@ -86,7 +87,7 @@ event_given p drawn (Some given) = event_of_slice p drawn (done_of given)
 
 -- whether the trap unlocks a mutex
 abbrev pub unlocks : Option ScriptTrap → Bool
-unlocks (Some (script_trap.Unlock mutex)) = true
+unlocks (Some (script_trap.OnMutex Unlock mutex)) = true
 unlocks other = false
 
 -- whether the event takes a drawn number: a draw does, and a slice that unlocks

@@ -9,7 +9,7 @@ ghost use Rattle.lot_engine.specs.Turns.{IsSliceOf, Matches, work_at};
 use crate::slices::script_numbered;
 use lot_machine::{Action, Event, Reply};
 use lot_script::{Place, Slice};
-use lot_simulation::ScriptTrap;
+use lot_simulation::{MutexTrap, PortTrap, ScriptTrap};
 use lot_text::Program;
 use std::marker::Model;
 
@@ -177,12 +177,12 @@ fn action_of(trap: ScriptTrap, accumulator: u32, drawn: u128) -> Action
 {
     match trap {
         ScriptTrap::Yield => Action::Yield,
-        ScriptTrap::Call(port) => Action::Call(port, accumulator),
-        ScriptTrap::Receive(port) => Action::Receive(port),
         ScriptTrap::Reply => Action::Reply(accumulator),
-        ScriptTrap::Serve(port) => Action::Serve(port, accumulator),
-        ScriptTrap::Lock(mutex) => Action::Lock(mutex),
-        ScriptTrap::Unlock(mutex) => Action::Unlock(mutex, drawn),
+        ScriptTrap::AtPort(PortTrap::Call, port) => Action::Call(port, accumulator),
+        ScriptTrap::AtPort(PortTrap::Receive, port) => Action::Receive(port),
+        ScriptTrap::AtPort(PortTrap::Serve, port) => Action::Serve(port, accumulator),
+        ScriptTrap::OnMutex(MutexTrap::Lock, mutex) => Action::Lock(mutex),
+        ScriptTrap::OnMutex(MutexTrap::Unlock, mutex) => Action::Unlock(mutex, drawn),
         ScriptTrap::Exit => Action::Exit,
     }
 }
@@ -203,5 +203,5 @@ pub(crate) fn needs_number(done: Option<Done>) -> bool
 fn unlocks(trap: Option<ScriptTrap>) -> bool
     ensures { result ≡ steps.unlocks trap }
 {
-    matches!(trap, Some(ScriptTrap::Unlock(_)))
+    matches!(trap, Some(ScriptTrap::OnMutex(MutexTrap::Unlock, _)))
 }

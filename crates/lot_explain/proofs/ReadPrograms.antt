@@ -20,6 +20,7 @@ use Rattle.lot_simulation.specs.declared.input.ScriptWord.{ScriptWord}
 use Rattle.lot_simulation.specs.declared.input.ScriptWord.TheVariants as script
 use Rattle.lot_simulation.specs.declared.script.Line.{Line}
 use Rattle.lot_simulation.specs.declared.script.Line.TheVariants as line
+use Rattle.lot_simulation.specs.declared.script.ScriptTrap.TheVariants as trap
 use Rattle.lot_simulation.specs.Grammar.{ActorRun, Phrase, actors_of, add_command, add_line, add_runs, body_after_header, body_line, body_words_of, closed_program, first_line, fitting_line, header_in_order, header_line, header_words_of, is_full, lacks_duration, later_line, line_inside, line_outside, phrase_inside, phrases_inside, phrases_of, program_in, program_of, read_line, read_lines, refused_on, run_of, script_line, script_names, time_of_next, token_line, whole_program, with_line}
 use Rattle.lot_simulation.specs.Lines.{is_ignored, lines_of, number_of, tokens_of, without_end}
 use Rattle.lot_simulation.specs.Reading.{OpenScript, Reading, ◌>>=◌, actor_below, any_name, any_number, checked, each, each_pair, is_long_name, number_between, opening_reading, script_number}
@@ -194,13 +195,10 @@ module _ (r : Reading) (kept : IsRead r) where
     script-kept script.Loop (n ∷ []) =
         any-read _ IsRead (λ times. script-goes_on (record (with_line s (line.Loop times)) { loops = s.loops + 1 }) ((nat_le 8 s.loops, TooDeep) ∷ (is_full s, TooLong) ∷ []))
     script-kept script.End [] = script-goes_on (record (with_line s line.End) { loops = s.loops - 1 }) ((s.loops == 0, BadLine) ∷ (is_full s, TooLong) ∷ [])
-    script-kept script.Yield [] = line-kept line.Yield
-    script-kept script.Reply [] = line-kept line.Reply
-    script-kept script.Serve (name ∷ []) = any-read _ IsRead (λ port. line-kept (line.Serve port))
-    script-kept script.Call (name ∷ []) = any-read _ IsRead (λ port. line-kept (line.Call port))
-    script-kept script.Receive (name ∷ []) = any-read _ IsRead (λ port. line-kept (line.Receive port))
-    script-kept script.Lock (name ∷ []) = any-read _ IsRead (λ mutex. line-kept (line.Lock mutex))
-    script-kept script.Unlock (name ∷ []) = any-read _ IsRead (λ mutex. line-kept (line.Unlock mutex))
+    script-kept script.Yield [] = line-kept (line.Trap trap.Yield)
+    script-kept script.Reply [] = line-kept (line.Trap trap.Reply)
+    script-kept (script.AtPort asked) (name ∷ []) = any-read _ IsRead (λ port. line-kept (line.Trap (trap.AtPort asked port)))
+    script-kept (script.OnMutex asked) (name ∷ []) = any-read _ IsRead (λ mutex. line-kept (line.Trap (trap.OnMutex asked mutex)))
     script-kept script.EndScript [] =
         let closed = record { name = s.name; lines = s.lines } ∷ [] in
         if-passes IsRead ((nat_lt 0 s.loops, BadLine) ∷ []) (record r { unclosed = None; scripts = r.scripts ++ closed })

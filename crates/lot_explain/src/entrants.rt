@@ -12,7 +12,7 @@ ghost use Rattle.lot_explain.specs.Lots.{entrants_in};
 
 use lot_engine::{System, slice_in};
 use lot_script::Slice;
-use lot_simulation::ScriptTrap;
+use lot_simulation::{MutexTrap, ScriptTrap};
 use lot_text::Program;
 
 /// Who takes part in a lottery.
@@ -54,7 +54,7 @@ fn entrants_of_trap(trap: Option<ScriptTrap>) -> Entrants
         → result ≡ entrants_in (event_of_slice processor drawn done) }
 {
     match trap {
-        Some(ScriptTrap::Unlock(mutex)) => Entrants::Waiters(mutex),
+        Some(ScriptTrap::OnMutex(MutexTrap::Unlock, mutex)) => Entrants::Waiters(mutex),
         _ => Entrants::Nobody,
     }
 }

@@ -7,7 +7,7 @@ ghost use Rattle.lot_io.specs.Writing.{Writes};
 use crate::line::Line;
 use crate::runs::write_runs;
 use lot_io::{IoFault, Watched};
-use lot_simulation::Format;
+use lot_simulation::{Format, SCHEDULE_WORD};
 use std::io::Write;
 
 /// Writes the history of a run as lines that an input of the format's unit may have, which give it back: `schedule`
@@ -47,7 +47,7 @@ fn write_schedule_line<W: Write>(writer: &mut Watched<W>, actors: &[u8]) -> Resu
     ensures { Writes W.contents writer.old writer.new result (reports.schedule_line actors.now) }
 {
     let mut line = Line::<272>::new();
-    line.push_text("schedule");
+    line.push_bytes(SCHEDULE_WORD);
     for actor in actors {
         line.push_field(" ", *actor);
     }

@@ -6,6 +6,7 @@ ghost use Rattle.lot_io.specs.Writing.{Writes};
 
 use crate::line::RowLine;
 use lot_io::{IoFault, Watched, write_bytes};
+use lot_simulation::RUNS_WORD;
 use std::io::Write;
 
 /// Writes the history in lines `runs A1 K1 A2 K2 ..` of 32 pairs each, the last with the 1 to 32 that remain: K1 turns
@@ -28,7 +29,7 @@ fn write_runs_line<W: Write>(writer: &mut Watched<W>, history: &[u8]) -> Result<
     requires { writer.old.failed ≡ false }
     ensures { Writes W.contents writer.old writer.new result (runs_line (take 32 (runs_in history.now))) }
 {
-    write_bytes(writer, b"runs")?;
+    write_bytes(writer, RUNS_WORD)?;
     write_run_texts(writer, history)?;
     write_bytes(writer, b"\n")
 }

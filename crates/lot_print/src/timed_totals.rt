@@ -60,7 +60,8 @@ pub fn write_timed_thread_total<W: Write>(
     requires working { writer.old.failed ≡ false }
     requires values { shares.all_values < 2 ^ 96 }
     ensures { Writes W.contents writer.old writer.new result
-        (timed_thread_line number row.now shares.all_ticks shares.live_value shares.all_values shares.mutexes shares.replies) }
+        (timed_thread_line number row.now shares.all_ticks shares.live_value shares.all_values shares.mutexes
+        shares.replies) }
 {
     thread_line(number, row, shares).write_to(writer)
 }
@@ -69,7 +70,8 @@ pub fn write_timed_thread_total<W: Write>(
 fn thread_line(number: u32, row: &ThreadRow, shares: ThreadShares) -> TimedLine
     requires { shares.all_values < 2 ^ 96 }
     ensures { result
-        ≡ timed_thread_line number row.now shares.all_ticks shares.live_value shares.all_values shares.mutexes shares.replies }
+        ≡ timed_thread_line number row.now shares.all_ticks shares.live_value shares.all_values shares.mutexes
+        shares.replies }
 {
     let mut line = TimedLine::new();
     push_named(&mut line, "thread ", number, &row.name);

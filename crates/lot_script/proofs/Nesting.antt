@@ -14,13 +14,7 @@ after-most loops line.End most nests = omega (arith, most)
 after-most loops (line.Compute n) most nests = most
 after-most loops (line.Set n) most nests = most
 after-most loops (line.Add n) most nests = most
-after-most loops line.Yield most nests = most
-after-most loops (line.Call n) most nests = most
-after-most loops (line.Receive n) most nests = most
-after-most loops (line.Serve n) most nests = most
-after-most loops line.Reply most nests = most
-after-most loops (line.Lock n) most nests = most
-after-most loops (line.Unlock n) most nests = most
+after-most loops (line.Trap t) most nests = most
 
 pub count-most : (loops : ℕ) (lines : List Line) → loops ≤ 8 → Nests loops lines → fold loops_after loops lines ≤ 8
 count-most loops [] most nests = most

@@ -7,15 +7,15 @@ use Rattle.std.proofs.lemmas.Bool.{cases_lt}
 use Rattle.lot_simulation.specs.declared.script.Line.{Line}
 use Rattle.lot_simulation.specs.declared.script.Line.TheVariants as line
 use Rattle.lot_simulation.specs.declared.script.ScriptTrap.{ScriptTrap}
-use Rattle.lot_simulation.specs.declared.script.ScriptTrap.TheVariants.{Yield, Call, Receive, Reply, Serve, Lock, Unlock, Exit}
-use Rattle.lot_simulation.specs.Script.{items_of, rest_after, unrolled}
+use Rattle.lot_simulation.specs.declared.script.ScriptTrap.TheVariants.{Yield, Reply, AtPort, OnMutex, Exit}
+use Rattle.lot_simulation.specs.Script.{Item, rest_after, unrolled}
 use Rattle.lot_simulation.specs.Script.Item.{Traps}
 use Rattle.lot_script.specs.declared.open_loops.OpenLoop.{OpenLoop}
-use Rattle.lot_script.specs.Drafts.{loops_after, IsScript}
+use Rattle.lot_script.specs.Drafts.{loops_after, IsLine, IsScript}
 use Rattle.lot_script.specs.Places.{Place, CanBeDone, AreCopies, Fits, Stands, first_place, open_after, open_at, rest_at, context_at}
 use Rattle.lot_script.proofs.Lists.{slice_get_none, drop-element, drop-add}
 use Rattle.lot_script.proofs.Opened.{open_at-next, encloses-there, copies-first, length-open_after_lines}
-use Rattle.lot_script.proofs.Passed.{stands-nests, stands-done, Fits-line, Passes-some, Passes-whole, Passes-set, Passes-add, Passes-loop, Passes-after, Passes-again, MakesTrap-line}
+use Rattle.lot_script.proofs.Passed.{stands-good, stands-nests, stands-done, Fits-line, Passes-some, Passes-whole, Passes-set, Passes-add, Passes-loop, Passes-after, Passes-again, MakesTrap-line}
 use Rattle.lot_script.proofs.Reached.{some-there}
 
 first_same : {x y : OpenLoop} {xs ys : List OpenLoop} → x ∷ xs ≡ y ∷ ys → x ≡ y
@@ -315,12 +315,13 @@ stepped-end lines p (o ∷ outer) at is = of_left o.left refl
         record { is = at.next; begun = begun; there = refl; loop = o; outer = outer; left = left; inside = is; some = some; body = refl; again = rw fewer refl } in
         (record p { line = o.body; done = 0; loops = record o { left = o.left - 1 } ∷ outer }, record { step = Again again; fits = passes.fits; rest = passes.rest })
 
--- a line that makes a trap is left
-stepped-trap : (lines : List Line) (p : Place) (l : Line) (t : ScriptTrap) → Stands lines p l → items_of l ≡ Traps t ∷ [] → rest_after (rest_at lines p) (Some t) ≡ drop 1 (rest_at lines p) → (CanBeDone (Some l) p.done → IsPassed l p (record p { line = p.line + 1; done = 0 })) → (q : Place) × IsStepped lines p q
-stepped-trap lines p l t at is next passed =
-    let q : Place = record p { line = p.line + 1; done = 0 } in
-    let makes = MakesTrap-line lines p l t at is in
-    (q, left_line lines p q l at.next refl refl (passed (stands-done lines p l at)) makes.fits (makes.rest ∙ next))
+-- a trap of a line is no exit, so the item that stands first is dropped
+trap-drops : (t : ScriptTrap) (items : List Item) → IsLine (line.Trap t) → rest_after items (Some t) ≡ drop 1 items
+trap-drops Yield items good = refl
+trap-drops Reply items good = refl
+trap-drops (AtPort asked port) items good = refl
+trap-drops (OnMutex asked mutex) items good = refl
+trap-drops Exit items good = absurd good
 
 stepped : (lines : List Line) (p : Place) (l : Line) → Stands lines p l → (q : Place) × IsStepped lines p q
 stepped lines p (line.Compute n) at = stepped-compute lines p n at (cases_lt (p.done + 1) n)
@@ -336,13 +337,9 @@ stepped lines p (line.Set n) at =
 stepped lines p (line.Add n) at =
     let passes = Passes-add lines p n at in
     (_, left_line lines p _ (line.Add n) at.next refl refl (stands-done lines p (line.Add n) at, refl) passes.fits passes.rest)
-stepped lines p line.Yield at = stepped-trap lines p line.Yield Yield at refl refl (λ done. (done, refl))
-stepped lines p (line.Call n) at = stepped-trap lines p (line.Call n) (Call n) at refl refl (λ done. (done, refl))
-stepped lines p (line.Receive n) at = stepped-trap lines p (line.Receive n) (Receive n) at refl refl (λ done. (done, refl))
-stepped lines p (line.Serve n) at = stepped-trap lines p (line.Serve n) (Serve n) at refl refl (λ done. (done, refl))
-stepped lines p line.Reply at = stepped-trap lines p line.Reply Reply at refl refl (λ done. (done, refl))
-stepped lines p (line.Lock n) at = stepped-trap lines p (line.Lock n) (Lock n) at refl refl (λ done. (done, refl))
-stepped lines p (line.Unlock n) at = stepped-trap lines p (line.Unlock n) (Unlock n) at refl refl (λ done. (done, refl))
+stepped lines p (line.Trap t) at =
+    let makes = MakesTrap-line lines p t at in
+    (_, left_line lines p _ (line.Trap t) at.next refl refl (stands-done lines p (line.Trap t) at, refl) makes.fits (makes.rest ∙ trap-drops t (rest_at lines p) (stands-good lines p (line.Trap t) at)))
 
 -- ---- the last place
 

@@ -19,13 +19,7 @@ length-open_after i line.End (o ∷ loops) = omega arith
 length-open_after i (line.Compute n) loops = refl
 length-open_after i (line.Set n) loops = refl
 length-open_after i (line.Add n) loops = refl
-length-open_after i line.Yield loops = refl
-length-open_after i (line.Call n) loops = refl
-length-open_after i (line.Receive n) loops = refl
-length-open_after i (line.Serve n) loops = refl
-length-open_after i line.Reply loops = refl
-length-open_after i (line.Lock n) loops = refl
-length-open_after i (line.Unlock n) loops = refl
+length-open_after i (line.Trap t) loops = refl
 
 pub length-open_after_lines : (i : ℕ) (loops : List OpenLoop) (lines : List Line) → length (open_after_lines i loops lines) ≡ fold loops_after (length loops) lines
 length-open_after_lines i loops [] = refl
@@ -78,13 +72,7 @@ Encloses-next lines i line.End loops is here encloses = Encloses-end lines (piec
 Encloses-next lines i (line.Compute n) loops is here encloses = encloses
 Encloses-next lines i (line.Set n) loops is here encloses = encloses
 Encloses-next lines i (line.Add n) loops is here encloses = encloses
-Encloses-next lines i line.Yield loops is here encloses = encloses
-Encloses-next lines i (line.Call n) loops is here encloses = encloses
-Encloses-next lines i (line.Receive n) loops is here encloses = encloses
-Encloses-next lines i (line.Serve n) loops is here encloses = encloses
-Encloses-next lines i line.Reply loops is here encloses = encloses
-Encloses-next lines i (line.Lock n) loops is here encloses = encloses
-Encloses-next lines i (line.Unlock n) loops is here encloses = encloses
+Encloses-next lines i (line.Trap t) loops is here encloses = encloses
 
 -- the loops that are open enclose each place
 pub encloses-there : (lines : List Line) (i : ℕ) → i ≤ length lines → Encloses lines (pieces (drop i lines)).others (open_at lines i)

@@ -1,5 +1,5 @@
 -- What is passed from a place, line by line.
-use Rattle.std.proofs.Common.{inl, inr, ◌⊎◌, min, ◌≡◌, ◌<◌, ◌≤◌, ◌+◌, ◌-◌, ◌%◌, ℕ, zero, suc, sym, ◌∙◌, Option, Some, None, List, [], ◌∷◌, ◌++◌, length, drop, replicate, refl, ap, arith, subst, true}
+use Rattle.std.proofs.Common.{inl, inr, ◌⊎◌, min, ◌≡◌, ◌<◌, ◌≤◌, ◌+◌, ◌-◌, ◌%◌, ℕ, suc, sym, ◌∙◌, Option, Some, None, List, [], ◌∷◌, ◌++◌, length, drop, replicate, refl, ap, arith, subst, true}
 use Rattle.std.specs.Prelude.{slice_get}
 use Rattle.std.specs.List.{prefix_len}
 use Rattle.std.proofs.lemmas.List.{drop_all}
@@ -8,7 +8,7 @@ use Rattle.std.proofs.lemmas.Bool.{cases_lt}
 use Rattle.lot_simulation.specs.declared.script.Line.{Line}
 use Rattle.lot_simulation.specs.declared.script.Line.TheVariants as line
 use Rattle.lot_simulation.specs.declared.script.ScriptTrap.{ScriptTrap}
-use Rattle.lot_simulation.specs.declared.script.ScriptTrap.TheVariants.{Yield, Call, Receive, Reply, Serve, Lock, Unlock, Exit}
+use Rattle.lot_simulation.specs.declared.script.ScriptTrap.TheVariants.{Yield, Reply, AtPort, OnMutex, Exit}
 use Rattle.lot_simulation.specs.Script.{Item, pieces, items_of, is_mark, rest_after, accumulated}
 use Rattle.lot_simulation.specs.Script.Item.{Work, Set, Add, Traps}
 use Rattle.lot_script.specs.declared.open_loops.OpenLoop.{OpenLoop}
@@ -41,13 +41,7 @@ done-none (Some (line.Set n)) good = refl
 done-none (Some (line.Add n)) good = refl
 done-none (Some (line.Loop n)) good = refl
 done-none (Some line.End) good = refl
-done-none (Some line.Yield) good = refl
-done-none (Some (line.Call n)) good = refl
-done-none (Some (line.Receive n)) good = refl
-done-none (Some (line.Serve n)) good = refl
-done-none (Some line.Reply) good = refl
-done-none (Some (line.Lock n)) good = refl
-done-none (Some (line.Unlock n)) good = refl
+done-none (Some (line.Trap t)) good = refl
 
 -- the beginning of a line fits
 pub Fits-line : (lines : List Line) (i a : ℕ) (loops : List OpenLoop) → IsScript lines → i ≤ length lines → AreCopies loops (open_at lines i)
@@ -65,13 +59,7 @@ open_at-plain lines p line.End plain at = absurd plain
 open_at-plain lines p (line.Compute n) plain at = open_at-next lines p.line (p.line + 1) (line.Compute n) at.next refl
 open_at-plain lines p (line.Set n) plain at = open_at-next lines p.line (p.line + 1) (line.Set n) at.next refl
 open_at-plain lines p (line.Add n) plain at = open_at-next lines p.line (p.line + 1) (line.Add n) at.next refl
-open_at-plain lines p line.Yield plain at = open_at-next lines p.line (p.line + 1) line.Yield at.next refl
-open_at-plain lines p (line.Call n) plain at = open_at-next lines p.line (p.line + 1) (line.Call n) at.next refl
-open_at-plain lines p (line.Receive n) plain at = open_at-next lines p.line (p.line + 1) (line.Receive n) at.next refl
-open_at-plain lines p (line.Serve n) plain at = open_at-next lines p.line (p.line + 1) (line.Serve n) at.next refl
-open_at-plain lines p line.Reply plain at = open_at-next lines p.line (p.line + 1) line.Reply at.next refl
-open_at-plain lines p (line.Lock n) plain at = open_at-next lines p.line (p.line + 1) (line.Lock n) at.next refl
-open_at-plain lines p (line.Unlock n) plain at = open_at-next lines p.line (p.line + 1) (line.Unlock n) at.next refl
+open_at-plain lines p (line.Trap t) plain at = open_at-next lines p.line (p.line + 1) (line.Trap t) at.next refl
 
 next-within : (lines : List Line) (p : Place) (l : Line) → Stands lines p l → p.line + 1 ≤ length lines
 next-within lines p l at = omega (arith, slice_get_within lines p.line l at.next)
@@ -235,63 +223,23 @@ Passes-whole lines p n at =
 
 -- ---- traps
 
--- a line that is a trap is plain, and no exit
-trap-plain : (l : Line) (t : ScriptTrap) → items_of l ≡ Traps t ∷ [] → IsPlain l
-trap-plain (line.Loop n) t is = cc
-trap-plain line.End t is = cc
-trap-plain (line.Compute n) t is = tt
-trap-plain (line.Set n) t is = tt
-trap-plain (line.Add n) t is = tt
-trap-plain line.Yield t is = tt
-trap-plain (line.Call n) t is = tt
-trap-plain (line.Receive n) t is = tt
-trap-plain (line.Serve n) t is = tt
-trap-plain line.Reply t is = tt
-trap-plain (line.Lock n) t is = tt
-trap-plain (line.Unlock n) t is = tt
-
-trap-done : (l : Line) (t : ScriptTrap) (done : ℕ) → items_of l ≡ Traps t ∷ [] → CanBeDone (Some l) done → done ≡ 0
-trap-done (line.Compute zero) t done is can = cc
-trap-done (line.Compute (suc n)) t done is can = cc
-trap-done (line.Loop n) t done is can = can
-trap-done line.End t done is can = can
-trap-done (line.Set n) t done is can = can
-trap-done (line.Add n) t done is can = can
-trap-done line.Yield t done is can = can
-trap-done (line.Call n) t done is can = can
-trap-done (line.Receive n) t done is can = can
-trap-done (line.Serve n) t done is can = can
-trap-done line.Reply t done is can = can
-trap-done (line.Lock n) t done is can = can
-trap-done (line.Unlock n) t done is can = can
-
--- it is passed
-trap-after : (l : Line) (t : ScriptTrap) (rest : List Item) → items_of l ≡ Traps t ∷ [] → rest_after (Traps t ∷ rest) (Some t) ≡ rest
-trap-after (line.Compute zero) t rest is = cc
-trap-after (line.Compute (suc n)) t rest is = cc
-trap-after (line.Loop n) t rest is = cc
-trap-after line.End t rest is = cc
-trap-after (line.Set n) t rest is = cc
-trap-after (line.Add n) t rest is = cc
-trap-after line.Yield t rest is = let same : t ≡ Yield = cc in rw same refl
-trap-after (line.Call n) t rest is = let same : t ≡ Call n = cc in rw same refl
-trap-after (line.Receive n) t rest is = let same : t ≡ Receive n = cc in rw same refl
-trap-after (line.Serve n) t rest is = let same : t ≡ Serve n = cc in rw same refl
-trap-after line.Reply t rest is = let same : t ≡ Reply = cc in rw same refl
-trap-after (line.Lock n) t rest is = let same : t ≡ Lock n = cc in rw same refl
-trap-after (line.Unlock n) t rest is = let same : t ≡ Unlock n = cc in rw same refl
+-- a trap of a line is passed, since no line is an exit
+trap-after : (t : ScriptTrap) (rest : List Item) → IsLine (line.Trap t) → rest_after (Traps t ∷ rest) (Some t) ≡ rest
+trap-after Yield rest good = refl
+trap-after Reply rest good = refl
+trap-after (AtPort asked port) rest good = refl
+trap-after (OnMutex asked mutex) rest good = refl
+trap-after Exit rest good = absurd good
 
 -- the trap of a line is made
-pub MakesTrap-line : (lines : List Line) (p : Place) (l : Line) (t : ScriptTrap) → Stands lines p l → items_of l ≡ Traps t ∷ []
-    → MakesTrap lines p (record p { line = p.line + 1; done = 0 }) t
-MakesTrap-line lines p l t at is =
-    let plain : IsPlain l = trap-plain l t is in
+pub MakesTrap-line : (lines : List Line) (p : Place) (t : ScriptTrap) → Stands lines p (line.Trap t) → MakesTrap lines p (record p { line = p.line + 1; done = 0 }) t
+MakesTrap-line lines p t at =
     let following : List Item = left_of lines (pieces (drop (suc p.line) lines)) p.loops in
-    let here : rest_at lines p ≡ Traps t ∷ following = rest_at-plain lines p l plain at (trap-done l t p.done is (stands-done lines p l at)) ∙ ap (λ items. items ++ following) is in
+    let here : rest_at lines p ≡ Traps t ∷ following = rest_at-plain lines p (line.Trap t) tt at (stands-done lines p (line.Trap t) at) in
     record {
-      fits = Fits-after lines p l p.accumulator plain at;
+      fits = Fits-after lines p (line.Trap t) p.accumulator tt at;
       stands = rw here refl;
-      rest = rest_at-after lines p.line p.accumulator p.loops ∙ sym (ap (λ items. rest_after items (Some t)) here ∙ trap-after l t following is);
+      rest = rest_at-after lines p.line p.accumulator p.loops ∙ sym (ap (λ items. rest_after items (Some t)) here ∙ trap-after t following (stands-good lines p (line.Trap t) at));
       accumulator = refl;
     }
 

@@ -5,7 +5,7 @@ use Rattle.std.proofs.lemmas.List.{take-append-drop, length-replicate}
 use Rattle.lot_simulation.specs.declared.script.Line.{Line}
 use Rattle.lot_simulation.specs.declared.script.Line.TheVariants as line
 use Rattle.lot_simulation.specs.declared.script.ScriptTrap.{ScriptTrap}
-use Rattle.lot_simulation.specs.declared.script.ScriptTrap.TheVariants.{Yield, Call, Receive, Reply, Serve, Lock, Unlock, Exit}
+use Rattle.lot_simulation.specs.declared.script.ScriptTrap.TheVariants.{Exit}
 use Rattle.lot_simulation.specs.Script.{Item, Pieces, pieces, items_of, trap_of, unrolled}
 use Rattle.lot_simulation.specs.Script.Item.{Work, Set, Add, Traps}
 use Rattle.lot_script.specs.declared.open_loops.OpenLoop.{OpenLoop}
@@ -69,13 +69,7 @@ rest-next lines i line.End loops whole script is copies before = of_open (open_a
 rest-next lines i (line.Compute n) loops whole script is copies before = rest-plain lines i (line.Compute n) loops whole tt (before loops copies)
 rest-next lines i (line.Set n) loops whole script is copies before = rest-plain lines i (line.Set n) loops whole tt (before loops copies)
 rest-next lines i (line.Add n) loops whole script is copies before = rest-plain lines i (line.Add n) loops whole tt (before loops copies)
-rest-next lines i line.Yield loops whole script is copies before = rest-plain lines i line.Yield loops whole tt (before loops copies)
-rest-next lines i (line.Call n) loops whole script is copies before = rest-plain lines i (line.Call n) loops whole tt (before loops copies)
-rest-next lines i (line.Receive n) loops whole script is copies before = rest-plain lines i (line.Receive n) loops whole tt (before loops copies)
-rest-next lines i (line.Serve n) loops whole script is copies before = rest-plain lines i (line.Serve n) loops whole tt (before loops copies)
-rest-next lines i line.Reply loops whole script is copies before = rest-plain lines i line.Reply loops whole tt (before loops copies)
-rest-next lines i (line.Lock n) loops whole script is copies before = rest-plain lines i (line.Lock n) loops whole tt (before loops copies)
-rest-next lines i (line.Unlock n) loops whole script is copies before = rest-plain lines i (line.Unlock n) loops whole tt (before loops copies)
+rest-next lines i (line.Trap t) loops whole script is copies before = rest-plain lines i (line.Trap t) loops whole tt (before loops copies)
 
 -- what is left at the beginning of a line
 rest-begun : (lines : List Line) (i : ℕ) (loops : List OpenLoop) → IsScript lines → i ≤ length lines → AreCopies loops (open_at lines i)
@@ -129,13 +123,7 @@ some-line lines p (line.Loop n) at =
     let count : n ≡ suc (n - 1) = omega (arith, good.0) in
     rw (rest_at-begun lines p (line.Loop n) at (stands-done lines p (line.Loop n) at) ∙ left_of-loop lines n (drop (suc p.line) lines) o p.loops (ap (λ j. drop j lines) next) count) (some-first Work _)
 some-line lines p line.End at = some-end lines p p.loops refl at
-some-line lines p line.Yield at = some-plain lines p line.Yield (Traps Yield) tt at (stands-done lines p line.Yield at) refl
-some-line lines p (line.Call n) at = some-plain lines p (line.Call n) (Traps (Call n)) tt at (stands-done lines p (line.Call n) at) refl
-some-line lines p (line.Receive n) at = some-plain lines p (line.Receive n) (Traps (Receive n)) tt at (stands-done lines p (line.Receive n) at) refl
-some-line lines p (line.Serve n) at = some-plain lines p (line.Serve n) (Traps (Serve n)) tt at (stands-done lines p (line.Serve n) at) refl
-some-line lines p line.Reply at = some-plain lines p line.Reply (Traps Reply) tt at (stands-done lines p line.Reply at) refl
-some-line lines p (line.Lock n) at = some-plain lines p (line.Lock n) (Traps (Lock n)) tt at (stands-done lines p (line.Lock n) at) refl
-some-line lines p (line.Unlock n) at = some-plain lines p (line.Unlock n) (Traps (Unlock n)) tt at (stands-done lines p (line.Unlock n) at) refl
+some-line lines p (line.Trap t) at = some-plain lines p (line.Trap t) (Traps t) tt at (stands-done lines p (line.Trap t) at) refl
 
 -- the exit is never passed, so something is left at each place that fits
 pub some-there : (lines : List Line) (place : Place) → IsScript lines → Fits lines place → 0 < length (rest_at lines place)

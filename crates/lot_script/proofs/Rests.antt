@@ -22,13 +22,7 @@ plain-pieces line.End lines plain = absurd plain
 plain-pieces (line.Compute n) lines plain = refl
 plain-pieces (line.Set n) lines plain = refl
 plain-pieces (line.Add n) lines plain = refl
-plain-pieces line.Yield lines plain = refl
-plain-pieces (line.Call n) lines plain = refl
-plain-pieces (line.Receive n) lines plain = refl
-plain-pieces (line.Serve n) lines plain = refl
-plain-pieces line.Reply lines plain = refl
-plain-pieces (line.Lock n) lines plain = refl
-plain-pieces (line.Unlock n) lines plain = refl
+plain-pieces (line.Trap t) lines plain = refl
 
 -- what the first pieces begin with comes first
 left_of-front : (lines : List Line) (items : List Item) (p : Pieces) (loops : List OpenLoop)

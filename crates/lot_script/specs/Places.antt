@@ -111,12 +111,8 @@ pub record MakesTrap (lines : List Line) (old new : Place) (trap : ScriptTrap) :
 
 -- a line of marks, and not a trap
 abbrev pub IsMarked : Line → Type 0
-IsMarked (line.Compute n) = ⊤
-IsMarked (line.Set n) = ⊤
-IsMarked (line.Add n) = ⊤
-IsMarked (line.Loop n) = ⊤
-IsMarked line.End = ⊤
-IsMarked other = ⊥
+IsMarked (line.Trap trap) = ⊥
+IsMarked other = ⊤
 
 -- from the old place to the new, at least one mark and at most this many are passed; or the trap is made
 abbrev pub Advances : List Line → Place → Place → ℕ → Advance → Type 0

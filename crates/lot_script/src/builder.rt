@@ -4,7 +4,7 @@ ghost use Rattle.lot_simulation.specs.Reading.{checked};
 ghost use Rattle.lot_script.specs.Drafts.{IsLine, CanNest, line_checks, loops_after, pushed};
 
 use crate::Script;
-use lot_simulation::{InputRefusal, Line};
+use lot_simulation::{InputRefusal, Line, ScriptTrap};
 use std::alloc::{AllocError, Global};
 use std::marker::Model;
 
@@ -56,8 +56,8 @@ impl ScriptBuilder {
     }
 
     /// Whether the line can come next; otherwise the refusal that an input with it gets: `BadNumber` for a `compute`
-    /// of 0 and a `loop` of 0 or over 65535, `TooDeep` for a ninth open loop, `BadLine` for an `end` without a loop,
-    /// and `TooLong` for line 1025, checked in this order.
+    /// of 0 and a `loop` of 0 or over 65535, `TooDeep` for a ninth open loop, `BadLine` for an `end` without a loop and
+    /// for an exit, which no line is, and `TooLong` for line 1025, checked in this order.
     pub fn check(&self, line: Line) -> Result<(), InputRefusal>
         ensures checks { result ≡ checked (line_checks self.now line) tt }
         ensures number { OnOk result (IsLine line) }
@@ -71,6 +71,7 @@ impl ScriptBuilder {
             }
             Line::Loop(_) if 8 <= self.open_loops => return Err(InputRefusal::TooDeep),
             Line::End if self.open_loops == 0 => return Err(InputRefusal::BadLine),
+            Line::Trap(ScriptTrap::Exit) => return Err(InputRefusal::BadLine),
             _ => {}
         }
         if Self::MOST_LINES <= self.lines.len() {

@@ -1,7 +1,5 @@
 //! A thread's way through its script, line by line.
-ghost use Rattle.std.specs.Prelude.{◌≡◌, ◌<◌, ◌≤◌, [], ◌∷◌, length, slice_get, IfSome, IfNone, Some};
-ghost use Rattle.lot_simulation.specs.Script.{items_of};
-ghost use Rattle.lot_simulation.specs.Script.Item.{Traps};
+ghost use Rattle.std.specs.Prelude.{◌≡◌, ◌<◌, ◌≤◌, slice_get};
 ghost use Rattle.lot_script.specs.Drafts.{IsScript};
 ghost use Rattle.lot_script.specs.Places.{Advances, Fits, IsMarked, Passes, Stands};
 
@@ -16,24 +14,6 @@ pub(crate) enum Advance {
     Trap(ScriptTrap),
 }
 
-/// The trap that the line is, if it is one.
-#[inline(always)]
-fn trap_on(line: Line) -> Option<ScriptTrap>
-    ensures trap { IfSome result (λ trap. items_of line ≡ Traps trap ∷ []) }
-    ensures marks { IfNone result (IsMarked line) }
-{
-    match line {
-        Line::Yield => Some(ScriptTrap::Yield),
-        Line::Call(port) => Some(ScriptTrap::Call(port)),
-        Line::Receive(port) => Some(ScriptTrap::Receive(port)),
-        Line::Serve(port) => Some(ScriptTrap::Serve(port)),
-        Line::Reply => Some(ScriptTrap::Reply),
-        Line::Lock(mutex) => Some(ScriptTrap::Lock(mutex)),
-        Line::Unlock(mutex) => Some(ScriptTrap::Unlock(mutex)),
-        _ => None,
-    }
-}
-
 impl Script {
     /// Passes marks at the place, at least one and at most `most`; or makes the trap that stands there.
     #[inline(always)]
@@ -45,7 +25,7 @@ impl Script {
         let Some(line) = self.next_line(place) else {
             return Advance::Trap(ScriptTrap::Exit);
         };
-        if let Some(trap) = trap_on(line) {
+        if let Line::Trap(trap) = line {
             place.leave_line();
             return Advance::Trap(trap);
         }
@@ -68,7 +48,7 @@ impl Script {
             Line::Add(number) => place.add(number),
             Line::Loop(times) => place.enter(times),
             Line::End => place.end_copy(),
-            _ => unreachable!(),
+            Line::Trap(_) => unreachable!(),
         }
         1
     }

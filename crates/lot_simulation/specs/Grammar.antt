@@ -4,6 +4,7 @@ use Rattle.std.specs.List.{flat_map, range_with_len}
 use Rattle.std.specs.Str.{bytes_eq}
 use Rattle.lot_simulation.specs.declared.script.Line.{Line}
 use Rattle.lot_simulation.specs.declared.script.Line.TheVariants as line
+use Rattle.lot_simulation.specs.declared.script.ScriptTrap.TheVariants as trap
 use Rattle.lot_machine.specs.declared.command.Command.{Command}
 use Rattle.lot_machine.specs.declared.command.Command.TheVariants.{MakeTicket, RemoveTicket, MakeCurrency, RemoveCurrency, Fund, Unfund, MakeThread, MakeFunded, List as Listing}
 use Rattle.lot_machine.specs.declared.command.Kind.TheVariants.{Tickets, Currencies, Threads}
@@ -102,23 +103,14 @@ script_line r s script.Loop (n ∷ []) = do
   checked ((nat_le 8 s.loops, TooDeep) ∷ (is_full s, TooLong) ∷ []) (record r { unclosed = Some (record (with_line s (line.Loop times)) { loops = s.loops + 1 }) })
 script_line r s script.End [] =
     checked ((s.loops == 0, BadLine) ∷ (is_full s, TooLong) ∷ []) (record r { unclosed = Some (record (with_line s line.End) { loops = s.loops - 1 }) })
-script_line r s script.Yield [] = add_line r s line.Yield
-script_line r s script.Reply [] = add_line r s line.Reply
-script_line r s script.Serve (name ∷ []) = do
+script_line r s script.Yield [] = add_line r s (line.Trap trap.Yield)
+script_line r s script.Reply [] = add_line r s (line.Trap trap.Reply)
+script_line r s (script.AtPort asked) (name ∷ []) = do
   port ← known_name r.ports name
-  add_line r s (line.Serve port)
-script_line r s script.Call (name ∷ []) = do
-  port ← known_name r.ports name
-  add_line r s (line.Call port)
-script_line r s script.Receive (name ∷ []) = do
-  port ← known_name r.ports name
-  add_line r s (line.Receive port)
-script_line r s script.Lock (name ∷ []) = do
+  add_line r s (line.Trap (trap.AtPort asked port))
+script_line r s (script.OnMutex asked) (name ∷ []) = do
   mutex ← known_name r.mutexes name
-  add_line r s (line.Lock mutex)
-script_line r s script.Unlock (name ∷ []) = do
-  mutex ← known_name r.mutexes name
-  add_line r s (line.Unlock mutex)
+  add_line r s (line.Trap (trap.OnMutex asked mutex))
 script_line r s script.EndScript [] =
     checked ((nat_lt 0 s.loops, BadLine) ∷ []) (record r { unclosed = None; scripts = r.scripts ++ record { name = s.name; lines = s.lines } ∷ [] })
 script_line r s word tokens = Err BadLine

@@ -4,7 +4,7 @@ use Rattle.std.specs.List.{repeat, prefix_len}
 use Rattle.lot_simulation.specs.declared.script.Line.{Line}
 use Rattle.lot_simulation.specs.declared.script.Line.TheVariants as line
 use Rattle.lot_simulation.specs.declared.script.ScriptTrap.{ScriptTrap}
-use Rattle.lot_simulation.specs.declared.script.ScriptTrap.TheVariants.{Yield, Call, Receive, Reply, Serve, Lock, Unlock, Exit}
+use Rattle.lot_simulation.specs.declared.script.ScriptTrap.TheVariants.{Exit}
 
 -- one step of a script: a mark, which costs one tick, or a trap
 pub data Item : Type 0 where
@@ -20,13 +20,7 @@ items_of (line.Set n) = Set n ∷ []
 items_of (line.Add n) = Add n ∷ []
 items_of (line.Loop n) = []
 items_of line.End = []
-items_of line.Yield = Traps Yield ∷ []
-items_of (line.Call port) = Traps (Call port) ∷ []
-items_of (line.Receive port) = Traps (Receive port) ∷ []
-items_of line.Reply = Traps Reply ∷ []
-items_of (line.Serve port) = Traps (Serve port) ∷ []
-items_of (line.Lock mutex) = Traps (Lock mutex) ∷ []
-items_of (line.Unlock mutex) = Traps (Unlock mutex) ∷ []
+items_of (line.Trap trap) = Traps trap ∷ []
 
 -- What lines mean, in pieces: what stands before the `end` of the innermost open loop, what stands from there to the
 -- next such `end`, and so on outwards.

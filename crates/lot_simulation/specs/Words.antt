@@ -7,6 +7,8 @@ use Rattle.lot_simulation.specs.declared.input.BodyWord.{BodyWord}
 use Rattle.lot_simulation.specs.declared.input.BodyWord.TheVariants as body
 use Rattle.lot_simulation.specs.declared.input.ScriptWord.{ScriptWord}
 use Rattle.lot_simulation.specs.declared.input.ScriptWord.TheVariants as script
+use Rattle.lot_simulation.specs.declared.script.PortTrap.TheVariants.{Call, Receive, Serve}
+use Rattle.lot_simulation.specs.declared.script.MutexTrap.TheVariants.{Lock, Unlock}
 
 -- what a token stands for in a table of texts
 abbrev pub word_in : {W : Type 0} → List (List ℕ × W) → List ℕ → Option W
@@ -50,10 +52,11 @@ timed_body_words = (codes "at", body.At) ∷ body_words
 abbrev pub script_words : List (List ℕ × ScriptWord)
 script_words =
     (codes "compute", script.Compute) ∷ (codes "set", script.Set) ∷ (codes "add", script.Add) ∷ (codes "loop", script.Loop)
-    ∷ (codes "end", script.End) ∷ (codes "yield", script.Yield) ∷ (codes "reply", script.Reply) ∷ (codes "call", script.Call)
-    ∷ (codes "receive", script.Receive) ∷ (codes "lock", script.Lock) ∷ (codes "unlock", script.Unlock)
-    ∷ (codes "endscript", script.EndScript) ∷ []
+    ∷ (codes "end", script.End) ∷ (codes "yield", script.Yield) ∷ (codes "reply", script.Reply)
+    ∷ (codes "call", script.AtPort Call) ∷ (codes "receive", script.AtPort Receive)
+    ∷ (codes "lock", script.OnMutex Lock) ∷ (codes "unlock", script.OnMutex Unlock) ∷ (codes "endscript", script.EndScript)
+    ∷ []
 
 -- the same of an input whose turns come in the order of time, whose servers may reply and receive in one trap
 abbrev pub timed_script_words : List (List ℕ × ScriptWord)
-timed_script_words = (codes "serve", script.Serve) ∷ script_words
+timed_script_words = (codes "serve", script.AtPort Serve) ∷ script_words

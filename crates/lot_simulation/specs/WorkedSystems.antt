@@ -2,7 +2,10 @@
 use Rattle.std.specs.Prelude.{ℕ, List, [], ◌∷◌, codes, Option, Some, None}
 use Rattle.lot_machine.specs.declared.command.Command.TheVariants.{MakeTicket, Fund, MakeThread, MakeFunded}
 use Rattle.lot_machine.specs.declared.reply.Reply.{Reply}
+use Rattle.lot_simulation.specs.declared.script.Line.{Line}
 use Rattle.lot_simulation.specs.declared.script.Line.TheVariants as line
+use Rattle.lot_simulation.specs.declared.script.ScriptTrap.TheVariants as trap
+use Rattle.lot_simulation.specs.declared.script.PortTrap.TheVariants.{Call, Receive, Serve}
 use Rattle.lot_simulation.specs.World.{Program, Answer, opening_world, system_answers}
 use Rattle.lot_simulation.specs.World.Answer.{Answered, Ended}
 use Rattle.lot_machine.specs.Worked.{base, largest, finer}
@@ -33,12 +36,22 @@ first_run = record {
 abbrev pub finer_run : Program
 finer_run = record first_run { limits = finer }
 
+-- lines at port 1
+abbrev pub call : Line
+call = line.Trap (trap.AtPort Call 1)
+
+abbrev pub receive : Line
+receive = line.Trap (trap.AtPort Receive 1)
+
+abbrev pub serve : Line
+serve = line.Trap (trap.AtPort Serve 1)
+
 -- a server, and a client that calls it
 abbrev pub call_and_reply : Program
 call_and_reply = record {
   limits = record largest { ports = 1; mutexes = 0; processors = 1; scripts = 2; quantum = 10 };
   seeds = 1 ∷ [];
-  scripts = (line.Receive 1 ∷ line.Add 1 ∷ line.Reply ∷ []) ∷ (line.Set 41 ∷ line.Call 1 ∷ line.Compute 2 ∷ []) ∷ [];
+  scripts = (receive ∷ line.Add 1 ∷ line.Trap trap.Reply ∷ []) ∷ (line.Set 41 ∷ call ∷ line.Compute 2 ∷ []) ∷ [];
   commands = MakeFunded 5 base (codes "s") 1 ∷ MakeFunded 5 base (codes "c") 2 ∷ [];
   turns = 0;
   schedule = [];
@@ -49,7 +62,7 @@ call_and_reply = record {
 -- a server that replies and receives in one trap, and two clients
 abbrev pub serving : Program
 serving = record call_and_reply {
-  scripts = (line.Receive 1 ∷ line.Add 1 ∷ line.Serve 1 ∷ line.Add 1 ∷ line.Serve 1 ∷ []) ∷ (line.Set 41 ∷ line.Call 1 ∷ []) ∷ [];
+  scripts = (receive ∷ line.Add 1 ∷ serve ∷ line.Add 1 ∷ serve ∷ []) ∷ (line.Set 41 ∷ call ∷ []) ∷ [];
   commands = MakeFunded 5 base (codes "s") 1 ∷ MakeFunded 5 base (codes "c") 2 ∷ MakeFunded 5 base (codes "d") 2 ∷ [];
 }
 

@@ -4,6 +4,8 @@ use Rattle.std.specs.List.{last_or}
 use Rattle.lot_simulation.specs.declared.script.Line.{Line}
 use Rattle.lot_simulation.specs.declared.script.ScriptTrap.{ScriptTrap}
 use Rattle.lot_simulation.specs.declared.script.ScriptTrap.TheVariants as script_trap
+use Rattle.lot_simulation.specs.declared.script.PortTrap.TheVariants.{Call, Receive, Serve}
+use Rattle.lot_simulation.specs.declared.script.MutexTrap.TheVariants.{Lock, Unlock}
 use Rattle.lot_machine.specs.declared.action.Action.{Action}
 use Rattle.lot_machine.specs.declared.action.Action.TheVariants as action
 use Rattle.lot_machine.specs.declared.command.Command.{Command}
@@ -75,12 +77,12 @@ slice_on w p t = slice (context_of w t) (w.state.limits.quantum - used_there w.s
 -- Calls, replies and servings carry the accumulator, and an unlock the drawn number.
 abbrev pub action_of : ScriptTrap → ℕ → ℕ → Action
 action_of script_trap.Yield accumulator drawn = action.Yield
-action_of (script_trap.Call port) accumulator drawn = action.Call port accumulator
-action_of (script_trap.Receive port) accumulator drawn = action.Receive port
 action_of script_trap.Reply accumulator drawn = action.Reply accumulator
-action_of (script_trap.Serve port) accumulator drawn = action.Serve port accumulator
-action_of (script_trap.Lock mutex) accumulator drawn = action.Lock mutex
-action_of (script_trap.Unlock mutex) accumulator drawn = action.Unlock mutex drawn
+action_of (script_trap.AtPort Call port) accumulator drawn = action.Call port accumulator
+action_of (script_trap.AtPort Receive port) accumulator drawn = action.Receive port
+action_of (script_trap.AtPort Serve port) accumulator drawn = action.Serve port accumulator
+action_of (script_trap.OnMutex Lock mutex) accumulator drawn = action.Lock mutex
+action_of (script_trap.OnMutex Unlock mutex) accumulator drawn = action.Unlock mutex drawn
 action_of script_trap.Exit accumulator drawn = action.Exit
 
 -- the slice as an event: an expiry, or its ticks and then its trap

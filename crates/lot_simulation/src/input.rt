@@ -1,5 +1,7 @@
 //! What an input is written in, and why one is refused.
 
+use crate::script::{MutexTrap, PortTrap};
+
 /// A word that begins a line of the header, after the first line.
 #[derive(Clone, Copy, Debug, PartialEq, Eq)]
 pub enum HeaderWord {
@@ -44,11 +46,8 @@ pub enum ScriptWord {
     End,
     Yield,
     Reply,
-    Serve,
-    Call,
-    Receive,
-    Lock,
-    Unlock,
+    AtPort(PortTrap),
+    OnMutex(MutexTrap),
     EndScript,
 }
 

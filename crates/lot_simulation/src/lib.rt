@@ -3,10 +3,12 @@
 #![tactic(auto)]
 
 mod format;
+mod forms;
 mod input;
 pub mod laws;
 mod manner;
 pub mod printed;
+pub mod ranges;
 pub mod read;
 mod script;
 pub mod sliced;
@@ -17,8 +19,11 @@ mod words;
 pub mod worked;
 
 pub use format::Format;
+pub use forms::{Argument, Form, Range};
 pub use input::{BodyWord, HeaderWord, InputFault, InputRefusal, ScriptWord};
 pub use manner::Manner;
-pub use script::{Line, ScriptTrap};
+pub use script::{Line, MutexTrap, PortTrap, ScriptTrap};
 pub use timed::{Clock, Due, WaitChange, Waits};
-pub use words::{BODY_WORDS, FIRST_WORD, HEADER_WORDS, SCRIPT_WORDS};
+pub use words::{
+    BODY_WORDS, FIRST_WORD, HEADER_WORDS, RUNS_WORD, SCHEDULE_WORD, SCRIPT_WORDS, WordRow,
+};

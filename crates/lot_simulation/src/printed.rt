@@ -60,7 +60,8 @@ pub fn free_runs()
     ensures none { run_output (text (codes "lottery 1" ∷ codes "turns 0" ∷ [])) [] ≡ empty_report }
     ensures whole_line { schedule_lines (replicate 64 1)
         ≡ text ((codes "schedule" ++ (replicate 0 0
-        ++ codes " 1 1 1 1 1 1 1 1 1 1 1 1 1 1 1 1 1 1 1 1 1 1 1 1 1 1 1 1 1 1 1 1 1 1 1 1 1 1 1 1 1 1 1 1 1 1 1 1 1 1 1 1 1 1 1 1 1 1 1 1 1 1 1 1")) ∷ []) }
+        ++ codes " 1 1 1 1 1 1 1 1 1 1 1 1 1 1 1 1 1 1 1 1 1 1 1 1 1 1 1 1 1 1 1 1"
+        ++ codes " 1 1 1 1 1 1 1 1 1 1 1 1 1 1 1 1 1 1 1 1 1 1 1 1 1 1 1 1 1 1 1 1")) ∷ []) }
     ensures runs { runs_lines (0 ∷ 0 ∷ 1 ∷ 0 ∷ []) ≡ text (codes "runs 0 2 1 1 0 1" ∷ []) }
     ensures no_runs { runs_lines [] ≡ [] }
 {}

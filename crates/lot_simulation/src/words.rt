@@ -1,118 +1,260 @@
-//! The words that begin lines of an input, each with its spelling. No other place spells them: the parser looks a token
-//! up here, and what is told of a refused line names the words as they stand here.
-ghost use Rattle.std.specs.Prelude.{◌≡◌, map};
+//! The words that begin lines of an input, each with its spelling and with what stands behind it. No other place says
+//! so: the parser looks a token up here and takes its ranges from here, and what is told of a refused line names words
+//! and arguments as they stand here. `docs/check` compares this table with `docs/FORMATS.md`.
+ghost use Rattle.std.specs.Prelude.{◌≡◌, map, if◌then◌else◌};
+ghost use Rattle.lot_simulation.specs.Formats.{is_timed};
 ghost use Rattle.lot_simulation.specs.Words.{word_in, header_words, timed_header_words, body_words, timed_body_words};
-ghost use Rattle.lot_simulation.specs.Words.{script_words, timed_script_words};
+ghost use Rattle.lot_simulation.specs.Words.{header_place, script_words, timed_script_words};
 
+use crate::format::Format;
+use crate::forms::Argument::{
+    Actor, AnyName, AnyNumber, KnownName, NewName, Number, Time, Version,
+};
+use crate::forms::Form;
+use crate::forms::Form::{Command, Once, PerProcessor, Repeated};
 use crate::input::{BodyWord, HeaderWord, ScriptWord};
+use crate::ranges;
+use crate::script::{MutexTrap, PortTrap};
+
+/// A word, its spelling, and how a line is written that it begins.
+pub type WordRow<W> = (&'static [u8], W, Form);
 
 /// The word that begins the first line.
 pub const FIRST_WORD: &[u8] = b"lottery";
 
+/// The word of a line of a schedule, which says whose turn comes next.
+pub const SCHEDULE_WORD: &[u8] = b"schedule";
+
+/// The word of a line of a schedule with several turns of one actor in a row.
+pub const RUNS_WORD: &[u8] = b"runs";
+
 /// The words of the header, in the order of its lines, after `for`, which only some formats have.
-pub const HEADER_WORDS: [(&[u8], HeaderWord); 7] = [
-    (b"for", HeaderWord::For),
-    (FIRST_WORD, HeaderWord::Lottery),
-    (b"processors", HeaderWord::Processors),
-    (b"quantum", HeaderWord::Quantum),
-    (b"turns", HeaderWord::Turns),
-    (b"seed", HeaderWord::Seed),
-    (b"limits", HeaderWord::Limits),
+pub const HEADER_WORDS: [WordRow<HeaderWord>; 7] = [
+    (
+        b"for",
+        HeaderWord::For,
+        Once(&[("TICKS", Number(ranges::DURATION))]),
+    ),
+    (
+        FIRST_WORD,
+        HeaderWord::Lottery,
+        Once(&[("VERSION", Version)]),
+    ),
+    (
+        b"processors",
+        HeaderWord::Processors,
+        Once(&[("P", Number(ranges::PROCESSORS))]),
+    ),
+    (
+        b"quantum",
+        HeaderWord::Quantum,
+        Once(&[("Q", Number(ranges::QUANTUM))]),
+    ),
+    (
+        b"turns",
+        HeaderWord::Turns,
+        Once(&[("T", Number(ranges::TURNS))]),
+    ),
+    (
+        b"seed",
+        HeaderWord::Seed,
+        PerProcessor(&[("S", Number(ranges::SEED))]),
+    ),
+    (
+        b"limits",
+        HeaderWord::Limits,
+        Once(&[
+            ("TICKETS", Number(ranges::TICKETS)),
+            ("CURRENCIES", Number(ranges::CURRENCIES)),
+            ("THREADS", Number(ranges::THREADS)),
+        ]),
+    ),
 ];
 
 /// The words of the body, after `at`, which only some formats have.
-pub const BODY_WORDS: [(&[u8], BodyWord); 17] = [
-    (b"at", BodyWord::At),
-    (b"port", BodyWord::Port),
-    (b"mutex", BodyWord::Mutex),
-    (b"script", BodyWord::Script),
-    (b"mktkt", BodyWord::MakeTicket),
-    (b"rmtkt", BodyWord::RemoveTicket),
-    (b"mkcur", BodyWord::MakeCurrency),
-    (b"rmcur", BodyWord::RemoveCurrency),
-    (b"fund", BodyWord::Fund),
-    (b"unfund", BodyWord::Unfund),
-    (b"mkthr", BodyWord::MakeThread),
-    (b"fundx", BodyWord::MakeFunded),
-    (b"lstkt", BodyWord::ListTickets),
-    (b"lscur", BodyWord::ListCurrencies),
-    (b"lsthr", BodyWord::ListThreads),
-    (b"schedule", BodyWord::Schedule),
-    (b"runs", BodyWord::Runs),
+pub const BODY_WORDS: [WordRow<BodyWord>; 17] = [
+    (b"at", BodyWord::At, Once(&[("TICK", Time(ranges::TICK))])),
+    (
+        b"port",
+        BodyWord::Port,
+        Once(&[("NAME", NewName(BodyWord::Port))]),
+    ),
+    (
+        b"mutex",
+        BodyWord::Mutex,
+        Once(&[("NAME", NewName(BodyWord::Mutex))]),
+    ),
+    (
+        b"script",
+        BodyWord::Script,
+        Once(&[("NAME", NewName(BodyWord::Script))]),
+    ),
+    (
+        b"mktkt",
+        BodyWord::MakeTicket,
+        Command(&[("AMOUNT", AnyNumber), ("CURRENCY", AnyName)]),
+    ),
+    (
+        b"rmtkt",
+        BodyWord::RemoveTicket,
+        Command(&[("TICKET", AnyNumber)]),
+    ),
+    (
+        b"mkcur",
+        BodyWord::MakeCurrency,
+        Command(&[("NAME", AnyName)]),
+    ),
+    (
+        b"rmcur",
+        BodyWord::RemoveCurrency,
+        Command(&[("CURRENCY", AnyName)]),
+    ),
+    (
+        b"fund",
+        BodyWord::Fund,
+        Command(&[("TICKET", AnyNumber), ("TARGET", AnyName)]),
+    ),
+    (
+        b"unfund",
+        BodyWord::Unfund,
+        Command(&[("TICKET", AnyNumber)]),
+    ),
+    (
+        b"mkthr",
+        BodyWord::MakeThread,
+        Command(&[("NAME", AnyName), ("SCRIPT", AnyName)]),
+    ),
+    (
+        b"fundx",
+        BodyWord::MakeFunded,
+        Command(&[
+            ("AMOUNT", AnyNumber),
+            ("CURRENCY", AnyName),
+            ("NAME", AnyName),
+            ("SCRIPT", AnyName),
+        ]),
+    ),
+    (b"lstkt", BodyWord::ListTickets, Command(&[])),
+    (b"lscur", BodyWord::ListCurrencies, Command(&[])),
+    (b"lsthr", BodyWord::ListThreads, Command(&[])),
+    (
+        SCHEDULE_WORD,
+        BodyWord::Schedule,
+        Repeated(&[("ACTOR", Actor)]),
+    ),
+    (
+        RUNS_WORD,
+        BodyWord::Runs,
+        Repeated(&[("ACTOR", Actor), ("TURNS", Number(ranges::RUN))]),
+    ),
 ];
 
 /// The words of a script, after `serve`, which only some formats have.
-pub const SCRIPT_WORDS: [(&[u8], ScriptWord); 13] = [
-    (b"serve", ScriptWord::Serve),
-    (b"compute", ScriptWord::Compute),
-    (b"set", ScriptWord::Set),
-    (b"add", ScriptWord::Add),
-    (b"loop", ScriptWord::Loop),
-    (b"end", ScriptWord::End),
-    (b"yield", ScriptWord::Yield),
-    (b"reply", ScriptWord::Reply),
-    (b"call", ScriptWord::Call),
-    (b"receive", ScriptWord::Receive),
-    (b"lock", ScriptWord::Lock),
-    (b"unlock", ScriptWord::Unlock),
-    (b"endscript", ScriptWord::EndScript),
+pub const SCRIPT_WORDS: [WordRow<ScriptWord>; 13] = [
+    (
+        b"serve",
+        ScriptWord::AtPort(PortTrap::Serve),
+        Once(&[("PORT", KnownName(BodyWord::Port))]),
+    ),
+    (
+        b"compute",
+        ScriptWord::Compute,
+        Once(&[("TICKS", Number(ranges::WORK))]),
+    ),
+    (
+        b"set",
+        ScriptWord::Set,
+        Once(&[("NUMBER", Number(ranges::NUMBER))]),
+    ),
+    (
+        b"add",
+        ScriptWord::Add,
+        Once(&[("NUMBER", Number(ranges::NUMBER))]),
+    ),
+    (
+        b"loop",
+        ScriptWord::Loop,
+        Once(&[("TIMES", Number(ranges::TIMES))]),
+    ),
+    (b"end", ScriptWord::End, Once(&[])),
+    (b"yield", ScriptWord::Yield, Once(&[])),
+    (b"reply", ScriptWord::Reply, Once(&[])),
+    (
+        b"call",
+        ScriptWord::AtPort(PortTrap::Call),
+        Once(&[("PORT", KnownName(BodyWord::Port))]),
+    ),
+    (
+        b"receive",
+        ScriptWord::AtPort(PortTrap::Receive),
+        Once(&[("PORT", KnownName(BodyWord::Port))]),
+    ),
+    (
+        b"lock",
+        ScriptWord::OnMutex(MutexTrap::Lock),
+        Once(&[("MUTEX", KnownName(BodyWord::Mutex))]),
+    ),
+    (
+        b"unlock",
+        ScriptWord::OnMutex(MutexTrap::Unlock),
+        Once(&[("MUTEX", KnownName(BodyWord::Mutex))]),
+    ),
+    (b"endscript", ScriptWord::EndScript, Once(&[])),
 ];
 
 impl HeaderWord {
-    /// The word of the header that the token is, if it is one.
-    pub fn of_token(token: &[u8]) -> Option<HeaderWord>
-        ensures { result ≡ word_in header_words token.now }
+    /// The word of the header that the token is in an input of this format, if it is one.
+    pub fn of_token(format: Format, token: &[u8]) -> Option<HeaderWord>
+        ensures { result ≡ word_in (if is_timed format then timed_header_words else header_words) token.now }
     {
-        word_spelled(&HEADER_WORDS[1..], token)
+        if format.is_timed() {
+            word_spelled(&HEADER_WORDS, token)
+        } else {
+            word_spelled(&HEADER_WORDS[1..], token)
+        }
     }
 
-    /// The same, of an input whose turns come in the order of time.
-    pub fn of_timed_token(token: &[u8]) -> Option<HeaderWord>
-        ensures { result ≡ word_in timed_header_words token.now }
+    /// Where the word's line comes in the header, from 0 on.
+    pub fn place(self) -> u32
+        ensures { result ≡ header_place self }
     {
-        word_spelled(&HEADER_WORDS, token)
+        self as u32
     }
 }
 
 impl BodyWord {
-    /// The word of the body that the token is, if it is one.
-    pub fn of_token(token: &[u8]) -> Option<BodyWord>
-        ensures { result ≡ word_in body_words token.now }
+    /// The word of the body that the token is in an input of this format, if it is one.
+    pub fn of_token(format: Format, token: &[u8]) -> Option<BodyWord>
+        ensures { result ≡ word_in (if is_timed format then timed_body_words else body_words) token.now }
     {
-        word_spelled(&BODY_WORDS[1..], token)
-    }
-
-    /// The same, of an input whose turns come in the order of time.
-    pub fn of_timed_token(token: &[u8]) -> Option<BodyWord>
-        ensures { result ≡ word_in timed_body_words token.now }
-    {
-        word_spelled(&BODY_WORDS, token)
+        if format.is_timed() {
+            word_spelled(&BODY_WORDS, token)
+        } else {
+            word_spelled(&BODY_WORDS[1..], token)
+        }
     }
 }
 
 impl ScriptWord {
-    /// The word of a script that the token is, if it is one.
-    pub fn of_token(token: &[u8]) -> Option<ScriptWord>
-        ensures { result ≡ word_in script_words token.now }
+    /// The word of a script that the token is in an input of this format, if it is one.
+    pub fn of_token(format: Format, token: &[u8]) -> Option<ScriptWord>
+        ensures { result ≡ word_in (if is_timed format then timed_script_words else script_words) token.now }
     {
-        word_spelled(&SCRIPT_WORDS[1..], token)
-    }
-
-    /// The same, of an input whose turns come in the order of time.
-    pub fn of_timed_token(token: &[u8]) -> Option<ScriptWord>
-        ensures { result ≡ word_in timed_script_words token.now }
-    {
-        word_spelled(&SCRIPT_WORDS, token)
+        if format.is_timed() {
+            word_spelled(&SCRIPT_WORDS, token)
+        } else {
+            word_spelled(&SCRIPT_WORDS[1..], token)
+        }
     }
 }
 
 /// The first word of the table that is spelled like the token, if there is one.
-fn word_spelled<W: Copy>(mut table: &[(&[u8], W)], token: &[u8]) -> Option<W>
-    ensures { result ≡ word_in (map (λ entry. (entry.0.now, entry.1)) table.entry.now) token.now }
+fn word_spelled<W: Copy>(mut table: &[WordRow<W>], token: &[u8]) -> Option<W>
+    ensures { result ≡ word_in (map (λ row. (row.0.now, row.1)) table.entry.now) token.now }
 {
-    while let [entry, rest @ ..] = table {
-        if entry.0 == token {
-            return Some(entry.1);
+    while let [row, rest @ ..] = table {
+        if row.0 == token {
+            return Some(row.1);
         }
         table = rest;
     }

@@ -42,8 +42,8 @@ pub fn systems()
     ensures two_processors { played two_processors (0 ∷ 1 ∷ 2 ∷ 1 ∷ 2 ∷ 0 ∷ [])
         ≡ Some (reply.Funded 1 1) ∷ Some (reply.Winner 1 4 10 None) ∷ Some reply.Idle ∷ Some (reply.Expired 1 100)
         ∷ Some (reply.Winner 1 3 10 None) ∷ None ∷ [] }
-    ensures loops { unrolled (line.Loop 2 ∷ line.Set 7 ∷ line.Loop 1 ∷ line.Yield ∷ line.End ∷ line.End
-        ∷ line.Reply ∷ [])
+    ensures loops { unrolled (line.Loop 2 ∷ line.Set 7 ∷ line.Loop 1 ∷ line.Trap script_trap.Yield ∷ line.End
+        ∷ line.End ∷ line.Trap script_trap.Reply ∷ [])
         ≡ Work ∷ Set 7 ∷ Work ∷ Traps script_trap.Yield ∷ Work ∷ Work ∷ Set 7 ∷ Work ∷ Traps script_trap.Yield ∷ Work
         ∷ Work ∷ Traps script_trap.Reply ∷ Traps script_trap.Exit ∷ [] }
 {}

@@ -1,4 +1,5 @@
 pub mod Faults
 pub mod Numbers
 pub mod Programs
+pub mod ReadingFields
 pub mod Readings

@@ -7,13 +7,13 @@ ghost use Rattle.lot_text.specs.Readings.{after_header, pairs_added};
 
 use crate::fault::LineFault;
 use crate::name::{any_name, new_name};
-use crate::number::{actor_below, any_number, number_between};
+use crate::number::{actor_below, any_number, number_in};
 use crate::reading::{BODY, MOST_ENTRIES, OpenScript, Reading};
 use crate::runs::read_runs;
 use crate::tokens::Tokens;
 use lot_machine::{Command, Kind, Sizes, is_good_name};
 use lot_script::ScriptBuilder;
-use lot_simulation::{BodyWord, InputRefusal};
+use lot_simulation::{BodyWord, InputRefusal, Range, ranges};
 use std::alloc::Global;
 
 /// A line of the body, which ends the header.
@@ -231,12 +231,16 @@ fn at(reading: &mut Reading, tokens: Tokens<'_>) -> Result<(), LineFault>
     ensures { (n : ℕ) → Gives reading.new result (body_after_header n reading.old BodyWord.At tokens.entry) }
 {
     let tick = tokens.only()?;
-    reading.time = number_between(reading.time, u32::MAX, tick)?;
+    let later = Range {
+        first: reading.time,
+        last: ranges::TICK.last,
+    };
+    reading.time = number_in(later, tick)?;
     reading.place = BODY;
     Ok(())
 }
 
-/// `schedule A1 A2 ..`
+/// `schedule ACTOR ..`
 fn schedule(alloc: Global, reading: &mut Reading, tokens: Tokens<'_>) -> Result<(), LineFault>
     ensures { (n : ℕ) → Gives reading.new result (body_after_header n reading.old BodyWord.Schedule tokens.entry) }
 {
@@ -266,7 +270,7 @@ fn read_actors(alloc: Global, processors: u32, mut tokens: Tokens<'_>) -> Result
     Ok(actors)
 }
 
-/// `runs A1 K1 A2 K2 ..`, in an input of `lottery 2`
+/// `runs ACTOR TURNS ..`, in an input of `lottery 2`
 fn runs(alloc: Global, reading: &mut Reading, tokens: Tokens<'_>) -> Result<(), LineFault>
     ensures { (n : ℕ) → Gives reading.new result (body_after_header n reading.old BodyWord.Runs tokens.entry) }
 {

@@ -1,17 +1,15 @@
 //! Lines of the header.
 ghost use Rattle.std.specs.Prelude.{◌≡◌, ◌<◌, ◌∷◌, length, IfOk, MatchResult, Ok};
 ghost use Rattle.lot_simulation.specs.Grammar.{first_line as first_line_read, header_in_order};
-ghost use Rattle.lot_simulation.specs.Words.{header_place as header_place_of};
 ghost use Rattle.lot_simulation.specs.Reading.{each, number_between as number_read};
 ghost use Rattle.lot_text.specs.Faults.{Fails, Gives};
 ghost use Rattle.lot_text.specs.Readings.{AreSeeds};
 
 use crate::fault::LineFault;
-use crate::number::number_between;
+use crate::number::number_in;
 use crate::reading::Reading;
 use crate::tokens::Tokens;
-use lot_machine::Sizes;
-use lot_simulation::{FIRST_WORD, Format, HeaderWord, InputRefusal};
+use lot_simulation::{FIRST_WORD, Format, HeaderWord, InputRefusal, ranges};
 use std::alloc::Global;
 
 /// The first line that isn't ignored, which says the format: `lottery 1`, `lottery 2` or `lottery 3`.
@@ -32,21 +30,6 @@ pub(crate) fn first_line(
     }
 }
 
-/// Where the word's line comes in the header, `lottery` first.
-fn header_place(word: HeaderWord) -> u32
-    ensures { result ≡ header_place_of word }
-{
-    match word {
-        HeaderWord::Lottery => 0,
-        HeaderWord::Processors => 1,
-        HeaderWord::Quantum => 2,
-        HeaderWord::Turns => 3,
-        HeaderWord::For => 4,
-        HeaderWord::Seed => 5,
-        HeaderWord::Limits => 6,
-    }
-}
-
 /// A later line of the header, which has to come after those so far.
 pub(crate) fn header_line(
     alloc: Global,
@@ -56,7 +39,7 @@ pub(crate) fn header_line(
 ) -> Result<(), LineFault>
     ensures { Gives reading.new result (header_in_order reading.old word tokens.entry) }
 {
-    if header_place(word) <= reading.place {
+    if word.place() <= reading.place {
         return Err(LineFault::Refused(InputRefusal::BadHeader));
     }
     match word {
@@ -76,8 +59,8 @@ fn read_processors(reading: &mut Reading, tokens: Tokens<'_>) -> Result<(), Line
     ensures { Gives reading.new result (header_in_order reading.old HeaderWord.Processors tokens.entry) }
 {
     let processors = tokens.only()?;
-    reading.processors = number_between(1, 64, processors)?;
-    reading.place = header_place(HeaderWord::Processors);
+    reading.processors = number_in(ranges::PROCESSORS, processors)?;
+    reading.place = HeaderWord::Processors.place();
     Ok(())
 }
 
@@ -87,8 +70,8 @@ fn read_quantum(reading: &mut Reading, tokens: Tokens<'_>) -> Result<(), LineFau
     ensures { Gives reading.new result (header_in_order reading.old HeaderWord.Quantum tokens.entry) }
 {
     let quantum = tokens.only()?;
-    reading.quantum = number_between(1, Sizes::LARGEST.quantum, quantum)?;
-    reading.place = header_place(HeaderWord::Quantum);
+    reading.quantum = number_in(ranges::QUANTUM, quantum)?;
+    reading.place = HeaderWord::Quantum.place();
     Ok(())
 }
 
@@ -98,8 +81,8 @@ fn read_turns(reading: &mut Reading, tokens: Tokens<'_>) -> Result<(), LineFault
     ensures { Gives reading.new result (header_in_order reading.old HeaderWord.Turns tokens.entry) }
 {
     let turns = tokens.only()?;
-    reading.turns = number_between(0, 10000, turns)?;
-    reading.place = header_place(HeaderWord::Turns);
+    reading.turns = number_in(ranges::TURNS, turns)?;
+    reading.place = HeaderWord::Turns.place();
     Ok(())
 }
 
@@ -112,8 +95,8 @@ fn read_duration(reading: &mut Reading, tokens: Tokens<'_>) -> Result<(), LineFa
     if !reading.format.is_timed() {
         return Err(LineFault::Refused(InputRefusal::BadLine));
     }
-    reading.duration = Some(number_between(1, u32::MAX, duration)?);
-    reading.place = header_place(HeaderWord::For);
+    reading.duration = Some(number_in(ranges::DURATION, duration)?);
+    reading.place = HeaderWord::For.place();
     Ok(())
 }
 
@@ -126,7 +109,7 @@ fn read_seed(alloc: Global, reading: &mut Reading, tokens: Tokens<'_>) -> Result
         return Err(LineFault::Refused(InputRefusal::BadLine));
     }
     reading.seeds = Some(read_seeds(alloc, tokens)?);
-    reading.place = header_place(HeaderWord::Seed);
+    reading.place = HeaderWord::Seed.place();
     Ok(())
 }
 
@@ -138,12 +121,12 @@ fn read_seeds(alloc: Global, mut tokens: Tokens<'_>) -> Result<Vec<u32>, LineFau
 {
     let mut seeds = Vec::new(alloc);
     while let Some(token) = tokens.next_token() {
-        seeds.push(number_between(1, 2147483646, token)?)?;
+        seeds.push(number_in(ranges::SEED, token)?)?;
     }
     Ok(seeds)
 }
 
-/// `limits T C H`
+/// `limits TICKETS CURRENCIES THREADS`
 fn read_limits(reading: &mut Reading, mut tokens: Tokens<'_>) -> Result<(), LineFault>
     requires { reading.old.place < 6 }
     ensures { Gives reading.new result (header_in_order reading.old HeaderWord.Limits tokens.entry) }
@@ -151,12 +134,12 @@ fn read_limits(reading: &mut Reading, mut tokens: Tokens<'_>) -> Result<(), Line
     let tickets = tokens.expected()?;
     let currencies = tokens.expected()?;
     let threads = tokens.only()?;
-    let tickets = number_between(1, Sizes::LARGEST.tickets, tickets)?;
-    let currencies = number_between(1, Sizes::LARGEST.currencies, currencies)?;
-    let threads = number_between(1, Sizes::LARGEST.threads, threads)?;
+    let tickets = number_in(ranges::TICKETS, tickets)?;
+    let currencies = number_in(ranges::CURRENCIES, currencies)?;
+    let threads = number_in(ranges::THREADS, threads)?;
     reading.tickets = tickets;
     reading.currencies = currencies;
     reading.threads = threads;
-    reading.place = header_place(HeaderWord::Limits);
+    reading.place = HeaderWord::Limits.place();
     Ok(())
 }

@@ -1,5 +1,5 @@
 //! Reading an input from its bytes.
-ghost use Rattle.std.specs.Prelude.{◌≡◌, ◌<◌, ◌≤◌, ◌∷◌, drop, length, OnOk, IfErr, IfOk, Ok};
+ghost use Rattle.std.specs.Prelude.{◌≡◌, ◌<◌, ◌≤◌, ◌∷◌, drop, false, length, OnOk, IfErr, IfOk, Ok};
 ghost use Rattle.lot_simulation.specs.Grammar.{program_in, header_words_of, body_words_of, phrases_of};
 ghost use Rattle.lot_simulation.specs.Grammar.{later_line as later_line_read, line_inside as line_inside_read};
 ghost use Rattle.lot_simulation.specs.Grammar.{line_outside as line_outside_read, phrase_inside as phrase_inside_read};
@@ -16,7 +16,7 @@ use crate::script_lines::script_line;
 use crate::tokens::{Tokens, begins_comment, is_printable, len_before};
 use crate::words::stands_alone;
 use crate::{ParseFault, Program};
-use lot_simulation::{BodyWord, HeaderWord, InputFault, InputRefusal, ScriptWord};
+use lot_simulation::{BodyWord, Format, HeaderWord, InputFault, InputRefusal, ScriptWord};
 use std::alloc::Global;
 
 /// The program that the bytes of an input say, exactly. Otherwise the first line that has a fault, and the first of
@@ -105,11 +105,12 @@ fn line_inside(
     word: &[u8],
     tokens: Tokens<'_>,
 ) -> Result<(), LineFault>
-    requires { length reading.old.scripts < 256 }
+    requires room { length reading.old.scripts < 256 }
+    requires untimed { reading.old.is_timed ≡ false }
     ensures { Gives reading.new result (line_inside_read (within_script reading.old script) script
         (word_in script_words word.now) tokens.entry) }
 {
-    match ScriptWord::of_token(word) {
+    match ScriptWord::of_token(reading.format, word) {
         Some(word) => script_line(reading, script, word, tokens),
         None => Err(LineFault::Refused(InputRefusal::BadLine)),
     }
@@ -146,35 +147,13 @@ fn phrase_inside(
     let Some(script) = reading.unclosed.take() else {
         return Err(LineFault::Refused(InputRefusal::BadLine));
     };
-    let Some(word) = ScriptWord::of_timed_token(word) else {
+    let Some(word) = ScriptWord::of_token(Format::V3, word) else {
         return Err(LineFault::Refused(InputRefusal::BadLine));
     };
     if stands_alone(word) {
         return script_line(reading, script, word, Tokens::of_line(&[]));
     }
     script_line(reading, script, word, tokens.next_alone())
-}
-
-/// The word of the header that the token is in this input, if it is one.
-fn header_word_in(reading: &Reading, token: &[u8]) -> Option<HeaderWord>
-    ensures { result ≡ word_in (header_words_of reading.now) token.now }
-{
-    if reading.format.is_timed() {
-        HeaderWord::of_timed_token(token)
-    } else {
-        HeaderWord::of_token(token)
-    }
-}
-
-/// The word of the body that the token is in this input, if it is one.
-fn body_word_in(reading: &Reading, token: &[u8]) -> Option<BodyWord>
-    ensures { result ≡ word_in (body_words_of reading.now) token.now }
-{
-    if reading.format.is_timed() {
-        BodyWord::of_timed_token(token)
-    } else {
-        BodyWord::of_token(token)
-    }
 }
 
 /// A line outside scripts.
@@ -188,10 +167,10 @@ fn line_outside(
     ensures { Gives reading.new result (line_outside_read number reading.old
         (word_in (header_words_of reading.old) word.now) (word_in (body_words_of reading.old) word.now) tokens.entry) }
 {
-    if let Some(word) = header_word_in(reading, word) {
+    if let Some(word) = HeaderWord::of_token(reading.format, word) {
         return header_line(alloc, reading, word, tokens);
     }
-    match body_word_in(reading, word) {
+    match BodyWord::of_token(reading.format, word) {
         Some(_) if reading.lacks_duration() => Err(LineFault::Refused(InputRefusal::BadHeader)),
         Some(word) => body_line(alloc, number, reading, word, tokens),
         None => Err(LineFault::Refused(InputRefusal::BadLine)),

@@ -9,7 +9,7 @@ ghost use Rattle.lot_simulation.specs.Reading.{number_between as number_read, an
 ghost use Rattle.lot_simulation.specs.Reading.{actor_below as actor_read};
 ghost use Rattle.lot_text.specs.Numbers.{within_64_bits};
 
-use lot_simulation::InputRefusal;
+use lot_simulation::{InputRefusal, Range};
 
 /// Whether the token is one or more digits, without a leading zero except in `0` itself.
 fn is_numeral(token: &[u8]) -> bool
@@ -66,13 +66,13 @@ pub(crate) fn number(token: &[u8]) -> Option<u64>
     }
 }
 
-/// A number from the first up to the last.
-pub(crate) fn number_between(first: u32, last: u32, token: &[u8]) -> Result<u32, InputRefusal>
-    ensures between { IfOk result (IsBetween first last) }
-    ensures read { result ≡ number_read first last token.now }
+/// A number in the range.
+pub(crate) fn number_in(range: Range, token: &[u8]) -> Result<u32, InputRefusal>
+    ensures between { IfOk result (IsBetween range.first range.last) }
+    ensures read { result ≡ number_read range.first range.last token.now }
 {
     let number = number(token).ok_or(InputRefusal::BadNumber)?;
-    if number < u64::from(first) || u64::from(last) < number {
+    if number < u64::from(range.first) || u64::from(range.last) < number {
         return Err(InputRefusal::BadNumber);
     }
     Ok(number as u32)

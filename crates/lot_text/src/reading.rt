@@ -20,7 +20,7 @@ use crate::runs::{ActorRun, actors_of, have_room};
 use crate::{ParseFault, Program};
 use lot_machine::{Command, Limits, Name, Sizes};
 use lot_script::{Script, ScriptBuilder};
-use lot_simulation::{Format, InputFault, InputRefusal};
+use lot_simulation::{Format, HEADER_WORDS, InputFault, InputRefusal};
 use std::alloc::{AllocError, Global};
 use std::marker::Model;
 
@@ -56,7 +56,7 @@ impl Model for OpenScript {
 }
 
 /// The place of the body, after those of the header's lines.
-pub(crate) const BODY: u32 = 7;
+pub(crate) const BODY: u32 = HEADER_WORDS.len() as u32;
 
 /// How many entries a schedule may have.
 pub(crate) const MOST_ENTRIES: usize = 1000000;
@@ -87,56 +87,16 @@ pub(crate) struct Reading {
 }
 
 impl Model for Reading {
-    ghost use Rattle.std.specs.Prelude.{option_map};
-    ghost use Rattle.lot_simulation.specs.Formats.{is_timed, unit_of};
     ghost use Rattle.lot_simulation.specs.Reading.{Reading as ReadingRecord};
-    ghost use Rattle.lot_text.specs.Readings.{IsReading};
 
     ghost Value = { ReadingRecord };
 
-    ghost view = { λ r. record {
-      place = r.place;
-      is_timed = is_timed r.format;
-      unit = unit_of r.format;
-      processors = r.processors;
-      quantum = r.quantum;
-      turns = r.turns;
-      duration = r.duration;
-      seeds = option_map (λ s. s.items) r.seeds;
-      tickets = r.tickets;
-      currencies = r.currencies;
-      threads = r.threads;
-      ports = r.ports.items;
-      mutexes = r.mutexes.items;
-      scripts = r.scripts.items;
-      unclosed = r.unclosed;
-      commands = r.commands.items;
-      time = r.time;
-      times = r.times.items;
-      schedule = r.schedule.items;
-    } };
+    ghost use Rattle.lot_text.specs.ReadingFields.{reading_of};
+    ghost use Rattle.lot_text.specs.Readings.{IsReading};
 
-    ghost invariant = { λ r. IsReading (record {
-      place = r.place;
-      is_timed = is_timed r.format;
-      unit = unit_of r.format;
-      processors = r.processors;
-      quantum = r.quantum;
-      turns = r.turns;
-      duration = r.duration;
-      seeds = option_map (λ s. s.items) r.seeds;
-      tickets = r.tickets;
-      currencies = r.currencies;
-      threads = r.threads;
-      ports = r.ports.items;
-      mutexes = r.mutexes.items;
-      scripts = r.scripts.items;
-      unclosed = r.unclosed;
-      commands = r.commands.items;
-      time = r.time;
-      times = r.times.items;
-      schedule = r.schedule.items;
-    }) };
+    ghost view = { reading_of };
+
+    ghost invariant = { λ r. IsReading (reading_of r) };
 }
 
 impl Reading {

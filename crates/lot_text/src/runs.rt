@@ -5,9 +5,9 @@ ghost use Rattle.lot_simulation.specs.Reading.{each_pair};
 ghost use Rattle.lot_text.specs.Faults.{Fails};
 
 use crate::fault::LineFault;
-use crate::number::{actor_below, number_between};
+use crate::number::{actor_below, number_in};
 use crate::tokens::Tokens;
-use lot_simulation::InputRefusal;
+use lot_simulation::{InputRefusal, ranges};
 use std::alloc::{AllocError, Global};
 use std::marker::Model;
 
@@ -53,7 +53,7 @@ fn run_of(processors: u32, actor: &[u8], count: &[u8]) -> Result<ActorRun, Input
     ensures read { result ≡ run_read processors actor.now count.now }
 {
     let actor = actor_below(processors, actor)?;
-    let count = number_between(1, 1000000, count)?;
+    let count = number_in(ranges::RUN, count)?;
     Ok(ActorRun { actor, count })
 }
 

@@ -7,11 +7,11 @@ ghost use Rattle.lot_text.specs.Readings.{line_added, within_script};
 
 use crate::fault::LineFault;
 use crate::name::known_name;
-use crate::number::number_between;
+use crate::number::number_in;
 use crate::reading::{NamedScript, OpenScript, Reading};
 use crate::tokens::Tokens;
 use lot_script::ScriptBuilder;
-use lot_simulation::{InputRefusal, Line, ScriptWord};
+use lot_simulation::{InputRefusal, Line, MutexTrap, PortTrap, ScriptTrap, ScriptWord, ranges};
 
 /// A line of this script, which stays open until `endscript`.
 pub(crate) fn script_line(
@@ -31,49 +31,46 @@ pub(crate) fn script_line(
         ScriptWord::End => end_loop(reading, script, tokens),
         ScriptWord::Yield => give_way(reading, script, tokens),
         ScriptWord::Reply => reply(reading, script, tokens),
-        ScriptWord::Serve => serve(reading, script, tokens),
-        ScriptWord::Call => call(reading, script, tokens),
-        ScriptWord::Receive => receive(reading, script, tokens),
-        ScriptWord::Lock => lock(reading, script, tokens),
-        ScriptWord::Unlock => unlock(reading, script, tokens),
+        ScriptWord::AtPort(asked) => at_port(reading, script, asked, tokens),
+        ScriptWord::OnMutex(asked) => on_mutex(reading, script, asked, tokens),
         ScriptWord::EndScript => end_script(reading, script, tokens),
     }
 }
 
-/// `compute N`
+/// `compute TICKS`
 fn compute(reading: &mut Reading, script: OpenScript, tokens: Tokens<'_>) -> Result<(), LineFault>
     requires { length reading.old.scripts < 256 }
     ensures { Gives reading.new result
         (script_line_read (within_script reading.old script) script ScriptWord.Compute tokens.entry) }
 {
     let ticks = tokens.only()?;
-    let ticks = number_between(1, 4294967295, ticks)?;
+    let ticks = number_in(ranges::WORK, ticks)?;
     add_line(reading, script, Line::Compute(ticks))
 }
 
-/// `set N`
+/// `set NUMBER`
 fn set(reading: &mut Reading, script: OpenScript, tokens: Tokens<'_>) -> Result<(), LineFault>
     requires { length reading.old.scripts < 256 }
     ensures { Gives reading.new result
         (script_line_read (within_script reading.old script) script ScriptWord.Set tokens.entry) }
 {
     let number = tokens.only()?;
-    let number = number_between(0, 4294967295, number)?;
+    let number = number_in(ranges::NUMBER, number)?;
     add_line(reading, script, Line::Set(number))
 }
 
-/// `add N`
+/// `add NUMBER`
 fn add(reading: &mut Reading, script: OpenScript, tokens: Tokens<'_>) -> Result<(), LineFault>
     requires { length reading.old.scripts < 256 }
     ensures { Gives reading.new result
         (script_line_read (within_script reading.old script) script ScriptWord.Add tokens.entry) }
 {
     let number = tokens.only()?;
-    let number = number_between(0, 4294967295, number)?;
+    let number = number_in(ranges::NUMBER, number)?;
     add_line(reading, script, Line::Add(number))
 }
 
-/// `loop N`
+/// `loop TIMES`
 fn begin_loop(
     reading: &mut Reading,
     script: OpenScript,
@@ -84,7 +81,7 @@ fn begin_loop(
         (script_line_read (within_script reading.old script) script ScriptWord.Loop tokens.entry) }
 {
     let times = tokens.only()?;
-    let times = number_between(1, 65535, times)?;
+    let times = number_in(ranges::TIMES, times)?;
     if 8 <= script.builder.open_loops() {
         return Err(LineFault::Refused(InputRefusal::TooDeep));
     }
@@ -111,7 +108,7 @@ fn give_way(reading: &mut Reading, script: OpenScript, tokens: Tokens<'_>) -> Re
         (script_line_read (within_script reading.old script) script ScriptWord.Yield tokens.entry) }
 {
     tokens.none()?;
-    add_line(reading, script, Line::Yield)
+    add_line(reading, script, Line::Trap(ScriptTrap::Yield))
 }
 
 /// `reply`
@@ -121,62 +118,43 @@ fn reply(reading: &mut Reading, script: OpenScript, tokens: Tokens<'_>) -> Resul
         (script_line_read (within_script reading.old script) script ScriptWord.Reply tokens.entry) }
 {
     tokens.none()?;
-    add_line(reading, script, Line::Reply)
+    add_line(reading, script, Line::Trap(ScriptTrap::Reply))
 }
 
-/// `serve PORT`
-fn serve(reading: &mut Reading, script: OpenScript, tokens: Tokens<'_>) -> Result<(), LineFault>
+/// `call PORT`, `receive PORT` or `serve PORT`
+fn at_port(
+    reading: &mut Reading,
+    script: OpenScript,
+    asked: PortTrap,
+    tokens: Tokens<'_>,
+) -> Result<(), LineFault>
     requires { length reading.old.scripts < 256 }
     ensures { Gives reading.new result
-        (script_line_read (within_script reading.old script) script ScriptWord.Serve tokens.entry) }
+        (script_line_read (within_script reading.old script) script (ScriptWord.AtPort asked) tokens.entry) }
 {
     let port = tokens.only()?;
     let port = known_name(reading.ports.as_slice(), port)?;
-    add_line(reading, script, Line::Serve(port))
+    add_line(reading, script, Line::Trap(ScriptTrap::AtPort(asked, port)))
 }
 
-/// `call PORT`
-fn call(reading: &mut Reading, script: OpenScript, tokens: Tokens<'_>) -> Result<(), LineFault>
+/// `lock MUTEX` or `unlock MUTEX`
+fn on_mutex(
+    reading: &mut Reading,
+    script: OpenScript,
+    asked: MutexTrap,
+    tokens: Tokens<'_>,
+) -> Result<(), LineFault>
     requires { length reading.old.scripts < 256 }
     ensures { Gives reading.new result
-        (script_line_read (within_script reading.old script) script ScriptWord.Call tokens.entry) }
-{
-    let port = tokens.only()?;
-    let port = known_name(reading.ports.as_slice(), port)?;
-    add_line(reading, script, Line::Call(port))
-}
-
-/// `receive PORT`
-fn receive(reading: &mut Reading, script: OpenScript, tokens: Tokens<'_>) -> Result<(), LineFault>
-    requires { length reading.old.scripts < 256 }
-    ensures { Gives reading.new result
-        (script_line_read (within_script reading.old script) script ScriptWord.Receive tokens.entry) }
-{
-    let port = tokens.only()?;
-    let port = known_name(reading.ports.as_slice(), port)?;
-    add_line(reading, script, Line::Receive(port))
-}
-
-/// `lock MUTEX`
-fn lock(reading: &mut Reading, script: OpenScript, tokens: Tokens<'_>) -> Result<(), LineFault>
-    requires { length reading.old.scripts < 256 }
-    ensures { Gives reading.new result
-        (script_line_read (within_script reading.old script) script ScriptWord.Lock tokens.entry) }
+        (script_line_read (within_script reading.old script) script (ScriptWord.OnMutex asked) tokens.entry) }
 {
     let mutex = tokens.only()?;
     let mutex = known_name(reading.mutexes.as_slice(), mutex)?;
-    add_line(reading, script, Line::Lock(mutex))
-}
-
-/// `unlock MUTEX`
-fn unlock(reading: &mut Reading, script: OpenScript, tokens: Tokens<'_>) -> Result<(), LineFault>
-    requires { length reading.old.scripts < 256 }
-    ensures { Gives reading.new result
-        (script_line_read (within_script reading.old script) script ScriptWord.Unlock tokens.entry) }
-{
-    let mutex = tokens.only()?;
-    let mutex = known_name(reading.mutexes.as_slice(), mutex)?;
-    add_line(reading, script, Line::Unlock(mutex))
+    add_line(
+        reading,
+        script,
+        Line::Trap(ScriptTrap::OnMutex(asked, mutex)),
+    )
 }
 
 /// `endscript`

@@ -5,7 +5,7 @@ mod slices;
 use crate::fault_of;
 use lot_machine::{Command, Kind, Limits, Name, Sizes};
 use lot_script::Script;
-use lot_simulation::{InputFault, InputRefusal, Line};
+use lot_simulation::{InputFault, InputRefusal, Line, MutexTrap, PortTrap, ScriptTrap};
 use lot_text::{ParseFault, Program, parse};
 use same::{check_same, check_same_at};
 use std::alloc::Global;
@@ -235,13 +235,13 @@ const WHOLE_GRAMMAR_SAYS: Said<'_> = Said {
             Line::Loop(2),
             Line::Add(3),
             Line::Compute(4),
-            Line::Call(1),
+            Line::Trap(ScriptTrap::AtPort(PortTrap::Call, 1)),
             Line::End,
-            Line::Receive(2),
-            Line::Reply,
-            Line::Lock(1),
-            Line::Unlock(2),
-            Line::Yield,
+            Line::Trap(ScriptTrap::AtPort(PortTrap::Receive, 2)),
+            Line::Trap(ScriptTrap::Reply),
+            Line::Trap(ScriptTrap::OnMutex(MutexTrap::Lock, 1)),
+            Line::Trap(ScriptTrap::OnMutex(MutexTrap::Unlock, 2)),
+            Line::Trap(ScriptTrap::Yield),
         ],
         &[],
     ],
@@ -270,8 +270,8 @@ fn reads_the_whole_grammar(rt: HostRuntime) {
 
 /// What only inputs have whose turns come in the order of time.
 const TIMED: &str =
-    "lottery 3\nprocessors 2\nturns 5\nfor 4294967295\nport p\nscript s\nloop 2 serve p yield\nend endscript\nmkthr a s\n\
-    at 10\nat 20\nlstkt\nlscur\nat 20\nlsthr\nat 4294967295";
+    "lottery 3\nprocessors 2\nturns 5\nfor 4294967295\nport p\nscript s\nloop 2 serve p yield\nend endscript\n\
+    mkthr a s\nat 10\nat 20\nlstkt\nlscur\nat 20\nlsthr\nat 4294967295";
 
 /// The seeds are those after 1 of the generator that multiplies by 48271 modulo 2147483647.
 const TIMED_SAYS: Said<'_> = Said {
@@ -288,7 +288,12 @@ const TIMED_SAYS: Said<'_> = Said {
     },
     seeds: &[48271, 182605794],
     turns: 5,
-    scripts: &[&[Line::Loop(2), Line::Serve(1), Line::Yield, Line::End]],
+    scripts: &[&[
+        Line::Loop(2),
+        Line::Trap(ScriptTrap::AtPort(PortTrap::Serve, 1)),
+        Line::Trap(ScriptTrap::Yield),
+        Line::End,
+    ]],
     commands: &[
         Asked::MakeThread("a", 1),
         Asked::List(Kind::Tickets),

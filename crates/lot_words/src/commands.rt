@@ -1,9 +1,9 @@
 //! On which lines the commands of an input stand.
 
 use crate::input::{OpenScript, words_of};
-use crate::keywords::{body_word, is_command};
+use crate::keywords::row_spelled;
 use crate::phrases::after_line;
-use lot_simulation::BodyWord;
+use lot_simulation::{BODY_WORDS, BodyWord, Form};
 use std::alloc::{AllocError, Global};
 
 /// Commands on lines that follow one another.
@@ -58,9 +58,9 @@ impl CommandLines {
 
     /// Takes up a line outside scripts, which has this number, and returns the script that it opens, if it opens one.
     fn pass(&mut self, number: u32, line: &[u8]) -> Result<Option<OpenScript>, AllocError> {
-        match body_word(words_of(line).next().unwrap_or("")) {
-            Some(BodyWord::Script) => return Ok(Some(OpenScript::opened(number))),
-            Some(word) if is_command(word) => self.add(number)?,
+        match row_spelled(&BODY_WORDS, words_of(line).next().unwrap_or("")) {
+            Some((_, BodyWord::Script, _)) => return Ok(Some(OpenScript::opened(number))),
+            Some((_, _, Form::Command(_))) => self.add(number)?,
             _ => {}
         }
         Ok(None)

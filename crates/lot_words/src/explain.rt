@@ -1,9 +1,9 @@
 //! What is wrong with the refused line, as the reader finds it: first its bytes, then its first word, then how many
 //! words it has, then each of them, and then the limit that it exceeds.
 
-use crate::forms::{Form, Shape, form_outside, script_form};
+use crate::forms::{Shape, argument_at, form_outside, has_room_for};
 use crate::input::{OpenScript, Refused, words_of};
-use crate::keywords::{body_word, header_place, header_word, script_word};
+use crate::keywords::{body_word, header_word, script_row};
 use crate::nearest::nearest_word;
 use crate::phrases::phrases_problem;
 use crate::problem::{
@@ -11,7 +11,8 @@ use crate::problem::{
 };
 use crate::word::word_problem;
 use lot_simulation::{
-    BODY_WORDS, BodyWord, FIRST_WORD, Format, HeaderWord, InputRefusal, SCRIPT_WORDS, ScriptWord,
+    BODY_WORDS, BodyWord, FIRST_WORD, Form, Format, HeaderWord, InputRefusal, PortTrap,
+    SCRIPT_WORDS, ScriptWord,
 };
 use std::alloc::Global;
 
@@ -53,7 +54,7 @@ fn header_problem<'a>(refused: &Refused<'a>, word: &'a str) -> HeaderProblem<'a>
         return HeaderProblem::LateHeader(word);
     }
     let is_late = match header_word(word) {
-        Some(header) => header_place(header) <= refused.place,
+        Some(header) => header.place() <= refused.place,
         None => false,
     };
     if is_late || refused.has_duration {
@@ -100,18 +101,18 @@ fn script_problem<'a>(
     if refused.is_timed() {
         return phrases_problem(alloc, refused, script);
     }
-    let Some(keyword) = script_word(word) else {
+    let Some((_, keyword, form)) = script_row(word) else {
         let problem = no_script_word(alloc, refused, script, word);
         return Some(Problem::Keyword(problem));
     };
-    if keyword == ScriptWord::Serve {
+    if *keyword == ScriptWord::AtPort(PortTrap::Serve) {
         return Some(Problem::Keyword(KeywordProblem::OnlyTimed(word)));
     }
-    let problem = form_problem(alloc, refused, word, script_form(keyword));
+    let problem = form_problem(alloc, refused, word, *form);
     if problem.is_some() {
         return problem;
     }
-    loop_problem(script, keyword)
+    loop_problem(script, *keyword)
 }
 
 /// What is wrong with the end of a loop or of the script, if the word is one.
@@ -150,7 +151,7 @@ fn body_problem<'a>(alloc: Global, refused: &Refused<'a>, word: &'a str) -> Opti
     if let Some(form) = form_outside(word) {
         return form_problem(alloc, refused, word, form);
     }
-    if script_word(word).is_some() {
+    if script_row(word).is_some() {
         return Some(Problem::Keyword(KeywordProblem::OutsideScript(word)));
     }
     let nearest = nearest_word(alloc, &BODY_WORDS, refused.is_timed(), word);
@@ -182,15 +183,16 @@ fn form_problem<'a>(
 ) -> Option<Problem<'a>> {
     let mut words = words_of(refused.line);
     let count = words.count().saturating_sub(1);
-    if !form.has_room_for(count, refused.processors) {
-        return Some(Problem::Form(count_problem(refused, form.shape_after(word), count)));
+    if !has_room_for(form, count, refused.processors) {
+        let shape = Shape { word, form };
+        return Some(Problem::Form(count_problem(refused, shape, count)));
     }
     let mut words = words_of(refused.line);
     let _ = words.next();
     let mut place = 0usize;
     for word in words {
-        let expected = form.expected_at(place)?;
-        let problem = word_problem(alloc, refused, word, expected);
+        let argument = argument_at(form, place)?;
+        let problem = word_problem(alloc, refused, word, argument);
         if problem.is_some() {
             return problem;
         }

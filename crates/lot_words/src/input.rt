@@ -1,6 +1,6 @@
 //! The refused line, and what the lines before it say.
 
-use crate::keywords::{body_word, header_place, header_word};
+use crate::keywords::{body_word, header_word};
 use crate::phrases::after_line;
 use lot_simulation::{BodyWord, Format, HeaderWord, ScriptWord};
 use std::str;
@@ -27,7 +27,7 @@ pub(crate) struct Refused<'a> {
     /// What the first of these says.
     pub(crate) format: Option<Format>,
     /// Where the last line of the header comes in it, from 0 on.
-    pub(crate) place: usize,
+    pub(crate) place: u32,
     /// Whether the header says how long the input runs.
     pub(crate) has_duration: bool,
     /// The time that was said last.
@@ -99,7 +99,7 @@ impl<'a> Refused<'a> {
 
     /// The same of a line of the header.
     fn pass_header(&mut self, word: HeaderWord, next: &str) {
-        self.place = header_place(word);
+        self.place = word.place();
         match word {
             HeaderWord::Lottery => self.format = Format::of_word(next.as_bytes()),
             HeaderWord::For => self.has_duration = true,
@@ -110,7 +110,7 @@ impl<'a> Refused<'a> {
 
     /// The same of a line of the body.
     fn pass_body(&mut self, number: u32, word: &str, next: &str) {
-        self.place = usize::MAX;
+        self.place = u32::MAX;
         match body_word(word) {
             Some(BodyWord::At) => self.now = next.parse::<u32>().unwrap_or(0),
             Some(BodyWord::Script) => self.script = Some(OpenScript::opened(number)),

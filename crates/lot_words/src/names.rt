@@ -2,52 +2,39 @@
 
 use crate::input::words_of;
 use crate::keywords::body_word;
-use lot_simulation::BodyWord;
+use crate::nearest::text_of;
+use lot_simulation::{BODY_WORDS, BodyWord};
 use std::fmt;
 
-/// What has a name of its own.
-#[derive(Clone, Copy, Debug, PartialEq, Eq)]
-pub(crate) enum Kind {
-    Port,
-    Mutex,
-    Script,
-}
+/// What has a name of its own, by the word that begins the line of one.
+#[derive(Clone, Copy, Debug)]
+pub(crate) struct Declared(pub(crate) BodyWord);
 
-impl Kind {
-    /// The word that begins the line of one.
-    fn keyword(self) -> BodyWord {
-        match self {
-            Kind::Port => BodyWord::Port,
-            Kind::Mutex => BodyWord::Mutex,
-            Kind::Script => BodyWord::Script,
-        }
-    }
-}
-
-impl fmt::Display for Kind {
+impl fmt::Display for Declared {
     fn fmt<W: fmt::Write>(&self, f: &mut fmt::Formatter<W>) -> fmt::Result {
-        f.write_str(match self {
-            Kind::Port => "port",
-            Kind::Mutex => "mutex",
-            Kind::Script => "script",
-        })
+        for (spelling, word, _) in &BODY_WORDS {
+            if *word == self.0 {
+                return f.write_str(text_of(spelling));
+            }
+        }
+        Ok(())
     }
 }
 
-/// The name of this kind that the line declares, if it declares one.
-pub(crate) fn name_declared(kind: Kind, line: &[u8]) -> Option<&str> {
+/// The name that the line declares, if it begins with this word.
+pub(crate) fn name_declared(keyword: BodyWord, line: &[u8]) -> Option<&str> {
     let mut words = words_of(line);
-    if body_word(words.next().unwrap_or("")) == Some(kind.keyword()) {
+    if body_word(words.next().unwrap_or("")) == Some(keyword) {
         words.next()
     } else {
         None
     }
 }
 
-/// Whether one of these lines declares this name of this kind.
-pub(crate) fn is_declared(lines: &[u8], kind: Kind, name: &str) -> bool {
+/// Whether one of these lines begins with this word and declares this name.
+pub(crate) fn is_declared(lines: &[u8], keyword: BodyWord, name: &str) -> bool {
     for line in lines.split(|byte| *byte == b'\n') {
-        if name_declared(kind, line) == Some(name) {
+        if name_declared(keyword, line) == Some(name) {
             return true;
         }
     }

@@ -1,6 +1,7 @@
 //! What may have been meant.
 
-use crate::names::{Kind, name_declared};
+use crate::names::name_declared;
+use lot_simulation::{BodyWord, WordRow};
 use std::alloc::Global;
 use std::{fmt, str};
 use strsim::levenshtein;
@@ -48,7 +49,7 @@ impl fmt::Display for Nearest<'_> {
 /// come in the order of time.
 pub(crate) fn nearest_word<W>(
     alloc: Global,
-    table: &'static [(&'static [u8], W)],
+    table: &'static [WordRow<W>],
     is_timed: bool,
     misspelt: &str,
 ) -> Nearest<'static> {
@@ -56,7 +57,7 @@ pub(crate) fn nearest_word<W>(
     let [first, others @ ..] = table else {
         return nearest;
     };
-    for (spelling, _) in others {
+    for (spelling, _, _) in others {
         nearest = nearest.or(alloc, misspelt, text_of(spelling));
     }
     if is_timed {
@@ -66,20 +67,20 @@ pub(crate) fn nearest_word<W>(
 }
 
 /// The spelling of a word as text.
-fn text_of(spelling: &'static [u8]) -> &'static str {
+pub(crate) fn text_of(spelling: &'static [u8]) -> &'static str {
     str::from_utf8(spelling).unwrap_or("")
 }
 
-/// The name of this kind in these lines that is nearest to this one.
+/// The name that one of these lines declares with this word, and that is nearest to this one.
 pub(crate) fn nearest_name<'a>(
     alloc: Global,
     lines: &'a [u8],
-    kind: Kind,
+    keyword: BodyWord,
     misspelt: &str,
 ) -> Nearest<'a> {
     let mut nearest = Nearest::NONE;
     for line in lines.split(|byte| *byte == b'\n') {
-        if let Some(name) = name_declared(kind, line) {
+        if let Some(name) = name_declared(keyword, line) {
             nearest = nearest.or(alloc, misspelt, name);
         }
     }

@@ -1,7 +1,7 @@
 //! What is wrong with a line.
 
 use crate::forms::Shape;
-use crate::names::Kind;
+use crate::names::Declared;
 use crate::nearest::Nearest;
 use lot_simulation::InputRefusal;
 use thiserror::Error;
@@ -26,7 +26,7 @@ pub(crate) enum Problem<'a> {
     Limit(LimitProblem),
     #[error("this script isn't closed: 'endscript' closes it")]
     Unclosed,
-    #[error("{}", name_of(*.0))]
+    #[error("{0:?}")]
     Other(InputRefusal),
 }
 
@@ -48,9 +48,11 @@ pub(crate) enum ByteProblem {
 pub(crate) enum HeaderProblem<'a> {
     #[error("an input begins with 'lottery 1', 'lottery 2' or 'lottery 3'")]
     NoStart,
-    #[error("'{0}' comes too late: the header has 'lottery', 'processors', 'quantum', 'turns', 'seed' and 'limits', each at most once, in this order and before all else")]
+    #[error("'{0}' comes too late: the header has 'lottery', 'processors', 'quantum', \
+        'turns', 'seed' and 'limits', each at most once, in this order and before all else")]
     LateHeader(&'a str),
-    #[error("'{0}' comes too late: the header has 'lottery', 'processors', 'quantum', 'turns', 'for', 'seed' and 'limits', each at most once, in this order and before all else")]
+    #[error("'{0}' comes too late: the header has 'lottery', 'processors', 'quantum', \
+        'turns', 'for', 'seed' and 'limits', each at most once, in this order and before all else")]
     LateTimedHeader(&'a str),
     #[error("the header doesn't say how long the input runs: 'for TICKS' comes before 'seed', 'limits' and all else")]
     NoDuration,
@@ -65,11 +67,13 @@ pub(crate) enum KeywordProblem<'a> {
     NoScriptWord { word: &'a str, nearest: Nearest<'a> },
     #[error("'{0}' is a word of a script, and no script is open: 'script NAME' opens one")]
     OutsideScript(&'a str),
-    #[error("'{word}' is no word of a script, and the one that line {opened} opens isn't closed: 'endscript' closes it")]
+    #[error("'{word}' is no word of a script, and the one that line {opened} opens isn't closed: \
+        'endscript' closes it")]
     InsideScript { word: &'a str, opened: u32 },
     #[error("'runs' is for 'lottery 2': in 'lottery 1' write 'schedule ACTOR ..'")]
     RunsOfFirst,
-    #[error("'{0}' is not for 'lottery 3', whose turns come in the order of time: 'at TICK' says when commands are made")]
+    #[error("'{0}' is not for 'lottery 3', whose turns come in the order of time: \
+        'at TICK' says when commands are made")]
     ScheduleOfTimed(&'a str),
     #[error("'{0}' is for 'lottery 3', whose turns come in the order of time")]
     OnlyTimed(&'a str),
@@ -125,12 +129,12 @@ pub(crate) enum NameProblem<'a> {
     #[error("'{word}' is the name of an earlier {kind}")]
     Taken {
         word: &'a str,
-        kind: Kind,
+        kind: Declared,
     },
     #[error("'{word}' is no {kind} of an earlier line{nearest}")]
     Unknown {
         word: &'a str,
-        kind: Kind,
+        kind: Declared,
         nearest: Nearest<'a>,
     },
 }
@@ -144,18 +148,4 @@ pub(crate) enum LimitProblem {
     DeepLoop,
     #[error("one {what} too many, at most {most}")]
     TooMany { what: &'static str, most: u32 },
-}
-
-/// The name of a refusal, for one that nothing above explains.
-fn name_of(refusal: InputRefusal) -> &'static str {
-    match refusal {
-        InputRefusal::BadHeader => "BadHeader",
-        InputRefusal::BadLine => "BadLine",
-        InputRefusal::BadNumber => "BadNumber",
-        InputRefusal::UnknownName => "UnknownName",
-        InputRefusal::OpenScript => "OpenScript",
-        InputRefusal::TooDeep => "TooDeep",
-        InputRefusal::TooLong => "TooLong",
-        InputRefusal::BadActor => "BadActor",
-    }
 }

@@ -58,7 +58,8 @@ fn write_unmade<W: Write>(
         ),
         count => writeln!(
             writer,
-            "{line}this command and those after it, {count} in all, were never made: each 0 in a schedule makes one, and lottery 3 makes those up to its end"
+            "{line}this command and those after it, {count} in all, were never made: \
+            each 0 in a schedule makes one, and lottery 3 makes those up to its end"
         ),
     }
 }

@@ -1,11 +1,11 @@
 //! What is wrong with one word of a line.
 
-use crate::forms::Expected;
 use crate::input::Refused;
-use crate::names::{Kind, is_declared};
+use crate::names::{Declared, is_declared};
 use crate::nearest::nearest_name;
 use crate::problem::{NameProblem, NumberProblem, Problem};
 use lot_machine::is_good_name;
+use lot_simulation::{Argument, BodyWord, Range};
 use std::alloc::Global;
 
 /// What is wrong with a word of the refused line that is to be this.
@@ -13,16 +13,20 @@ pub(crate) fn word_problem<'a>(
     alloc: Global,
     refused: &Refused<'a>,
     word: &'a str,
-    expected: Expected,
+    argument: Argument,
 ) -> Option<Problem<'a>> {
-    match expected {
-        Expected::AnyNumber => number_problem(word),
-        Expected::Between(first, last) => between_problem(word, first, last),
-        Expected::AnyName => long_name(word),
-        Expected::New(kind) => new_problem(refused, word, kind),
-        Expected::Known(kind) => known_problem(alloc, refused, word, kind),
-        Expected::Actor => actor_problem(refused, word),
-        Expected::Later => between_problem(word, refused.now, u32::MAX),
+    match argument {
+        Argument::AnyNumber => number_problem(word),
+        Argument::Number(range) => range_problem(word, range),
+        Argument::AnyName => long_name(word),
+        Argument::NewName(keyword) => new_problem(refused, word, keyword),
+        Argument::KnownName(keyword) => known_problem(alloc, refused, word, keyword),
+        Argument::Actor => actor_problem(refused, word),
+        Argument::Time(range) => {
+            let first = refused.now;
+            range_problem(word, Range { first, ..range })
+        }
+        Argument::Version => None,
     }
 }
 
@@ -42,7 +46,8 @@ fn number_problem(word: &str) -> Option<Problem<'_>> {
     }
 }
 
-fn between_problem(word: &str, first: u32, last: u32) -> Option<Problem<'_>> {
+fn range_problem(word: &str, range: Range) -> Option<Problem<'_>> {
+    let Range { first, last } = range;
     match number_of(word) {
         Some(number) if u64::from(first) <= number && number <= u64::from(last) => None,
         _ => Some(Problem::Number(NumberProblem::NotBetween { word, first, last })),
@@ -67,7 +72,7 @@ fn long_name(word: &str) -> Option<Problem<'_>> {
     }
 }
 
-fn new_problem<'a>(refused: &Refused<'a>, word: &'a str, kind: Kind) -> Option<Problem<'a>> {
+fn new_problem<'a>(refused: &Refused<'a>, word: &'a str, keyword: BodyWord) -> Option<Problem<'a>> {
     let problem = long_name(word);
     if problem.is_some() {
         return problem;
@@ -75,7 +80,8 @@ fn new_problem<'a>(refused: &Refused<'a>, word: &'a str, kind: Kind) -> Option<P
     if !is_good_name(word.as_bytes()) {
         return Some(Problem::Name(NameProblem::BadName(word)));
     }
-    if is_declared(refused.before, kind, word) {
+    if is_declared(refused.before, keyword, word) {
+        let kind = Declared(keyword);
         return Some(Problem::Name(NameProblem::Taken { word, kind }));
     }
     None
@@ -85,16 +91,16 @@ fn known_problem<'a>(
     alloc: Global,
     refused: &Refused<'a>,
     word: &'a str,
-    kind: Kind,
+    keyword: BodyWord,
 ) -> Option<Problem<'a>> {
     let problem = long_name(word);
-    if problem.is_some() || is_declared(refused.before, kind, word) {
+    if problem.is_some() || is_declared(refused.before, keyword, word) {
         return problem;
     }
-    let nearest = nearest_name(alloc, refused.before, kind, word);
+    let nearest = nearest_name(alloc, refused.before, keyword, word);
     Some(Problem::Name(NameProblem::Unknown {
         word,
-        kind,
+        kind: Declared(keyword),
         nearest,
     }))
 }

@@ -460,8 +460,8 @@ fn prints_totals(rt: HostRuntime) {
     };
     let mut writer = Watched::new(Vec::new(rt.alloc()));
     let ended = write_small_report(&mut writer, &row, processor, total);
-    let wanted =
-        "report\nthread 1 a quanta 2 ticks 200\nprocessor 1 quanta 3 idle 0 ticks 300\ntotal turns 12 quanta 3 ticks 300\n";
+    let wanted = "report\nthread 1 a quanta 2 ticks 200\nprocessor 1 quanta 3 idle 0 ticks 300\n\
+        total turns 12 quanta 3 ticks 300\n";
     check(&rt, writer, ended, wanted);
 }
 
@@ -740,8 +740,8 @@ fn history_of_pairs(rt: &impl Abort, alloc: Global) -> Vec<u8> {
 }
 
 const LINES_OF_PAIRS: &str =
-    "runs 0 2 1 2 2 2 3 2 4 2 5 2 6 2 7 2 8 2 9 2 10 2 11 2 12 2 13 2 14 2 15 2 16 2 17 2 18 2 19 2 20 2 21 2 22 2 23 2 \
-    24 2 25 2 26 2 27 2 28 2 29 2 30 2 31 2\nruns 32 2\n";
+    "runs 0 2 1 2 2 2 3 2 4 2 5 2 6 2 7 2 8 2 9 2 10 2 11 2 12 2 13 2 14 2 15 2 16 2 17 2 18 2 19 2 20 2 21 2 22 2 \
+    23 2 24 2 25 2 26 2 27 2 28 2 29 2 30 2 31 2\nruns 32 2\n";
 
 #[test]
 fn prints_runs_after_a_line(rt: HostRuntime) {
@@ -902,8 +902,8 @@ fn prints_timed_totals(rt: HostRuntime) {
         mutexes: NO_WAITS,
         replies: LONG,
     };
-    let wanted =
-        "thread 1 thread2 quanta 4 ticks 2 share 0% value 0% reply waits 4294967295 mean 4294967297 longest 4294967295\n";
+    let wanted = "thread 1 thread2 quanta 4 ticks 2 share 0% value 0% \
+        reply waits 4294967295 mean 4294967297 longest 4294967295\n";
     check_shares(&rt, rt.alloc(), shares, wanted);
 }
 

@@ -1,9 +1,26 @@
 //! Worked scripts. What is expected follows from their lists, unrolled by hand.
 use super::same::{check_same, check_same_at};
 use lot_script::{Place, Script, ScriptBuilder};
-use lot_simulation::{InputRefusal, Line, ScriptTrap};
+use lot_simulation::{InputRefusal, Line, MutexTrap, PortTrap, ScriptTrap};
 use std::alloc::Global;
 use std::process::Abort;
+
+// Traps at ports and mutexes of these numbers.
+const REPLY: ScriptTrap = ScriptTrap::Reply;
+
+const YIELD: ScriptTrap = ScriptTrap::Yield;
+
+const CALL_1: ScriptTrap = ScriptTrap::AtPort(PortTrap::Call, 1);
+
+const LOCK_1: ScriptTrap = ScriptTrap::OnMutex(MutexTrap::Lock, 1);
+
+const UNLOCK_1: ScriptTrap = ScriptTrap::OnMutex(MutexTrap::Unlock, 1);
+
+const RECEIVE_2: ScriptTrap = ScriptTrap::AtPort(PortTrap::Receive, 2);
+
+const SERVE_2: ScriptTrap = ScriptTrap::AtPort(PortTrap::Serve, 2);
+
+const CALL_3: ScriptTrap = ScriptTrap::AtPort(PortTrap::Call, 3);
 
 /// Adds a line that can come next.
 fn add_line(rt: &impl Abort, builder: &mut ScriptBuilder, line: Line) {
@@ -77,38 +94,43 @@ fn nothing_to_do(rt: HostRuntime) {
 
 #[test]
 fn traps(rt: HostRuntime) {
-    let lines = [Line::Loop(1), Line::Yield, Line::End, Line::Receive(2)];
+    let lines = [
+        Line::Loop(1),
+        Line::Trap(YIELD),
+        Line::End,
+        Line::Trap(RECEIVE_2),
+    ];
     let script = script_of(&rt, rt.alloc(), &lines);
     let exit = Some(ScriptTrap::Exit);
     slices_in_turn(
         &rt,
         &script,
         &[
-            (1000, 1, Some(ScriptTrap::Yield), 0),
-            (1000, 1, Some(ScriptTrap::Receive(2)), 0),
+            (1000, 1, Some(YIELD), 0),
+            (1000, 1, Some(RECEIVE_2), 0),
             (1000, 0, exit, 0),
             (1, 0, exit, 0),
         ],
     );
     let lines = [
-        Line::Call(3),
-        Line::Reply,
-        Line::Serve(2),
-        Line::Lock(1),
-        Line::Unlock(1),
-        Line::Yield,
+        Line::Trap(CALL_3),
+        Line::Trap(REPLY),
+        Line::Trap(SERVE_2),
+        Line::Trap(LOCK_1),
+        Line::Trap(UNLOCK_1),
+        Line::Trap(YIELD),
     ];
     let script = script_of(&rt, rt.alloc(), &lines);
     slices_in_turn(
         &rt,
         &script,
         &[
-            (1, 0, Some(ScriptTrap::Call(3)), 0),
-            (1, 0, Some(ScriptTrap::Reply), 0),
-            (1, 0, Some(ScriptTrap::Serve(2)), 0),
-            (1, 0, Some(ScriptTrap::Lock(1)), 0),
-            (1, 0, Some(ScriptTrap::Unlock(1)), 0),
-            (1, 0, Some(ScriptTrap::Yield), 0),
+            (1, 0, Some(CALL_3), 0),
+            (1, 0, Some(REPLY), 0),
+            (1, 0, Some(SERVE_2), 0),
+            (1, 0, Some(LOCK_1), 0),
+            (1, 0, Some(UNLOCK_1), 0),
+            (1, 0, Some(YIELD), 0),
             (1, 0, exit, 0),
         ],
     );
@@ -116,9 +138,9 @@ fn traps(rt: HostRuntime) {
 
 #[test]
 fn budgets_round_a_trap(rt: HostRuntime) {
-    let lines = [Line::Compute(5), Line::Call(3), Line::Compute(1)];
+    let lines = [Line::Compute(5), Line::Trap(CALL_3), Line::Compute(1)];
     let script = script_of(&rt, rt.alloc(), &lines);
-    let call = Some(ScriptTrap::Call(3));
+    let call = Some(CALL_3);
     let exit = Some(ScriptTrap::Exit);
     slices_in_turn(
         &rt,
@@ -138,7 +160,7 @@ fn accumulators(rt: HostRuntime) {
     let lines = [
         Line::Set(4294967295),
         Line::Add(3),
-        Line::Call(1),
+        Line::Trap(CALL_1),
         Line::Loop(2),
         Line::Add(7),
         Line::End,
@@ -150,7 +172,7 @@ fn accumulators(rt: HostRuntime) {
         &script,
         &[
             (1, 1, None, 4294967295),
-            (1000, 1, Some(ScriptTrap::Call(1)), 2),
+            (1000, 1, Some(CALL_1), 2),
             (2, 2, None, 9),
             (2, 2, None, 16),
             (1, 1, None, 16),
@@ -206,14 +228,15 @@ fn refused_lines(rt: HostRuntime) {
         (Line::Loop(0), InputRefusal::BadNumber),
         (Line::Loop(65536), InputRefusal::BadNumber),
         (Line::End, InputRefusal::BadLine),
+        (Line::Trap(ScriptTrap::Exit), InputRefusal::BadLine),
     ] {
         check_refused(&rt, &builder, line, refusal);
     }
     add_lines(&rt, &mut builder, Line::Loop(1), 8);
     check_refused(&rt, &builder, Line::Loop(1), InputRefusal::TooDeep);
-    add_lines(&rt, &mut builder, Line::Yield, 1016);
+    add_lines(&rt, &mut builder, Line::Trap(YIELD), 1016);
     check_refused(&rt, &builder, Line::Loop(1), InputRefusal::TooDeep);
-    check_refused(&rt, &builder, Line::Yield, InputRefusal::TooLong);
+    check_refused(&rt, &builder, Line::Trap(YIELD), InputRefusal::TooLong);
 }
 
 /// Whether the place fits in each of three scripts.
@@ -227,7 +250,7 @@ fn places_in_other_scripts(rt: HostRuntime) {
     let script = script_of(&rt, rt.alloc(), &lines);
     let lines = [Line::Loop(2), Line::Compute(4), Line::End];
     let fewer = script_of(&rt, rt.alloc(), &lines);
-    let other = script_of(&rt, rt.alloc(), &[Line::Yield, Line::Compute(4)]);
+    let other = script_of(&rt, rt.alloc(), &[Line::Trap(YIELD), Line::Compute(4)]);
     let found = fits(&script.start(), &script, &fewer, &other);
     check_same(&rt, &found, &[true; 3]);
     for (budget, in_fewer, in_other) in [(2, false, false), (7, true, false), (16, true, false)] {
@@ -275,8 +298,8 @@ fn handed_accumulator(script: &Script) -> u32 {
 
 #[test]
 fn the_same_again(rt: HostRuntime) {
-    let script = script_of(&rt, rt.alloc(), &[Line::Set(3), Line::Yield]);
-    let other = script_of(&rt, rt.alloc(), &[Line::Set(3), Line::Reply]);
+    let script = script_of(&rt, rt.alloc(), &[Line::Set(3), Line::Trap(YIELD)]);
+    let other = script_of(&rt, rt.alloc(), &[Line::Set(3), Line::Trap(REPLY)]);
     let copy = script.copied(rt.alloc()).expect(&rt, "memory");
     let found = (copy.is_same(&script), copy.is_same(&other));
     check_same(&rt, &found, &(true, false));

@@ -4,7 +4,7 @@ use Rattle.lot_simulation.specs.Words.{word_in}
 use Rattle.lot_simulation.proofs.words.word_spelled.Given as goal
 
 abbrev pub invariant-loop-table : goal.invariant-loop-table
-invariant-loop-table g l = word_in (map (λ entry. (entry.0.now, entry.1)) l.table) l.token ≡ word_in (map (λ entry. (entry.0.now, entry.1)) l.initial.table) l.token
+invariant-loop-table g l = word_in (map (λ row. (row.0.now, row.1)) l.table) l.token ≡ word_in (map (λ row. (row.0.now, row.1)) l.initial.table) l.token
 
 abbrev pub decreases-loop-table : goal.decreases-loop-table
 decreases-loop-table g l = length l.table

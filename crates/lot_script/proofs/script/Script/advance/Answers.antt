@@ -15,9 +15,9 @@ returns-in_default c = MakesTrap-exit _ _ c.requires.fits (sym c.next_line.ensur
 pub leave_line-requires : goal.leave_line-requires
 leave_line-requires c = stands-within _ _ _ (stands _ _ _ _ c.next_line.ensures.legal c.requires.fits c.next_line.ensures.line c.in-Some.is)
 
-pub returns-in-Some-trap_on : goal.returns-in-Some-trap_on
-returns-in-Some-trap_on c =
-    rw c.leave_line.ensures (MakesTrap-line _ _ _ _ (stands _ _ _ _ c.next_line.ensures.legal c.requires.fits c.next_line.ensures.line c.in-Some.is) c.in-Some-trap_on.ensures.trap)
+pub returns-in-Trap : goal.returns-in-Trap
+returns-in-Trap c =
+    rw c.leave_line.ensures (MakesTrap-line _ _ _ (rw c.in-Trap.is at (stands _ _ _ _ c.next_line.ensures.legal c.requires.fits c.next_line.ensures.line c.in-Some.is)))
 
 pub pass-requires-clause-stands : goal.pass-requires-clause-stands
 pass-requires-clause-stands c = stands _ _ _ _ c.next_line.ensures.legal c.requires.fits c.next_line.ensures.line c.in-Some.is

@@ -1,0 +1,29 @@
+-- What a state of reading says.
+use Rattle.std.specs.Prelude.{option_map}
+use Rattle.lot_simulation.specs.Formats.{is_timed, unit_of}
+use Rattle.lot_simulation.specs.Reading.{Reading}
+use Rattle.lot_text.specs.declared.reading.Reading.TheInside.{Inside}
+
+-- what was read, by the fields that keep it
+abbrev pub reading_of : Inside → Reading
+reading_of r = record {
+  place = r.place;
+  is_timed = is_timed r.format;
+  unit = unit_of r.format;
+  processors = r.processors;
+  quantum = r.quantum;
+  turns = r.turns;
+  duration = r.duration;
+  seeds = option_map (λ s. s.items) r.seeds;
+  tickets = r.tickets;
+  currencies = r.currencies;
+  threads = r.threads;
+  ports = r.ports.items;
+  mutexes = r.mutexes.items;
+  scripts = r.scripts.items;
+  unclosed = r.unclosed;
+  commands = r.commands.items;
+  time = r.time;
+  times = r.times.items;
+  schedule = r.schedule.items;
+}
