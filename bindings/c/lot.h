@@ -198,7 +198,7 @@ enum {
     LOT_OUTCOME_REPLIED_THEN_WAITS = 13     // replied_to; it waits for a call, and runs no more
 };
 
-// Why an event is refused.
+// Why an event is refused. The numbers are those of docs/FORMATS.md, as in the program's output.
 enum {
     LOT_REFUSAL_BAD_NAME = 1, // never answered here: such a name has a status
     LOT_REFUSAL_NAME_TAKEN = 2,
@@ -214,20 +214,20 @@ enum {
     LOT_REFUSAL_DEAD_THREAD = 12,
     LOT_REFUSAL_FULL = 13,
     LOT_REFUSAL_NO_SCRIPT = 14,
-    LOT_REFUSAL_BAD_PROCESSOR = 15,
-    LOT_REFUSAL_BUSY = 16,
-    LOT_REFUSAL_NOT_RUNNING = 17,
-    LOT_REFUSAL_BAD_TICKS = 18
+    LOT_REFUSAL_BAD_PROCESSOR = 20,
+    LOT_REFUSAL_BUSY = 21,
+    LOT_REFUSAL_NOT_RUNNING = 22,
+    LOT_REFUSAL_BAD_TICKS = 23
 };
 
-// Why a trap is refused. It costs its ticks all the same.
+// Why a trap is refused. It costs its ticks all the same. The numbers are those of docs/FORMATS.md too.
 enum {
-    LOT_TRAP_REFUSAL_NO_PORT = 1,
-    LOT_TRAP_REFUSAL_NOTHING_TO_REPLY = 2,
-    LOT_TRAP_REFUSAL_NO_MUTEX = 3,
-    LOT_TRAP_REFUSAL_NOT_OWNER = 4,
-    LOT_TRAP_REFUSAL_ALREADY_OWNER = 5,
-    LOT_TRAP_REFUSAL_LOCK_CYCLE = 6
+    LOT_TRAP_REFUSAL_NO_PORT = 30,
+    LOT_TRAP_REFUSAL_NOTHING_TO_REPLY = 32,
+    LOT_TRAP_REFUSAL_NO_MUTEX = 33,
+    LOT_TRAP_REFUSAL_NOT_OWNER = 34,
+    LOT_TRAP_REFUSAL_ALREADY_OWNER = 35,
+    LOT_TRAP_REFUSAL_LOCK_CYCLE = 36
 };
 
 typedef struct lot_reply {

@@ -412,7 +412,7 @@ static void limits(void) {
 
 // Each kind that there isn't, and each name that isn't one: a status of its own, no reply, and nothing changed.
 static void kinds_and_names(void) {
-    static const uint32_t kinds[6] = {0, 22, 23, 255, 1u << 31, UINT32_MAX};
+    static const uint32_t kinds[6] = {0, LOT_SERVE + 1, LOT_SERVE + 2, 255, 1u << 31, UINT32_MAX};
     static const struct {
         const char *text;
         uint32_t length, status;
@@ -463,7 +463,7 @@ static void runs(void) {
     lot_kernel kernel = made(&SMALL);
     lot_event events[4] = {{.kind = LOT_MAKE_CURRENCY, .name = lot_name_of("x")},
                            {.kind = LOT_MAKE_CURRENCY, .name = lot_name_of("y")},
-                           {.kind = 99},
+                           {.kind = LOT_SERVE + 1},
                            {.kind = LOT_MAKE_CURRENCY, .name = lot_name_of("z")}};
     lot_reply replies[4], before;
     memset(replies, 0x5a, sizeof replies);
@@ -501,7 +501,7 @@ static lot_event random_event(void) {
     if (random_bits() % 2 == 0) {
         return event;
     }
-    event.kind = (uint32_t)(random_bits() % 23);
+    event.kind = (uint32_t)(random_bits() % (LOT_SERVE + 2));
     event.processor = (uint32_t)(random_bits() % 4);
     event.ticks = (uint32_t)(random_bits() % 120);
     event.object = (uint32_t)(random_bits() % 4);

@@ -111,7 +111,7 @@ class Worked(unittest.TestCase):
         self.assertEqual(status_of(lambda: lot.Kernel(threads=4097)), "bad limits")
         self.assertEqual(status_of(lambda: lot.ParkMiller(0)), "bad seed")
         with lot.Kernel() as kernel:
-            self.assertEqual(status_of(lambda: kernel.event(22)), "bad kind")
+            self.assertEqual(status_of(lambda: kernel.event(lot.SERVE + 1)), "bad kind")
             self.assertEqual(status_of(lambda: kernel.event(lot.MAKE_CURRENCY, name="a-very-long-name-")), "long name")
             self.assertEqual(status_of(lambda: kernel.event(lot.MAKE_CURRENCY, name="Base")), "bad name")
             kernel.close()

@@ -1,5 +1,6 @@
 //! What a kernel is given.
 
+use crate::numbers::EventKind;
 use crate::{ffi, Name};
 
 /// What a listing is of. Its rows are read one by one, by [`crate::Kernel::ticket_row`] and its like.
@@ -147,50 +148,56 @@ pub enum Event {
 
 impl Command {
     fn plain(&self) -> ffi::Event {
-        let blank = ffi::Event::default();
         match *self {
-            Command::MakeTicket { amount, currency } => ffi::Event { kind: 1, amount, currency: currency.plain(), ..blank },
-            Command::RemoveTicket { ticket } => ffi::Event { kind: 2, ticket, ..blank },
-            Command::MakeCurrency { name } => ffi::Event { kind: 3, name: name.plain(), ..blank },
-            Command::RemoveCurrency { currency } => ffi::Event { kind: 4, currency: currency.plain(), ..blank },
-            Command::Fund { ticket, target } => ffi::Event { kind: 5, ticket, name: target.plain(), ..blank },
-            Command::Unfund { ticket } => ffi::Event { kind: 6, ticket, ..blank },
-            Command::MakeThread { name, script } => ffi::Event { kind: 7, name: name.plain(), script, ..blank },
-            Command::MakeFunded { amount, currency, name, script } => {
-                ffi::Event { kind: 8, amount, currency: currency.plain(), name: name.plain(), script, ..blank }
+            Command::MakeTicket { amount, currency } => {
+                ffi::Event { amount, currency: currency.plain(), ..EventKind::MakeTicket.event() }
             }
-            Command::List(Listing::Tickets) => ffi::Event { kind: 9, ..blank },
-            Command::List(Listing::Currencies) => ffi::Event { kind: 10, ..blank },
-            Command::List(Listing::Threads) => ffi::Event { kind: 11, ..blank },
+            Command::RemoveTicket { ticket } => ffi::Event { ticket, ..EventKind::RemoveTicket.event() },
+            Command::MakeCurrency { name } => ffi::Event { name: name.plain(), ..EventKind::MakeCurrency.event() },
+            Command::RemoveCurrency { currency } => {
+                ffi::Event { currency: currency.plain(), ..EventKind::RemoveCurrency.event() }
+            }
+            Command::Fund { ticket, target } => ffi::Event { ticket, name: target.plain(), ..EventKind::Fund.event() },
+            Command::Unfund { ticket } => ffi::Event { ticket, ..EventKind::Unfund.event() },
+            Command::MakeThread { name, script } => {
+                ffi::Event { name: name.plain(), script, ..EventKind::MakeThread.event() }
+            }
+            Command::MakeFunded { amount, currency, name, script } => {
+                let (currency, name) = (currency.plain(), name.plain());
+                ffi::Event { amount, currency, name, script, ..EventKind::MakeFunded.event() }
+            }
+            Command::List(Listing::Tickets) => EventKind::ListTickets.event(),
+            Command::List(Listing::Currencies) => EventKind::ListCurrencies.event(),
+            Command::List(Listing::Threads) => EventKind::ListThreads.event(),
         }
     }
 }
 
 impl Action {
     fn plain(&self) -> ffi::Event {
-        let blank = ffi::Event::default();
         match *self {
-            Action::Yield => ffi::Event { kind: 14, ..blank },
-            Action::Call { port, number } => ffi::Event { kind: 15, object: port, sent: number, ..blank },
-            Action::Receive { port } => ffi::Event { kind: 16, object: port, ..blank },
-            Action::Reply { number } => ffi::Event { kind: 17, sent: number, ..blank },
-            Action::Serve { port, number } => ffi::Event { kind: 21, object: port, sent: number, ..blank },
-            Action::Lock { mutex } => ffi::Event { kind: 18, object: mutex, ..blank },
-            Action::Unlock { mutex, number } => ffi::Event { kind: 19, object: mutex, number: ffi::Wide::of(number), ..blank },
-            Action::Exit => ffi::Event { kind: 20, ..blank },
+            Action::Yield => EventKind::Yield.event(),
+            Action::Call { port, number } => ffi::Event { object: port, sent: number, ..EventKind::Call.event() },
+            Action::Receive { port } => ffi::Event { object: port, ..EventKind::Receive.event() },
+            Action::Reply { number } => ffi::Event { sent: number, ..EventKind::Reply.event() },
+            Action::Serve { port, number } => ffi::Event { object: port, sent: number, ..EventKind::Serve.event() },
+            Action::Lock { mutex } => ffi::Event { object: mutex, ..EventKind::Lock.event() },
+            Action::Unlock { mutex, number } => {
+                ffi::Event { object: mutex, number: ffi::Wide::of(number), ..EventKind::Unlock.event() }
+            }
+            Action::Exit => EventKind::Exit.event(),
         }
     }
 }
 
 impl Event {
     pub(crate) fn plain(&self) -> ffi::Event {
-        let blank = ffi::Event::default();
         match self {
             Event::Command(command) => command.plain(),
             Event::Draw { processor, number } => {
-                ffi::Event { kind: 12, processor: *processor, number: ffi::Wide::of(*number), ..blank }
+                ffi::Event { processor: *processor, number: ffi::Wide::of(*number), ..EventKind::Draw.event() }
             }
-            Event::Expire { processor } => ffi::Event { kind: 13, processor: *processor, ..blank },
+            Event::Expire { processor } => ffi::Event { processor: *processor, ..EventKind::Expire.event() },
             Event::Trap { processor, ticks, action } => {
                 ffi::Event { processor: *processor, ticks: *ticks, ..action.plain() }
             }

@@ -1,17 +1,8 @@
 //! The archive's calls, as `bindings/c/lot.h` has them.
 
+use crate::numbers::CallStatus;
 use crate::{Meter, Runner, Sizes};
 use std::ffi::c_void;
-
-pub const DONE: u32 = 0;
-pub const BAD_LIMITS: u32 = 3;
-pub const NO_MEMORY: u32 = 4;
-pub const LONG_NAME: u32 = 6;
-pub const BAD_NAME: u32 = 7;
-pub const NOT_THERE: u32 = 8;
-pub const BAD_SEED: u32 = 10;
-pub const NO_WINNER: u32 = 11;
-pub const TOO_LARGE: u32 = 12;
 
 #[repr(C)]
 #[derive(Clone, Copy, Default)]
@@ -158,12 +149,12 @@ extern "C" {
 
 /// Where a call can fail in no other way.
 pub fn must_be_done(status: u32) {
-    assert_eq!(status, DONE, "a call of the kernel that cannot fail");
+    assert_eq!(CallStatus::of(status), CallStatus::Done, "a call of the kernel that cannot fail");
 }
 
 /// What is there, if the call says that it is.
 pub fn if_there<T>(status: u32, found: T) -> Option<T> {
-    if status == NOT_THERE {
+    if CallStatus::of(status) == CallStatus::NotThere {
         return None;
     }
     must_be_done(status);

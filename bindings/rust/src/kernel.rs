@@ -1,5 +1,6 @@
 //! The kernel.
 
+use crate::numbers::CallStatus;
 use crate::{ffi, CurrencyRow, Error, Event, Reply, ThreadRow, TicketRow};
 use std::fmt;
 use std::ptr::null_mut;
@@ -77,10 +78,11 @@ impl Kernel {
     pub fn new(sizes: Sizes) -> Result<Kernel, Error> {
         let mut handle = ffi::Handle { at: null_mut() };
         // Both are whole, and nothing else points to the handle. It is so in each call below.
-        match unsafe { ffi::lot_kernel_new(&sizes, &mut handle) } {
-            ffi::BAD_LIMITS => Err(Error::BadLimits),
-            ffi::NO_MEMORY => Err(Error::NoMemory),
-            status => {
+        let status = unsafe { ffi::lot_kernel_new(&sizes, &mut handle) };
+        match CallStatus::of(status) {
+            CallStatus::BadLimits => Err(Error::BadLimits),
+            CallStatus::NoMemory => Err(Error::NoMemory),
+            _ => {
                 ffi::must_be_done(status);
                 Ok(Kernel { handle })
             }

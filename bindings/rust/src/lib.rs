@@ -29,6 +29,7 @@ mod ffi;
 mod kernel;
 mod lottery;
 mod name;
+mod numbers;
 mod reply;
 mod rows;
 
@@ -37,5 +38,6 @@ pub use event::{Action, Command, Event, Listing};
 pub use kernel::{Kernel, Meter, Runner, Sizes};
 pub use lottery::{weight, winner, Drawn, ParkMiller};
 pub use name::Name;
-pub use reply::{Outcome, Refusal, Reply, TrapRefusal};
+pub use numbers::{Refusal, TrapRefusal};
+pub use reply::{Outcome, Reply};
 pub use rows::{CurrencyRow, Status, ThreadRow, TicketRow};

@@ -1,6 +1,7 @@
 //! The lottery alone.
 
 use crate::ffi::{self, Wide};
+use crate::numbers::CallStatus;
 use crate::Error;
 
 /// What a thread of this value weighs in a draw. The compensation is how many ticks of its quantum it had used when it yielded or
@@ -27,11 +28,12 @@ pub struct Drawn {
 pub fn winner(weights: &[u128], number: u128) -> Result<Option<Drawn>, Error> {
     let weights: Vec<Wide> = weights.iter().map(|weight| Wide::of(*weight)).collect();
     let mut drawn = ffi::Drawn::default();
-    match unsafe { ffi::lot_winner(weights.as_ptr(), weights.len(), &Wide::of(number), &mut drawn) } {
-        ffi::NO_WINNER => Ok(None),
-        ffi::TOO_LARGE => Err(Error::TooLarge),
-        ffi::NO_MEMORY => Err(Error::NoMemory),
-        status => {
+    let status = unsafe { ffi::lot_winner(weights.as_ptr(), weights.len(), &Wide::of(number), &mut drawn) };
+    match CallStatus::of(status) {
+        CallStatus::NoWinner => Ok(None),
+        CallStatus::TooLarge => Err(Error::TooLarge),
+        CallStatus::NoMemory => Err(Error::NoMemory),
+        _ => {
             ffi::must_be_done(status);
             Ok(Some(Drawn {
                 place: drawn.place as usize,
@@ -52,13 +54,12 @@ impl ParkMiller {
     /// The generator whose value is the seed. `BadSeed`.
     pub fn new(seed: u32) -> Result<ParkMiller, Error> {
         let mut generator = ffi::Generator::default();
-        match unsafe { ffi::lot_generator_new(seed, &mut generator) } {
-            ffi::BAD_SEED => Err(Error::BadSeed),
-            status => {
-                ffi::must_be_done(status);
-                Ok(ParkMiller { value: generator.value })
-            }
+        let status = unsafe { ffi::lot_generator_new(seed, &mut generator) };
+        if CallStatus::of(status) == CallStatus::BadSeed {
+            return Err(Error::BadSeed);
         }
+        ffi::must_be_done(status);
+        Ok(ParkMiller { value: generator.value })
     }
 
     /// Goes on to the next value, and answers it.

@@ -1,5 +1,6 @@
 //! Names of currencies and threads.
 
+use crate::numbers::CallStatus;
 use crate::{ffi, Error};
 use std::fmt;
 
@@ -15,10 +16,11 @@ impl Name {
     pub fn new(text: &str) -> Result<Name, Error> {
         let mut name = ffi::Name::default();
         // The pointer and the count are those of a slice, and nothing else points to `name`.
-        match unsafe { ffi::lot_name_new(text.as_ptr(), text.len(), &mut name) } {
-            ffi::LONG_NAME => Err(Error::LongName),
-            ffi::BAD_NAME => Err(Error::BadName),
-            status => {
+        let status = unsafe { ffi::lot_name_new(text.as_ptr(), text.len(), &mut name) };
+        match CallStatus::of(status) {
+            CallStatus::LongName => Err(Error::LongName),
+            CallStatus::BadName => Err(Error::BadName),
+            _ => {
                 ffi::must_be_done(status);
                 Ok(Name::of(name))
             }

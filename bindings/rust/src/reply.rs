@@ -1,72 +1,7 @@
 //! What a kernel answers.
 
+use crate::numbers::{OutcomeKind, Refusal, ReplyKind, TrapRefusal};
 use crate::{ffi, Listing};
-
-/// Why an event is refused. A refused event changes nothing.
-#[derive(Clone, Copy, Debug, PartialEq, Eq)]
-#[allow(missing_docs)]
-pub enum Refusal {
-    BadName,
-    NameTaken,
-    NoCurrency,
-    NoTicket,
-    NoTarget,
-    BadAmount,
-    InUse,
-    Funding,
-    NotFunding,
-    Cycle,
-    BaseFixed,
-    DeadThread,
-    Full,
-    NoScript,
-    BadProcessor,
-    Busy,
-    NotRunning,
-    BadTicks,
-}
-
-const REFUSALS: [Refusal; 18] = [
-    Refusal::BadName,
-    Refusal::NameTaken,
-    Refusal::NoCurrency,
-    Refusal::NoTicket,
-    Refusal::NoTarget,
-    Refusal::BadAmount,
-    Refusal::InUse,
-    Refusal::Funding,
-    Refusal::NotFunding,
-    Refusal::Cycle,
-    Refusal::BaseFixed,
-    Refusal::DeadThread,
-    Refusal::Full,
-    Refusal::NoScript,
-    Refusal::BadProcessor,
-    Refusal::Busy,
-    Refusal::NotRunning,
-    Refusal::BadTicks,
-];
-
-/// Why a trap is refused. It costs its ticks all the same.
-#[derive(Clone, Copy, Debug, PartialEq, Eq)]
-#[allow(missing_docs)]
-pub enum TrapRefusal {
-    NoPort,
-    NothingToReply,
-    NoMutex,
-    NotOwner,
-    AlreadyOwner,
-    LockCycle,
-}
-
-const TRAP_REFUSALS: [TrapRefusal; 6] = [
-    TrapRefusal::NoPort,
-    TrapRefusal::NothingToReply,
-    TrapRefusal::NoMutex,
-    TrapRefusal::NotOwner,
-    TrapRefusal::AlreadyOwner,
-    TrapRefusal::LockCycle,
-];
 
 /// What a trap comes to.
 #[derive(Clone, Copy, Debug, PartialEq, Eq)]
@@ -173,51 +108,51 @@ pub enum Reply {
 
 impl Outcome {
     fn of(reply: &ffi::Reply) -> Outcome {
-        match reply.outcome {
-            1 => Outcome::Yielded,
-            2 => Outcome::ServedBy(reply.other),
-            3 => Outcome::Queued,
-            4 => Outcome::Waits,
-            5 => Outcome::Received { client: reply.other, number: reply.sent },
-            6 => Outcome::Replied(reply.other),
-            7 => Outcome::Locked,
-            8 => Outcome::Freed,
-            9 => Outcome::Passed {
+        match OutcomeKind::of(reply.outcome) {
+            OutcomeKind::Yielded => Outcome::Yielded,
+            OutcomeKind::ServedBy => Outcome::ServedBy(reply.other),
+            OutcomeKind::Queued => Outcome::Queued,
+            OutcomeKind::Waits => Outcome::Waits,
+            OutcomeKind::Received => Outcome::Received { client: reply.other, number: reply.sent },
+            OutcomeKind::Replied => Outcome::Replied(reply.other),
+            OutcomeKind::RepliedThenReceived => {
+                Outcome::RepliedThenReceived { to: reply.replied_to, client: reply.other, number: reply.sent }
+            }
+            OutcomeKind::RepliedThenWaits => Outcome::RepliedThenWaits(reply.replied_to),
+            OutcomeKind::Locked => Outcome::Locked,
+            OutcomeKind::Freed => Outcome::Freed,
+            OutcomeKind::Passed => Outcome::Passed {
                 to: reply.other,
                 draw: reply.has_draw.then_some((reply.number.low, reply.total.low)),
             },
-            10 => Outcome::Exited,
-            11 => Outcome::Refused(TRAP_REFUSALS[reply.reason as usize - 1]),
-            12 => Outcome::RepliedThenReceived { to: reply.replied_to, client: reply.other, number: reply.sent },
-            13 => Outcome::RepliedThenWaits(reply.replied_to),
-            other => unreachable!("an outcome {other}"),
+            OutcomeKind::Exited => Outcome::Exited,
+            OutcomeKind::Refused => Outcome::Refused(TrapRefusal::of(reply.reason)),
         }
     }
 }
 
 impl Reply {
     pub(crate) fn of(reply: &ffi::Reply) -> Reply {
-        let thread = reply.thread;
-        match reply.kind {
-            1 => Reply::Ticket(reply.ticket),
-            2 => Reply::Currency(reply.currency),
-            3 => Reply::Thread(thread),
-            4 => Reply::Funded { ticket: reply.ticket, thread },
-            5 => Reply::Done,
-            6 => Reply::List(Listing::Tickets),
-            7 => Reply::List(Listing::Currencies),
-            8 => Reply::List(Listing::Threads),
-            9 => Reply::Winner {
+        let (ticket, thread, ticks) = (reply.ticket, reply.thread, reply.ticks);
+        match ReplyKind::of(reply.kind) {
+            ReplyKind::Ticket => Reply::Ticket(ticket),
+            ReplyKind::Currency => Reply::Currency(reply.currency),
+            ReplyKind::Thread => Reply::Thread(thread),
+            ReplyKind::Funded => Reply::Funded { ticket, thread },
+            ReplyKind::Done => Reply::Done,
+            ReplyKind::ListTickets => Reply::List(Listing::Tickets),
+            ReplyKind::ListCurrencies => Reply::List(Listing::Currencies),
+            ReplyKind::ListThreads => Reply::List(Listing::Threads),
+            ReplyKind::Winner => Reply::Winner {
                 thread,
                 number: reply.number.number(),
                 total: reply.total.number(),
                 delivered: reply.has_sent.then_some(reply.sent),
             },
-            10 => Reply::Idle,
-            11 => Reply::Expired { thread, ticks: reply.ticks },
-            12 => Reply::Trapped { thread, ticks: reply.ticks, outcome: Outcome::of(reply), ends: reply.ends },
-            13 => Reply::Refused(REFUSALS[reply.reason as usize - 1]),
-            other => unreachable!("a reply {other}"),
+            ReplyKind::Idle => Reply::Idle,
+            ReplyKind::Expired => Reply::Expired { thread, ticks },
+            ReplyKind::Trapped => Reply::Trapped { thread, ticks, outcome: Outcome::of(reply), ends: reply.ends },
+            ReplyKind::Refused => Reply::Refused(Refusal::of(reply.reason)),
         }
     }
 }

@@ -1,5 +1,6 @@
 //! What is there.
 
+use crate::numbers::StatusKind;
 use crate::{ffi, Name};
 
 /// A ticket as a listing shows it.
@@ -99,15 +100,14 @@ impl CurrencyRow {
 
 impl Status {
     fn of(status: ffi::Status) -> Status {
-        match status.kind {
-            1 => Status::Ready,
-            2 => Status::Running { processor: status.processor, used: status.used },
-            3 => Status::Receiving(status.other),
-            4 => Status::Queued(status.other),
-            5 => Status::Served(status.other),
-            6 => Status::Waiting(status.other),
-            7 => Status::Dead,
-            other => unreachable!("a status {other}"),
+        match StatusKind::of(status.kind) {
+            StatusKind::Ready => Status::Ready,
+            StatusKind::Running => Status::Running { processor: status.processor, used: status.used },
+            StatusKind::Receiving => Status::Receiving(status.other),
+            StatusKind::Queued => Status::Queued(status.other),
+            StatusKind::Served => Status::Served(status.other),
+            StatusKind::Waiting => Status::Waiting(status.other),
+            StatusKind::Dead => Status::Dead,
         }
     }
 }

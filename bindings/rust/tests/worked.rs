@@ -2,6 +2,7 @@
 
 use lot::{
     weight, winner, Action, Command, Error, Event, Kernel, Listing, Name, Outcome, ParkMiller, Refusal, Reply, Runner, Sizes, Status,
+    TrapRefusal,
 };
 use std::num::NonZeroU32;
 
@@ -113,6 +114,27 @@ fn servings() {
     let waits = Outcome::RepliedThenWaits(3);
     assert_eq!(serve(9), Reply::Trapped { thread: 1, ticks: 1, outcome: waits, ends: false });
     assert_eq!(kernel.thread_row(1).expect("there").status, Status::Receiving(1));
+}
+
+#[test]
+fn refusals() {
+    let mut kernel = Kernel::new(Sizes::SMALL).expect("small");
+    let none = Command::MakeTicket { amount: 0, currency: name("base") };
+    assert_eq!(command(&mut kernel, none), Reply::Refused(Refusal::BadAmount));
+    assert_eq!(kernel.event(&Event::Draw { processor: 3, number: 0 }), Reply::Refused(Refusal::BadProcessor));
+    assert_eq!(kernel.event(&Event::Expire { processor: 1 }), Reply::Refused(Refusal::NotRunning));
+    fund_thread(&mut kernel, 1, "base", "a");
+    draw(&mut kernel, 0);
+    assert_eq!(trap(&mut kernel, 100, Action::Exit), Reply::Refused(Refusal::BadTicks));
+    for (action, why) in [
+        (Action::Call { port: 9, number: 0 }, TrapRefusal::NoPort),
+        (Action::Reply { number: 0 }, TrapRefusal::NothingToReply),
+        (Action::Lock { mutex: 9 }, TrapRefusal::NoMutex),
+        (Action::Unlock { mutex: 1, number: 0 }, TrapRefusal::NotOwner),
+    ] {
+        let refused = Reply::Trapped { thread: 1, ticks: 1, outcome: Outcome::Refused(why), ends: false };
+        assert_eq!(trap(&mut kernel, 0, action), refused);
+    }
 }
 
 #[test]

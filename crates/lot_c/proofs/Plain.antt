@@ -1,6 +1,7 @@
 -- What is handed out and in again is the same.
 use Rattle.std.proofs.Common.{◌≡◌, ℕ, ◌≤◌, ◌^◌, Bool, true, false, List, [], ◌∷◌, Ok, Some, None, length, refl, sym, ap, ◌∙◌, arith}
-use Rattle.std.specs.Prelude.{Option, nat_lt, slice_get, unwrap_or}
+use Rattle.std.specs.Prelude.{◌==◌, Option, nat_lt, unwrap_or}
+use Rattle.std.specs.List.{find}
 use Rattle.std.proofs.Math.Seq.{take-append_seam}
 use Rattle.std.proofs.lemmas.Nat.{div-add-mod'}
 use Rattle.lot_machine.specs.Commands.{is_good_name}
@@ -23,6 +24,7 @@ use Rattle.lot_c.specs.declared.reply.PlainReply.{PlainReply}
 use Rattle.lot_c.specs.declared.rows.PlainStatus.{PlainStatus}
 use Rattle.lot_c.specs.Events.{event_meant, result_map, result_and_then}
 use Rattle.lot_c.specs.Names.{name_meant, plain_name, spelled}
+use Rattle.lot_c.specs.Numbers.{outcome_number, refusal_number, reply_number, status_number, trap_refusal_number}
 use Rattle.lot_c.specs.Plain.{HasNames, plain_event}
 use Rattle.lot_c.specs.Replies.{plain_reply, plain_outcome}
 use Rattle.lot_c.specs.Rows.{plain_status}
@@ -69,32 +71,32 @@ meant (event.Trap p ran action.Exit) has = refl
 
 -- ---- replies
 
--- what is at the place in the list, or else the first of it
-abbrev pick : {X : Type 0} → X → List X → ℕ → X
-pick first others n = unwrap_or (slice_get (first ∷ others) n) first
+-- the one that has this number, or else the first
+abbrev pick : {X : Type 0} → (X → ℕ) → X → List X → ℕ → X
+pick number first others n = unwrap_or (find (λ x. number x == n) (first ∷ others)) first
 
 abbrev if_so : {X : Type 0} → Bool → X → Option X
 if_so true x = Some x
 if_so false x = None
 
 abbrev refusal_of : ℕ → Refusal
-refusal_of = pick refusal.BadName (refusal.BadName ∷ refusal.NameTaken ∷ refusal.NoCurrency ∷ refusal.NoTicket ∷ refusal.NoTarget ∷ refusal.BadAmount ∷ refusal.InUse ∷ refusal.Funding ∷ refusal.NotFunding
+refusal_of = pick refusal_number refusal.BadName (refusal.NameTaken ∷ refusal.NoCurrency ∷ refusal.NoTicket ∷ refusal.NoTarget ∷ refusal.BadAmount ∷ refusal.InUse ∷ refusal.Funding ∷ refusal.NotFunding
     ∷ refusal.Cycle ∷ refusal.BaseFixed ∷ refusal.DeadThread ∷ refusal.Full ∷ refusal.NoScript ∷ refusal.BadProcessor ∷ refusal.Busy ∷ refusal.NotRunning ∷ refusal.BadTicks ∷ [])
 
 abbrev trap_refusal_of : ℕ → TrapRefusal
-trap_refusal_of = pick trap.NoPort (trap.NoPort ∷ trap.NothingToReply ∷ trap.NoMutex ∷ trap.NotOwner ∷ trap.AlreadyOwner ∷ trap.LockCycle ∷ [])
+trap_refusal_of = pick trap_refusal_number trap.NoPort (trap.NothingToReply ∷ trap.NoMutex ∷ trap.NotOwner ∷ trap.AlreadyOwner ∷ trap.LockCycle ∷ [])
 
 abbrev outcome_of : PlainReply → Outcome
-outcome_of r = pick outcome.Exited (outcome.Yielded ∷ outcome.ServedBy r.other ∷ outcome.Queued ∷ outcome.Waits ∷ outcome.Received r.other r.sent ∷ outcome.Replied r.other ∷ outcome.Locked ∷ outcome.Freed
-    ∷ outcome.Passed r.other (if_so r.has_draw (r.number.low, r.total.low)) ∷ outcome.Exited ∷ outcome.Refused (trap_refusal_of r.reason)
+outcome_of r = pick outcome_number outcome.Exited (outcome.Yielded ∷ outcome.ServedBy r.other ∷ outcome.Queued ∷ outcome.Waits ∷ outcome.Received r.other r.sent ∷ outcome.Replied r.other ∷ outcome.Locked ∷ outcome.Freed
+    ∷ outcome.Passed r.other (if_so r.has_draw (r.number.low, r.total.low)) ∷ outcome.Refused (trap_refusal_of r.reason)
     ∷ outcome.RepliedThenReceived r.replied_to r.other r.sent ∷ outcome.RepliedThenWaits r.replied_to ∷ []) r.outcome
 
 abbrev reply_of : PlainReply → Reply
-reply_of r = pick reply.Idle (reply.Ticket r.ticket ∷ reply.Currency r.currency ∷ reply.Thread r.thread ∷ reply.Funded r.ticket r.thread ∷ reply.Done ∷ reply.List Tickets ∷ reply.List Currencies ∷ reply.List Threads
-    ∷ reply.Winner r.thread (wide_meant r.number) (wide_meant r.total) (if_so r.has_sent r.sent) ∷ reply.Idle ∷ reply.Expired r.thread r.ticks ∷ reply.Trapped r.thread r.ticks (outcome_of r) r.ends
+reply_of r = pick reply_number reply.Idle (reply.Ticket r.ticket ∷ reply.Currency r.currency ∷ reply.Thread r.thread ∷ reply.Funded r.ticket r.thread ∷ reply.Done ∷ reply.List Tickets ∷ reply.List Currencies ∷ reply.List Threads
+    ∷ reply.Winner r.thread (wide_meant r.number) (wide_meant r.total) (if_so r.has_sent r.sent) ∷ reply.Expired r.thread r.ticks ∷ reply.Trapped r.thread r.ticks (outcome_of r) r.ends
     ∷ reply.Refused (refusal_of r.reason) ∷ []) r.kind
 
-refusals : (why : Refusal) → refusal_of (Rattle.lot_c.specs.Replies.refusal_code why) ≡ why
+refusals : (why : Refusal) → refusal_of (refusal_number why) ≡ why
 refusals refusal.BadName = refl
 refusals refusal.NameTaken = refl
 refusals refusal.NoCurrency = refl
@@ -114,7 +116,7 @@ refusals refusal.Busy = refl
 refusals refusal.NotRunning = refl
 refusals refusal.BadTicks = refl
 
-trap_refusals : (why : TrapRefusal) → trap_refusal_of (Rattle.lot_c.specs.Replies.trap_refusal_code why) ≡ why
+trap_refusals : (why : TrapRefusal) → trap_refusal_of (trap_refusal_number why) ≡ why
 trap_refusals trap.NoPort = refl
 trap_refusals trap.NothingToReply = refl
 trap_refusals trap.NoMutex = refl
@@ -160,7 +162,7 @@ replies one other same = sym (shown one) ∙ ap reply_of same ∙ shown other
 -- ---- statuses
 
 abbrev status_of : PlainStatus → Status
-status_of s = pick status.Dead (status.Ready ∷ status.Running s.processor s.used ∷ status.Receiving s.other ∷ status.Queued s.other ∷ status.Served s.other ∷ status.Waiting s.other ∷ status.Dead ∷ []) s.kind
+status_of s = pick status_number status.Dead (status.Ready ∷ status.Running s.processor s.used ∷ status.Receiving s.other ∷ status.Queued s.other ∷ status.Served s.other ∷ status.Waiting s.other ∷ []) s.kind
 
 doing : (s : Status) → status_of (plain_status s) ≡ s
 doing status.Ready = refl

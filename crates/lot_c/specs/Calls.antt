@@ -29,7 +29,7 @@ use Rattle.lot_c.specs.Counts.{sizes_meant}
 use Rattle.lot_c.specs.Events.{event_meant}
 use Rattle.lot_c.specs.Replies.{plain_reply}
 use Rattle.lot_c.specs.Rows.{plain_ticket_row, plain_currency_row, plain_thread_row}
-use Rattle.lot_c.specs.Statuses.{code}
+use Rattle.lot_c.specs.Numbers.{code}
 
 -- A call of a handle that holds what is before it, and then what is after it: of one that holds no kernel the first
 -- is true, and it still holds none; of one that holds a kernel the second is true of it before and after.

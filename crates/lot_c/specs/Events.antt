@@ -1,5 +1,6 @@
 -- The event that plain fields mean.
-use Rattle.std.specs.Prelude.{ℕ, Result, Ok, Err, List, [], ◌∷◌, slice_get, unwrap_or}
+use Rattle.std.specs.Prelude.{ℕ, ◌==◌, Option, Some, None, Result, Ok, Err, List, [], ◌∷◌}
+use Rattle.std.specs.List.{find}
 use Rattle.lot_machine.specs.declared.action.Action.{Action}
 use Rattle.lot_machine.specs.declared.action.Action.TheVariants as action
 use Rattle.lot_machine.specs.declared.command.Command.{Command}
@@ -11,7 +12,9 @@ use Rattle.lot_c.specs.declared.event.PlainEvent.{PlainEvent}
 use Rattle.lot_c.specs.declared.name.PlainName.{PlainName}
 use Rattle.lot_c.specs.declared.status.Status.{Status}
 use Rattle.lot_c.specs.declared.status.Status.TheVariants.{BadKind}
+use Rattle.lot_c.specs.Kinds.{EventKind}
 use Rattle.lot_c.specs.Names.{name_meant}
+use Rattle.lot_c.specs.Numbers.{event_number}
 use Rattle.lot_c.specs.Wides.{wide_meant}
 
 -- the result with its Ok value mapped
@@ -36,37 +39,41 @@ asks_of name command = result_map (λ n. event.Command (command n)) (name_meant 
 abbrev traps : PlainEvent → Action → Result Event Status
 traps e action = Ok (event.Trap e.processor e.ticks action)
 
--- fields of no kind
-abbrev means_nothing : PlainEvent → Result Event Status
-means_nothing e = Err BadKind
+-- a kind, and what it means
+abbrev Meaning : Type 0
+Meaning = EventKind × (PlainEvent → Result Event Status)
 
--- What each kind means, from kind 0.
-abbrev meanings : List (PlainEvent → Result Event Status)
+-- What each kind means.
+abbrev meanings : List Meaning
 meanings =
-    means_nothing
-    ∷ (λ e. asks_of e.currency (λ currency. MakeTicket e.amount currency))
-    ∷ (λ e. asks (RemoveTicket e.ticket))
-    ∷ (λ e. asks_of e.name MakeCurrency)
-    ∷ (λ e. asks_of e.currency RemoveCurrency)
-    ∷ (λ e. asks_of e.name (λ target. Fund e.ticket target))
-    ∷ (λ e. asks (Unfund e.ticket))
-    ∷ (λ e. asks_of e.name (λ name. MakeThread name e.script))
-    ∷ (λ e. result_and_then (name_meant e.currency) (λ currency. asks_of e.name (λ name. MakeFunded e.amount currency name e.script)))
-    ∷ (λ e. asks (Listing Tickets))
-    ∷ (λ e. asks (Listing Currencies))
-    ∷ (λ e. asks (Listing Threads))
-    ∷ (λ e. Ok (event.Draw e.processor (wide_meant e.number)))
-    ∷ (λ e. Ok (event.Expire e.processor))
-    ∷ (λ e. traps e action.Yield)
-    ∷ (λ e. traps e (action.Call e.object e.sent))
-    ∷ (λ e. traps e (action.Receive e.object))
-    ∷ (λ e. traps e (action.Reply e.sent))
-    ∷ (λ e. traps e (action.Lock e.object))
-    ∷ (λ e. traps e (action.Unlock e.object (wide_meant e.number)))
-    ∷ (λ e. traps e action.Exit)
-    ∷ (λ e. traps e (action.Serve e.object e.sent))
+    (EventKind.MakeTicket, λ e. asks_of e.currency (λ currency. MakeTicket e.amount currency))
+    ∷ (EventKind.RemoveTicket, λ e. asks (RemoveTicket e.ticket))
+    ∷ (EventKind.MakeCurrency, λ e. asks_of e.name MakeCurrency)
+    ∷ (EventKind.RemoveCurrency, λ e. asks_of e.currency RemoveCurrency)
+    ∷ (EventKind.Fund, λ e. asks_of e.name (λ target. Fund e.ticket target))
+    ∷ (EventKind.Unfund, λ e. asks (Unfund e.ticket))
+    ∷ (EventKind.MakeThread, λ e. asks_of e.name (λ name. MakeThread name e.script))
+    ∷ (EventKind.MakeFunded, λ e. result_and_then (name_meant e.currency) (λ currency. asks_of e.name (λ name. MakeFunded e.amount currency name e.script)))
+    ∷ (EventKind.ListTickets, λ e. asks (Listing Tickets))
+    ∷ (EventKind.ListCurrencies, λ e. asks (Listing Currencies))
+    ∷ (EventKind.ListThreads, λ e. asks (Listing Threads))
+    ∷ (EventKind.Draw, λ e. Ok (event.Draw e.processor (wide_meant e.number)))
+    ∷ (EventKind.Expire, λ e. Ok (event.Expire e.processor))
+    ∷ (EventKind.Yield, λ e. traps e action.Yield)
+    ∷ (EventKind.Call, λ e. traps e (action.Call e.object e.sent))
+    ∷ (EventKind.Receive, λ e. traps e (action.Receive e.object))
+    ∷ (EventKind.Reply, λ e. traps e (action.Reply e.sent))
+    ∷ (EventKind.Lock, λ e. traps e (action.Lock e.object))
+    ∷ (EventKind.Unlock, λ e. traps e (action.Unlock e.object (wide_meant e.number)))
+    ∷ (EventKind.Exit, λ e. traps e action.Exit)
+    ∷ (EventKind.Serve, λ e. traps e (action.Serve e.object e.sent))
     ∷ []
+
+-- what fields mean whose kind means this; without a kind they mean nothing
+abbrev meant_by : PlainEvent → Option Meaning → Result Event Status
+meant_by e None = Err BadKind
+meant_by e (Some meaning) = meaning.1 e
 
 -- The event that the fields mean, or why they mean none. Fields that the kind doesn't read may have any value.
 abbrev pub event_meant : PlainEvent → Result Event Status
-event_meant e = (unwrap_or (slice_get meanings e.kind) means_nothing) e
+event_meant e = meant_by e (find (λ meaning. event_number meaning.0 == e.kind) meanings)

@@ -2,10 +2,11 @@ pub mod Calls
 pub mod Counts
 pub mod Events
 pub mod Handles
+pub mod Kinds
 pub mod Lotteries
 pub mod Names
+pub mod Numbers
 pub mod Plain
 pub mod Replies
 pub mod Rows
-pub mod Statuses
 pub mod Wides

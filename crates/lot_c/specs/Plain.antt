@@ -9,13 +9,15 @@ use Rattle.lot_machine.specs.declared.command.Kind.TheVariants.{Tickets, Currenc
 use Rattle.lot_machine.specs.declared.event.Event.{Event}
 use Rattle.lot_machine.specs.declared.event.Event.TheVariants as event
 use Rattle.lot_c.specs.declared.event.PlainEvent.{PlainEvent}
+use Rattle.lot_c.specs.Kinds.{EventKind}
 use Rattle.lot_c.specs.Names.{plain_name}
+use Rattle.lot_c.specs.Numbers.{event_number}
 use Rattle.lot_c.specs.Wides.{plain_wide}
 
--- all fields 0
-abbrev blank_event : PlainEvent
-blank_event = record {
-  kind = 0;
+-- an event of this kind, with all other fields 0
+abbrev of_kind : EventKind → PlainEvent
+of_kind k = record {
+  kind = event_number k;
   processor = 0;
   ticks = 0;
   object = 0;
@@ -49,32 +51,32 @@ HasNames other = Unit {0}
 
 -- a command in plain fields
 abbrev pub plain_command : Command → PlainEvent
-plain_command (MakeTicket amount currency) = record blank_event { kind = 1; amount = amount; currency = plain_name currency }
-plain_command (RemoveTicket ticket) = record blank_event { kind = 2; ticket = ticket }
-plain_command (MakeCurrency name) = record blank_event { kind = 3; name = plain_name name }
-plain_command (RemoveCurrency currency) = record blank_event { kind = 4; currency = plain_name currency }
-plain_command (Fund ticket target) = record blank_event { kind = 5; ticket = ticket; name = plain_name target }
-plain_command (Unfund ticket) = record blank_event { kind = 6; ticket = ticket }
-plain_command (MakeThread name script) = record blank_event { kind = 7; name = plain_name name; script = script }
-plain_command (MakeFunded amount currency name script) = record blank_event { kind = 8; amount = amount; currency = plain_name currency; name = plain_name name; script = script }
-plain_command (Listing Tickets) = record blank_event { kind = 9 }
-plain_command (Listing Currencies) = record blank_event { kind = 10 }
-plain_command (Listing Threads) = record blank_event { kind = 11 }
+plain_command (MakeTicket amount currency) = record (of_kind EventKind.MakeTicket) { amount = amount; currency = plain_name currency }
+plain_command (RemoveTicket ticket) = record (of_kind EventKind.RemoveTicket) { ticket = ticket }
+plain_command (MakeCurrency name) = record (of_kind EventKind.MakeCurrency) { name = plain_name name }
+plain_command (RemoveCurrency currency) = record (of_kind EventKind.RemoveCurrency) { currency = plain_name currency }
+plain_command (Fund ticket target) = record (of_kind EventKind.Fund) { ticket = ticket; name = plain_name target }
+plain_command (Unfund ticket) = record (of_kind EventKind.Unfund) { ticket = ticket }
+plain_command (MakeThread name script) = record (of_kind EventKind.MakeThread) { name = plain_name name; script = script }
+plain_command (MakeFunded amount currency name script) = record (of_kind EventKind.MakeFunded) { amount = amount; currency = plain_name currency; name = plain_name name; script = script }
+plain_command (Listing Tickets) = of_kind EventKind.ListTickets
+plain_command (Listing Currencies) = of_kind EventKind.ListCurrencies
+plain_command (Listing Threads) = of_kind EventKind.ListThreads
 
 -- a trap in plain fields
 abbrev pub plain_trap : ℕ → ℕ → Action → PlainEvent
-plain_trap p ran action.Yield = record blank_event { kind = 14; processor = p; ticks = ran }
-plain_trap p ran (action.Call port number) = record blank_event { kind = 15; processor = p; ticks = ran; object = port; sent = number }
-plain_trap p ran (action.Receive port) = record blank_event { kind = 16; processor = p; ticks = ran; object = port }
-plain_trap p ran (action.Reply number) = record blank_event { kind = 17; processor = p; ticks = ran; sent = number }
-plain_trap p ran (action.Lock mutex) = record blank_event { kind = 18; processor = p; ticks = ran; object = mutex }
-plain_trap p ran (action.Unlock mutex d) = record blank_event { kind = 19; processor = p; ticks = ran; object = mutex; number = plain_wide d }
-plain_trap p ran action.Exit = record blank_event { kind = 20; processor = p; ticks = ran }
-plain_trap p ran (action.Serve port number) = record blank_event { kind = 21; processor = p; ticks = ran; object = port; sent = number }
+plain_trap p ran action.Yield = record (of_kind EventKind.Yield) { processor = p; ticks = ran }
+plain_trap p ran (action.Call port number) = record (of_kind EventKind.Call) { processor = p; ticks = ran; object = port; sent = number }
+plain_trap p ran (action.Receive port) = record (of_kind EventKind.Receive) { processor = p; ticks = ran; object = port }
+plain_trap p ran (action.Reply number) = record (of_kind EventKind.Reply) { processor = p; ticks = ran; sent = number }
+plain_trap p ran (action.Lock mutex) = record (of_kind EventKind.Lock) { processor = p; ticks = ran; object = mutex }
+plain_trap p ran (action.Unlock mutex d) = record (of_kind EventKind.Unlock) { processor = p; ticks = ran; object = mutex; number = plain_wide d }
+plain_trap p ran action.Exit = record (of_kind EventKind.Exit) { processor = p; ticks = ran }
+plain_trap p ran (action.Serve port number) = record (of_kind EventKind.Serve) { processor = p; ticks = ran; object = port; sent = number }
 
 -- an event in plain fields
 abbrev pub plain_event : Event → PlainEvent
 plain_event (event.Command command) = plain_command command
-plain_event (event.Draw p d) = record blank_event { kind = 12; processor = p; number = plain_wide d }
-plain_event (event.Expire p) = record blank_event { kind = 13; processor = p }
+plain_event (event.Draw p d) = record (of_kind EventKind.Draw) { processor = p; number = plain_wide d }
+plain_event (event.Expire p) = record (of_kind EventKind.Expire) { processor = p }
 plain_event (event.Trap p ran action) = plain_trap p ran action

@@ -11,6 +11,7 @@ use Rattle.lot_c.specs.declared.rows.PlainCurrencyRow.{PlainCurrencyRow}
 use Rattle.lot_c.specs.declared.rows.PlainStatus.{PlainStatus}
 use Rattle.lot_c.specs.declared.rows.PlainThreadRow.{PlainThreadRow}
 use Rattle.lot_c.specs.Names.{plain_name}
+use Rattle.lot_c.specs.Numbers.{status_number}
 use Rattle.lot_c.specs.Wides.{plain_wide}
 
 -- the name of a target, and no bytes if there is none
@@ -36,19 +37,19 @@ plain_currency_row row = record {
   name = plain_name row.name;
 }
 
--- a thread that doesn't run, and what it waits for
-abbrev waits : ℕ → ℕ → PlainStatus
-waits kind other = record { kind = kind; processor = 0; used = 0; other = other }
+-- what a thread is doing, that doesn't run and waits for this
+abbrev waits : Status → ℕ → PlainStatus
+waits status other = record { kind = status_number status; processor = 0; used = 0; other = other }
 
 -- what a thread is doing
 abbrev pub plain_status : Status → PlainStatus
-plain_status Ready = waits 1 0
-plain_status (Running processor used) = record { kind = 2; processor = processor; used = used; other = 0 }
-plain_status (Receiving port) = waits 3 port
-plain_status (Queued port) = waits 4 port
-plain_status (Served server) = waits 5 server
-plain_status (Waiting mutex) = waits 6 mutex
-plain_status Dead = waits 7 0
+plain_status Ready = waits Ready 0
+plain_status (Running processor used) = record { kind = status_number (Running processor used); processor = processor; used = used; other = 0 }
+plain_status (Receiving port) = waits (Receiving port) port
+plain_status (Queued port) = waits (Queued port) port
+plain_status (Served server) = waits (Served server) server
+plain_status (Waiting mutex) = waits (Waiting mutex) mutex
+plain_status Dead = waits Dead 0
 
 abbrev pub plain_thread_row : ThreadRow → PlainThreadRow
 plain_thread_row row = record {

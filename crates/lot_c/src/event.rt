@@ -9,9 +9,7 @@ use crate::status::Status;
 use crate::wide::Wide;
 use lot_machine::{Action, Command, Event, Kind};
 
-/// No kind: fields that are all 0 mean nothing.
-const NONE: u32 = 0;
-
+/// The kinds of events.
 const MAKE_TICKET: u32 = 1;
 
 const REMOVE_TICKET: u32 = 2;
@@ -84,7 +82,7 @@ impl PlainEvent {
     pub(crate) fn read(&self) -> Result<Event, Status>
         ensures { result ≡ event_meant self.now }
     {
-        if self.kind == NONE || self.kind > SERVE {
+        if self.kind < MAKE_TICKET || self.kind > SERVE {
             return Err(Status::BadKind);
         }
         if self.kind < DRAW {
@@ -95,7 +93,7 @@ impl PlainEvent {
 
     /// The command that is meant, or why none is.
     fn read_command(&self) -> Result<Command, Status>
-        requires kind { IsBetween 1 11 self.now.kind }
+        requires kind { IsBetween MAKE_TICKET LIST_THREADS self.now.kind }
         ensures { event_meant self.now ≡ result_map event.Command result }
     {
         match self.kind {
@@ -133,7 +131,7 @@ impl PlainEvent {
 
     /// The command for a thread with its ticket, or why the fields mean none.
     fn read_funded(&self) -> Result<Command, Status>
-        requires kind { self.now.kind ≡ 8 }
+        requires kind { self.now.kind ≡ MAKE_FUNDED }
         ensures { event_meant self.now ≡ result_map event.Command result }
     {
         Ok(Command::MakeFunded {
@@ -146,7 +144,7 @@ impl PlainEvent {
 
     /// The draw, expiry or trap that is meant.
     fn read_turn(&self) -> Event
-        requires kind { IsBetween 12 21 self.now.kind }
+        requires kind { IsBetween DRAW SERVE self.now.kind }
         ensures { event_meant self.now ≡ Ok result }
     {
         match self.kind {

@@ -2,7 +2,7 @@
 ghost use Rattle.std.specs.Prelude.{◌≡◌, ◌≢◌, length};
 ghost use Rattle.lot_c.specs.declared.status.Status.TheVariants.{CountsDiffer, NoKernel};
 ghost use Rattle.lot_c.specs.Calls.{AreAnswered, IsAnswered, Through};
-ghost use Rattle.lot_c.specs.Statuses.{code};
+ghost use Rattle.lot_c.specs.Numbers.{code};
 
 use crate::event::PlainEvent;
 use crate::handle::Handle;

@@ -6,7 +6,7 @@ ghost use Rattle.lot_kernel.specs.Snapshots.{starting};
 ghost use Rattle.lot_c.specs.declared.status.Status.TheVariants.{BadLimits, Done, NoKernel, NoMemory};
 ghost use Rattle.lot_c.specs.Calls.{Opens, ShowsRunner, ShowsScript, Through};
 ghost use Rattle.lot_c.specs.Counts.{plain_meter, plain_sizes, sizes_meant};
-ghost use Rattle.lot_c.specs.Statuses.{code};
+ghost use Rattle.lot_c.specs.Numbers.{code};
 
 use crate::handle::Handle;
 use crate::sizes::{PlainMeter, PlainRunner, PlainSizes};

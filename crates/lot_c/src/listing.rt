@@ -2,7 +2,7 @@
 ghost use Rattle.std.specs.Prelude.{◌≡◌};
 ghost use Rattle.lot_c.specs.declared.status.Status.TheVariants.{NoKernel};
 ghost use Rattle.lot_c.specs.Calls.{ShowsCurrency, ShowsThread, ShowsTicket, Through};
-ghost use Rattle.lot_c.specs.Statuses.{code};
+ghost use Rattle.lot_c.specs.Numbers.{code};
 
 use crate::handle::Handle;
 use crate::rows::{PlainCurrencyRow, PlainThreadRow, PlainTicketRow};

@@ -7,7 +7,7 @@ ghost use Rattle.lot_machine.specs.Lottery.{seed_after_wide_number};
 ghost use Rattle.lot_machine.specs.declared.drawn.Drawn.{Drawn as ADrawn};
 ghost use Rattle.lot_c.specs.declared.status.Status.TheVariants.{BadSeed, Done, NoMemory, NoWinner, TooLarge};
 ghost use Rattle.lot_c.specs.Lotteries.{compensation_meant, plain_drawn};
-ghost use Rattle.lot_c.specs.Statuses.{code};
+ghost use Rattle.lot_c.specs.Numbers.{code};
 ghost use Rattle.lot_c.specs.Wides.{plain_wide, wide_meant};
 
 use crate::status::Status;

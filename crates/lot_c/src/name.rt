@@ -3,7 +3,7 @@ ghost use Rattle.std.specs.Prelude.{◌≡◌, ◌<◌, ◌≤◌, true, false, 
 ghost use Rattle.lot_machine.specs.Commands as names;
 ghost use Rattle.lot_c.specs.declared.status.Status.TheVariants.{BadName, Done, LongName};
 ghost use Rattle.lot_c.specs.Names.{plain_name, name_meant};
-ghost use Rattle.lot_c.specs.Statuses.{code};
+ghost use Rattle.lot_c.specs.Numbers.{code};
 
 use crate::status::Status;
 use lot_machine::{Name, is_good_name};

@@ -1,8 +1,9 @@
 //! Replies in plain fields.
 ghost use Rattle.std.specs.Prelude.{◌≡◌};
 ghost use Rattle.lot_machine.specs.declared.reply.Reply.TheVariants as reply;
-ghost use Rattle.lot_c.specs.Replies.{plain_reply, plain_outcome, plain_passed, blank_reply, list_code, refusal_code};
-ghost use Rattle.lot_c.specs.Replies.{trap_refusal_code};
+ghost use Rattle.lot_machine.specs.declared.reply.Outcome.TheVariants as outcome;
+ghost use Rattle.lot_c.specs.Numbers.{refusal_number, reply_number, trap_refusal_number};
+ghost use Rattle.lot_c.specs.Replies.{plain_reply, plain_outcome, blank_reply};
 
 use crate::wide::Wide;
 use lot_machine::{Kind, Outcome, Refusal, Reply, TrapRefusal};
@@ -121,7 +122,7 @@ impl PlainReply {
             Reply::Thread(thread) => PlainReply::made(THREAD, 0, 0, thread),
             Reply::Funded { ticket, thread } => PlainReply::made(FUNDED, ticket, 0, thread),
             Reply::Done => PlainReply::made(DONE, 0, 0, 0),
-            Reply::List(kind) => PlainReply::made(code_of_list(kind), 0, 0, 0),
+            Reply::List(kind) => PlainReply::made(number_of_list(kind), 0, 0, 0),
             Reply::Winner {
                 thread,
                 number,
@@ -146,7 +147,7 @@ impl PlainReply {
                 ..PlainReply::of_outcome(outcome)
             },
             Reply::Refused(refusal) => PlainReply {
-                reason: code_of_refusal(refusal),
+                reason: number_of_refusal(refusal),
                 ..PlainReply::made(REFUSED, 0, 0, 0)
             },
         }
@@ -196,7 +197,7 @@ impl PlainReply {
             Outcome::Passed { to, draw } => PlainReply::of_passed(to, draw),
             Outcome::Exited => PlainReply::came_to(EXITED, 0),
             Outcome::Refused(refusal) => PlainReply {
-                reason: code_of_trap_refusal(refusal),
+                reason: number_of_trap_refusal(refusal),
                 ..PlainReply::came_to(TRAP_REFUSED, 0)
             },
         }
@@ -204,7 +205,7 @@ impl PlainReply {
 
     /// A mutex that was passed to this thread, by this lottery if one was held.
     fn of_passed(to: u32, draw: Option<(u64, u64)>) -> PlainReply
-        ensures { result ≡ plain_passed to draw }
+        ensures { result ≡ plain_outcome (outcome.Passed to draw) }
     {
         match draw {
             None => PlainReply::came_to(PASSED, to),
@@ -249,8 +250,8 @@ impl PlainReply {
 }
 
 /// The kind of a reply to a listing.
-fn code_of_list(kind: Kind) -> u32
-    ensures { result ≡ list_code kind }
+fn number_of_list(kind: Kind) -> u32
+    ensures { result ≡ reply_number (reply.List kind) }
 {
     match kind {
         Kind::Tickets => LIST_TICKETS,
@@ -259,16 +260,42 @@ fn code_of_list(kind: Kind) -> u32
     }
 }
 
-/// The number of a refusal, from 1.
-fn code_of_refusal(refusal: Refusal) -> u32
-    ensures { result ≡ refusal_code refusal }
+/// The number of a refusal.
+fn number_of_refusal(refusal: Refusal) -> u32
+    ensures { result ≡ refusal_number refusal }
 {
-    refusal as u32 + 1
+    match refusal {
+        Refusal::BadName => 1,
+        Refusal::NameTaken => 2,
+        Refusal::NoCurrency => 3,
+        Refusal::NoTicket => 4,
+        Refusal::NoTarget => 5,
+        Refusal::BadAmount => 6,
+        Refusal::InUse => 7,
+        Refusal::Funding => 8,
+        Refusal::NotFunding => 9,
+        Refusal::Cycle => 10,
+        Refusal::BaseFixed => 11,
+        Refusal::DeadThread => 12,
+        Refusal::Full => 13,
+        Refusal::NoScript => 14,
+        Refusal::BadProcessor => 20,
+        Refusal::Busy => 21,
+        Refusal::NotRunning => 22,
+        Refusal::BadTicks => 23,
+    }
 }
 
-/// The number of a trap's refusal, from 1.
-fn code_of_trap_refusal(refusal: TrapRefusal) -> u32
-    ensures { result ≡ trap_refusal_code refusal }
+/// The number of a trap's refusal.
+fn number_of_trap_refusal(refusal: TrapRefusal) -> u32
+    ensures { result ≡ trap_refusal_number refusal }
 {
-    refusal as u32 + 1
+    match refusal {
+        TrapRefusal::NoPort => 30,
+        TrapRefusal::NothingToReply => 32,
+        TrapRefusal::NoMutex => 33,
+        TrapRefusal::NotOwner => 34,
+        TrapRefusal::AlreadyOwner => 35,
+        TrapRefusal::LockCycle => 36,
+    }
 }

@@ -1,41 +1,41 @@
 //! The status of a call.
 ghost use Rattle.std.specs.Prelude.{◌≡◌};
-ghost use Rattle.lot_c.specs.Statuses as statuses;
+ghost use Rattle.lot_c.specs.Numbers as numbers;
 
 /// The status of a call. Any other than `Done` means that the call has changed nothing.
 #[derive(Clone, Copy, Debug, PartialEq, Eq)]
 pub(crate) enum Status {
-    Done,
+    Done = 0,
     /// The handle holds no kernel.
-    NoKernel,
+    NoKernel = 1,
     /// The handle holds a kernel already.
-    KernelThere,
+    KernelThere = 2,
     /// A limit is out of its bounds.
-    BadLimits,
+    BadLimits = 3,
     /// Out of memory.
-    NoMemory,
+    NoMemory = 4,
     /// The event's kind doesn't exist.
-    BadKind,
+    BadKind = 5,
     /// A name of more than 16 bytes.
-    LongName,
+    LongName = 6,
     /// A name that isn't a letter a to z, and then letters a to z, digits, `_` or `-`.
-    BadName,
+    BadName = 7,
     /// Nothing has this number.
-    NotThere,
+    NotThere = 8,
     /// There are not as many replies as events.
-    CountsDiffer,
+    CountsDiffer = 9,
     /// The seed is 0 or above 2147483646.
-    BadSeed,
+    BadSeed = 10,
     /// The weights sum to 0.
-    NoWinner,
+    NoWinner = 11,
     /// The weights sum to 2 ^ 128 or more.
-    TooLarge,
+    TooLarge = 12,
 }
 
 impl Status {
     /// The number that C sees.
     pub(crate) fn code(self) -> u32
-        ensures { result ≡ statuses.code self }
+        ensures { result ≡ numbers.code self }
     {
         self as u32
     }
