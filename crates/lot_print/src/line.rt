@@ -133,7 +133,9 @@ impl<const N: usize> Line<N> {
         ensures len { length self.new ≤ length self.old + length text.now + 10 }
     {
         self.push_word(text);
-        if number < 10000 {
+        if number < 100 {
+            self.push_up_to_two(number);
+        } else if number < 10000 {
             self.push_up_to_four(number);
         } else {
             self.push_long(number);
