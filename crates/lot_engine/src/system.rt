@@ -340,9 +340,10 @@ impl System {
         let done = done_in(slice);
         next_event(&mut self.generators, actor, self.is_wide, done, event);
         self.kernel.answer(event, reply);
-        follow_turn(&mut self.places, slice, *reply);
-        count_turn(&mut self.counts, actor, *reply);
-        self.total.add_turn(*reply);
+        let told = *reply;
+        follow_turn(&mut self.places, slice, told);
+        count_turn(&mut self.counts, actor, told);
+        self.total.add_turn(told);
         remember(&mut self.history, actor);
     }
 
@@ -360,9 +361,10 @@ impl System {
         let done = pass_slice(&mut self.places, script, running.thread, running.budget);
         next_event(&mut self.generators, actor, self.is_wide, Some(done), event);
         self.kernel.answer(event, reply);
-        receive(&mut self.places, *reply);
-        count_turn(&mut self.counts, actor, *reply);
-        self.total.add_turn(*reply);
+        let told = *reply;
+        receive(&mut self.places, told);
+        count_turn(&mut self.counts, actor, told);
+        self.total.add_turn(told);
         remember(&mut self.history, actor);
     }
 

@@ -130,7 +130,7 @@ fn push_reply<const N: usize>(line: &mut Line<N>, heading: Heading, event: &Even
             ends,
         } => {
             push_ran(line, thread, ticks);
-            push_trap_of(line, heading, event, outcome, ends);
+            push_trap_of(line, heading.manner, heading.unit, event, outcome, ends);
         }
         Reply::Refused(why) => push_refusal(line, why),
     }
@@ -208,19 +208,20 @@ fn push_ran<const N: usize>(line: &mut Line<N>, thread: u32, ticks: u32)
 #[inline(never)]
 fn push_trap_of<const N: usize>(
     line: &mut Line<N>,
-    heading: Heading,
+    manner: Manner,
+    unit: u32,
     event: &Event,
     outcome: Outcome,
     ends: bool,
 )
     requires room { length line.old + 136 ≤ N }
-    requires unit { 0 < heading.unit }
+    requires unit { 0 < unit }
     ensures { line.new ≡ line.old ++ (codes " "
-        ++ (trap_text_of heading.manner heading.unit event.now outcome ++ (ends_text ends ++ newline))) }
+        ++ (trap_text_of manner unit event.now outcome ++ (ends_text ends ++ newline))) }
 {
     line.push_word(" ");
     if let Event::Trap(_, _, action) = event {
-        push_trap(line, heading, *action, outcome);
+        push_trap(line, manner, unit, *action, outcome);
     }
     if ends {
         line.push_word(" ends\n");
@@ -230,10 +231,16 @@ fn push_trap_of<const N: usize>(
 }
 
 /// Puts the outcome of a trap. An outcome that the action never has is no text.
-fn push_trap<const N: usize>(line: &mut Line<N>, heading: Heading, action: Action, outcome: Outcome)
+fn push_trap<const N: usize>(
+    line: &mut Line<N>,
+    manner: Manner,
+    unit: u32,
+    action: Action,
+    outcome: Outcome,
+)
     requires room { length line.old + 128 ≤ N }
-    requires unit { 0 < heading.unit }
-    ensures text { line.new ≡ line.old ++ trap_text heading.manner heading.unit action outcome }
+    requires unit { 0 < unit }
+    ensures text { line.new ≡ line.old ++ trap_text manner unit action outcome }
     ensures len { length line.new ≤ length line.old + 128 }
 {
     match (action, outcome) {
@@ -265,7 +272,7 @@ fn push_trap<const N: usize>(line: &mut Line<N>, heading: Heading, action: Actio
         (Action::Unlock(mutex, _), Outcome::Passed { to, draw }) => {
             line.push_count("unlock ", mutex);
             line.push_count(" to ", to);
-            push_draw(line, heading, draw);
+            push_draw(line, manner, unit, draw);
         }
         (Action::Exit, Outcome::Exited) => line.push_word("exit"),
         _ => (),
@@ -305,17 +312,22 @@ fn push_state<const N: usize>(line: &mut Line<N>, word: &str, number: u32, state
 }
 
 /// Puts how the mutex was passed on: by a lottery, or to the one that had waited longest.
-fn push_draw<const N: usize>(line: &mut Line<N>, heading: Heading, drawn: Option<(u64, u64)>)
+fn push_draw<const N: usize>(
+    line: &mut Line<N>,
+    manner: Manner,
+    unit: u32,
+    drawn: Option<(u64, u64)>,
+)
     requires room { length line.old + 96 ≤ N }
-    requires unit { 0 < heading.unit }
-    ensures text { line.new ≡ line.old ++ drawn_text heading.manner heading.unit drawn }
+    requires unit { 0 < unit }
+    ensures text { line.new ≡ line.old ++ drawn_text manner unit drawn }
     ensures len { length line.new ≤ length line.old + 96 }
 {
     match drawn {
         None => line.push_text(" oldest"),
         Some((number, total)) => {
-            line.push_drawn(" draw ", heading.manner, heading.unit, u128::from(number));
-            line.push_drawn(" of ", heading.manner, heading.unit, u128::from(total));
+            line.push_drawn(" draw ", manner, unit, u128::from(number));
+            line.push_drawn(" of ", manner, unit, u128::from(total));
         }
     }
 }
