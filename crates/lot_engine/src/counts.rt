@@ -30,31 +30,21 @@ impl Counts {
         ticks: 0,
     };
 
-    /// With one more turn, which got this reply.
+    /// Counts one more turn, which got this reply.
     #[inline(always)]
-    pub(crate) fn with_turn(self, reply: Reply) -> Counts
-        requires { (n : ℕ) × (n < 4294967295) × IsSmall n self }
-        ensures exact { result ≡ counted_with self reply }
-        ensures small { (n : ℕ) → IsSmall n self → IsSmall (n + 1) result }
+    pub(crate) fn add_turn(&mut self, reply: Reply)
+        requires { (n : ℕ) × (n < 4294967295) × IsSmall n self.old }
+        ensures exact { self.new ≡ counted_with self.old reply }
+        ensures small { (n : ℕ) → IsSmall n self.old → IsSmall (n + 1) self.new }
     {
-        let turns = self.turns + 1;
+        self.turns += 1;
         match reply {
-            Reply::Winner { .. } => Counts {
-                turns,
-                quanta: self.quanta + 1,
-                ..self
-            },
-            Reply::Idle => Counts {
-                turns,
-                idles: self.idles + 1,
-                ..self
-            },
-            Reply::Expired { ticks, .. } | Reply::Trapped { ticks, .. } => Counts {
-                turns,
-                ticks: self.ticks + u64::from(ticks),
-                ..self
-            },
-            _ => Counts { turns, ..self },
+            Reply::Winner { .. } => self.quanta += 1,
+            Reply::Idle => self.idles += 1,
+            Reply::Expired { ticks, .. } | Reply::Trapped { ticks, .. } => {
+                self.ticks += u64::from(ticks);
+            }
+            _ => {}
         }
     }
 }
@@ -76,6 +66,5 @@ pub(crate) fn count_turn(counts: &mut Vec<Counts>, actor: u32, reply: Reply)
         → AreCounts (turns ++ record { actor = actor; answer = Answered e reply } ∷ []) (n + 1) counts.new.items }
     ensures count { vec_len counts.new ≡ vec_len counts.old }
 {
-    let place = actor as usize;
-    counts[place] = counts[place].with_turn(reply);
+    counts[actor as usize].add_turn(reply);
 }

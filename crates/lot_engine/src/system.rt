@@ -288,10 +288,11 @@ impl System {
         }
         let done = done_in(slice);
         next_event(&mut self.generators, actor, self.is_wide, done, event);
-        *reply = self.kernel.event(event);
-        follow_turn(&mut self.places, slice, *reply);
-        count_turn(&mut self.counts, actor, *reply);
-        self.total = self.total.with_turn(*reply);
+        self.kernel.answer(event, reply);
+        let told = *reply;
+        follow_turn(&mut self.places, slice, told);
+        count_turn(&mut self.counts, actor, told);
+        self.total.add_turn(told);
         remember(&mut self.history, actor);
     }
 
@@ -308,7 +309,7 @@ impl System {
         self.spent += 1;
         follow_command(&mut self.places, &self.program, &self.kernel, reply);
         count_turn(&mut self.counts, 0, reply);
-        self.total = self.total.with_turn(reply);
+        self.total.add_turn(reply);
         remember(&mut self.history, 0);
         reply
     }
@@ -326,10 +327,11 @@ impl System {
         let script = script_numbered(&self.program, running.script);
         let done = pass_slice(&mut self.places, script, running.thread, running.budget);
         next_event(&mut self.generators, actor, self.is_wide, Some(done), event);
-        *reply = self.kernel.event(event);
-        receive(&mut self.places, *reply);
-        count_turn(&mut self.counts, actor, *reply);
-        self.total = self.total.with_turn(*reply);
+        self.kernel.answer(event, reply);
+        let told = *reply;
+        receive(&mut self.places, told);
+        count_turn(&mut self.counts, actor, told);
+        self.total.add_turn(told);
         remember(&mut self.history, actor);
     }
 

@@ -104,7 +104,21 @@ impl Kernel {
         ensures stale { MakesStale self.old self.new }
         ensures counts { Counts event.now result self.old self.new }
     {
-        self.tables.event(event)
+        let mut reply = Reply::Idle;
+        self.answer(event, &mut reply);
+        reply
+    }
+
+    /// The same, with the reply stored where the caller keeps it: as a result it would be copied there.
+    #[inline(always)]
+    pub fn answer(&mut self, event: &Event, reply: &mut Reply)
+        ensures reply { reply.new ≡ (step self.old.state event.now).reply }
+        ensures state { self.new.state ≡ (step self.old.state event.now).state }
+        ensures sound { IsSound self.new.state }
+        ensures stale { MakesStale self.old self.new }
+        ensures counts { Counts event.now reply.new self.old self.new }
+    {
+        self.tables.event(event, reply);
     }
 
     /// Events in order, and the reply to each in its place in `out`. It takes no memory.

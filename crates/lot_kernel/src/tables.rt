@@ -115,20 +115,20 @@ impl Tables {
         }
     }
 
-    /// One event.
+    /// One event, whose reply is stored where the caller keeps it.
     #[inline(always)]
-    pub(crate) fn event(&mut self, event: &Event) -> Reply
+    pub(crate) fn event(&mut self, event: &Event, reply: &mut Reply)
         requires { IsInOrder self.old.state }
-        ensures reply { result ≡ (step self.old.state event.now).reply }
+        ensures reply { reply.new ≡ (step self.old.state event.now).reply }
         ensures state { self.new.state ≡ (step self.old.state event.now).state }
         ensures stale { MakesStale self.old self.new }
-        ensures counts { Counts event.now result self.old self.new }
+        ensures counts { Counts event.now reply.new self.old self.new }
     {
         match event {
-            Event::Command(command) => self.command(command),
-            Event::Draw(processor, d) => self.draw(*processor, *d),
-            Event::Expire(processor) => self.expire(*processor),
-            Event::Trap(processor, ran, action) => self.trap(*processor, *ran, action),
+            Event::Command(command) => *reply = self.command(command),
+            Event::Draw(processor, d) => self.draw(*processor, *d, reply),
+            Event::Expire(processor) => self.expire(*processor, reply),
+            Event::Trap(processor, ran, action) => self.trap(*processor, *ran, action, reply),
         }
     }
 }

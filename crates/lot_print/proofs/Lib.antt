@@ -1,6 +1,7 @@
 pub mod GroupLemmas
 pub mod HistoryBack
 pub mod PageFacts
+pub mod Pairs
 pub mod PlainLemmas
 pub mod ReadBack
 pub mod RunLemmas

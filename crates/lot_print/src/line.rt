@@ -1,30 +1,40 @@
 //! A line that is put together, and then written by one call.
-ghost use Rattle.std.specs.Prelude.{◌≡◌, ◌<◌, ◌≤◌, ◌+◌, ◌^◌, ◌++◌, ◌∷◌, [], false, length};
+ghost use Rattle.std.specs.Prelude.{◌≡◌, ◌<◌, ◌≤◌, ◌+◌, ◌/◌, ◌%◌, ◌^◌, ◌++◌, ◌∷◌, [], false, length};
 ghost use Rattle.std.specs.Fmt.{decimal};
 ghost use Rattle.lot_simulation.specs.Texts.{behind_point, drawn_value, front, quotient_text, value_text};
 ghost use Rattle.lot_io.specs.Writing.{Writes};
 
-use arrayvec::ArrayVec;
 use itoa::{Buffer, Integer};
 use lot_io::{IoFault, Watched, write_bytes};
 use lot_simulation::Manner;
 use std::io::Write;
 use std::marker::Model;
 
+/// The two digits of each number below 100.
+static PAIRS: [u8; 200] = *b"0001020304050607080910111213141516171819\
+    2021222324252627282930313233343536373839\
+    4041424344454647484950515253545556575859\
+    6061626364656667686970717273747576777879\
+    8081828384858687888990919293949596979899";
+
 /// A line, or a part of one, of at most `N` bytes. It takes no memory.
+///
+/// Not an `ArrayVec`, which writes over each byte that it lets go, and compares its length with its room at each byte.
 #[derive(Debug, Drop)]
 pub(crate) struct Line<const N: usize> {
-    bytes: ArrayVec<u8, N>,
+    bytes: [u8; N],
+    /// How many of the bytes, from the first on, are the line.
+    len: usize,
 }
 
 impl<const N: usize> Model for Line<N> {
-    ghost use Rattle.std.specs.Prelude.{List, ℕ};
+    ghost use Rattle.std.specs.Prelude.{◌≡◌, ◌≤◌, List, ℕ, length, take};
 
     ghost Value = { List ℕ };
 
-    ghost view = { λ l. l.bytes.items };
+    ghost view = { λ l. take l.len l.bytes };
 
-    ghost inverse = { λ bytes. record { bytes = record { items = bytes } } };
+    ghost invariant = { λ l. (l.len ≤ N) × (length l.bytes ≡ N) };
 }
 
 impl<const N: usize> Line<N> {
@@ -34,7 +44,8 @@ impl<const N: usize> Line<N> {
         ensures { result ≡ [] }
     {
         Line {
-            bytes: ArrayVec::new(),
+            bytes: [0; N],
+            len: 0,
         }
     }
 
@@ -44,7 +55,7 @@ impl<const N: usize> Line<N> {
         ensures len { result ≡ length self.now }
         ensures within { result ≤ N }
     {
-        self.bytes.len()
+        self.len
     }
 
     /// Takes all bytes away.
@@ -52,7 +63,7 @@ impl<const N: usize> Line<N> {
     pub(crate) fn clear(&mut self)
         ensures { self.new ≡ [] }
     {
-        self.bytes.clear();
+        self.len = 0;
     }
 
     /// Puts the text at the end.
@@ -65,6 +76,18 @@ impl<const N: usize> Line<N> {
         self.push_bytes(text.as_bytes());
     }
 
+    /// Puts a word at the end whose bytes are known where this is compiled: it becomes a few stores.
+    #[inline(always)]
+    pub(crate) fn push_word(&mut self, word: &str)
+        requires { length self.old + length word.now ≤ N }
+        ensures text { self.new ≡ self.old ++ word.now }
+        ensures len { length self.new ≡ length self.old + length word.now }
+    {
+        for byte in word.as_bytes() {
+            self.push_byte(*byte);
+        }
+    }
+
     /// Puts the bytes at the end.
     #[inline(always)]
     pub(crate) fn push_bytes(&mut self, bytes: &[u8])
@@ -72,7 +95,11 @@ impl<const N: usize> Line<N> {
         ensures text { self.new ≡ self.old ++ bytes.now }
         ensures len { length self.new ≡ length self.old + length bytes.now }
     {
-        let _ = self.bytes.try_extend_from_slice(bytes);
+        let start = self.len;
+        let end = start + bytes.len();
+        let room = &mut self.bytes[..];
+        room[start..end].copy_from_slice(bytes);
+        self.len = end;
     }
 
     /// Puts the number at the end.
@@ -97,19 +124,21 @@ impl<const N: usize> Line<N> {
         self.push_number(number);
     }
 
-    /// Puts the text and then the number at the end. A number below 1000000, as most are, is put digit by digit, since
-    /// a buffer of its own costs more.
+    /// Puts the text and then the number at the end. Its digits go where they belong, since a buffer of their own costs
+    /// more.
     #[inline(always)]
     pub(crate) fn push_count(&mut self, text: &str, number: u32)
         requires { length self.old + length text.now + 10 ≤ N }
         ensures text { self.new ≡ self.old ++ (text.now ++ decimal number) }
         ensures len { length self.new ≤ length self.old + length text.now + 10 }
     {
-        self.push_text(text);
-        if number < 1000000 {
-            self.push_six_digits(number);
+        self.push_word(text);
+        if number < 100 {
+            self.push_up_to_two(number);
+        } else if number < 10000 {
+            self.push_up_to_four(number);
         } else {
-            self.push_number(number);
+            self.push_long(number);
         }
     }
 
@@ -120,20 +149,23 @@ impl<const N: usize> Line<N> {
         ensures text { self.new ≡ self.old ++ (text.now ++ decimal number) }
         ensures len { length self.new ≤ length self.old + length text.now + 39 }
     {
-        match u32::try_from(number) {
-            Ok(count) => self.push_count(text, count),
-            Err(_) => self.push_field(text, number),
+        if number <= u128::from(u32::MAX) {
+            self.push_count(text, number as u32);
+        } else {
+            self.push_field(text, number);
         }
     }
 
     /// Puts the text and then the quotient at the end, with at most three digits behind the point.
+    #[inline(never)]
     pub(crate) fn push_quotient(&mut self, text: &str, number: u128, divisor: u128)
         requires room { length self.old + length text.now + 43 ≤ N }
         requires divisor { (0 < divisor) × (divisor < 2 ^ 96) }
         ensures text { self.new ≡ self.old ++ (text.now ++ quotient_text number divisor) }
         ensures len { length self.new ≤ length self.old + length text.now + 43 }
     {
-        self.push_wide(text, number / divisor);
+        self.push_text(text);
+        self.push_wide("", number / divisor);
         self.push_thousandths((number % divisor * 1000 / divisor) as u32);
     }
 
@@ -178,9 +210,10 @@ impl<const N: usize> Line<N> {
         ensures text { self.new ≡ self.old ++ (text.now ++ value_text manner unit value) }
         ensures len { length self.new ≤ length self.old + length text.now + 43 }
     {
+        self.push_text(text);
         match manner {
-            Manner::Whole => self.push_wide(text, value / u128::from(unit)),
-            Manner::Timed(_) => self.push_quotient(text, value, u128::from(unit)),
+            Manner::Whole => self.push_wide("", value / u128::from(unit)),
+            Manner::Timed(_) => self.push_quotient("", value, u128::from(unit)),
         }
     }
 
@@ -192,57 +225,80 @@ impl<const N: usize> Line<N> {
         ensures text { self.new ≡ self.old ++ (text.now ++ drawn_value manner unit number) }
         ensures len { length self.new ≤ length self.old + length text.now + 43 }
     {
+        self.push_word(text);
         match manner {
-            Manner::Whole => self.push_wide(text, number),
-            Manner::Timed(_) => self.push_quotient(text, number, u128::from(unit)),
+            Manner::Whole => self.push_wide("", number),
+            Manner::Timed(_) => self.push_quotient("", number, u128::from(unit)),
         }
+    }
+
+    /// Puts the digits of a number that has five or more at the end.
+    #[inline(never)]
+    fn push_long(&mut self, number: u32)
+        requires { (length self.old + 10 ≤ N) × (10000 ≤ number) }
+        ensures text { self.new ≡ self.old ++ decimal number }
+        ensures len { length self.new ≤ length self.old + 10 }
+    {
+        self.push_up_to_six(number / 10000);
+        self.push_pair(number % 10000 / 100);
+        self.push_pair(number % 10000 % 100);
     }
 
     /// Puts the digits of a number below 1000000 at the end.
     #[inline(always)]
-    fn push_six_digits(&mut self, number: u32)
+    fn push_up_to_six(&mut self, number: u32)
         requires { (length self.old + 6 ≤ N) × (number < 1000000) }
         ensures text { self.new ≡ self.old ++ decimal number }
         ensures len { length self.new ≤ length self.old + 6 }
     {
-        if number < 1000 {
-            self.push_digits(number);
-            return;
+        if number < 100 {
+            self.push_up_to_two(number);
+        } else {
+            self.push_up_to_four(number / 100);
+            self.push_pair(number % 100);
         }
-        self.push_digits(number / 1000);
-        self.push_digit(number / 100 % 10);
-        self.push_digit(number / 10 % 10);
-        self.push_digit(number % 10);
     }
 
-    /// Puts the digits of a number below 1000 at the end.
+    /// Puts the digits of a number below 10000 at the end.
     #[inline(always)]
-    fn push_digits(&mut self, number: u32)
-        requires { (length self.old + 3 ≤ N) × (number < 1000) }
+    fn push_up_to_four(&mut self, number: u32)
+        requires { (length self.old + 4 ≤ N) × (number < 10000) }
         ensures text { self.new ≡ self.old ++ decimal number }
-        ensures len { length self.new ≤ length self.old + 3 }
+        ensures len { length self.new ≤ length self.old + 4 }
     {
-        if number < 10 {
-            self.push_digit(number);
-            return;
+        if number < 100 {
+            self.push_up_to_two(number);
+        } else {
+            self.push_up_to_two(number / 100);
+            self.push_pair(number % 100);
         }
-        self.push_two_digits(number / 10);
-        self.push_digit(number % 10);
     }
 
     /// Puts the digits of a number below 100 at the end.
     #[inline(always)]
-    fn push_two_digits(&mut self, number: u32)
+    fn push_up_to_two(&mut self, number: u32)
         requires { (length self.old + 2 ≤ N) × (number < 100) }
         ensures text { self.new ≡ self.old ++ decimal number }
         ensures len { length self.new ≤ length self.old + 2 }
     {
         if number < 10 {
             self.push_digit(number);
-            return;
+        } else {
+            self.push_pair(number);
         }
-        self.push_digit(number / 10);
-        self.push_digit(number % 10);
+    }
+
+    /// Puts two digits at the end, those of a number below 100, with a 0 in front if it has one.
+    #[inline(always)]
+    fn push_pair(&mut self, number: u32)
+        requires { (length self.old + 2 ≤ N) × (number < 100) }
+        ensures text { self.new ≡ self.old ++ (48 + number / 10) ∷ (48 + number % 10) ∷ [] }
+        ensures len { length self.new ≡ length self.old + 2 }
+    {
+        let from = number as usize * 2;
+        let (tens, ones) = (PAIRS[from], PAIRS[from + 1]);
+        self.push_byte(tens);
+        self.push_byte(ones);
     }
 
     /// Puts a digit, 0 to 9, at the end.
@@ -252,7 +308,19 @@ impl<const N: usize> Line<N> {
         ensures text { self.new ≡ self.old ++ (48 + digit) ∷ [] }
         ensures len { length self.new ≡ length self.old + 1 }
     {
-        let _ = self.bytes.try_push(b'0' + digit as u8);
+        self.push_byte(b'0' + digit as u8);
+    }
+
+    /// Puts a byte at the end.
+    #[inline(always)]
+    fn push_byte(&mut self, byte: u8)
+        requires { length self.old + 1 ≤ N }
+        ensures text { self.new ≡ self.old ++ byte ∷ [] }
+        ensures len { length self.new ≡ length self.old + 1 }
+    {
+        let end = self.len;
+        self.bytes[end] = byte;
+        self.len = end + 1;
     }
 
     /// Writes the line.
@@ -261,7 +329,7 @@ impl<const N: usize> Line<N> {
         requires { writer.old.failed ≡ false }
         ensures { Writes W.contents writer.old writer.new result self.now }
     {
-        write_bytes(writer, self.bytes.as_slice())
+        write_bytes(writer, &self.bytes[..self.len])
     }
 }
 

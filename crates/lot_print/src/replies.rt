@@ -95,10 +95,11 @@ fn push_heading<const N: usize>(line: &mut Line<N>, heading: Heading)
 {
     line.push_front(heading.manner);
     line.push_count("", heading.actor);
-    line.push_text(" ");
+    line.push_word(" ");
 }
 
 /// Puts the reply to the event, and the line's end.
+#[inline(always)]
 fn push_reply<const N: usize>(line: &mut Line<N>, heading: Heading, event: &Event, reply: &Reply)
     requires room { length line.old + 170 ≤ N }
     requires unit { 0 < heading.unit }
@@ -108,11 +109,8 @@ fn push_reply<const N: usize>(line: &mut Line<N>, heading: Heading, event: &Even
         Reply::Ticket(n) => push_made(line, "ticket ", n),
         Reply::Currency(n) => push_made(line, "currency ", n),
         Reply::Thread(n) => push_made(line, "thread ", n),
-        Reply::Funded { ticket, thread } => {
-            line.push_field("funded ", ticket);
-            push_made(line, " ", thread);
-        }
-        Reply::Done => line.push_text("done\n"),
+        Reply::Funded { ticket, thread } => push_funded(line, ticket, thread),
+        Reply::Done => line.push_word("done\n"),
         Reply::List(_) => (),
         Reply::Winner {
             thread,
@@ -120,10 +118,10 @@ fn push_reply<const N: usize>(line: &mut Line<N>, heading: Heading, event: &Even
             total,
             delivered,
         } => push_winner(line, heading, thread, (number, total), delivered),
-        Reply::Idle => line.push_text("idle\n"),
+        Reply::Idle => line.push_word("idle\n"),
         Reply::Expired { thread, ticks } => {
             push_ran(line, thread, ticks);
-            line.push_text(" expire\n");
+            line.push_word(" expire\n");
         }
         Reply::Trapped {
             thread,
@@ -132,13 +130,14 @@ fn push_reply<const N: usize>(line: &mut Line<N>, heading: Heading, event: &Even
             ends,
         } => {
             push_ran(line, thread, ticks);
-            push_trap_of(line, heading, event, outcome, ends);
+            push_trap_of(line, heading.manner, heading.unit, event, outcome, ends);
         }
         Reply::Refused(why) => push_refusal(line, why),
     }
 }
 
 /// Puts why the event was refused, and the line's end.
+#[inline(never)]
 fn push_refusal<const N: usize>(line: &mut Line<N>, why: Refusal)
     requires { length line.old + 170 ≤ N }
     ensures { line.new ≡ line.old ++ (refused (texts.refusal_code why) (texts.refusal_name why) ++ newline) }
@@ -148,12 +147,24 @@ fn push_refusal<const N: usize>(line: &mut Line<N>, why: Refusal)
 }
 
 /// Puts the word and the number of what was made, and the line's end.
+#[inline(never)]
 fn push_made<const N: usize>(line: &mut Line<N>, word: &str, number: u32)
     requires { (length line.old + 20 ≤ N) × (length word.now ≤ 9) }
     ensures { line.new ≡ line.old ++ (word.now ++ (decimal number ++ newline)) }
 {
-    line.push_field(word, number);
-    line.push_text("\n");
+    line.push_text(word);
+    line.push_count("", number);
+    line.push_word("\n");
+}
+
+/// Puts the ticket and the thread that were made, and the line's end.
+#[inline(never)]
+fn push_funded<const N: usize>(line: &mut Line<N>, ticket: u32, thread: u32)
+    requires { length line.old + 170 ≤ N }
+    ensures { line.new ≡ line.old ++ (codes "funded " ++ (decimal ticket ++ (codes " " ++ (decimal thread ++ newline)))) }
+{
+    line.push_count("funded ", ticket);
+    push_made(line, " ", thread);
 }
 
 /// Puts the draw that this thread won with this number of this total, and the line's end.
@@ -179,7 +190,7 @@ fn push_winner<const N: usize>(
     if let Some(number) = delivered {
         line.push_count(" got ", number);
     }
-    line.push_text("\n");
+    line.push_word("\n");
 }
 
 /// Puts the thread that ran, and for how many ticks.
@@ -194,41 +205,49 @@ fn push_ran<const N: usize>(line: &mut Line<N>, thread: u32, ticks: u32)
 }
 
 /// Puts the outcome of the event, a trap, whether the quantum was used up, and the line's end.
+#[inline(never)]
 fn push_trap_of<const N: usize>(
     line: &mut Line<N>,
-    heading: Heading,
+    manner: Manner,
+    unit: u32,
     event: &Event,
     outcome: Outcome,
     ends: bool,
 )
     requires room { length line.old + 136 ≤ N }
-    requires unit { 0 < heading.unit }
+    requires unit { 0 < unit }
     ensures { line.new ≡ line.old ++ (codes " "
-        ++ (trap_text_of heading.manner heading.unit event.now outcome ++ (ends_text ends ++ newline))) }
+        ++ (trap_text_of manner unit event.now outcome ++ (ends_text ends ++ newline))) }
 {
-    line.push_text(" ");
+    line.push_word(" ");
     if let Event::Trap(_, _, action) = event {
-        push_trap(line, heading, *action, outcome);
+        push_trap(line, manner, unit, *action, outcome);
     }
     if ends {
-        line.push_text(" ends\n");
+        line.push_word(" ends\n");
     } else {
-        line.push_text("\n");
+        line.push_word("\n");
     }
 }
 
 /// Puts the outcome of a trap. An outcome that the action never has is no text.
-fn push_trap<const N: usize>(line: &mut Line<N>, heading: Heading, action: Action, outcome: Outcome)
+fn push_trap<const N: usize>(
+    line: &mut Line<N>,
+    manner: Manner,
+    unit: u32,
+    action: Action,
+    outcome: Outcome,
+)
     requires room { length line.old + 128 ≤ N }
-    requires unit { 0 < heading.unit }
-    ensures text { line.new ≡ line.old ++ trap_text heading.manner heading.unit action outcome }
+    requires unit { 0 < unit }
+    ensures text { line.new ≡ line.old ++ trap_text manner unit action outcome }
     ensures len { length line.new ≤ length line.old + 128 }
 {
     match (action, outcome) {
         (_, Outcome::Refused(why)) => {
             push_refused(line, trap_refusal_code(why), trap_refusal_name(why));
         }
-        (Action::Yield, Outcome::Yielded) => line.push_text("yield"),
+        (Action::Yield, Outcome::Yielded) => line.push_word("yield"),
         (Action::Call(port, _), Outcome::ServedBy(server)) => {
             line.push_count("call ", port);
             line.push_count(" served by ", server);
@@ -253,9 +272,9 @@ fn push_trap<const N: usize>(line: &mut Line<N>, heading: Heading, action: Actio
         (Action::Unlock(mutex, _), Outcome::Passed { to, draw }) => {
             line.push_count("unlock ", mutex);
             line.push_count(" to ", to);
-            push_draw(line, heading, draw);
+            push_draw(line, manner, unit, draw);
         }
-        (Action::Exit, Outcome::Exited) => line.push_text("exit"),
+        (Action::Exit, Outcome::Exited) => line.push_word("exit"),
         _ => (),
     }
 }
@@ -293,17 +312,22 @@ fn push_state<const N: usize>(line: &mut Line<N>, word: &str, number: u32, state
 }
 
 /// Puts how the mutex was passed on: by a lottery, or to the one that had waited longest.
-fn push_draw<const N: usize>(line: &mut Line<N>, heading: Heading, drawn: Option<(u64, u64)>)
+fn push_draw<const N: usize>(
+    line: &mut Line<N>,
+    manner: Manner,
+    unit: u32,
+    drawn: Option<(u64, u64)>,
+)
     requires room { length line.old + 96 ≤ N }
-    requires unit { 0 < heading.unit }
-    ensures text { line.new ≡ line.old ++ drawn_text heading.manner heading.unit drawn }
+    requires unit { 0 < unit }
+    ensures text { line.new ≡ line.old ++ drawn_text manner unit drawn }
     ensures len { length line.new ≤ length line.old + 96 }
 {
     match drawn {
         None => line.push_text(" oldest"),
         Some((number, total)) => {
-            line.push_drawn(" draw ", heading.manner, heading.unit, u128::from(number));
-            line.push_drawn(" of ", heading.manner, heading.unit, u128::from(total));
+            line.push_drawn(" draw ", manner, unit, u128::from(number));
+            line.push_drawn(" of ", manner, unit, u128::from(total));
         }
     }
 }

@@ -42,66 +42,74 @@ impl Tables {
     }
 
     /// A draw by a processor.
-    pub(super) fn draw(&mut self, processor: u32, d: u128) -> Reply
-        ensures reply { result ≡ (step self.old.state (event.Draw processor d)).reply }
+    pub(super) fn draw(&mut self, processor: u32, d: u128, reply: &mut Reply)
+        ensures reply { reply.new ≡ (step self.old.state (event.Draw processor d)).reply }
         ensures state { self.new.state ≡ (step self.old.state (event.Draw processor d)).state }
         ensures stale { MakesStale self.old self.new }
-        ensures counts { Counts (event.Draw processor d) result self.old self.new }
+        ensures counts { Counts (event.Draw processor d) reply.new self.old self.new }
     {
         if self.is_bad_processor(processor) {
-            return Reply::Refused(Refusal::BadProcessor);
+            *reply = Reply::Refused(Refusal::BadProcessor);
+            return;
         }
         if self.threads.runner(processor).is_some() {
-            return Reply::Refused(Refusal::Busy);
+            *reply = Reply::Refused(Refusal::Busy);
+            return;
         }
         let Some(winner) = self.threads.draw(d) else {
-            return Reply::Idle;
+            *reply = Reply::Idle;
+            return;
         };
         let delivered = self.threads.start(winner.thread, processor);
-        Reply::Winner {
+        *reply = Reply::Winner {
             thread: winner.thread,
             number: winner.number,
             total: winner.total,
             delivered,
-        }
+        };
     }
 
     /// The quantum ends on a processor.
-    pub(super) fn expire(&mut self, processor: u32) -> Reply
-        ensures reply { result ≡ (step self.old.state (event.Expire processor)).reply }
+    pub(super) fn expire(&mut self, processor: u32, reply: &mut Reply)
+        ensures reply { reply.new ≡ (step self.old.state (event.Expire processor)).reply }
         ensures state { self.new.state ≡ (step self.old.state (event.Expire processor)).state }
         ensures stale { MakesStale self.old self.new }
         ensures kept { KeepsStale self.old self.new }
         ensures meter { self.new.meter ≡ self.old.meter }
     {
         if self.is_bad_processor(processor) {
-            return Reply::Refused(Refusal::BadProcessor);
+            *reply = Reply::Refused(Refusal::BadProcessor);
+            return;
         }
         let Some(runner) = self.threads.runner(processor) else {
-            return Reply::Refused(Refusal::NotRunning);
+            *reply = Reply::Refused(Refusal::NotRunning);
+            return;
         };
         let thread = runner.thread;
         let ticks = self.limits.quantum - runner.used;
         self.threads.expire(thread, ticks);
-        Reply::Expired { thread, ticks }
+        *reply = Reply::Expired { thread, ticks };
     }
 
     /// A trap on a processor, with the ticks that were run before it.
-    pub(super) fn trap(&mut self, processor: u32, ran: u32, action: &Action) -> Reply
+    pub(super) fn trap(&mut self, processor: u32, ran: u32, action: &Action, reply: &mut Reply)
         requires { IsInOrder self.old.state }
-        ensures reply { result ≡ (step self.old.state (event.Trap processor ran action.now)).reply }
+        ensures reply { reply.new ≡ (step self.old.state (event.Trap processor ran action.now)).reply }
         ensures state { self.new.state ≡ (step self.old.state (event.Trap processor ran action.now)).state }
         ensures stale { MakesStale self.old self.new }
-        ensures counts { Counts (event.Trap processor ran action.now) result self.old self.new }
+        ensures counts { Counts (event.Trap processor ran action.now) reply.new self.old self.new }
     {
         if self.is_bad_processor(processor) {
-            return Reply::Refused(Refusal::BadProcessor);
+            *reply = Reply::Refused(Refusal::BadProcessor);
+            return;
         }
         let Some(runner) = self.threads.runner(processor) else {
-            return Reply::Refused(Refusal::NotRunning);
+            *reply = Reply::Refused(Refusal::NotRunning);
+            return;
         };
         if u64::from(runner.used) + u64::from(ran) + 1 > u64::from(self.limits.quantum) {
-            return Reply::Refused(Refusal::BadTicks);
+            *reply = Reply::Refused(Refusal::BadTicks);
+            return;
         }
         self.make_trap(
             Trap {
@@ -111,28 +119,29 @@ impl Tables {
                 used: runner.used + ran + 1,
             },
             action,
-        )
+            reply,
+        );
     }
 
     /// A trap that costs no more than what is left of its thread's quantum.
-    fn make_trap(&mut self, trap: Trap, action: &Action) -> Reply
+    fn make_trap(&mut self, trap: Trap, action: &Action, reply: &mut Reply)
         requires order { IsInOrder self.old.state }
         requires processor { IsBetween 1 self.old.state.limits.processors trap.processor }
         requires runs { RunsOn self.old.state.records trap.thread trap.processor }
         requires ticks { (0 < trap.ticks) × (trap.ticks ≤ trap.used) }
-        ensures reply { result ≡ (trapped self.old.state trap action.now).reply }
+        ensures reply { reply.new ≡ (trapped self.old.state trap action.now).reply }
         ensures state { self.new.state ≡ (trapped self.old.state trap action.now).state }
         ensures stale { MakesStale self.old self.new }
-        ensures counts { (ran : ℕ) → Counts (event.Trap trap.processor ran action.now) result self.old self.new }
+        ensures counts { (ran : ℕ) → Counts (event.Trap trap.processor ran action.now) reply.new self.old self.new }
     {
         let effect = self.act(trap.thread, action);
         self.finish(trap, effect.after);
-        Reply::Trapped {
+        *reply = Reply::Trapped {
             thread: trap.thread,
             ticks: trap.ticks,
             outcome: effect.outcome,
             ends: ends_quantum(trap, effect.after, self.limits.quantum),
-        }
+        };
     }
 
     /// The thread that made a trap stays on its processor, or leaves it with a status that isn't Running.

@@ -65,7 +65,7 @@ invariant_of-self c =
       spent = omega (arith, count, i.spent);
       counts = c.count_turn.ensures.count ∙ i.counts;
       each_counted = each-after s.program s.history.items 0 (event.Command c.copied.result) c.event-reply.result answer c.count_turn.new.counts.items (c.count_turn.ensures.exact (turns_made s.program s.history.items) (length s.history.items) (event.Command c.copied.result) i.each_counted);
-      total_counted = total-after s.program s.history.items 0 (event.Command c.copied.result) c.event-reply.result answer s.total c.with_turn-self-inside.result i.total_counted c.with_turn-self-inside.ensures.exact (c.with_turn-self-inside.ensures.small (length s.history.items) i.total_counted.small);
+      total_counted = total-after s.program s.history.items 0 (event.Command c.copied.result) c.event-reply.result answer s.total _ i.total_counted c.add_turn.ensures.exact (c.add_turn.ensures.small (length s.history.items) i.total_counted.small);
       threads = omega (arith, c.follow_command.ensures.room, i.threads);
       room = omega (arith, c.remember.ensures.capacity, i.room);
     })

@@ -20,7 +20,7 @@ follow_turn-requires c =
     let seed = unwrap_or (at_number s.generators.items c.args.actor) 0 in
     let number = ap (λ wide. number_from wide seed) c.self.invariant.wide in
     turn-names s.program (system_run s.program s.history.items) s.kernel.state s.places.items s.generators.items s.spent c.self.invariant.held c.args.actor (omega (arith, c.if-actor-eq0.false)) (number_from s.is_wide seed) fresh.0 c.args.slice.now fresh.1 fresh.2 c.done_in-done.ensures.exact number
-    c.next_event.new.event (given-event c.args.actor _ c.next_event.new.event c.args.slice.now c.done_in-done.result c.done_in-done.ensures.done c.next_event.ensures.event) c.event.new.self.state c.event.result c.event.ensures.state c.event.ensures.reply
+    c.next_event.new.event (given-event c.args.actor _ c.next_event.new.event c.args.slice.now c.done_in-done.result c.done_in-done.ensures.done c.next_event.ensures.event) c.answer.new.self.state c.answer.new.reply c.answer.ensures.state c.answer.ensures.reply
 
 pub count_turn-requires-clause-bounded : goal.count_turn-requires-clause-bounded
 count_turn-requires-clause-bounded c =
@@ -40,11 +40,11 @@ invariant_of-self c =
     let passed = c.next_event.ensures.values ∙ ap (λ wide. if takes_number c.next_event.new.event then set_number s.generators.items c.args.actor (seed_from wide seed) else s.generators.items) i.wide in
     let held =
     turn-held s.program (system_run s.program s.history.items) s.kernel.state s.places.items s.generators.items s.spent i.held c.args.actor some (number_from s.is_wide seed) fresh.0 c.args.slice.now fresh.1 fresh.2 c.done_in-done.ensures.exact number
-    c.next_event.new.event (given-event c.args.actor _ c.next_event.new.event c.args.slice.now c.done_in-done.result c.done_in-done.ensures.done c.next_event.ensures.event) c.event.new.self.state c.event.result c.event.ensures.state c.event.ensures.reply
+    c.next_event.new.event (given-event c.args.actor _ c.next_event.new.event c.args.slice.now c.done_in-done.result c.done_in-done.ensures.done c.next_event.ensures.event) c.answer.new.self.state c.answer.new.reply c.answer.ensures.state c.answer.ensures.reply
     c.follow_turn.new.places.items c.next_event.new.generators.items c.follow_turn.ensures.follows passed in
     let answer =
     turn-answer s.program (system_run s.program s.history.items) s.kernel.state s.places.items s.generators.items s.spent i.held c.args.actor some (number_from s.is_wide seed) fresh.0 c.args.slice.now fresh.1 fresh.2 c.done_in-done.ensures.exact number
-    c.next_event.new.event (given-event c.args.actor _ c.next_event.new.event c.args.slice.now c.done_in-done.result c.done_in-done.ensures.done c.next_event.ensures.event) c.event.new.self.state c.event.result c.event.ensures.state c.event.ensures.reply in
+    c.next_event.new.event (given-event c.args.actor _ c.next_event.new.event c.args.slice.now c.done_in-done.result c.done_in-done.ensures.done c.next_event.ensures.event) c.answer.new.self.state c.answer.new.reply c.answer.ensures.state c.answer.ensures.reply in
     let count = count-processor s.history.items c.args.actor some in
     let legal : IsLegal s.program s.room (s.history.items ++ c.args.actor ∷ []) = legal-more s.program s.room s.history.items c.args.actor i.legal requires.actor requires.goes.room (omega (arith, count, i.legal.console)) in
     rw c.remember.ensures.items (record {
@@ -53,11 +53,11 @@ invariant_of-self c =
       held = rw (system_run-one_more s.program s.history.items c.args.actor) held;
       generators = c.next_event.ensures.count ∙ i.generators;
       wide = i.wide;
-      past = past-more s.program s.history.items c.args.actor c.next_event.new.event c.event.result i.past answer;
+      past = past-more s.program s.history.items c.args.actor c.next_event.new.event c.answer.new.reply i.past answer;
       spent = omega (arith, count, i.spent);
       counts = c.count_turn.ensures.count ∙ i.counts;
-      each_counted = each-after s.program s.history.items c.args.actor c.next_event.new.event c.event.result answer c.count_turn.new.counts.items (c.count_turn.ensures.exact (turns_made s.program s.history.items) (length s.history.items) c.next_event.new.event i.each_counted);
-      total_counted = total-after s.program s.history.items c.args.actor c.next_event.new.event c.event.result answer s.total c.with_turn-self-inside.result i.total_counted c.with_turn-self-inside.ensures.exact (c.with_turn-self-inside.ensures.small (length s.history.items) i.total_counted.small);
+      each_counted = each-after s.program s.history.items c.args.actor c.next_event.new.event c.answer.new.reply answer c.count_turn.new.counts.items (c.count_turn.ensures.exact (turns_made s.program s.history.items) (length s.history.items) c.next_event.new.event i.each_counted);
+      total_counted = total-after s.program s.history.items c.args.actor c.next_event.new.event c.answer.new.reply answer s.total _ i.total_counted c.add_turn.ensures.exact (c.add_turn.ensures.small (length s.history.items) i.total_counted.small);
       threads = omega (arith, c.follow_turn.ensures.room, i.threads);
       room = omega (arith, c.remember.ensures.capacity, i.room);
     })
@@ -69,6 +69,6 @@ returns-clause-answer c =
     let fresh = requires.goes.fresh in
     let seed = unwrap_or (at_number s.generators.items c.args.actor) 0 in
     let number = ap (λ wide. number_from wide seed) c.self.invariant.wide in
-    subst (λ (x : Seen). (system_turn x.setting.program (world_of x) c.args.actor).answer ≡ Answered c.next_event.new.event c.event.result) c.self.view_is
+    subst (λ (x : Seen). (system_turn x.setting.program (world_of x) c.args.actor).answer ≡ Answered c.next_event.new.event c.answer.new.reply) c.self.view_is
     (turn-answer s.program (system_run s.program s.history.items) s.kernel.state s.places.items s.generators.items s.spent c.self.invariant.held c.args.actor (omega (arith, c.if-actor-eq0.false)) (number_from s.is_wide seed) fresh.0 c.args.slice.now fresh.1 fresh.2
-    c.done_in-done.ensures.exact number c.next_event.new.event (given-event c.args.actor _ c.next_event.new.event c.args.slice.now c.done_in-done.result c.done_in-done.ensures.done c.next_event.ensures.event) c.event.new.self.state c.event.result c.event.ensures.state c.event.ensures.reply)
+    c.done_in-done.ensures.exact number c.next_event.new.event (given-event c.args.actor _ c.next_event.new.event c.args.slice.now c.done_in-done.result c.done_in-done.ensures.done c.next_event.ensures.event) c.answer.new.self.state c.answer.new.reply c.answer.ensures.state c.answer.ensures.reply)

@@ -39,7 +39,7 @@ receive-requires c =
     let passed = c.pass_slice-done.ensures in
     run-names s.program (system_run s.program s.history.items) s.kernel.state s.places.items s.generators.items s.spent c.self.invariant.held c.args.actor c.args.running runs.0 runs.1.1 requires.actor
     c.script_numbered-script.result.now c.script_numbered-script.ensures.lines c.pass_slice-done.result c.pass_slice-done.new.places.items passed.slice passed.places passed.accumulator _ number
-    c.next_event.new.event c.next_event.ensures.event c.event.new.self.state c.event.result c.event.ensures.state c.event.ensures.reply
+    c.next_event.new.event c.next_event.ensures.event c.answer.new.self.state c.answer.new.reply c.answer.ensures.state c.answer.ensures.reply
 
 pub count_turn-requires-clause-bounded : goal.count_turn-requires-clause-bounded
 count_turn-requires-clause-bounded c =
@@ -59,12 +59,12 @@ invariant_of-self c =
     let held =
     run-held s.program (system_run s.program s.history.items) s.kernel.state s.places.items s.generators.items s.spent i.held c.args.actor c.args.running runs.0 runs.1.1 requires.actor
     c.script_numbered-script.result.now c.script_numbered-script.ensures.lines c.pass_slice-done.result c.pass_slice-done.new.places.items passed.slice passed.places passed.accumulator _ number
-    c.next_event.new.event c.next_event.ensures.event c.event.new.self.state c.event.result c.event.ensures.state c.event.ensures.reply
+    c.next_event.new.event c.next_event.ensures.event c.answer.new.self.state c.answer.new.reply c.answer.ensures.state c.answer.ensures.reply
     c.receive.new.places.items c.next_event.new.generators.items c.receive.ensures.received numbers in
     let answer =
     run-answer s.program (system_run s.program s.history.items) s.kernel.state s.places.items s.generators.items s.spent i.held c.args.actor c.args.running runs.0 runs.1.1 requires.actor
     c.script_numbered-script.result.now c.script_numbered-script.ensures.lines c.pass_slice-done.result c.pass_slice-done.new.places.items passed.slice passed.places passed.accumulator _ number
-    c.next_event.new.event c.next_event.ensures.event c.event.new.self.state c.event.result c.event.ensures.state c.event.ensures.reply in
+    c.next_event.new.event c.next_event.ensures.event c.answer.new.self.state c.answer.new.reply c.answer.ensures.state c.answer.ensures.reply in
     let count = count-processor s.history.items c.args.actor (omega (arith, requires.actor.0)) in
     let legal : IsLegal s.program s.room (s.history.items ++ c.args.actor ∷ []) = legal-more s.program s.room s.history.items c.args.actor i.legal requires.actor.1 requires.room (omega (arith, count, i.legal.console)) in
     rw c.remember.ensures.items (record {
@@ -73,11 +73,11 @@ invariant_of-self c =
       held = rw (system_run-one_more s.program s.history.items c.args.actor) held;
       generators = c.next_event.ensures.count ∙ i.generators;
       wide = i.wide;
-      past = past-more s.program s.history.items c.args.actor c.next_event.new.event c.event.result i.past answer;
+      past = past-more s.program s.history.items c.args.actor c.next_event.new.event c.answer.new.reply i.past answer;
       spent = omega (arith, count, i.spent);
       counts = c.count_turn.ensures.count ∙ i.counts;
-      each_counted = each-after s.program s.history.items c.args.actor c.next_event.new.event c.event.result answer c.count_turn.new.counts.items (c.count_turn.ensures.exact (turns_made s.program s.history.items) (length s.history.items) c.next_event.new.event i.each_counted);
-      total_counted = total-after s.program s.history.items c.args.actor c.next_event.new.event c.event.result answer s.total c.with_turn-self-inside.result i.total_counted c.with_turn-self-inside.ensures.exact (c.with_turn-self-inside.ensures.small (length s.history.items) i.total_counted.small);
+      each_counted = each-after s.program s.history.items c.args.actor c.next_event.new.event c.answer.new.reply answer c.count_turn.new.counts.items (c.count_turn.ensures.exact (turns_made s.program s.history.items) (length s.history.items) c.next_event.new.event i.each_counted);
+      total_counted = total-after s.program s.history.items c.args.actor c.next_event.new.event c.answer.new.reply answer s.total _ i.total_counted c.add_turn.ensures.exact (c.add_turn.ensures.small (length s.history.items) i.total_counted.small);
       threads = omega (arith, c.receive.ensures.room, c.pass_slice-done.ensures.room, i.threads);
       room = omega (arith, c.remember.ensures.capacity, i.room);
     })
@@ -89,7 +89,7 @@ returns-clause-answer c =
     let runs = requires.runs in
     let number = ap (λ wide. number_from wide (unwrap_or (at_number s.generators.items c.args.actor) 0)) c.self.invariant.wide in
     let passed = c.pass_slice-done.ensures in
-    subst (λ (x : Seen). (system_turn x.setting.program (world_of x) c.args.actor).answer ≡ Answered c.next_event.new.event c.event.result) c.self.view_is
+    subst (λ (x : Seen). (system_turn x.setting.program (world_of x) c.args.actor).answer ≡ Answered c.next_event.new.event c.answer.new.reply) c.self.view_is
     (run-answer s.program (system_run s.program s.history.items) s.kernel.state s.places.items s.generators.items s.spent c.self.invariant.held c.args.actor c.args.running runs.0 runs.1.1 requires.actor
     c.script_numbered-script.result.now c.script_numbered-script.ensures.lines c.pass_slice-done.result c.pass_slice-done.new.places.items passed.slice passed.places passed.accumulator _ number
-    c.next_event.new.event c.next_event.ensures.event c.event.new.self.state c.event.result c.event.ensures.state c.event.ensures.reply)
+    c.next_event.new.event c.next_event.ensures.event c.answer.new.self.state c.answer.new.reply c.answer.ensures.state c.answer.ensures.reply)

@@ -1,7 +1,8 @@
-use Rattle.std.proofs.Common.{◌≡◌, ◌≢◌, ◌<◌, ◌∙◌, ◌+◌, ◌/◌, ◌%◌, ◌++◌, ◌∷◌, [], List, ℕ, refl, ap, sym, arith, append_assoc}
+use Rattle.std.proofs.Common.{◌≡◌, ◌≢◌, ◌<◌, ◌∙◌, ◌+◌, ◌/◌, ◌%◌, ◌++◌, ◌∷◌, [], ℕ, refl, ap, sym, arith}
 use Rattle.std.proofs.lemmas.Bool.{ne_eqb}
 use Rattle.std.proofs.lemmas.Fmt.{decimal_digit}
 use Rattle.lot_simulation.specs.Texts.{behind_point}
+use Rattle.lot_print.proofs.Pairs.{parts}
 use Rattle.lot_print.proofs.line.Line.push_thousandths.Goals as goal
 
 -- one, two or three digits behind the point
@@ -23,26 +24,22 @@ three_digits m below some more last =
       decimal_digit (m % 10) (omega arith),
     ) refl
 
--- one part after another
-both : (before between after first second : List ℕ) → between ≡ before ++ first → after ≡ between ++ second → after ≡ before ++ (first ++ second)
-both before between after first second one two = two ∙ ap (λ xs. xs ++ second) one ∙ append_assoc before first second
-
 pub returns-then-thousandths-eq0-2-clause-text : goal.returns-then-thousandths-eq0-2-clause-text
 returns-then-thousandths-eq0-2-clause-text g c =
     let m = c.args.thousandths in
     let old = c.args.self.now in
-    both old _ _ _ _ c.push_text.ensures.text c.push_digit.ensures.text ∙ ap (λ t. old ++ t) (sym (one_digit m c.requires.1 c.if-thousandths-eq0.false c.if-thousandths-eq0-2.true))
+    parts old _ _ _ _ c.push_text.ensures.text c.push_digit.ensures.text ∙ ap (λ t. old ++ t) (sym (one_digit m c.requires.1 c.if-thousandths-eq0.false c.if-thousandths-eq0-2.true))
 
 pub returns-then-thousandths-eq0-3-clause-text : goal.returns-then-thousandths-eq0-3-clause-text
 returns-then-thousandths-eq0-3-clause-text g c =
     let m = c.args.thousandths in
     let old = c.args.self.now in
-    both old _ _ _ _ (both old _ _ _ _ c.push_text.ensures.text c.push_digit.ensures.text) c.push_digit-2.ensures.text
+    parts old _ _ _ _ (parts old _ _ _ _ c.push_text.ensures.text c.push_digit.ensures.text) c.push_digit-2.ensures.text
     ∙ ap (λ t. old ++ t) (sym (two_digits m c.requires.1 c.if-thousandths-eq0.false c.if-thousandths-eq0-2.false c.if-thousandths-eq0-3.true))
 
 pub returns-clause-text : goal.returns-clause-text
 returns-clause-text g c =
     let m = c.args.thousandths in
     let old = c.args.self.now in
-    both old _ _ _ _ (both old _ _ _ _ (both old _ _ _ _ c.push_text.ensures.text c.push_digit.ensures.text) c.push_digit-2.ensures.text) c.push_digit-3.ensures.text
+    parts old _ _ _ _ (parts old _ _ _ _ (parts old _ _ _ _ c.push_text.ensures.text c.push_digit.ensures.text) c.push_digit-2.ensures.text) c.push_digit-3.ensures.text
     ∙ ap (λ t. old ++ t) (sym (three_digits m c.requires.1 c.if-thousandths-eq0.false c.if-thousandths-eq0-2.false c.if-thousandths-eq0-3.false))

@@ -1,5 +1,5 @@
 use Rattle.lot_machine.proofs.OrderKept.{step-order, order-sound}
-use Rattle.lot_kernel.proofs.kernel.Kernel.event.Goals as goal
+use Rattle.lot_kernel.proofs.kernel.Kernel.answer.Goals as goal
 
 pub invariant_of-self : goal.invariant_of-self
 invariant_of-self c = rw c.event.ensures.state (step-order c.self.inside.tables.state c.args.event.now c.self.invariant)
