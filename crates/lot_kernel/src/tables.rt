@@ -125,7 +125,7 @@ impl Tables {
         ensures counts { Counts event.now reply.new self.old self.new }
     {
         match event {
-            Event::Command(command) => *reply = self.command(command),
+            Event::Command(command) => self.command(command, reply),
             Event::Draw(processor, d) => self.draw(*processor, *d, reply),
             Event::Expire(processor) => self.expire(*processor, reply),
             Event::Trap(processor, ran, action) => self.trap(*processor, *ran, action, reply),

@@ -24,30 +24,32 @@ use lot_machine::{Command, Name, Refusal, Reply, Status, Target, Thread, Ticket,
 use lot_value::Change;
 
 impl Tables {
-    /// One command.
-    pub(super) fn command(&mut self, command: &Command) -> Reply
+    /// One command, whose reply is stored where the caller keeps it.
+    pub(super) fn command(&mut self, command: &Command, reply: &mut Reply)
         requires { IsInOrder self.old.state }
-        ensures reply { result ≡ (command_step self.old.state command.now).reply }
+        ensures reply { reply.new ≡ (command_step self.old.state command.now).reply }
         ensures state { self.new.state ≡ (command_step self.old.state command.now).state }
         ensures stale { MakesStale self.old self.new }
         ensures kept { KeepsStale self.old self.new }
         ensures meter { self.new.meter ≡ self.old.meter }
     {
         match command {
-            Command::MakeTicket { amount, currency } => self.make_ticket(*amount, currency),
-            Command::RemoveTicket { ticket } => self.remove_ticket(*ticket),
-            Command::MakeCurrency { name } => self.make_currency(name),
-            Command::RemoveCurrency { currency } => self.remove_currency(currency),
-            Command::Fund { ticket, target } => self.fund(*ticket, target),
-            Command::Unfund { ticket } => self.unfund(*ticket),
-            Command::MakeThread { name, script } => self.make_thread(name, *script),
+            Command::MakeTicket { amount, currency } => {
+                *reply = self.make_ticket(*amount, currency);
+            }
+            Command::RemoveTicket { ticket } => *reply = self.remove_ticket(*ticket),
+            Command::MakeCurrency { name } => *reply = self.make_currency(name),
+            Command::RemoveCurrency { currency } => *reply = self.remove_currency(currency),
+            Command::Fund { ticket, target } => *reply = self.fund(*ticket, target),
+            Command::Unfund { ticket } => *reply = self.unfund(*ticket),
+            Command::MakeThread { name, script } => *reply = self.make_thread(name, *script),
             Command::MakeFunded {
                 amount,
                 currency,
                 name,
                 script,
-            } => self.make_funded(*amount, currency, name, *script),
-            Command::List(kind) => Reply::List(*kind),
+            } => *reply = self.make_funded(*amount, currency, name, *script),
+            Command::List(kind) => *reply = Reply::List(*kind),
         }
     }
 
