@@ -1,12 +1,11 @@
 //! Explaining an input.
-ghost use Rattle.std.specs.Prelude.{◌≡◌, ℕ, List, [], false, true, IfErr, IfOk, OnOk};
+ghost use Rattle.std.specs.Prelude.{◌≡◌, ℕ, List, false, true, IfErr, IfOk, OnOk};
 ghost use Rattle.std.specs.Io.KnownBytes.{Appends};
 ghost use Rattle.lot_simulation.specs.Grammar.{program_in};
 ghost use Rattle.lot_play.specs.Played.{Leaves, Plays, came_of};
 ghost use Rattle.lot_io.specs.Reading.{Reads};
-ghost use Rattle.lot_io.specs.Writing.{IsFaultOf, Writes};
+ghost use Rattle.lot_io.specs.Writing.{IsFaultOf};
 ghost use Rattle.lot_play.specs.declared.inputs.Played.TheVariants.{Done};
-ghost use Rattle.lot_playback.specs.Stages.{HasMade};
 ghost use Rattle.lot_explain.specs.Explained.{explained_output, explained_program};
 
 use crate::explained::explain_turns;
