@@ -5,7 +5,7 @@ use Rattle.lot_machine.specs.declared.event.Event.{Event}
 use Rattle.lot_machine.specs.declared.reply.Reply.{Reply}
 use Rattle.lot_simulation.specs.Output.{answer_text, turn_text}
 use Rattle.lot_simulation.specs.Report.{report}
-use Rattle.lot_simulation.specs.declared.manner.Manner.{Manner}
+use Rattle.lot_simulation.specs.declared.style.LineStyle.{LineStyle}
 use Rattle.lot_simulation.specs.Texts.{front, reply_text}
 use Rattle.lot_simulation.specs.World.{Program, World, Answer, Turn, system_turn, system_run}
 use Rattle.lot_simulation.specs.World.Answer.{Answered}
@@ -28,10 +28,10 @@ module _ (old : Seen) (actor : ℕ) (e : Event) (r : Reply) (is : (turn_in old a
         bounded = omega (arith, length-append old.history (actor ∷ []));
       }
 
-  pub text-after : (manner : Manner) → front manner ++ (decimal actor ++ (codes " " ++ reply_text manner (world_of (after_turn old actor)).state e r)) ≡ turn_text manner actor (turn_in old actor)
-  text-after manner =
-      ap (λ (w : World). front manner ++ (decimal actor ++ (codes " " ++ reply_text manner w.state e r))) world-after
-      ∙ ap (λ (a : Answer). front manner ++ (decimal actor ++ (codes " " ++ answer_text manner (turn_in old actor).world.state a))) (sym is)
+  pub text-after : (style : LineStyle) → front style ++ (decimal actor ++ (codes " " ++ reply_text style (world_of (after_turn old actor)).state e r)) ≡ turn_text style actor (turn_in old actor)
+  text-after style =
+      ap (λ (w : World). front style ++ (decimal actor ++ (codes " " ++ reply_text style w.state e r))) world-after
+      ∙ ap (λ (a : Answer). front style ++ (decimal actor ++ (codes " " ++ answer_text style (turn_in old actor).world.state a))) (sym is)
 
 -- ---- turns one after another
 

@@ -4,7 +4,7 @@ use Rattle.std.specs.List.{flat_map, range_with_len}
 use Rattle.lot_machine.specs.Numbered.{option_any}
 use Rattle.lot_machine.specs.State.{State, is_ready, status_of}
 use Rattle.lot_print.specs.declared.lots.Lot.{Lot}
-use Rattle.lot_play.proofs.WritingFacts.{range-push}
+use Rattle.lot_playback.proofs.TimeFacts.{range-push}
 use Rattle.lot_explain.specs.Gathering.{lot_if_ready}
 use Rattle.lot_explain.specs.Lots.{ready_lot}
 

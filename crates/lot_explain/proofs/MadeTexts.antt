@@ -1,6 +1,6 @@
 -- The output of `explain` is what explains each of the program's turns, and then the report.
 use Rattle.std.proofs.Common.{◌≡◌, ℕ, Option, None, Some, List, [], ◌∷◌, ◌++◌, refl, ap}
-use Rattle.lot_simulation.specs.declared.manner.Manner.TheVariants.{Whole, Timed}
+use Rattle.lot_simulation.specs.declared.style.LineStyle.TheVariants.{Whole, Timed}
 use Rattle.lot_simulation.specs.Timed.{TimedTurn, timed_turns}
 use Rattle.lot_simulation.specs.World.{Program, World, opening_world, system_turn}
 use Rattle.lot_play.specs.Texts.{last_report}

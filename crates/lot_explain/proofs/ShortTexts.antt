@@ -5,7 +5,7 @@ use Rattle.std.specs.List.{flat_map}
 use Rattle.std.proofs.lemmas.Bool.{ltb-false}
 use Rattle.lot_machine.specs.Bounds.{IsWithinBounds}
 use Rattle.lot_machine.proofs.Tickets.{some-injective}
-use Rattle.lot_simulation.specs.declared.manner.Manner.TheVariants.{Whole, Timed}
+use Rattle.lot_simulation.specs.declared.style.LineStyle.TheVariants.{Whole, Timed}
 use Rattle.lot_simulation.specs.declared.timed.Due.{Due}
 use Rattle.lot_simulation.specs.Grammar.{program_in}
 use Rattle.lot_simulation.specs.Output.{output, played_output, scheduled_output, timed_output, timed_text, turn_text, turn_texts}

@@ -29,7 +29,7 @@ use Rattle.lot_machine.proofs.CommandsKept.{all-pass, unrefused}
 use Rattle.lot_machine.proofs.OrderKept.{opening-order, step-order}
 use Rattle.lot_machine.proofs.Tickets.{some-injective}
 use Rattle.lot_machine.proofs.StepSizes.{command-grown, step-sizes}
-use Rattle.lot_simulation.specs.declared.manner.Manner.{Manner}
+use Rattle.lot_simulation.specs.declared.style.LineStyle.{LineStyle}
 use Rattle.lot_simulation.specs.declared.script.ScriptTrap.{ScriptTrap}
 use Rattle.lot_simulation.specs.Script.{Slice}
 use Rattle.lot_simulation.specs.World.{Program, World, number_of, slice_on, event_of_slice, processor_event, console_turn, opening_world, processor_turn, system_turn}
@@ -108,20 +108,20 @@ none-won (event.Expire p) refusal = refl
 none-won (event.Trap p ran action.Yield) refusal = refl
 none-won (event.Trap p ran other) refusal = refl
 
-module _ (manner : Manner) (timely : HasShortTime manner) (s : State) (short : HasShortNames s) where
+module _ (style : LineStyle) (timely : HasShortTime style) (s : State) (short : HasShortNames s) where
   -- the lines of lots are no more than there may be threads, if somebody has won
-  won-short : (actor : ℕ) → actor ≤ 64 → (e : Event) (won : Option Won) → length (won_lines manner s.limits.unit actor (lots_of s e) won) ≤ s.limits.threads * 139
+  won-short : (actor : ℕ) → actor ≤ 64 → (e : Event) (won : Option Won) → length (won_lines style s.limits.unit actor (lots_of s e) won) ≤ s.limits.threads * 139
   won-short actor few e None = omega arith
   won-short actor few e (Some won) =
       let lots = among-short s short (entrants_in e) in
-      let lines = lines-short manner s.limits.unit actor timely short.order.bounds.of_unit few won 0 (lots_of s e) lots.each (omega (arith, lots.total)) in
+      let lines = lines-short style s.limits.unit actor timely short.order.bounds.of_unit few won 0 (lots_of s e) lots.each (omega (arith, lots.total)) in
       omega (arith, lines, mul-le-mul_right 139 lots.few)
 
   -- so are those of a lottery that an event holds: if it isn't refused, its processor is there
-  event-short : (actor : ℕ) (e : Event) → processor_of e ≡ Some actor → length (won_lines manner s.limits.unit actor (lots_of s e) (won_in e (step s e).reply)) ≤ s.limits.threads * 139
+  event-short : (actor : ℕ) (e : Event) → processor_of e ≡ Some actor → length (won_lines style s.limits.unit actor (lots_of s e) (won_in e (step s e).reply)) ≤ s.limits.threads * 139
   event-short actor e on = at (event_refusal s e) refl
     where
-      at : (o : Option Refusal) → event_refusal s e ≡ o → length (won_lines manner s.limits.unit actor (lots_of s e) (won_in e (unless_refused s o (event_effect s e)).reply)) ≤ s.limits.threads * 139
+      at : (o : Option Refusal) → event_refusal s e ≡ o → length (won_lines style s.limits.unit actor (lots_of s e) (won_in e (unless_refused s o (event_effect s e)).reply)) ≤ s.limits.threads * 139
       at None passes = won-short actor (omega (arith, processor-few s e actor on passes, short.order.bounds.of_processors.1)) e (won_in e (event_effect s e).reply)
       at (Some refusal) fails = rw (none-won e refusal) (omega arith)
 
@@ -213,20 +213,20 @@ turn-keeps program w actor short = at (actor == 0)
     at false = processor-keeps program.limits w actor (processor_event w actor) (event-on w actor) short
 
 -- the console holds no lottery
-console-short : (program : Program) (w : World) (commands : List Command) (manner : Manner) (actor : ℕ) → length (lots_text manner actor w.state (console_turn program w commands).answer) ≤ 0
-console-short program w [] manner actor = omega arith
-console-short program w (c ∷ cs) manner actor = omega arith
+console-short : (program : Program) (w : World) (commands : List Command) (style : LineStyle) (actor : ℕ) → length (lots_text style actor w.state (console_turn program w commands).answer) ≤ 0
+console-short program w [] style actor = omega arith
+console-short program w (c ∷ cs) style actor = omega arith
 
 -- the lines of the lots of a turn's lottery are no more than there may be threads
-pub turn-short : (manner : Manner) (program : Program) (w : World) (actor : ℕ) → HasShortTime manner → IsShort program.limits w
-    → length (lots_text manner actor w.state (system_turn program w actor).answer) ≤ program.limits.threads * 139
-turn-short manner program w actor timely short = at (actor == 0)
+pub turn-short : (style : LineStyle) (program : Program) (w : World) (actor : ℕ) → HasShortTime style → IsShort program.limits w
+    → length (lots_text style actor w.state (system_turn program w actor).answer) ≤ program.limits.threads * 139
+turn-short style program w actor timely short = at (actor == 0)
   where
-    at : (b : Bool) → length (lots_text manner actor w.state (cond b (console_turn program w w.commands) (processor_turn w actor (processor_event w actor))).answer) ≤ program.limits.threads * 139
-    at true = omega (arith, console-short program w w.commands manner actor)
+    at : (b : Bool) → length (lots_text style actor w.state (cond b (console_turn program w w.commands) (processor_turn w actor (processor_event w actor))).answer) ≤ program.limits.threads * 139
+    at true = omega (arith, console-short program w w.commands style actor)
     at false =
-        subst (λ n. length (lots_text manner actor w.state (processor_turn w actor (processor_event w actor)).answer) ≤ n * 139) (ap (λ (l : Sizes). l.threads) short.limits)
-        (event-short manner timely w.state (short-names program.limits w short) actor (processor_event w actor) (event-on w actor))
+        subst (λ n. length (lots_text style actor w.state (processor_turn w actor (processor_event w actor)).answer) ≤ n * 139) (ap (λ (l : Sizes). l.threads) short.limits)
+        (event-short style timely w.state (short-names program.limits w short) actor (processor_event w actor) (event-on w actor))
 
 -- at the start there are no threads
 pub opening-short : (program : Program) → IsWithinBounds program.limits → All HasShortName program.commands → IsShort program.limits (opening_world program)

@@ -2,8 +2,8 @@
 use Rattle.std.specs.Prelude.{ℕ, Option, Some, None, Result, Ok, Err, List, [], ◌∷◌, ◌++◌}
 use Rattle.lot_machine.specs.State.{State}
 use Rattle.lot_simulation.specs.declared.input.InputFault.{InputFault}
-use Rattle.lot_simulation.specs.declared.manner.Manner.{Manner}
-use Rattle.lot_simulation.specs.declared.manner.Manner.TheVariants.{Whole, Timed}
+use Rattle.lot_simulation.specs.declared.style.LineStyle.{LineStyle}
+use Rattle.lot_simulation.specs.declared.style.LineStyle.TheVariants.{Whole, Timed}
 use Rattle.lot_simulation.specs.Grammar.{program_in}
 use Rattle.lot_simulation.specs.Output.{turn_text}
 use Rattle.lot_simulation.specs.Report.{report}
@@ -16,13 +16,13 @@ use Rattle.lot_explain.specs.Lots.{lots_of, won_in, won_lines}
 
 -- the lines of the lots of a turn's lottery, given the state before the turn and its result; none if no lottery was
 -- won
-abbrev pub lots_text : Manner → ℕ → State → Answer → List ℕ
-lots_text manner actor s (Answered e r) = won_lines manner s.limits.unit actor (lots_of s e) (won_in e r)
-lots_text manner actor s Ended = []
+abbrev pub lots_text : LineStyle → ℕ → State → Answer → List ℕ
+lots_text style actor s (Answered e r) = won_lines style s.limits.unit actor (lots_of s e) (won_in e r)
+lots_text style actor s Ended = []
 
 -- the lots of a turn's lottery, and then the turn's lines, given the world before it
-abbrev pub explained_text : Manner → ℕ → World → Turn → List ℕ
-explained_text manner actor w turn = lots_text manner actor w.state turn.answer ++ turn_text manner actor turn
+abbrev pub explained_text : LineStyle → ℕ → World → Turn → List ℕ
+explained_text style actor w turn = lots_text style actor w.state turn.answer ++ turn_text style actor turn
 
 -- ---- the turns of a schedule
 

@@ -9,7 +9,7 @@ use Rattle.lot_machine.specs.declared.reply.Reply.TheVariants as reply
 use Rattle.lot_machine.specs.Mutexes.{mutex_at}
 use Rattle.lot_machine.specs.Rows.{thread_name}
 use Rattle.lot_machine.specs.State.{State, ready_threads, value_of, weight_of}
-use Rattle.lot_simulation.specs.declared.manner.Manner.{Manner}
+use Rattle.lot_simulation.specs.declared.style.LineStyle.{LineStyle}
 use Rattle.lot_print.specs.declared.lots.Lot.{Lot}
 use Rattle.lot_print.specs.declared.lots.Lottery.TheVariants.{OfProcessor, OfMutex}
 use Rattle.lot_print.specs.Lots.{lot_line}
@@ -72,11 +72,11 @@ won_in e other = None
 -- ---- the lines
 
 -- The lines of lots, whose numbers begin with this one: the numbers of each follow those of the one before it.
-abbrev pub lot_lines : Manner → ℕ → ℕ → Won → ℕ → List Lot → List ℕ
-lot_lines manner unit actor won first [] = []
-lot_lines manner unit actor won first (lot ∷ lots) = lot_line manner unit actor won.lottery won.winner first lot ++ lot_lines manner unit actor won (first + lot.weight) lots
+abbrev pub lot_lines : LineStyle → ℕ → ℕ → Won → ℕ → List Lot → List ℕ
+lot_lines style unit actor won first [] = []
+lot_lines style unit actor won first (lot ∷ lots) = lot_line style unit actor won.lottery won.winner first lot ++ lot_lines style unit actor won (first + lot.weight) lots
 
 -- the lines of the lots of a lottery that was won, whose numbers begin with 0
-abbrev pub won_lines : Manner → ℕ → ℕ → List Lot → Option Won → List ℕ
-won_lines manner unit actor lots None = []
-won_lines manner unit actor lots (Some won) = lot_lines manner unit actor won 0 lots
+abbrev pub won_lines : LineStyle → ℕ → ℕ → List Lot → Option Won → List ℕ
+won_lines style unit actor lots None = []
+won_lines style unit actor lots (Some won) = lot_lines style unit actor won 0 lots

@@ -9,14 +9,14 @@ use Rattle.lot_simulation.specs.World.Answer.{Answered}
 use Rattle.lot_engine.specs.Seen.{Seen, world_of}
 use Rattle.lot_playback.specs.declared.turn.Turn.{Turn}
 use Rattle.lot_playback.specs.Stages.{Reports}
-use Rattle.lot_play.specs.Texts.{manner_at}
+use Rattle.lot_play.specs.Texts.{style_at}
 use Rattle.lot_playback.specs.Turns.{MadeTurn}
 use Rattle.lot_explain.specs.Explained.{explained_text}
 use Rattle.lot_explain.specs.Lots.{lots_of}
 
 -- the lots of a turn's lottery, and then the turn's lines
 abbrev pub explained_made : MadeTurn → List ℕ
-explained_made made = explained_text (manner_at made.time) made.actor made.before made.turn
+explained_made made = explained_text (style_at made.time) made.actor made.before made.turn
 
 -- the same of turns
 abbrev pub explained_turns : List MadeTurn → List ℕ

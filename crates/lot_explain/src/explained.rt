@@ -15,7 +15,7 @@ use crate::lines::put_lots;
 use lot_engine::System;
 use lot_io::{IoFault, Watched};
 use lot_machine::{Event, Reply};
-use lot_play::{Warnings, heading, manner_of, play_through, put_answer};
+use lot_play::{Warnings, heading, play_through, put_answer, style_of};
 use lot_playback::{Observer, Playback, Turn};
 use lot_print::{Heading, Lot, Page, write_ended};
 use lot_text::Program;
@@ -128,7 +128,7 @@ fn put_explained<W: Write>(
     ensures text { (made : MadeTurn) → IsExplained system.old turn.now lots.now.lots made
         → Puts W.contents writer.old writer.new page.old page.new result (explained_made made) }
 {
-    let heading = heading(system, manner_of(turn), turn.actor);
+    let heading = heading(system, style_of(turn), turn.actor);
     if turn.has_ended {
         return write_ended(writer, page, heading);
     }
@@ -159,14 +159,14 @@ fn put_turn<W: Write>(
     requires total { IfSome (won_in event.now reply) (λ won. won.total ≡ total_of lots.now) }
     ensures same { system.new ≡ system.old }
     ensures text { Puts W.contents writer.old writer.new page.old page.new result
-        (won_lines heading.manner heading.unit heading.actor lots.now (won_in event.now reply)
-        ++ (front heading.manner ++ (decimal heading.actor
-        ++ (codes " " ++ reply_text heading.manner (world_of system.old).state event.now reply)))) }
+        (won_lines heading.style heading.unit heading.actor lots.now (won_in event.now reply)
+        ++ (front heading.style ++ (decimal heading.actor
+        ++ (codes " " ++ reply_text heading.style (world_of system.old).state event.now reply)))) }
 {
     put_lots(heading, event, reply, lots, writer, page)?;
     put_answer(
         system,
-        heading.manner,
+        heading.style,
         heading.actor,
         event,
         &reply,

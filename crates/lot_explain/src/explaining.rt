@@ -1,10 +1,8 @@
 //! Explaining an input.
-ghost use Rattle.std.specs.Prelude.{◌≡◌, [], false, true, OnOk};
+ghost use Rattle.std.specs.Prelude.{◌≡◌, false, true, OnOk};
 ghost use Rattle.lot_simulation.specs.Grammar.{program_in};
 ghost use Rattle.lot_play.specs.Played.{Plays, came_of};
-ghost use Rattle.lot_io.specs.Writing.{Writes};
 ghost use Rattle.lot_play.specs.declared.inputs.Played.TheVariants.{Done};
-ghost use Rattle.lot_playback.specs.Stages.{HasMade};
 ghost use Rattle.lot_explain.specs.Explained.{explained_output, explained_program};
 
 use crate::explained::explain_turns;

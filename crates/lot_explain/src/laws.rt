@@ -10,7 +10,7 @@ ghost use Rattle.lot_simulation.specs.Output.{output, scheduled_output, timed_ou
 ghost use Rattle.lot_simulation.specs.Timed.{end_of, timed_turns};
 ghost use Rattle.lot_simulation.specs.World.{Program, World, system_turn};
 ghost use Rattle.lot_simulation.specs.World.Answer.{Answered};
-ghost use Rattle.lot_simulation.specs.declared.manner.Manner.{Manner};
+ghost use Rattle.lot_simulation.specs.declared.style.LineStyle.{LineStyle};
 ghost use Rattle.lot_play.specs.Texts.{last_report};
 ghost use Rattle.lot_playback.specs.Turns.{program_turns};
 ghost use Rattle.lot_explain.specs.Explained.{explained_in_time, explained_output, explained_program};
@@ -46,11 +46,11 @@ pub fn explanations_are_short()
 /// A lot's printed numbers begin with the total weight of the lots before it, and are as many as its own weight. The
 /// number drawn in a turn's lottery is among those of the winner, and among no other thread's.
 pub fn winners_have_the_number()
-    ensures printed { (manner : Manner) (unit actor : ℕ) (won : Won) (before after : List Lot) (lot : Lot)
-        → lot_lines manner unit actor won 0 (before ++ lot ∷ after)
-        ≡ lot_lines manner unit actor won 0 before
-        ++ (lot_line manner unit actor won.lottery won.winner (total_of before) lot
-        ++ lot_lines manner unit actor won (total_of before + lot.weight) after) }
+    ensures printed { (style : LineStyle) (unit actor : ℕ) (won : Won) (before after : List Lot) (lot : Lot)
+        → lot_lines style unit actor won 0 (before ++ lot ∷ after)
+        ≡ lot_lines style unit actor won 0 before
+        ++ (lot_line style unit actor won.lottery won.winner (total_of before) lot
+        ++ lot_lines style unit actor won (total_of before + lot.weight) after) }
     ensures winner { (program : Program) (w : World) (actor : ℕ) (e : Event) (r : Reply) (won : Won) (number : ℕ)
         → (system_turn program w actor).answer ≡ Answered e r → won_in e r ≡ Some won → number_in r ≡ Some number
         → (lot : Lot) × HasNumber (lots_of w.state e) number lot × (lot.thread ≡ won.winner) }

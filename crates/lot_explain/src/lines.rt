@@ -23,7 +23,7 @@ pub(crate) fn put_lots<W: Write>(
     requires unit { 0 < heading.unit }
     requires total { IfSome (won_in_spec event.now reply) (λ won. won.total ≡ total_of lots.now) }
     ensures { Puts W.contents writer.old writer.new page.old page.new result
-        (won_lines heading.manner heading.unit heading.actor lots.now (won_in_spec event.now reply)) }
+        (won_lines heading.style heading.unit heading.actor lots.now (won_in_spec event.now reply)) }
 {
     match won_in(event, reply) {
         None => Ok(()),
@@ -45,7 +45,7 @@ fn write_lots<W: Write>(
     requires unit { 0 < heading.unit }
     requires total { won.total ≡ total_of lots.now }
     ensures { Writes W.contents writer.old writer.new result
-        (lot_lines heading.manner heading.unit heading.actor won 0 lots.now) }
+        (lot_lines heading.style heading.unit heading.actor won 0 lots.now) }
 {
     let mut first: u128 = 0;
     for lot in lots {

@@ -12,7 +12,7 @@ use Rattle.lot_machine.specs.declared.command.Kind.TheVariants.{Tickets, Currenc
 use Rattle.lot_machine.specs.Numbered.{at_number}
 use Rattle.lot_machine.specs.State.{State}
 use Rattle.lot_machine.specs.Rows.{row_of_thread}
-use Rattle.lot_simulation.specs.declared.manner.Manner.{Manner}
+use Rattle.lot_simulation.specs.declared.style.LineStyle.{LineStyle}
 use Rattle.lot_simulation.specs.Texts.{newline, front, listing_text}
 use Rattle.lot_machine.proofs.Tickets.{at_number-suc}
 use Rattle.lot_print.specs.Listings.{listing_line}
@@ -63,11 +63,11 @@ word_of Currencies = codes "lscur "
 word_of Threads = codes "lsthr "
 
 -- a listing is its first line and those of its rows
-listing-is : (manner : Manner) (s : State) (kind : Kind)
-    → listing_text manner s kind ≡ word_of kind ++ (decimal (rows_among s kind (given_count s kind)) ++ (newline ++ flat_map (row_line manner s kind) (range_with_len (first_number kind) (given_count s kind))))
-listing-is manner s Tickets = refl
-listing-is manner s Currencies = refl
-listing-is manner s Threads = rw (passing-all (is_there s Threads) 1 (length s.records) (thread-there s)) refl
+listing-is : (style : LineStyle) (s : State) (kind : Kind)
+    → listing_text style s kind ≡ word_of kind ++ (decimal (rows_among s kind (given_count s kind)) ++ (newline ++ flat_map (row_line style s kind) (range_with_len (first_number kind) (given_count s kind))))
+listing-is style s Tickets = refl
+listing-is style s Currencies = refl
+listing-is style s Threads = rw (passing-all (is_there s Threads) 1 (length s.records) (thread-there s)) refl
 
 line-is : (kind : Kind) (n : ℕ) (lines : List ℕ) → listing_line kind n ++ lines ≡ word_of kind ++ (decimal n ++ (newline ++ lines))
 line-is Tickets n lines = ap (λ xs. codes "lstkt " ++ xs) (append_assoc (decimal n) newline lines)
@@ -75,11 +75,11 @@ line-is Currencies n lines = ap (λ xs. codes "lscur " ++ xs) (append_assoc (dec
 line-is Threads n lines = ap (λ xs. codes "lsthr " ++ xs) (append_assoc (decimal n) newline lines)
 
 -- the same after the time and the actor
-pub listed-after : (manner : Manner) (s : State) (kind : Kind) (actor rows : ℕ) → rows ≡ rows_among s kind (given_count s kind)
-    → (front manner ++ (decimal actor ++ (codes " " ++ listing_line kind rows))) ++ flat_map (row_line manner s kind) (range_with_len (first_number kind) (given_count s kind))
-    ≡ front manner ++ (decimal actor ++ (codes " " ++ listing_text manner s kind))
-listed-after manner s kind actor rows count =
-    let lines = flat_map (row_line manner s kind) (range_with_len (first_number kind) (given_count s kind)) in
-    append_assoc (front manner) (decimal actor ++ (codes " " ++ listing_line kind rows)) lines
-    ∙ ap (λ xs. front manner ++ xs) (append_assoc (decimal actor) (codes " " ++ listing_line kind rows) lines
-    ∙ ap (λ xs. decimal actor ++ (codes " " ++ xs)) (line-is kind rows lines ∙ ap (λ n. word_of kind ++ (decimal n ++ (newline ++ lines))) count ∙ sym (listing-is manner s kind)))
+pub listed-after : (style : LineStyle) (s : State) (kind : Kind) (actor rows : ℕ) → rows ≡ rows_among s kind (given_count s kind)
+    → (front style ++ (decimal actor ++ (codes " " ++ listing_line kind rows))) ++ flat_map (row_line style s kind) (range_with_len (first_number kind) (given_count s kind))
+    ≡ front style ++ (decimal actor ++ (codes " " ++ listing_text style s kind))
+listed-after style s kind actor rows count =
+    let lines = flat_map (row_line style s kind) (range_with_len (first_number kind) (given_count s kind)) in
+    append_assoc (front style) (decimal actor ++ (codes " " ++ listing_line kind rows)) lines
+    ∙ ap (λ xs. front style ++ xs) (append_assoc (decimal actor) (codes " " ++ listing_line kind rows) lines
+    ∙ ap (λ xs. decimal actor ++ (codes " " ++ xs)) (line-is kind rows lines ∙ ap (λ n. word_of kind ++ (decimal n ++ (newline ++ lines))) count ∙ sym (listing-is style s kind)))

@@ -2,7 +2,7 @@
 use Rattle.std.proofs.Common.{◌≡◌, ℕ, Option, None, Some, List, [], ◌∷◌, ◌++◌, refl, ap}
 use Rattle.std.specs.List.{flat_map}
 use Rattle.lot_simulation.specs.Output.{played_output, timed_text, turn_text, turn_texts}
-use Rattle.lot_simulation.specs.declared.manner.Manner.TheVariants.{Whole}
+use Rattle.lot_simulation.specs.declared.style.LineStyle.TheVariants.{Whole}
 use Rattle.lot_simulation.specs.Timed.{TimedTurn, timed_turns}
 use Rattle.lot_simulation.specs.World.{Program, World, opening_world, system_turn}
 use Rattle.lot_playback.specs.Turns.{scheduled_turns, turns_by, turns_in_time}

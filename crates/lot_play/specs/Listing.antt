@@ -6,7 +6,7 @@ use Rattle.lot_machine.specs.declared.command.Kind.{Kind}
 use Rattle.lot_machine.specs.declared.command.Kind.TheVariants.{Tickets, Currencies, Threads}
 use Rattle.lot_machine.specs.State.{State}
 use Rattle.lot_machine.specs.Rows.{ticket_row, currency_row, thread_row}
-use Rattle.lot_simulation.specs.declared.manner.Manner.{Manner}
+use Rattle.lot_simulation.specs.declared.style.LineStyle.{LineStyle}
 use Rattle.lot_simulation.specs.Texts.{ticket_line, currency_line, thread_line}
 
 -- the first number of the kind
@@ -22,10 +22,10 @@ is_there s Currencies n = is_some (currency_row s n)
 is_there s Threads n = is_some (thread_row s n)
 
 -- the line of the row with the number, if there is one
-abbrev pub row_line : Manner → State → Kind → ℕ → List ℕ
-row_line manner s Tickets n = option_map_or (ticket_line manner s.limits.unit n) (ticket_row s n) []
-row_line manner s Currencies n = option_map_or (currency_line manner s.limits.unit n) (currency_row s n) []
-row_line manner s Threads n = option_map_or (thread_line manner s.limits.unit n) (thread_row s n) []
+abbrev pub row_line : LineStyle → State → Kind → ℕ → List ℕ
+row_line style s Tickets n = option_map_or (ticket_line style s.limits.unit n) (ticket_row s n) []
+row_line style s Currencies n = option_map_or (currency_line style s.limits.unit n) (currency_row s n) []
+row_line style s Threads n = option_map_or (thread_line style s.limits.unit n) (thread_row s n) []
 
 -- how many of the first `count` numbers have a row
 abbrev pub rows_among : State → Kind → ℕ → ℕ

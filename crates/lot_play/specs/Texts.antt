@@ -1,8 +1,8 @@
 -- What `play` writes of a program's turns.
 use Rattle.std.specs.Prelude.{ℕ, Option, Some, None, List}
 use Rattle.std.specs.List.{flat_map}
-use Rattle.lot_simulation.specs.declared.manner.Manner.{Manner}
-use Rattle.lot_simulation.specs.declared.manner.Manner.TheVariants.{Whole, Timed}
+use Rattle.lot_simulation.specs.declared.style.LineStyle.{LineStyle}
+use Rattle.lot_simulation.specs.declared.style.LineStyle.TheVariants.{Whole, Timed}
 use Rattle.lot_simulation.specs.Output.{turn_text}
 use Rattle.lot_simulation.specs.Report.{report}
 use Rattle.lot_simulation.specs.TimedReport.{timed_report}
@@ -10,13 +10,13 @@ use Rattle.lot_simulation.specs.World.{Program, system_run}
 use Rattle.lot_playback.specs.Turns.{MadeTurn}
 
 -- how a turn is written that is made at this time, or at none
-abbrev pub manner_at : Option ℕ → Manner
-manner_at None = Whole
-manner_at (Some time) = Timed time
+abbrev pub style_at : Option ℕ → LineStyle
+style_at None = Whole
+style_at (Some time) = Timed time
 
 -- the lines of a turn
 abbrev pub made_text : MadeTurn → List ℕ
-made_text made = turn_text (manner_at made.time) made.actor made.turn
+made_text made = turn_text (style_at made.time) made.actor made.turn
 
 -- the lines of turns
 abbrev pub made_texts : List MadeTurn → List ℕ

@@ -4,7 +4,7 @@ ghost use Rattle.std.specs.Fmt.{decimal};
 ghost use Rattle.lot_simulation.specs.Texts.{front, reply_text};
 ghost use Rattle.lot_engine.specs.Seen.{world_of};
 ghost use Rattle.lot_io.specs.Writing.{Puts};
-ghost use Rattle.lot_play.specs.Texts.{manner_at};
+ghost use Rattle.lot_play.specs.Texts.{style_at};
 
 use crate::listing::write_listing;
 use lot_engine::System;
@@ -12,14 +12,14 @@ use lot_io::{IoFault, Watched};
 use lot_machine::{Event, Reply};
 use lot_playback::Turn;
 use lot_print::{Heading, Page, write_reply};
-use lot_simulation::Manner;
+use lot_simulation::LineStyle;
 use std::io::Write;
 
 /// Puts the lines of a turn on the page. A listing is written at once.
 #[inline(always)]
 pub fn put_answer<W: Write>(
     system: &mut System,
-    manner: Manner,
+    style: LineStyle,
     actor: u32,
     event: &Event,
     reply: &Reply,
@@ -29,28 +29,28 @@ pub fn put_answer<W: Write>(
     requires { writer.old.failed ≡ false }
     ensures same { system.new ≡ system.old }
     ensures text { Puts W.contents writer.old writer.new page.old page.new result
-        (front manner ++ (decimal actor
-        ++ (codes " " ++ reply_text manner (world_of system.old).state event.now reply.now))) }
+        (front style ++ (decimal actor
+        ++ (codes " " ++ reply_text style (world_of system.old).state event.now reply.now))) }
 {
     match *reply {
         Reply::List(kind) => {
             page.write_out(writer)?;
-            write_listing(system, manner, actor, kind, writer)
+            write_listing(system, style, actor, kind, writer)
         }
-        _ => write_reply(writer, page, heading(system, manner, actor), event, reply),
+        _ => write_reply(writer, page, heading(system, style, actor), event, reply),
     }
 }
 
 /// What the line of the actor's turn needs in addition to its event and reply.
 #[inline(always)]
-pub fn heading(system: &System, manner: Manner, actor: u32) -> Heading
-    ensures manner { result.manner ≡ manner }
+pub fn heading(system: &System, style: LineStyle, actor: u32) -> Heading
+    ensures style { result.style ≡ style }
     ensures actor { result.actor ≡ actor }
     ensures unit { result.unit ≡ (world_of system.now).state.limits.unit }
     ensures some { 0 < result.unit }
 {
     Heading {
-        manner,
+        style,
         unit: system.unit(),
         actor,
     }
@@ -58,11 +58,11 @@ pub fn heading(system: &System, manner: Manner, actor: u32) -> Heading
 
 /// How a turn is written: with its time, if it has one.
 #[inline(always)]
-pub fn manner_of(turn: &Turn) -> Manner
-    ensures { result ≡ manner_at turn.now.time }
+pub fn style_of(turn: &Turn) -> LineStyle
+    ensures { result ≡ style_at turn.now.time }
 {
     match turn.time {
-        Some(time) => Manner::Timed(time),
-        None => Manner::Whole,
+        Some(time) => LineStyle::Timed(time),
+        None => LineStyle::Whole,
     }
 }

@@ -15,7 +15,7 @@ mod reports;
 mod timed_report;
 mod warnings;
 
-pub use answers::{heading, manner_of, put_answer};
+pub use answers::{heading, put_answer, style_of};
 pub use ending::write_end;
 pub use first_few::FirstFew;
 pub use inputs::{Played, play, play_bytes, program_of, refuse};

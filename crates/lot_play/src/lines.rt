@@ -10,7 +10,7 @@ ghost use Rattle.lot_playback.specs.Stages.{HasMade, Reports, turns_left};
 ghost use Rattle.lot_play.specs.Texts.{made_text, made_texts};
 ghost use Rattle.lot_playback.specs.Turns.{MadeTurn, program_turns};
 
-use crate::{Played, Warnings, end_play, heading, manner_of, play_through, put_answer};
+use crate::{Played, Warnings, end_play, heading, play_through, put_answer, style_of};
 use lot_engine::System;
 use lot_io::{IoFault, Watched};
 use lot_playback::{Observer, Playback, Turn};
@@ -81,14 +81,14 @@ fn put_made<W: Write>(
     ensures text { (made : MadeTurn) → Reports turn.now made → world_of system.old ≡ made.turn.world
         → Puts W.contents writer.old writer.new page.old page.new result (made_text made) }
 {
-    let manner = manner_of(turn);
+    let style = style_of(turn);
     if turn.has_ended {
-        return write_ended(writer, page, heading(system, manner, turn.actor));
+        return write_ended(writer, page, heading(system, style, turn.actor));
     }
     warnings.note(turn.actor, &turn.reply);
     put_answer(
         system,
-        manner,
+        style,
         turn.actor,
         &turn.event,
         &turn.reply,

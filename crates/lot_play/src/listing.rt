@@ -12,14 +12,14 @@ use lot_engine::System;
 use lot_io::{IoFault, Watched};
 use lot_machine::Kind;
 use lot_print::{write_currency, write_listing_line, write_thread, write_ticket};
-use lot_simulation::Manner;
+use lot_simulation::LineStyle;
 use std::io::Write;
 
 /// Writes an actor's turn that asked for a listing of the kernel as it is: how many rows there are, and a line for
 /// each, by rising number.
 pub(crate) fn write_listing<W: Write>(
     system: &mut System,
-    manner: Manner,
+    style: LineStyle,
     actor: u32,
     kind: Kind,
     writer: &mut Watched<W>,
@@ -27,12 +27,12 @@ pub(crate) fn write_listing<W: Write>(
     requires { writer.old.failed ≡ false }
     ensures same { system.new ≡ system.old }
     ensures text { Writes W.contents writer.old writer.new result
-        (texts.front manner ++ (decimal actor
-        ++ (codes " " ++ texts.listing_text manner (world_of system.old).state kind))) }
+        (texts.front style ++ (decimal actor
+        ++ (codes " " ++ texts.listing_text style (world_of system.old).state kind))) }
 {
     let rows = count_rows(system, kind);
-    write_listing_line(writer, manner, actor, kind, rows)?;
-    write_rows(system, manner, kind, writer)
+    write_listing_line(writer, style, actor, kind, rows)?;
+    write_rows(system, style, kind, writer)
 }
 
 /// How many rows the listing has.
@@ -76,19 +76,19 @@ fn has_row(system: &mut System, kind: Kind, number: u32) -> bool
 /// Writes the lines of the existing rows.
 fn write_rows<W: Write>(
     system: &mut System,
-    manner: Manner,
+    style: LineStyle,
     kind: Kind,
     writer: &mut Watched<W>,
 ) -> Result<(), IoFault>
     requires { writer.old.failed ≡ false }
     ensures same { system.new ≡ system.old }
     ensures text { Writes W.contents writer.old writer.new result
-        (flat_map (row_line manner (world_of system.old).state kind)
+        (flat_map (row_line style (world_of system.old).state kind)
         (range_with_len (listing.first_number kind) (given_count (world_of system.old).state kind))) }
 {
     let first = first_number(kind);
     for place in 0..system.given_count(kind) {
-        write_row(system, manner, kind, first + place, writer)?;
+        write_row(system, style, kind, first + place, writer)?;
     }
     Ok(())
 }
@@ -96,7 +96,7 @@ fn write_rows<W: Write>(
 /// Writes the line of the row with this number, if there is one.
 fn write_row<W: Write>(
     system: &mut System,
-    manner: Manner,
+    style: LineStyle,
     kind: Kind,
     number: u32,
     writer: &mut Watched<W>,
@@ -104,20 +104,20 @@ fn write_row<W: Write>(
     requires { writer.old.failed ≡ false }
     ensures same { system.new ≡ system.old }
     ensures text { Writes W.contents writer.old writer.new result
-        (row_line manner (world_of system.old).state kind number) }
+        (row_line style (world_of system.old).state kind number) }
 {
     let limits = system.limits();
     match kind {
         Kind::Tickets => match system.ticket_row(number) {
-            Some(row) => write_ticket(writer, manner, limits, number, &row),
+            Some(row) => write_ticket(writer, style, limits, number, &row),
             None => Ok(()),
         },
         Kind::Currencies => match system.currency_row(number) {
-            Some(row) => write_currency(writer, manner, limits, number, &row),
+            Some(row) => write_currency(writer, style, limits, number, &row),
             None => Ok(()),
         },
         Kind::Threads => match system.thread_row(number) {
-            Some(row) => write_thread(writer, manner, limits, number, &row),
+            Some(row) => write_thread(writer, style, limits, number, &row),
             None => Ok(()),
         },
     }

@@ -1,7 +1,7 @@
 -- The text of lots: of those that take part in a lottery.
 use Rattle.std.specs.Prelude.{ℕ, ◌+◌, ◌==◌, Bool, true, false, List, [], ◌++◌, codes}
 use Rattle.std.specs.Fmt.{decimal}
-use Rattle.lot_simulation.specs.declared.manner.Manner.{Manner}
+use Rattle.lot_simulation.specs.declared.style.LineStyle.{LineStyle}
 use Rattle.lot_simulation.specs.Texts.{drawn_value, front, newline, value_text}
 use Rattle.lot_print.specs.declared.lots.Lot.{Lot}
 use Rattle.lot_print.specs.declared.lots.Lottery.{Lottery}
@@ -24,7 +24,7 @@ mark false = []
 
 -- The line of a lot, if this thread has won: what it weighs, and that the numbers are its own from `first` on, as many
 -- as it weighs. What it weighs is printed as in listings, and the numbers are as those of draws.
-abbrev pub lot_line : Manner → ℕ → ℕ → Lottery → ℕ → ℕ → Lot → List ℕ
-lot_line manner unit actor lottery winner first lot =
-    front manner ++ (decimal actor ++ (part_word lottery ++ (decimal lot.thread ++ (codes " " ++ (lot.name ++ (weight_word lottery ++ (value_text manner unit lot.weight
-    ++ (codes " from " ++ (drawn_value manner unit first ++ (codes " below " ++ (drawn_value manner unit (first + lot.weight) ++ (mark (lot.thread == winner) ++ newline))))))))))))
+abbrev pub lot_line : LineStyle → ℕ → ℕ → Lottery → ℕ → ℕ → Lot → List ℕ
+lot_line style unit actor lottery winner first lot =
+    front style ++ (decimal actor ++ (part_word lottery ++ (decimal lot.thread ++ (codes " " ++ (lot.name ++ (weight_word lottery ++ (value_text style unit lot.weight
+    ++ (codes " from " ++ (drawn_value style unit first ++ (codes " below " ++ (drawn_value style unit (first + lot.weight) ++ (mark (lot.thread == winner) ++ newline))))))))))))

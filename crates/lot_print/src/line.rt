@@ -6,7 +6,7 @@ ghost use Rattle.lot_io.specs.Writing.{Writes};
 
 use itoa::{Buffer, Integer};
 use lot_io::{IoFault, Watched, write_bytes};
-use lot_simulation::Manner;
+use lot_simulation::LineStyle;
 use std::io::Write;
 use std::marker::Model;
 
@@ -190,45 +190,45 @@ impl<const N: usize> Line<N> {
         self.push_digit(thousandths % 10);
     }
 
-    /// Puts what a line of this manner begins with.
+    /// Puts what a line of this style begins with.
     #[inline(always)]
-    pub(crate) fn push_front(&mut self, manner: Manner)
+    pub(crate) fn push_front(&mut self, style: LineStyle)
         requires { length self.old + 11 ≤ N }
-        ensures text { self.new ≡ self.old ++ front manner }
+        ensures text { self.new ≡ self.old ++ front style }
         ensures len { length self.new ≤ length self.old + 11 }
     {
-        if let Manner::Timed(time) = manner {
+        if let LineStyle::Timed(time) = style {
             self.push_count("", time);
             self.push_text(" ");
         }
     }
 
     /// Puts the text and then a value, which is kept in so many parts to the unit.
-    pub(crate) fn push_value(&mut self, text: &str, manner: Manner, unit: u32, value: u128)
+    pub(crate) fn push_value(&mut self, text: &str, style: LineStyle, unit: u32, value: u128)
         requires room { length self.old + length text.now + 43 ≤ N }
         requires unit { 0 < unit }
-        ensures text { self.new ≡ self.old ++ (text.now ++ value_text manner unit value) }
+        ensures text { self.new ≡ self.old ++ (text.now ++ value_text style unit value) }
         ensures len { length self.new ≤ length self.old + length text.now + 43 }
     {
         self.push_text(text);
-        match manner {
-            Manner::Whole => self.push_wide("", value / u128::from(unit)),
-            Manner::Timed(_) => self.push_quotient("", value, u128::from(unit)),
+        match style {
+            LineStyle::Whole => self.push_wide("", value / u128::from(unit)),
+            LineStyle::Timed(_) => self.push_quotient("", value, u128::from(unit)),
         }
     }
 
     /// Puts the text and then a number that was drawn, or the total that it was drawn from.
     #[inline(always)]
-    pub(crate) fn push_drawn(&mut self, text: &str, manner: Manner, unit: u32, number: u128)
+    pub(crate) fn push_drawn(&mut self, text: &str, style: LineStyle, unit: u32, number: u128)
         requires room { length self.old + length text.now + 43 ≤ N }
         requires unit { 0 < unit }
-        ensures text { self.new ≡ self.old ++ (text.now ++ drawn_value manner unit number) }
+        ensures text { self.new ≡ self.old ++ (text.now ++ drawn_value style unit number) }
         ensures len { length self.new ≤ length self.old + length text.now + 43 }
     {
         self.push_word(text);
-        match manner {
-            Manner::Whole => self.push_wide("", number),
-            Manner::Timed(_) => self.push_quotient("", number, u128::from(unit)),
+        match style {
+            LineStyle::Whole => self.push_wide("", number),
+            LineStyle::Timed(_) => self.push_quotient("", number, u128::from(unit)),
         }
     }
 

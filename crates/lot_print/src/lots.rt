@@ -43,7 +43,7 @@ pub fn write_lot<W: Write>(
     requires unit { 0 < heading.unit }
     requires fits { first + lot.now.weight < 2 ^ 128 }
     ensures { Writes W.contents writer.old writer.new result
-        (lot_line heading.manner heading.unit heading.actor lottery winner first lot.now) }
+        (lot_line heading.style heading.unit heading.actor lottery winner first lot.now) }
 {
     lot_text(heading, lottery, winner, first, lot).write_to(writer)
 }
@@ -52,10 +52,10 @@ pub fn write_lot<W: Write>(
 fn lot_text(heading: Heading, lottery: Lottery, winner: u32, first: u128, lot: &Lot) -> RowLine
     requires unit { 0 < heading.unit }
     requires fits { first + lot.now.weight < 2 ^ 128 }
-    ensures { result ≡ lot_line heading.manner heading.unit heading.actor lottery winner first lot.now }
+    ensures { result ≡ lot_line heading.style heading.unit heading.actor lottery winner first lot.now }
 {
     let mut line = RowLine::new();
-    line.push_front(heading.manner);
+    line.push_front(heading.style);
     line.push_field("", heading.actor);
     push_part(&mut line, lottery, lot);
     push_weight(&mut line, heading, lottery, lot.weight);
@@ -84,14 +84,14 @@ fn push_part(line: &mut RowLine, lottery: Lottery, lot: &Lot)
 fn push_weight(line: &mut RowLine, heading: Heading, lottery: Lottery, weight: u128)
     requires room { length line.old ≤ 60 }
     requires unit { 0 < heading.unit }
-    ensures text { line.new ≡ line.old ++ (weight_word lottery ++ value_text heading.manner heading.unit weight) }
+    ensures text { line.new ≡ line.old ++ (weight_word lottery ++ value_text heading.style heading.unit weight) }
     ensures len { length line.new ≤ length line.old + 51 }
 {
     let word = match lottery {
         Lottery::OfProcessor => " weight ",
         Lottery::OfMutex => " value ",
     };
-    line.push_value(word, heading.manner, heading.unit, weight);
+    line.push_value(word, heading.style, heading.unit, weight);
 }
 
 /// Puts the first of its numbers, and what they are below.
@@ -99,12 +99,12 @@ fn push_numbers(line: &mut RowLine, heading: Heading, first: u128, below: u128)
     requires room { length line.old ≤ 111 }
     requires unit { 0 < heading.unit }
     ensures text { line.new ≡ line.old
-        ++ (codes " from " ++ (drawn_value heading.manner heading.unit first
-        ++ (codes " below " ++ drawn_value heading.manner heading.unit below))) }
+        ++ (codes " from " ++ (drawn_value heading.style heading.unit first
+        ++ (codes " below " ++ drawn_value heading.style heading.unit below))) }
     ensures len { length line.new ≤ length line.old + 99 }
 {
-    line.push_drawn(" from ", heading.manner, heading.unit, first);
-    line.push_drawn(" below ", heading.manner, heading.unit, below);
+    line.push_drawn(" from ", heading.style, heading.unit, first);
+    line.push_drawn(" below ", heading.style, heading.unit, below);
 }
 
 /// Puts the mark at the winner's line, and the line's end.

@@ -13,14 +13,14 @@ use crate::refused::{
 };
 use lot_io::{IoFault, Watched};
 use lot_machine::{Action, Event, Outcome, Refusal, Reply};
-use lot_simulation::Manner;
+use lot_simulation::LineStyle;
 use std::io::Write;
 
 /// What the line of a turn needs in addition to the reply.
 #[derive(Clone, Copy, Debug)]
 pub struct Heading {
     /// How it's printed.
-    pub manner: Manner,
+    pub style: LineStyle,
     /// In how many parts to the unit values are kept: 1 or 256.
     pub unit: u32,
     /// Whose turn it was.
@@ -40,8 +40,8 @@ pub fn write_reply<W: Write>(
     requires working { writer.old.failed ≡ false }
     requires unit { 0 < heading.unit }
     ensures { Puts W.contents writer.old writer.new page.old page.new result
-        (front heading.manner ++ (decimal heading.actor
-        ++ (codes " " ++ plain_text heading.manner heading.unit event.now reply.now))) }
+        (front heading.style ++ (decimal heading.actor
+        ++ (codes " " ++ plain_text heading.style heading.unit event.now reply.now))) }
 {
     page.make_room(writer)?;
     push_turn(&mut page.lines, heading, event, reply);
@@ -56,7 +56,7 @@ pub fn write_ended<W: Write>(
 ) -> Result<(), IoFault>
     requires { writer.old.failed ≡ false }
     ensures { Puts W.contents writer.old writer.new page.old page.new result
-        (front heading.manner ++ (decimal heading.actor ++ (codes " " ++ (refused 41 (codes "Ended") ++ newline)))) }
+        (front heading.style ++ (decimal heading.actor ++ (codes " " ++ (refused 41 (codes "Ended") ++ newline)))) }
 {
     page.make_room(writer)?;
     push_ended(&mut page.lines, heading);
@@ -68,8 +68,8 @@ pub fn write_ended<W: Write>(
 fn push_turn<const N: usize>(line: &mut Line<N>, heading: Heading, event: &Event, reply: &Reply)
     requires room { length line.old + 192 ≤ N }
     requires unit { 0 < heading.unit }
-    ensures { line.new ≡ line.old ++ (front heading.manner
-        ++ (decimal heading.actor ++ (codes " " ++ plain_text heading.manner heading.unit event.now reply.now))) }
+    ensures { line.new ≡ line.old ++ (front heading.style
+        ++ (decimal heading.actor ++ (codes " " ++ plain_text heading.style heading.unit event.now reply.now))) }
 {
     push_heading(line, heading);
     push_reply(line, heading, event, reply);
@@ -78,7 +78,7 @@ fn push_turn<const N: usize>(line: &mut Line<N>, heading: Heading, event: &Event
 /// Puts the line of a turn of the console without a command.
 fn push_ended<const N: usize>(line: &mut Line<N>, heading: Heading)
     requires { length line.old + 192 ≤ N }
-    ensures { line.new ≡ line.old ++ (front heading.manner
+    ensures { line.new ≡ line.old ++ (front heading.style
         ++ (decimal heading.actor ++ (codes " " ++ (refused 41 (codes "Ended") ++ newline)))) }
 {
     push_heading(line, heading);
@@ -90,10 +90,10 @@ fn push_ended<const N: usize>(line: &mut Line<N>, heading: Heading)
 #[inline(always)]
 fn push_heading<const N: usize>(line: &mut Line<N>, heading: Heading)
     requires { length line.old + 192 ≤ N }
-    ensures text { line.new ≡ line.old ++ (front heading.manner ++ (decimal heading.actor ++ codes " ")) }
+    ensures text { line.new ≡ line.old ++ (front heading.style ++ (decimal heading.actor ++ codes " ")) }
     ensures len { length line.new ≤ length line.old + 22 }
 {
-    line.push_front(heading.manner);
+    line.push_front(heading.style);
     line.push_count("", heading.actor);
     line.push_word(" ");
 }
@@ -103,7 +103,7 @@ fn push_heading<const N: usize>(line: &mut Line<N>, heading: Heading)
 fn push_reply<const N: usize>(line: &mut Line<N>, heading: Heading, event: &Event, reply: &Reply)
     requires room { length line.old + 170 ≤ N }
     requires unit { 0 < heading.unit }
-    ensures { line.new ≡ line.old ++ plain_text heading.manner heading.unit event.now reply.now }
+    ensures { line.new ≡ line.old ++ plain_text heading.style heading.unit event.now reply.now }
 {
     match *reply {
         Reply::Ticket(n) => push_made(line, "ticket ", n),
@@ -130,7 +130,7 @@ fn push_reply<const N: usize>(line: &mut Line<N>, heading: Heading, event: &Even
             ends,
         } => {
             push_ran(line, thread, ticks);
-            push_trap_of(line, heading.manner, heading.unit, event, outcome, ends);
+            push_trap_of(line, heading.style, heading.unit, event, outcome, ends);
         }
         Reply::Refused(why) => push_refusal(line, why),
     }
@@ -179,13 +179,13 @@ fn push_winner<const N: usize>(
     requires room { length line.old + 170 ≤ N }
     requires unit { 0 < heading.unit }
     ensures { line.new ≡ line.old ++ (codes "draw "
-        ++ (drawn_value heading.manner heading.unit drawn.0
-        ++ (codes " of " ++ (drawn_value heading.manner heading.unit drawn.1
+        ++ (drawn_value heading.style heading.unit drawn.0
+        ++ (codes " of " ++ (drawn_value heading.style heading.unit drawn.1
         ++ (codes " thread " ++ (decimal thread ++ (delivered_text delivered ++ newline))))))) }
 {
     let (number, total) = drawn;
-    line.push_drawn("draw ", heading.manner, heading.unit, number);
-    line.push_drawn(" of ", heading.manner, heading.unit, total);
+    line.push_drawn("draw ", heading.style, heading.unit, number);
+    line.push_drawn(" of ", heading.style, heading.unit, total);
     line.push_count(" thread ", thread);
     if let Some(number) = delivered {
         line.push_count(" got ", number);
@@ -208,7 +208,7 @@ fn push_ran<const N: usize>(line: &mut Line<N>, thread: u32, ticks: u32)
 #[inline(never)]
 fn push_trap_of<const N: usize>(
     line: &mut Line<N>,
-    manner: Manner,
+    style: LineStyle,
     unit: u32,
     event: &Event,
     outcome: Outcome,
@@ -217,11 +217,11 @@ fn push_trap_of<const N: usize>(
     requires room { length line.old + 136 ≤ N }
     requires unit { 0 < unit }
     ensures { line.new ≡ line.old ++ (codes " "
-        ++ (trap_text_of manner unit event.now outcome ++ (ends_text ends ++ newline))) }
+        ++ (trap_text_of style unit event.now outcome ++ (ends_text ends ++ newline))) }
 {
     line.push_word(" ");
     if let Event::Trap(_, _, action) = event {
-        push_trap(line, manner, unit, *action, outcome);
+        push_trap(line, style, unit, *action, outcome);
     }
     if ends {
         line.push_word(" ends\n");
@@ -233,14 +233,14 @@ fn push_trap_of<const N: usize>(
 /// Puts the outcome of a trap. An outcome that the action never has is no text.
 fn push_trap<const N: usize>(
     line: &mut Line<N>,
-    manner: Manner,
+    style: LineStyle,
     unit: u32,
     action: Action,
     outcome: Outcome,
 )
     requires room { length line.old + 128 ≤ N }
     requires unit { 0 < unit }
-    ensures text { line.new ≡ line.old ++ trap_text manner unit action outcome }
+    ensures text { line.new ≡ line.old ++ trap_text style unit action outcome }
     ensures len { length line.new ≤ length line.old + 128 }
 {
     match (action, outcome) {
@@ -272,7 +272,7 @@ fn push_trap<const N: usize>(
         (Action::Unlock(mutex, _), Outcome::Passed { to, draw }) => {
             line.push_count("unlock ", mutex);
             line.push_count(" to ", to);
-            push_draw(line, manner, unit, draw);
+            push_draw(line, style, unit, draw);
         }
         (Action::Exit, Outcome::Exited) => line.push_word("exit"),
         _ => (),
@@ -314,20 +314,20 @@ fn push_state<const N: usize>(line: &mut Line<N>, word: &str, number: u32, state
 /// Puts how the mutex was passed on: by a lottery, or to the one that had waited longest.
 fn push_draw<const N: usize>(
     line: &mut Line<N>,
-    manner: Manner,
+    style: LineStyle,
     unit: u32,
     drawn: Option<(u64, u64)>,
 )
     requires room { length line.old + 96 ≤ N }
     requires unit { 0 < unit }
-    ensures text { line.new ≡ line.old ++ drawn_text manner unit drawn }
+    ensures text { line.new ≡ line.old ++ drawn_text style unit drawn }
     ensures len { length line.new ≤ length line.old + 96 }
 {
     match drawn {
         None => line.push_text(" oldest"),
         Some((number, total)) => {
-            line.push_drawn(" draw ", manner, unit, u128::from(number));
-            line.push_drawn(" of ", manner, unit, u128::from(total));
+            line.push_drawn(" draw ", style, unit, u128::from(number));
+            line.push_drawn(" of ", style, unit, u128::from(total));
         }
     }
 }

@@ -9,23 +9,23 @@ ghost use Rattle.lot_io.specs.Writing.{Writes};
 use crate::line::{Line, RowLine};
 use lot_io::{IoFault, Watched};
 use lot_machine::{CurrencyRow, Kind, Limits, Name, Status, ThreadRow, TicketRow};
-use lot_simulation::Manner;
+use lot_simulation::LineStyle;
 use std::io::Write;
 
 /// Writes the line of an actor's turn that asked for a listing: what it is of, and how many rows follow.
 pub fn write_listing_line<W: Write>(
     writer: &mut Watched<W>,
-    manner: Manner,
+    style: LineStyle,
     actor: u32,
     kind: Kind,
     rows: u32,
 ) -> Result<(), IoFault>
     requires { writer.old.failed ≡ false }
     ensures { Writes W.contents writer.old writer.new result
-        (front manner ++ (decimal actor ++ (codes " " ++ listing_line kind rows))) }
+        (front style ++ (decimal actor ++ (codes " " ++ listing_line kind rows))) }
 {
     let mut line = RowLine::new();
-    line.push_front(manner);
+    line.push_front(style);
     line.push_number(actor);
     match kind {
         Kind::Tickets => line.push_field(" lstkt ", rows),
@@ -39,28 +39,28 @@ pub fn write_listing_line<W: Write>(
 /// Writes a ticket's line in a listing of a kernel with these limits.
 pub fn write_ticket<W: Write>(
     writer: &mut Watched<W>,
-    manner: Manner,
+    style: LineStyle,
     limits: Limits,
     number: u32,
     row: &TicketRow,
 ) -> Result<(), IoFault>
     requires { writer.old.failed ≡ false }
-    ensures { Writes W.contents writer.old writer.new result (ticket_line manner limits.unit number row.now) }
+    ensures { Writes W.contents writer.old writer.new result (ticket_line style limits.unit number row.now) }
 {
-    ticket_text(manner, limits, number, row).write_to(writer)
+    ticket_text(style, limits, number, row).write_to(writer)
 }
 
 /// A ticket's line.
-fn ticket_text(manner: Manner, limits: Limits, number: u32, row: &TicketRow) -> RowLine
-    ensures { result ≡ ticket_line manner limits.unit number row.now }
+fn ticket_text(style: LineStyle, limits: Limits, number: u32, row: &TicketRow) -> RowLine
+    ensures { result ≡ ticket_line style limits.unit number row.now }
 {
     let mut line = RowLine::new();
-    line.push_front(manner);
+    line.push_front(style);
     line.push_field("ticket ", number);
     push_amount(&mut line, row.amount, &row.issuer);
     push_target(&mut line, &row.target);
     push_activity(&mut line, row.is_active);
-    line.push_value(" value ", manner, limits.unit, u128::from(row.value));
+    line.push_value(" value ", style, limits.unit, u128::from(row.value));
     line.push_text("\n");
     line
 }
@@ -101,28 +101,28 @@ fn push_activity(line: &mut RowLine, is_active: bool)
 /// Writes a currency's line in a listing of a kernel with these limits; base is currency 0.
 pub fn write_currency<W: Write>(
     writer: &mut Watched<W>,
-    manner: Manner,
+    style: LineStyle,
     limits: Limits,
     number: u32,
     row: &CurrencyRow,
 ) -> Result<(), IoFault>
     requires { writer.old.failed ≡ false }
-    ensures { Writes W.contents writer.old writer.new result (currency_line manner limits.unit number row.now) }
+    ensures { Writes W.contents writer.old writer.new result (currency_line style limits.unit number row.now) }
 {
-    currency_text(manner, limits, number, row).write_to(writer)
+    currency_text(style, limits, number, row).write_to(writer)
 }
 
 /// A currency's line.
-fn currency_text(manner: Manner, limits: Limits, number: u32, row: &CurrencyRow) -> RowLine
-    ensures { result ≡ currency_line manner limits.unit number row.now }
+fn currency_text(style: LineStyle, limits: Limits, number: u32, row: &CurrencyRow) -> RowLine
+    ensures { result ≡ currency_line style limits.unit number row.now }
 {
     let mut line = RowLine::new();
-    line.push_front(manner);
+    line.push_front(style);
     push_named(&mut line, "currency ", number, &row.name);
     line.push_field(" backing ", row.backing);
     line.push_field(" issued ", row.issued);
     line.push_field(" active ", row.active_amount);
-    push_currency_value(&mut line, manner, limits, number, row.value);
+    push_currency_value(&mut line, style, limits, number, row.value);
     line.push_text("\n");
     line
 }
@@ -130,28 +130,28 @@ fn currency_text(manner: Manner, limits: Limits, number: u32, row: &CurrencyRow)
 /// Writes a thread's line in a listing of a kernel with these limits.
 pub fn write_thread<W: Write>(
     writer: &mut Watched<W>,
-    manner: Manner,
+    style: LineStyle,
     limits: Limits,
     number: u32,
     row: &ThreadRow,
 ) -> Result<(), IoFault>
     requires { writer.old.failed ≡ false }
-    ensures { Writes W.contents writer.old writer.new result (thread_line manner limits.unit number row.now) }
+    ensures { Writes W.contents writer.old writer.new result (thread_line style limits.unit number row.now) }
 {
-    thread_text(manner, limits, number, row).write_to(writer)
+    thread_text(style, limits, number, row).write_to(writer)
 }
 
 /// A thread's line.
-fn thread_text(manner: Manner, limits: Limits, number: u32, row: &ThreadRow) -> RowLine
-    ensures { result ≡ thread_line manner limits.unit number row.now }
+fn thread_text(style: LineStyle, limits: Limits, number: u32, row: &ThreadRow) -> RowLine
+    ensures { result ≡ thread_line style limits.unit number row.now }
 {
     let mut line = RowLine::new();
-    line.push_front(manner);
+    line.push_front(style);
     push_named(&mut line, "thread ", number, &row.name);
     line.push_text(" ");
     push_status(&mut line, row.status);
-    line.push_value(" value ", manner, limits.unit, u128::from(row.value));
-    line.push_value(" weight ", manner, limits.unit, row.weight);
+    line.push_value(" value ", style, limits.unit, u128::from(row.value));
+    line.push_value(" weight ", style, limits.unit, row.weight);
     push_used(&mut line, row.quanta, row.ticks);
     line
 }
@@ -207,14 +207,20 @@ pub(crate) fn push_counts<const N: usize>(line: &mut Line<N>, quanta: u64, ticks
 }
 
 /// Puts a currency's value: base, which is currency 0, is worth its active amount.
-fn push_currency_value(line: &mut RowLine, manner: Manner, limits: Limits, number: u32, value: u64)
+fn push_currency_value(
+    line: &mut RowLine,
+    style: LineStyle,
+    limits: Limits,
+    number: u32,
+    value: u64,
+)
     requires { length line.old ≤ 200 }
-    ensures text { line.new ≡ line.old ++ (codes " value " ++ currency_value manner limits.unit number value) }
+    ensures text { line.new ≡ line.old ++ (codes " value " ++ currency_value style limits.unit number value) }
     ensures len { length line.new ≤ length line.old + 50 }
 {
     if number == 0 {
         line.push_field(" value ", value);
     } else {
-        line.push_value(" value ", manner, limits.unit, u128::from(value));
+        line.push_value(" value ", style, limits.unit, u128::from(value));
     }
 }

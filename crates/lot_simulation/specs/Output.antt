@@ -7,21 +7,21 @@ use Rattle.lot_simulation.specs.Grammar.{program_in}
 use Rattle.lot_simulation.specs.Texts.{newline, front, refused, reply_text, fault_line}
 use Rattle.lot_simulation.specs.Report.{report, history_lines}
 use Rattle.std.specs.List.{flat_map}
-use Rattle.lot_simulation.specs.declared.manner.Manner.{Manner}
-use Rattle.lot_simulation.specs.declared.manner.Manner.TheVariants.{Whole, Timed}
+use Rattle.lot_simulation.specs.declared.style.LineStyle.{LineStyle}
+use Rattle.lot_simulation.specs.declared.style.LineStyle.TheVariants.{Whole, Timed}
 use Rattle.lot_simulation.specs.Timed.{TimedTurn, timed_turns}
 use Rattle.lot_simulation.specs.TimedReport.{timed_report}
 use Rattle.lot_simulation.specs.World.{Program, World, Answer, Turn, opening_world, system_turn, system_run}
 use Rattle.lot_simulation.specs.World.Answer.{Answered, Ended}
 
 -- the output for an answer, given the state after the turn
-abbrev pub answer_text : Manner → State → Answer → List ℕ
-answer_text manner s (Answered e r) = reply_text manner s e r
-answer_text manner s Ended = refused 41 (codes "Ended") ++ newline
+abbrev pub answer_text : LineStyle → State → Answer → List ℕ
+answer_text style s (Answered e r) = reply_text style s e r
+answer_text style s Ended = refused 41 (codes "Ended") ++ newline
 
 -- the lines of a turn, the first of which names the actor
-abbrev pub turn_text : Manner → ℕ → Turn → List ℕ
-turn_text manner actor turn = front manner ++ (decimal actor ++ (codes " " ++ answer_text manner turn.world.state turn.answer))
+abbrev pub turn_text : LineStyle → ℕ → Turn → List ℕ
+turn_text style actor turn = front style ++ (decimal actor ++ (codes " " ++ answer_text style turn.world.state turn.answer))
 
 -- the lines of the turns of these actors, from this world on
 abbrev pub turn_texts : Program → World → List ℕ → List ℕ

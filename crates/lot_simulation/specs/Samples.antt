@@ -7,7 +7,7 @@ use Rattle.lot_machine.specs.declared.record.Status.{Status}
 use Rattle.lot_machine.specs.declared.refusal.Refusal.{Refusal}
 use Rattle.lot_machine.specs.declared.reply.Outcome.{Outcome}
 use Rattle.lot_machine.specs.declared.reply.Reply.TheVariants.{Refused, Trapped}
-use Rattle.lot_simulation.specs.declared.manner.Manner.TheVariants.{Whole}
+use Rattle.lot_simulation.specs.declared.style.LineStyle.TheVariants.{Whole}
 use Rattle.lot_simulation.specs.Texts.{newline, plain_text, thread_line}
 
 -- lines, each with the byte that ends it

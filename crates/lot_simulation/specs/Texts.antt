@@ -22,8 +22,8 @@ use Rattle.lot_machine.specs.declared.reply.Outcome.TheVariants as outcome
 use Rattle.lot_simulation.specs.declared.input.InputRefusal.{InputRefusal}
 use Rattle.lot_simulation.specs.declared.input.InputRefusal.TheVariants as input_refusal
 use Rattle.lot_simulation.specs.declared.input.InputFault.{InputFault}
-use Rattle.lot_simulation.specs.declared.manner.Manner.{Manner}
-use Rattle.lot_simulation.specs.declared.manner.Manner.TheVariants.{Whole, Timed}
+use Rattle.lot_simulation.specs.declared.style.LineStyle.{LineStyle}
+use Rattle.lot_simulation.specs.declared.style.LineStyle.TheVariants.{Whole, Timed}
 use Rattle.lot_machine.specs.declared.row.TicketRow.{TicketRow}
 use Rattle.lot_machine.specs.declared.row.CurrencyRow.{CurrencyRow}
 use Rattle.lot_machine.specs.declared.row.ThreadRow.{ThreadRow}
@@ -35,10 +35,10 @@ use Rattle.lot_machine.specs.Rows.{ticket_row, currency_row, thread_row}
 abbrev pub newline : List ℕ
 newline = 10 ∷ []
 
--- ---- manners
+-- ---- styles
 
 -- what a line of a turn begins with: its time, if it has one
-abbrev pub front : Manner → List ℕ
+abbrev pub front : LineStyle → List ℕ
 front Whole = []
 front (Timed time) = decimal time ++ codes " "
 
@@ -55,12 +55,12 @@ abbrev pub quotient_text : ℕ → ℕ → List ℕ
 quotient_text n d = decimal (n / d) ++ behind_point (n % d * 1000 / d)
 
 -- a value, which is kept in so many parts to the unit
-abbrev pub value_text : Manner → ℕ → ℕ → List ℕ
+abbrev pub value_text : LineStyle → ℕ → ℕ → List ℕ
 value_text Whole unit value = decimal (value / unit)
 value_text (Timed time) unit value = quotient_text value unit
 
--- a number that was drawn, or the total that it was drawn from: those of whole manner are printed as they are kept
-abbrev pub drawn_value : Manner → ℕ → ℕ → List ℕ
+-- a number that was drawn, or the total that it was drawn from: those of whole style are printed as they are kept
+abbrev pub drawn_value : LineStyle → ℕ → ℕ → List ℕ
 drawn_value Whole unit n = decimal n
 drawn_value (Timed time) unit n = quotient_text n unit
 
@@ -161,9 +161,9 @@ fault_line fault =
 -- ---- traps
 
 -- how the mutex's new owner was picked: by a lottery, or as the one that had waited longest
-abbrev pub drawn_text : Manner → ℕ → Option (ℕ × ℕ) → List ℕ
-drawn_text manner unit None = codes " oldest"
-drawn_text manner unit (Some drawn) = codes " draw " ++ (drawn_value manner unit drawn.0 ++ (codes " of " ++ drawn_value manner unit drawn.1))
+abbrev pub drawn_text : LineStyle → ℕ → Option (ℕ × ℕ) → List ℕ
+drawn_text style unit None = codes " oldest"
+drawn_text style unit (Some drawn) = codes " draw " ++ (drawn_value style unit drawn.0 ++ (codes " of " ++ drawn_value style unit drawn.1))
 
 -- a receipt at a port: whose call was taken, and the number that it sent, or that the thread waits
 abbrev pub received_text : ℕ → ℕ → ℕ → List ℕ
@@ -177,27 +177,27 @@ abbrev pub replied_text : ℕ → List ℕ
 replied_text client = codes "reply client " ++ decimal client
 
 -- The text of a trap's outcome. An outcome that an action never has gives no text.
-abbrev pub trap_text : Manner → ℕ → Action → Outcome → List ℕ
-trap_text manner unit made (outcome.Refused why) = refused (trap_refusal_code why) (trap_refusal_name why)
-trap_text manner unit action.Yield outcome.Yielded = codes "yield"
-trap_text manner unit (action.Call port number) (outcome.ServedBy server) = codes "call " ++ (decimal port ++ (codes " served by " ++ decimal server))
-trap_text manner unit (action.Call port number) outcome.Queued = codes "call " ++ (decimal port ++ codes " queued")
-trap_text manner unit (action.Receive port) (outcome.Received client number) = received_text port client number
-trap_text manner unit (action.Receive port) outcome.Waits = receiving_text port
-trap_text manner unit (action.Reply number) (outcome.Replied client) = replied_text client
-trap_text manner unit (action.Serve port number) (outcome.RepliedThenReceived to client got) = replied_text to ++ (codes " " ++ received_text port client got)
-trap_text manner unit (action.Serve port number) (outcome.RepliedThenWaits to) = replied_text to ++ (codes " " ++ receiving_text port)
-trap_text manner unit (action.Lock mutex) outcome.Locked = codes "lock " ++ (decimal mutex ++ codes " taken")
-trap_text manner unit (action.Lock mutex) outcome.Waits = codes "lock " ++ (decimal mutex ++ codes " waits")
-trap_text manner unit (action.Unlock mutex d) outcome.Freed = codes "unlock " ++ (decimal mutex ++ codes " free")
-trap_text manner unit (action.Unlock mutex d) (outcome.Passed to drawn) = codes "unlock " ++ (decimal mutex ++ (codes " to " ++ (decimal to ++ drawn_text manner unit drawn)))
-trap_text manner unit action.Exit outcome.Exited = codes "exit"
-trap_text manner unit other never = []
+abbrev pub trap_text : LineStyle → ℕ → Action → Outcome → List ℕ
+trap_text style unit made (outcome.Refused why) = refused (trap_refusal_code why) (trap_refusal_name why)
+trap_text style unit action.Yield outcome.Yielded = codes "yield"
+trap_text style unit (action.Call port number) (outcome.ServedBy server) = codes "call " ++ (decimal port ++ (codes " served by " ++ decimal server))
+trap_text style unit (action.Call port number) outcome.Queued = codes "call " ++ (decimal port ++ codes " queued")
+trap_text style unit (action.Receive port) (outcome.Received client number) = received_text port client number
+trap_text style unit (action.Receive port) outcome.Waits = receiving_text port
+trap_text style unit (action.Reply number) (outcome.Replied client) = replied_text client
+trap_text style unit (action.Serve port number) (outcome.RepliedThenReceived to client got) = replied_text to ++ (codes " " ++ received_text port client got)
+trap_text style unit (action.Serve port number) (outcome.RepliedThenWaits to) = replied_text to ++ (codes " " ++ receiving_text port)
+trap_text style unit (action.Lock mutex) outcome.Locked = codes "lock " ++ (decimal mutex ++ codes " taken")
+trap_text style unit (action.Lock mutex) outcome.Waits = codes "lock " ++ (decimal mutex ++ codes " waits")
+trap_text style unit (action.Unlock mutex d) outcome.Freed = codes "unlock " ++ (decimal mutex ++ codes " free")
+trap_text style unit (action.Unlock mutex d) (outcome.Passed to drawn) = codes "unlock " ++ (decimal mutex ++ (codes " to " ++ (decimal to ++ drawn_text style unit drawn)))
+trap_text style unit action.Exit outcome.Exited = codes "exit"
+trap_text style unit other never = []
 
 -- the same, of the event that the trap was
-abbrev pub trap_text_of : Manner → ℕ → Event → Outcome → List ℕ
-trap_text_of manner unit (event.Trap p ran made) came = trap_text manner unit made came
-trap_text_of manner unit other came = []
+abbrev pub trap_text_of : LineStyle → ℕ → Event → Outcome → List ℕ
+trap_text_of style unit (event.Trap p ran made) came = trap_text style unit made came
+trap_text_of style unit other came = []
 
 -- whether the quantum was used up
 abbrev pub ends_text : Bool → List ℕ
@@ -222,28 +222,28 @@ activity_text true = codes " active"
 activity_text false = codes " inactive"
 
 -- a ticket's line; `-` stands for no target
-abbrev pub ticket_line : Manner → ℕ → ℕ → TicketRow → List ℕ
-ticket_line manner unit n row =
-    front manner ++ (codes "ticket " ++ (decimal n ++ (codes " amount " ++ (decimal row.amount ++ (codes " in " ++ (row.issuer
+abbrev pub ticket_line : LineStyle → ℕ → ℕ → TicketRow → List ℕ
+ticket_line style unit n row =
+    front style ++ (codes "ticket " ++ (decimal n ++ (codes " amount " ++ (decimal row.amount ++ (codes " in " ++ (row.issuer
     ++ (codes " funds " ++ (unwrap_or row.target (codes "-") ++ (activity_text row.is_active
-    ++ (codes " value " ++ (value_text manner unit row.value ++ newline)))))))))))
+    ++ (codes " value " ++ (value_text style unit row.value ++ newline)))))))))))
 
 -- a currency's value as it is shown: base, which is currency 0, is worth its active amount
-abbrev pub currency_value : Manner → ℕ → ℕ → ℕ → List ℕ
-currency_value manner unit n value = if n == 0 then decimal value else value_text manner unit value
+abbrev pub currency_value : LineStyle → ℕ → ℕ → ℕ → List ℕ
+currency_value style unit n value = if n == 0 then decimal value else value_text style unit value
 
 -- a currency's line
-abbrev pub currency_line : Manner → ℕ → ℕ → CurrencyRow → List ℕ
-currency_line manner unit n row =
-    front manner ++ (codes "currency " ++ (decimal n ++ (codes " " ++ (row.name ++ (codes " backing " ++ (decimal row.backing
+abbrev pub currency_line : LineStyle → ℕ → ℕ → CurrencyRow → List ℕ
+currency_line style unit n row =
+    front style ++ (codes "currency " ++ (decimal n ++ (codes " " ++ (row.name ++ (codes " backing " ++ (decimal row.backing
     ++ (codes " issued " ++ (decimal row.issued ++ (codes " active " ++ (decimal row.active_amount
-    ++ (codes " value " ++ (currency_value manner unit n row.value ++ newline))))))))))))
+    ++ (codes " value " ++ (currency_value style unit n row.value ++ newline))))))))))))
 
 -- a thread's line
-abbrev pub thread_line : Manner → ℕ → ℕ → ThreadRow → List ℕ
-thread_line manner unit n row =
-    front manner ++ (codes "thread " ++ (decimal n ++ (codes " " ++ (row.name ++ (codes " " ++ (status_text row.status
-    ++ (codes " value " ++ (value_text manner unit row.value ++ (codes " weight " ++ (value_text manner unit row.weight
+abbrev pub thread_line : LineStyle → ℕ → ℕ → ThreadRow → List ℕ
+thread_line style unit n row =
+    front style ++ (codes "thread " ++ (decimal n ++ (codes " " ++ (row.name ++ (codes " " ++ (status_text row.status
+    ++ (codes " value " ++ (value_text style unit row.value ++ (codes " weight " ++ (value_text style unit row.weight
     ++ (codes " quanta " ++ (decimal row.quanta ++ (codes " ticks " ++ (decimal row.ticks ++ newline))))))))))))))
 
 -- the lines of the existing rows
@@ -255,13 +255,13 @@ abbrev pub row_count : {R : Type 0} → (ℕ → Option R) → List ℕ → ℕ
 row_count row ns = length (filter (λ n. is_some (row n)) ns)
 
 -- a listing: how many rows it has, and then their lines, by rising number
-abbrev pub listing_text : Manner → State → Kind → List ℕ
-listing_text manner s Tickets =
-    codes "lstkt " ++ (decimal (row_count (ticket_row s) (numbers s.tickets)) ++ (newline ++ lines_for (ticket_line manner s.limits.unit) (ticket_row s) (numbers s.tickets)))
-listing_text manner s Currencies =
-    codes "lscur " ++ (decimal (row_count (currency_row s) (range_with_len 0 (length s.currencies))) ++ (newline ++ lines_for (currency_line manner s.limits.unit) (currency_row s) (range_with_len 0 (length s.currencies))))
-listing_text manner s Threads =
-    codes "lsthr " ++ (decimal (length s.records) ++ (newline ++ lines_for (thread_line manner s.limits.unit) (thread_row s) (numbers s.records)))
+abbrev pub listing_text : LineStyle → State → Kind → List ℕ
+listing_text style s Tickets =
+    codes "lstkt " ++ (decimal (row_count (ticket_row s) (numbers s.tickets)) ++ (newline ++ lines_for (ticket_line style s.limits.unit) (ticket_row s) (numbers s.tickets)))
+listing_text style s Currencies =
+    codes "lscur " ++ (decimal (row_count (currency_row s) (range_with_len 0 (length s.currencies))) ++ (newline ++ lines_for (currency_line style s.limits.unit) (currency_row s) (range_with_len 0 (length s.currencies))))
+listing_text style s Threads =
+    codes "lsthr " ++ (decimal (length s.records) ++ (newline ++ lines_for (thread_line style s.limits.unit) (thread_row s) (numbers s.records)))
 
 -- ---- replies
 
@@ -271,22 +271,22 @@ delivered_text None = []
 delivered_text (Some number) = codes " got " ++ decimal number
 
 -- A reply that asks for no listing. What ends its line is part of it.
-abbrev pub plain_text : Manner → ℕ → Event → Reply → List ℕ
-plain_text manner unit e (reply.Ticket n) = codes "ticket " ++ (decimal n ++ newline)
-plain_text manner unit e (reply.Currency n) = codes "currency " ++ (decimal n ++ newline)
-plain_text manner unit e (reply.Thread n) = codes "thread " ++ (decimal n ++ newline)
-plain_text manner unit e (reply.Funded ticket thread) = codes "funded " ++ (decimal ticket ++ (codes " " ++ (decimal thread ++ newline)))
-plain_text manner unit e reply.Done = codes "done" ++ newline
-plain_text manner unit e (reply.List kind) = []
-plain_text manner unit e (reply.Winner thread number total delivered) =
-    codes "draw " ++ (drawn_value manner unit number ++ (codes " of " ++ (drawn_value manner unit total ++ (codes " thread " ++ (decimal thread ++ (delivered_text delivered ++ newline))))))
-plain_text manner unit e reply.Idle = codes "idle" ++ newline
-plain_text manner unit e (reply.Expired thread ticks) = codes "thread " ++ (decimal thread ++ (codes " ticks " ++ (decimal ticks ++ (codes " expire" ++ newline))))
-plain_text manner unit e (reply.Trapped thread ticks came ends) =
-    codes "thread " ++ (decimal thread ++ (codes " ticks " ++ (decimal ticks ++ (codes " " ++ (trap_text_of manner unit e came ++ (ends_text ends ++ newline))))))
-plain_text manner unit e (reply.Refused why) = refused (refusal_code why) (refusal_name why) ++ newline
+abbrev pub plain_text : LineStyle → ℕ → Event → Reply → List ℕ
+plain_text style unit e (reply.Ticket n) = codes "ticket " ++ (decimal n ++ newline)
+plain_text style unit e (reply.Currency n) = codes "currency " ++ (decimal n ++ newline)
+plain_text style unit e (reply.Thread n) = codes "thread " ++ (decimal n ++ newline)
+plain_text style unit e (reply.Funded ticket thread) = codes "funded " ++ (decimal ticket ++ (codes " " ++ (decimal thread ++ newline)))
+plain_text style unit e reply.Done = codes "done" ++ newline
+plain_text style unit e (reply.List kind) = []
+plain_text style unit e (reply.Winner thread number total delivered) =
+    codes "draw " ++ (drawn_value style unit number ++ (codes " of " ++ (drawn_value style unit total ++ (codes " thread " ++ (decimal thread ++ (delivered_text delivered ++ newline))))))
+plain_text style unit e reply.Idle = codes "idle" ++ newline
+plain_text style unit e (reply.Expired thread ticks) = codes "thread " ++ (decimal thread ++ (codes " ticks " ++ (decimal ticks ++ (codes " expire" ++ newline))))
+plain_text style unit e (reply.Trapped thread ticks came ends) =
+    codes "thread " ++ (decimal thread ++ (codes " ticks " ++ (decimal ticks ++ (codes " " ++ (trap_text_of style unit e came ++ (ends_text ends ++ newline))))))
+plain_text style unit e (reply.Refused why) = refused (refusal_code why) (refusal_name why) ++ newline
 
 -- a reply, and its listing, given the state after the event
-abbrev pub reply_text : Manner → State → Event → Reply → List ℕ
-reply_text manner s e (reply.List kind) = listing_text manner s kind
-reply_text manner s e other = plain_text manner s.limits.unit e other
+abbrev pub reply_text : LineStyle → State → Event → Reply → List ℕ
+reply_text style s e (reply.List kind) = listing_text style s kind
+reply_text style s e other = plain_text style s.limits.unit e other

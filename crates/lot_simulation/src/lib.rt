@@ -6,12 +6,12 @@ mod format;
 mod forms;
 mod input;
 pub mod laws;
-mod manner;
 pub mod printed;
 pub mod ranges;
 pub mod read;
 mod script;
 pub mod sliced;
+mod style;
 pub mod texts;
 mod timed;
 pub mod timed_rows;
@@ -21,8 +21,8 @@ pub mod worked;
 pub use format::Format;
 pub use forms::{Argument, Form, Range};
 pub use input::{BodyWord, HeaderWord, InputFault, InputRefusal, ScriptWord};
-pub use manner::Manner;
 pub use script::{Line, MutexTrap, PortTrap, ScriptTrap};
+pub use style::LineStyle;
 pub use timed::{Clock, Due, WaitChange, Waits};
 pub use words::{
     BODY_WORDS, FIRST_WORD, HEADER_WORDS, RUNS_WORD, SCHEDULE_WORD, SCRIPT_WORDS, WordRow,

@@ -5,7 +5,7 @@ ghost use Rattle.lot_machine.specs.declared.record.Status.TheVariants as status;
 ghost use Rattle.lot_machine.specs.declared.refusal.Refusal.TheVariants as refusal;
 ghost use Rattle.lot_machine.specs.declared.refusal.TrapRefusal.TheVariants as trap_refusal;
 ghost use Rattle.lot_machine.specs.declared.reply.Outcome.TheVariants as outcome;
-ghost use Rattle.lot_simulation.specs.declared.manner.Manner.TheVariants.{Whole};
+ghost use Rattle.lot_simulation.specs.declared.style.LineStyle.TheVariants.{Whole};
 ghost use Rattle.lot_simulation.specs.Samples.{text, refusal_line, trap_line, status_line};
 ghost use Rattle.lot_simulation.specs.Texts.{ticket_line};
 

@@ -15,7 +15,7 @@ use lot_print::{
     write_ticket, write_timed_processor_total, write_timed_thread_total, write_timed_whole_total,
     write_whole_total,
 };
-use lot_simulation::{Format, InputFault, InputRefusal, Manner, Waits};
+use lot_simulation::{Format, InputFault, InputRefusal, LineStyle, Waits};
 use std::alloc::Global;
 use std::process::Abort;
 
@@ -35,7 +35,7 @@ fn whole(actor: u32) -> Heading
     ensures { result.unit ≡ 256 }
 {
     Heading {
-        manner: Manner::Whole,
+        style: LineStyle::Whole,
         unit: 256,
         actor,
     }
@@ -43,7 +43,7 @@ fn whole(actor: u32) -> Heading
 
 /// A turn of processor 1 at tick 120, printed with its time.
 const TIMED: Heading = Heading {
-    manner: Manner::Timed(120),
+    style: LineStyle::Timed(120),
     unit: 256,
     actor: 1,
 };
@@ -505,7 +505,7 @@ fn ticket_row(rt: &impl Abort, printed: &PrintedTicket<'_>) -> TicketRow {
 
 fn check_ticket(rt: &impl Abort, alloc: Global, limits: Limits, row: &TicketRow, wanted: &str) {
     let mut writer = Watched::new(Vec::new(alloc));
-    let ended = write_ticket(&mut writer, Manner::Whole, limits, 1, row);
+    let ended = write_ticket(&mut writer, LineStyle::Whole, limits, 1, row);
     check(rt, writer, ended, wanted);
 }
 
@@ -564,7 +564,7 @@ fn check_currency(
 ) {
     let limits = limits(rt, printed.unit);
     let mut writer = Watched::new(Vec::new(alloc));
-    let ended = write_currency(&mut writer, Manner::Whole, limits, printed.number, row);
+    let ended = write_currency(&mut writer, LineStyle::Whole, limits, printed.number, row);
     check(rt, writer, ended, printed.line);
 }
 
@@ -623,7 +623,7 @@ fn thread_row(rt: &impl Abort, status: Status) -> ThreadRow {
 
 fn check_thread(rt: &impl Abort, alloc: Global, limits: Limits, row: &ThreadRow, wanted: &str) {
     let mut writer = Watched::new(Vec::new(alloc));
-    let ended = write_thread(&mut writer, Manner::Whole, limits, 1, row);
+    let ended = write_thread(&mut writer, LineStyle::Whole, limits, 1, row);
     check(rt, writer, ended, wanted);
 }
 
@@ -646,7 +646,7 @@ fn prints_threads(rt: HostRuntime) {
 
 fn check_listing_line(rt: &impl Abort, alloc: Global, kind: Kind, wanted: &str) {
     let mut writer = Watched::new(Vec::new(alloc));
-    let ended = write_listing_line(&mut writer, Manner::Whole, 0, kind, 8);
+    let ended = write_listing_line(&mut writer, LineStyle::Whole, 0, kind, 8);
     check(rt, writer, ended, wanted);
 }
 

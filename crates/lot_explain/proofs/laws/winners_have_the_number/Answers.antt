@@ -19,9 +19,9 @@ only program w actor e r won number answered is drawn =
     subst (λ (o : Option ℕ). IfSome o (IsOnly (lots_of w.state e) won.winner)) drawn facts.1
 
 pub returns-clause-printed : goal.returns-clause-printed
-returns-clause-printed c manner unit actor won before after lot =
+returns-clause-printed c style unit actor won before after lot =
     let none : 0 + total_of before ≡ total_of before = omega arith in
-    lines-both manner unit actor won 0 before (lot ∷ after) ∙ ap (λ n. lot_lines manner unit actor won 0 before ++ lot_lines manner unit actor won n (lot ∷ after)) none
+    lines-both style unit actor won 0 before (lot ∷ after) ∙ ap (λ n. lot_lines style unit actor won 0 before ++ lot_lines style unit actor won n (lot ∷ after)) none
 
 pub returns-clause-winner : goal.returns-clause-winner
 returns-clause-winner c program w actor e r won number answered is drawn = (only program w actor e r won number answered is drawn).0

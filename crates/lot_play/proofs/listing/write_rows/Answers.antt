@@ -15,7 +15,7 @@ returns-in_err-write_row-clause-text g c =
     rw is (
       told.0,
       told.1,
-      range-stops (g.W.Write.contents c.args.writer.now.inner) (g.W.Write.contents c.loop-place.writer.inner) (g.W.Write.contents c.write_row.new.writer.inner) (row_line c.args.manner s kind) (first_number kind) c.loop-place.place
+      range-stops (g.W.Write.contents c.args.writer.now.inner) (g.W.Write.contents c.loop-place.writer.inner) (g.W.Write.contents c.write_row.new.writer.inner) (row_line c.args.style s kind) (first_number kind) c.loop-place.place
           (given_count s kind) (c.first_number-first.result + c.loop-place.place) (omega (arith, c.loop-place-test.true, c.given_count-place-end.ensures)) (ap (λ n. n + c.loop-place.place) c.first_number-first.ensures.exact) i.bytes told.2,
     )
 
@@ -28,6 +28,6 @@ loop-place-preserved g c =
     record {
       working = told.0;
       system = c.in_ok-write_row.ensures.same ∙ i.system;
-      bytes = range-more (g.W.Write.contents c.args.writer.now.inner) (g.W.Write.contents c.loop-place.writer.inner) (g.W.Write.contents c.write_row.new.writer.inner) (row_line c.args.manner s kind) (first_number kind) c.loop-place.place (c.first_number-first.result + c.loop-place.place)
+      bytes = range-more (g.W.Write.contents c.args.writer.now.inner) (g.W.Write.contents c.loop-place.writer.inner) (g.W.Write.contents c.write_row.new.writer.inner) (row_line c.args.style s kind) (first_number kind) c.loop-place.place (c.first_number-first.result + c.loop-place.place)
           (ap (λ n. n + c.loop-place.place) c.first_number-first.ensures.exact) i.bytes told.1;
     }

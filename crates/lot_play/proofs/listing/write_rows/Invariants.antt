@@ -10,5 +10,5 @@ abbrev pub invariant-loop-place : goal.invariant-loop-place
 invariant-loop-place g l = record {
   working : l.writer.failed ≡ false;
   system : l.system ≡ l.initial.system;
-  bytes : Appends (g.W.Write.contents l.initial.writer.inner) (g.W.Write.contents l.writer.inner) (flat_map (row_line l.manner (world_of l.initial.system).state l.kind) (range_with_len (first_number l.kind) l.place));
+  bytes : Appends (g.W.Write.contents l.initial.writer.inner) (g.W.Write.contents l.writer.inner) (flat_map (row_line l.style (world_of l.initial.system).state l.kind) (range_with_len (first_number l.kind) l.place));
 }

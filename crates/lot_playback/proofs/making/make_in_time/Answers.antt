@@ -1,5 +1,5 @@
 -- The turn is the one that is due, and the timekeeper has followed it.
-use Rattle.std.proofs.Common.{◌≡◌, ℕ, ◌+◌, ◌<◌, ◌≤◌, ◌^◌, ◌++◌, List, [], ◌∷◌, Some, false, length, refl, sym, ap, subst, arith, rules}
+use Rattle.std.proofs.Common.{◌≡◌, ℕ, ◌+◌, ◌<◌, ◌^◌, ◌++◌, List, [], ◌∷◌, Some, false, length, refl, sym, ap, subst, arith, rules}
 use Rattle.lot_machine.specs.declared.event.Event.{Event}
 use Rattle.lot_machine.specs.declared.reply.Reply.{Reply}
 use Rattle.lot_simulation.specs.declared.timed.Due.{Due}

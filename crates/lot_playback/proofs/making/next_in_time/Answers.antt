@@ -1,4 +1,4 @@
-use Rattle.std.proofs.Common.{◌≡◌, ◌≤◌, ◌<◌, Option, None, Some, [], length, refl, sym, ◌∙◌, ap, subst, arith, rules}
+use Rattle.std.proofs.Common.{◌≡◌, ◌≤◌, ◌<◌, Option, None, Some, length, refl, sym, ◌∙◌, ap, arith, rules}
 use Rattle.std.specs.Option.{IfNone}
 use Rattle.lot_simulation.specs.Timed.{next_due}
 use Rattle.lot_simulation.specs.World.{Program}
