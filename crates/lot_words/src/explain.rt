@@ -105,14 +105,14 @@ fn script_problem<'a>(
         let problem = no_script_word(alloc, refused, script, word);
         return Some(Problem::Keyword(problem));
     };
-    if *keyword == ScriptWord::AtPort(PortTrap::Serve) {
+    if keyword == ScriptWord::AtPort(PortTrap::Serve) {
         return Some(Problem::Keyword(KeywordProblem::OnlyTimed(word)));
     }
-    let problem = form_problem(alloc, refused, word, *form);
+    let problem = form_problem(alloc, refused, word, form);
     if problem.is_some() {
         return problem;
     }
-    loop_problem(script, *keyword)
+    loop_problem(script, keyword)
 }
 
 /// What is wrong with the end of a loop or of the script, if the word is one.

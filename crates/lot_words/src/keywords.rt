@@ -13,14 +13,16 @@ pub(crate) fn body_word(word: &str) -> Option<BodyWord> {
 }
 
 /// The row of the word of a script that this one is, if it is one.
-pub(crate) fn script_row(word: &str) -> Option<&'static WordRow<ScriptWord>> {
+pub(crate) fn script_row(word: &str) -> Option<WordRow<ScriptWord>> {
     row_spelled(&SCRIPT_WORDS, word)
 }
 
 /// The row of this table for the word, if it has one.
-pub(crate) fn row_spelled<W>(
-    table: &'static [WordRow<W>],
-    word: &str,
-) -> Option<&'static WordRow<W>> {
-    table.iter().find(|row| row.0 == word.as_bytes())
+pub(crate) fn row_spelled<W: Copy>(table: &[WordRow<W>], word: &str) -> Option<WordRow<W>> {
+    for row in table {
+        if row.0 == word.as_bytes() {
+            return Some((row.0, row.1, row.2));
+        }
+    }
+    None
 }

@@ -49,7 +49,7 @@ impl fmt::Display for Nearest<'_> {
 /// come in the order of time.
 pub(crate) fn nearest_word<W>(
     alloc: Global,
-    table: &'static [WordRow<W>],
+    table: &[WordRow<W>],
     is_timed: bool,
     misspelt: &str,
 ) -> Nearest<'static> {
@@ -58,7 +58,7 @@ pub(crate) fn nearest_word<W>(
         return nearest;
     };
     for (spelling, _, _) in others {
-        nearest = nearest.or(alloc, misspelt, text_of(spelling));
+        nearest = nearest.or(alloc, misspelt, text_of(*spelling));
     }
     if is_timed {
         nearest = nearest.or(alloc, misspelt, text_of(first.0));

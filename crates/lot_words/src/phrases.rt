@@ -19,7 +19,7 @@ pub(crate) fn after_line(script: OpenScript, line: &[u8]) -> Option<OpenScript> 
         if is_argument {
             is_argument = false;
         } else if let Some((_, word, form)) = script_row(word) {
-            open = open.after(*word)?;
+            open = open.after(word)?;
             is_argument = !form.arguments().is_empty();
         }
     }
@@ -73,10 +73,10 @@ impl<'a> Before<'a> {
             let problem = no_script_word(alloc, refused, script, word);
             return Some(Problem::Keyword(problem));
         };
-        self.script = script.after(*keyword);
+        self.script = script.after(keyword);
         if !form.arguments().is_empty() {
-            self.unfinished = Some(Shape { word, form: *form });
+            self.unfinished = Some(Shape { word, form });
         }
-        loop_problem(script, *keyword)
+        loop_problem(script, keyword)
     }
 }
