@@ -1,30 +1,26 @@
 -- A turn writes few lines of lots, and leaves names short.
-use Rattle.std.proofs.Common.{◌≡◌, ℕ, ◌+◌, ◌*◌, ◌≤◌, ◌==◌, nat_lt, Bool, true, false, not, ◌||◌, cond, Option, Some, None, is_some, is_none, List, [], ◌∷◌, ◌++◌, length, map, refl, sym, ◌∙◌, ap, subst, arith}
+use Rattle.std.proofs.Common.{◌≡◌, ℕ, ◌+◌, ◌*◌, ◌≤◌, ◌==◌, nat_lt, Bool, true, false, not, ◌||◌, cond, Option, Some, None, is_some, is_none, List, [], ◌∷◌, ◌++◌, length, refl, sym, ◌∙◌, ap, subst, arith}
 use Rattle.std.specs.Prelude.{All}
 use Rattle.std.proofs.lemmas.Bool.{leb-false, ltb-false, or_parts}
 use Rattle.std.proofs.lemmas.List.{length-append}
 use Rattle.std.proofs.lemmas.List.Elements.{All-head, All-tail, All-nil, All-push}
 use Rattle.std.proofs.Math.Nat.{mul-le-mul_right}
-use Rattle.lot_machine.specs.declared.action.Action.{Action}
 use Rattle.lot_machine.specs.declared.action.Action.TheVariants as action
 use Rattle.lot_machine.specs.declared.command.Command.{Command}
 use Rattle.lot_machine.specs.declared.command.Command.TheVariants.{MakeThread, MakeFunded}
-use Rattle.lot_machine.specs.declared.drawn.Drawn.{Drawn}
 use Rattle.lot_machine.specs.declared.event.Event.{Event}
 use Rattle.lot_machine.specs.declared.event.Event.TheVariants as event
 use Rattle.lot_machine.specs.declared.record.Thread.{Thread}
 use Rattle.lot_machine.specs.declared.refusal.Refusal.{Refusal}
 use Rattle.lot_machine.specs.declared.refusal.Refusal.TheVariants.{BadName, NameTaken, NoCurrency, BadAmount, Full, NoScript, BadProcessor, Busy, NotRunning, BadTicks}
-use Rattle.lot_machine.specs.declared.refusal.TrapRefusal.{TrapRefusal}
 use Rattle.lot_machine.specs.declared.reply.Reply.TheVariants as reply
 use Rattle.lot_machine.specs.declared.sizes.Sizes.{Sizes}
 use Rattle.lot_machine.specs.Bounds.{IsWithinBounds}
 use Rattle.lot_machine.specs.Commands.{are_threads_full, are_tickets_full, command_effect, command_refusal, command_step, currency_named, is_bad_amount, is_good_name, is_no_script, is_taken, unless_refused}
-use Rattle.lot_machine.specs.Lottery.{winner}
 use Rattle.lot_machine.specs.Named.{processor_of}
 use Rattle.lot_machine.specs.Order.{IsInOrder}
-use Rattle.lot_machine.specs.State.{State, ready_threads, thread_on, weight_of}
-use Rattle.lot_machine.specs.Step.{checked_effect, draw, event_effect, event_refusal, is_bad_processor, step, thread_there, trap, trap_effect, trap_refusal, used_there}
+use Rattle.lot_machine.specs.State.{State, thread_on}
+use Rattle.lot_machine.specs.Step.{event_effect, event_refusal, is_bad_processor, step, used_there}
 use Rattle.lot_machine.proofs.CommandsKept.{all-pass, unrefused}
 use Rattle.lot_machine.proofs.OrderKept.{opening-order, step-order}
 use Rattle.lot_machine.proofs.Tickets.{some-injective}
@@ -51,37 +47,6 @@ pub record IsShort (sizes : Sizes) (w : World) : Type 0 where
   pub commands : All HasShortName w.commands
 
 -- ---- an event of a processor
-
--- what a trap does besides makes no thread
-effect-threads : (s : State) (t : ℕ) (a : Action) → (trap_effect s t a).state.threads ≡ s.threads
-effect-threads s t action.Yield = refl
-effect-threads s t other = refl
-
--- whether it is refused or not
-checked-threads : (s : State) (t : ℕ) (a : Action) (o : Option TrapRefusal) → (checked_effect s o (trap_effect s t a)).state.threads ≡ s.threads
-checked-threads s t a None = effect-threads s t a
-checked-threads s t a (Some refusal) = refl
-
--- nor does a draw
-draw-threads : (s : State) (p d : ℕ) → (draw s p d).state.threads ≡ s.threads
-draw-threads s p d = at (winner (map (weight_of s) (ready_threads s.records)) d) refl
-  where
-    at : (o : Option Drawn) → winner (map (weight_of s) (ready_threads s.records)) d ≡ o → (draw s p d).state.threads ≡ s.threads
-    at None is = rw is refl
-    at (Some w) is = rw is refl
-
--- a state after another has the same threads
-abbrev HasThreadsOf : State → State → Type 0
-HasThreadsOf s after = after.threads ≡ s.threads
-
--- so after an event of a processor
-step-threads : (s : State) (e : Event) (q : ℕ) → processor_of e ≡ Some q → HasThreadsOf s (step s e).state
-step-threads s (event.Command command) q on = cc
-step-threads s (event.Draw p d) q on = unrefused (HasThreadsOf s) s (event_refusal s (event.Draw p d)) (draw s p d) refl (λ _. draw-threads s p d)
-step-threads s (event.Expire p) q on = unrefused (HasThreadsOf s) s (event_refusal s (event.Expire p)) (event_effect s (event.Expire p)) refl (λ _. refl)
-step-threads s (event.Trap p ran a) q on =
-    unrefused (HasThreadsOf s) s (event_refusal s (event.Trap p ran a)) (event_effect s (event.Trap p ran a)) refl
-    (λ _. checked-threads s (thread_there s p) a (trap_refusal s (thread_there s p) a))
 
 -- a processor that isn't bad is one of those that there are
 good-processor : (s : State) (p : ℕ) → is_bad_processor s p ≡ false → p ≤ s.limits.processors
@@ -177,14 +142,13 @@ short-names limits w short = record { order = short.order; room = omega (arith, 
 processor-keeps : (limits : Sizes) (w : World) (p : ℕ) (e : Event) → processor_of e ≡ Some p → IsShort limits w → IsShort limits (processor_turn w p e).world
 processor-keeps limits w p e on short =
     let sizes = step-sizes w.state e p on in
-    let threads = step-threads w.state e p on in
-    let count = ap (length {A = Thread}) threads in
+    let count = ap (length {A = Thread}) sizes.2 in
     record {
       order = step-order w.state e short.order;
       limits = sizes.0 ∙ short.limits;
       records = omega (arith, sizes.1, count, short.records);
       room = omega (arith, count, short.room);
-      names = subst (All IsShortThread) (sym threads) short.names;
+      names = subst (All IsShortThread) (sym sizes.2) short.names;
       commands = short.commands;
     }
 
