@@ -25,8 +25,8 @@ pub(crate) fn request_of<'a, S: AsStr>(
         "Reads an input from standard input, makes the turns of its schedule and writes a line for each, and a report",
     );
     let explain = Command::new(alloc, "explain").about(
-        "Plays an input from standard input, and before each lottery that was won writes a line for each that took part \
-         in it, with its weight and its numbers",
+        "Plays an input from standard input, and before each lottery that was won writes a line for each that took \
+         part in it, with its weight and its numbers",
     );
     let run = Command::new(alloc, "run").about(
         "Reads an input from standard input, has threads make its commands and its processors' turns, and writes a \
@@ -59,8 +59,8 @@ fn shares_command<'a>(alloc: Global) -> Result<Command<'a>, AllocError> {
         .help("The draws that each thread has won, and not its ticks");
     Command::new(alloc, "shares")
         .about(
-            "Reads an input from standard input, makes the turns of its schedule and writes a table of the ticks that each \
-             thread has run over time",
+            "Reads an input from standard input, makes the turns of its schedule and writes a table of the ticks that \
+             each thread has run over time",
         )
         .arg(quanta)
 }
@@ -73,8 +73,8 @@ fn chart_command<'a>(alloc: Global) -> Result<Command<'a>, AllocError> {
         .help("What the picture is called");
     Command::new(alloc, "chart")
         .about(
-            "Reads an input from standard input, makes the turns of its schedule and writes a picture of the ticks that \
-             each thread has run over time, an SVG",
+            "Reads an input from standard input, makes the turns of its schedule and writes a picture of the ticks \
+             that each thread has run over time, an SVG",
         )
         .arg(title)
 }

@@ -151,7 +151,9 @@ fn pass(threads: &mut Threads, queues: &mut Queues, owner: u32, mutex: u32, next
     requires owners { owners_of queues.old.mutexes ≡ threads.old.owners }
     ensures threads { threads.new ≡ record (with_records threads.old
         (change_record
-        (λ r. record r { status = status.Ready }) threads.old.records next) threads.new.stale) { owners = set_number threads.old.owners mutex (Some next) } }
+        (λ r. record r { status = status.Ready }) threads.old.records next) threads.new.stale) {
+          owners = set_number threads.old.owners mutex (Some next);
+        } }
     ensures queues { (place : ℕ) → slice_get (mutex_at queues.old.mutexes mutex).waiters place ≡ Some next
         → queues.new ≡ record queues.old {
           mutexes = set_number queues.old.mutexes mutex

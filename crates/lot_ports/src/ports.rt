@@ -29,7 +29,8 @@ pub fn call(
     ensures after { result.after
         ≡ (machine.call threads.old.records queues.old.clients queues.old.ports caller port number).after }
     ensures threads { threads.new ≡ with_records threads.old
-        (machine.call threads.old.records queues.old.clients queues.old.ports caller port number).records threads.new.stale }
+        (machine.call threads.old.records queues.old.clients queues.old.ports caller port number).records
+        threads.new.stale }
     ensures queues { queues.new
         ≡ with_ports queues.old
         (machine.call threads.old.records queues.old.clients queues.old.ports caller port number) }
@@ -62,7 +63,8 @@ pub fn receive(threads: &mut Threads, queues: &mut Queues, server: u32, port: u3
     ensures after { result.after
         ≡ (machine.receive threads.old.records queues.old.clients queues.old.ports server port).after }
     ensures threads { threads.new ≡ with_records threads.old
-        (machine.receive threads.old.records queues.old.clients queues.old.ports server port).records threads.new.stale }
+        (machine.receive threads.old.records queues.old.clients queues.old.ports server port).records
+        threads.new.stale }
     ensures queues { queues.new
         ≡ with_ports queues.old (machine.receive threads.old.records queues.old.clients queues.old.ports server port) }
     ensures kept { (node : ANode) → IsStaleIn threads.old node → IsStaleIn threads.new node }
@@ -102,7 +104,8 @@ pub fn reply(
     ensures after { result.after
         ≡ (machine.reply threads.old.records queues.old.clients queues.old.ports server number).after }
     ensures threads { threads.new ≡ with_records threads.old
-        (machine.reply threads.old.records queues.old.clients queues.old.ports server number).records threads.new.stale }
+        (machine.reply threads.old.records queues.old.clients queues.old.ports server number).records
+        threads.new.stale }
     ensures queues { queues.new
         ≡ with_ports queues.old (machine.reply threads.old.records queues.old.clients queues.old.ports server number) }
     ensures nowhere { IsNowhere queues.new client }
@@ -136,7 +139,8 @@ pub fn serve(
     ensures after { result.after
         ≡ (machine.serve threads.old.records queues.old.clients queues.old.ports server port number).after }
     ensures threads { threads.new ≡ with_records threads.old
-        (machine.serve threads.old.records queues.old.clients queues.old.ports server port number).records threads.new.stale }
+        (machine.serve threads.old.records queues.old.clients queues.old.ports server port number).records
+        threads.new.stale }
     ensures queues { queues.new
         ≡ with_ports queues.old
         (machine.serve threads.old.records queues.old.clients queues.old.ports server port number) }

@@ -161,7 +161,8 @@ fn push_made<const N: usize>(line: &mut Line<N>, word: &str, number: u32)
 #[inline(never)]
 fn push_funded<const N: usize>(line: &mut Line<N>, ticket: u32, thread: u32)
     requires { length line.old + 170 ≤ N }
-    ensures { line.new ≡ line.old ++ (codes "funded " ++ (decimal ticket ++ (codes " " ++ (decimal thread ++ newline)))) }
+    ensures { line.new
+        ≡ line.old ++ (codes "funded " ++ (decimal ticket ++ (codes " " ++ (decimal thread ++ newline)))) }
 {
     line.push_count("funded ", ticket);
     push_made(line, " ", thread);

@@ -310,7 +310,11 @@ impl Threads {
         ensures worth { (t : ATicket) → ticket_at (funding_in self.old) ticket ≡ Some t
             → result ≡ ticket_value self.old.unit (funding_in self.old) (live_in self.old.records) t }
         ensures counted { IsFunding (funding_in self.old) ticket
-            → self.new ≡ record self.old { meter = record self.old.meter { ticket_reads = counted_up self.old.meter.ticket_reads 1 } } }
+            → self.new ≡ record self.old {
+              meter = record self.old.meter {
+                ticket_reads = counted_up self.old.meter.ticket_reads 1;
+              };
+            } }
         ensures uncounted { ¬ IsFunding (funding_in self.old) ticket → self.new ≡ self.old }
     {
         self.graph.ticket_value(ticket)

@@ -138,4 +138,3 @@ free-same w m there none = sym (ap (λ (owners : List (Option ℕ)). with_owners
     by : (o : Option ℕ) → owner_of w.funding m ≡ o → owner_of w.funding m ≡ None
     by None is = is
     by (Some owner) is = absurd (none (edge_between (counted_amount w.funding (OfMutex m)) (Mutex m) (Thread owner)) (edge-there w.funding (OfMutex m) (Mutex m) (Thread owner) (ends-mutex w.funding m owner is)))
-

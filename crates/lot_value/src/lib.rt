@@ -11,7 +11,6 @@
 mod change;
 mod edges;
 pub mod laws;
-
 mod marking;
 mod meter;
 mod readings;

@@ -359,7 +359,11 @@ impl ValuedGraph {
         ensures worth { (t : ATicket) → ticket_at self.old.now.funding ticket ≡ Some t
             → result ≡ ticket_value self.old.known.unit self.old.now.funding self.old.live t }
         ensures counted { IsFunding self.old.now.funding ticket
-            → self.new ≡ record self.old { known = record self.old.known { reads = counted_up self.old.known.reads 1 } } }
+            → self.new ≡ record self.old {
+              known = record self.old.known {
+                reads = counted_up self.old.known.reads 1;
+              };
+            } }
         ensures uncounted { ¬ IsFunding self.old.now.funding ticket → self.new ≡ self.old }
     {
         self.values.ticket_value(&self.graph, &self.active, ticket)

@@ -39,7 +39,10 @@ impl Room {
 
     fn make_currency(&mut self, rt: &impl Abort) -> u32 {
         let number = self.graph.graph().currency_count();
-        assert!(rt; number <= self.graph.graph().layout().currencies, "no currency is left");
+        assert!(rt;
+            number <= self.graph.graph().layout().currencies,
+            "no currency is left"
+        );
         self.graph.apply(Change::NewCurrency);
         number
     }

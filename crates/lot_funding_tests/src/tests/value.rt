@@ -61,7 +61,10 @@ enum Step {
 fn fund(rt: &impl Abort, graph: &mut ValuedGraph, currency: u32, amount: u32, target: Target) {
     assert!(rt; 0 < amount && graph.graph().is_currency(currency));
     let made = graph.graph().ticket_count();
-    assert!(rt; made < graph.graph().layout().tickets, "there is no room for a ticket");
+    assert!(rt;
+        made < graph.graph().layout().tickets,
+        "there is no room for a ticket"
+    );
     let issued = Ticket {
         amount,
         issuer: currency,
@@ -368,11 +371,7 @@ fn the_last_goes_and_another_comes(rt: HostRuntime) -> Result<(), Fail> {
             worth: &[(Node::Currency(1), 0), (Node::Thread(2), 0)],
         },
         Row {
-            changes: &[
-                Step::Unfund(1),
-                Step::RemoveCurrency(1),
-                Step::Sleep(2),
-            ],
+            changes: &[Step::Unfund(1), Step::RemoveCurrency(1), Step::Sleep(2)],
             reads: 0,
             worth: &[(Node::Thread(1), 0), (Node::Thread(2), 0)],
         },

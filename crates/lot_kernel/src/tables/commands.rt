@@ -1,5 +1,6 @@
 //! The commands of the console (4.7).
-ghost use Rattle.std.specs.Prelude.{◌≡◌, ◌↔◌, ◌<◌, ◌+◌, ◌^◌, true, Some, IfNone, IfSome, IsTrue, OnSome, is_some, length};
+ghost use Rattle.std.specs.Prelude.{◌≡◌, ◌↔◌, ◌<◌, ◌+◌, ◌^◌, true, Some, IfNone, IfSome, IsTrue};
+ghost use Rattle.std.specs.Prelude.{OnSome, is_some, length};
 ghost use Rattle.std.specs.Prelude.{map, slice_get, if◌then◌else◌};
 ghost use Rattle.std.specs.Option.{SomeIff};
 ghost use Rattle.lot_machine.specs.declared.refusal.Refusal.TheVariants.{Cycle};
@@ -78,7 +79,11 @@ impl Tables {
         ensures number { SomeIff result (length self.old.state.tickets < self.old.state.limits.tickets)
             (length self.old.state.tickets + 1) }
         ensures issued { OnSome result (self.new
-            ≡ record self.old { state = record self.old.state { tickets = with_new_ticket self.old.state.tickets amount issuer Unfunded } }) }
+            ≡ record self.old {
+              state = record self.old.state {
+                tickets = with_new_ticket self.old.state.tickets amount issuer Unfunded;
+              };
+            }) }
         ensures unchanged { IfNone result (self.new ≡ self.old) }
     {
         let count = self.ticket_count();

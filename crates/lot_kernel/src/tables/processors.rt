@@ -157,7 +157,8 @@ impl Tables {
             ≡ record self.old.state {
               records = change_record
                   (λ r. with_ticks trap.ticks
-                  (after_trap after trap.processor trap.used self.old.state.limits.quantum r)) self.old.state.records trap.thread;
+                  (after_trap after trap.processor trap.used self.old.state.limits.quantum r))
+                  self.old.state.records trap.thread;
             } }
         ensures stale { MakesStale self.old self.new }
         ensures kept { KeepsStale self.old self.new }
