@@ -59,6 +59,7 @@ impl Script {
         ensures whole { context_at self.now result ≡ whole_context self.now }
         ensures fits { Fits self.now result }
     {
+        // Opens the value for the proof alone, which then knows that its lines make a script.
         let _ = &self.lines;
         Place {
             line: 0,
