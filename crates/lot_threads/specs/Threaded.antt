@@ -75,10 +75,6 @@ IsThreadOf v t = IsBetween 1 (length v.records) t
 abbrev pub IsLiveIn : Threaded → ℕ → Type 0
 IsLiveIn v t = IsLive (live_in v.records) t
 
--- a thread that was just made is Ready and has had nothing
-abbrev pub newborn : Record
-newborn = record { status = Ready; compensation = None; delivered = None; quanta = 0; ticks = 0 }
-
 -- the node is stale: its value is to be computed again before it is used
 abbrev pub IsStaleIn : Threaded → Node → Type 0
 IsStaleIn v node = Contains v.stale node

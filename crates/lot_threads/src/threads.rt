@@ -21,7 +21,8 @@ ghost use Rattle.lot_value.specs.Caches.{HasNoneTwice, edges_into_all};
 ghost use Rattle.lot_value.specs.Changing.{CanApply};
 ghost use Rattle.lot_threads.specs.Threaded.{LeavesThreads, StaleByIn, applied_in};
 ghost use Rattle.lot_threads.specs.Threaded.{IsLiveIn, IsThreadOf, IsStaleIn, CanRun, CanChange, MakesStaleIn};
-ghost use Rattle.lot_threads.specs.Threaded.{drawn_in, funding_in, limited_in, newborn, settled_in, with_records};
+ghost use Rattle.lot_machine.specs.Change.{newborn};
+ghost use Rattle.lot_threads.specs.Threaded.{drawn_in, funding_in, limited_in, settled_in, with_records};
 ghost use Rattle.lot_threads.specs.Threaded.{worth_in};
 ghost use Rattle.lot_threads.specs.Timely.{IsTimely};
 
