@@ -1,5 +1,5 @@
 //! Curves as a picture.
-ghost use Rattle.std.specs.Prelude.{◌≡◌, ◌<◌, ◌≤◌, ◌^◌, ◌++◌, codes, IfOk, OnOk, length};
+ghost use Rattle.std.specs.Prelude.{◌≡◌, ◌<◌, ◌≤◌, ◌^◌, ◌++◌, IfOk, OnOk, length};
 ghost use Rattle.std.specs.List.{flat_map};
 ghost use Rattle.lot_chart.specs.Charts as definitions;
 ghost use Rattle.lot_chart.specs.Charts.{axes, curve, drawn_of, head, height_mark, label, leader, name_text, picture};

@@ -6,7 +6,6 @@ use crate::run::run;
 use crate::view::show;
 use clap::Error;
 use clap::error::ErrorKind;
-use lot_chart::{chart, shares};
 use lot_io::Watched;
 use lot_system::Played;
 use std::alloc::Global;

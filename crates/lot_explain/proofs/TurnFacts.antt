@@ -1,5 +1,5 @@
 -- What is written of a turn, with what explains it.
-use Rattle.std.proofs.Common.{◌≡◌, ℕ, ◌==◌, Bool, true, false, cond, Option, None, Some, Result, Ok, Err, List, [], ◌∷◌, ◌++◌, codes, refl, sym, ◌∙◌, ap, subst, append_assoc}
+use Rattle.std.proofs.Common.{◌≡◌, ℕ, ◌==◌, Bool, true, false, cond, Option, Result, Ok, Err, List, [], ◌∷◌, ◌++◌, codes, refl, sym, ◌∙◌, ap, subst, append_assoc}
 use Rattle.std.specs.Fmt.{decimal}
 use Rattle.std.specs.Option.{IfSome}
 use Rattle.lot_machine.specs.declared.command.Command.{Command}

@@ -1,8 +1,7 @@
 //! The threads, and all that follows from what each is doing.
 ghost use Rattle.std.specs.Prelude.{◌≡◌, ◌+◌, ◌<◌, ◌≤◌, ◌↔◌, ◌++◌, ◌∷◌, ◌≢◌, true, false, [], Some, None, IfOk, IfSome};
-ghost use Rattle.std.specs.Prelude.{IfNone, IsErr, IsTrue, OnOk, OnErr, OnSome, MatchOption, length, replicate};
-ghost use Rattle.std.specs.Prelude.{slice_set, vec_capacity};
-ghost use Rattle.std.specs.Option.{SomeIff};
+ghost use Rattle.std.specs.Prelude.{IsTrue, MatchOption, length, replicate};
+ghost use Rattle.std.specs.Prelude.{vec_capacity};
 ghost use Rattle.lot_machine.specs.declared.funding.Node.{Node as ANode};
 ghost use Rattle.lot_machine.specs.declared.funding.Node.TheVariants.{Currency as CurrencyNode, Thread as ThreadNode};
 ghost use Rattle.lot_machine.specs.declared.record.Status.TheVariants.{Ready};

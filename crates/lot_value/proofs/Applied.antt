@@ -1,5 +1,5 @@
 -- A change of the parts, as a change of the whole.
-use Rattle.std.proofs.Common.{◌≡◌, ◌∙◌, ◌+◌, ◌<◌, ◌∷◌, ◌++◌, ℕ, inl, Bool, true, false, Option, Some, None, List, [], length, OnSome, ap, sym, refl}
+use Rattle.std.proofs.Common.{◌≡◌, ◌∙◌, ℕ, inl, Bool, true, false, Option, Some, None, List, OnSome, ap, sym, refl}
 use Rattle.std.specs.Option.{SomeIff}
 use Rattle.lot_machine.specs.declared.funding.Node.{Node}
 use Rattle.lot_machine.specs.declared.funding.Lend.{Lend}
@@ -14,7 +14,7 @@ use Rattle.lot_value.specs.declared.change.Change.{Change}
 use Rattle.lot_value.specs.declared.change.Change.TheVariants.{PutThread}
 use Rattle.lot_value.specs.Caches.{Known, IsStale}
 use Rattle.lot_value.specs.Changing.{CanTarget, MovesNothing, HoldsOfOwners, StaleBy, applied, graph_after, live_after}
-use Rattle.lot_value.specs.Valued.{Valued, AreTogether, Becomes, Follows, FollowsGraph, FollowsLives, live_of}
+use Rattle.lot_value.specs.Valued.{Valued, Becomes, Follows, FollowsGraph, FollowsLives, live_of}
 use Rattle.lot_value.proofs.TwoChanges.{lives-first, graph-first}
 use Rattle.lot_value.proofs.Unchanged.{Stays}
 

@@ -1,6 +1,5 @@
 -- What the calls of a graph are to what is kept together.
 use Rattle.std.proofs.Common.{◌≡◌, ℕ, ◌-◌, ◌⊎◌, Bool, Option, Some, None, List, length, ap, sym, ◌∙◌, refl, subst, arith, length-set}
-use Rattle.std.specs.Prelude.{Result, Ok, Err, IsErr, OnOk, OnErr}
 use Rattle.lot_machine.specs.declared.ticket.Target.{Target}
 use Rattle.lot_machine.specs.declared.ticket.Target.TheVariants as target
 use Rattle.lot_machine.specs.declared.funding.Node.{Node}

@@ -1,5 +1,5 @@
 //! A funding graph with what is active in it and what everything is worth, kept together.
-ghost use Rattle.std.specs.Prelude.{◌≡◌, ◌+◌, ◌<◌, ◌≤◌, ◌↔◌, ◌++◌, ◌∷◌, ◌≢◌, Bool, true, false, List, [], Some, None};
+ghost use Rattle.std.specs.Prelude.{◌≡◌, ◌+◌, ◌<◌, ◌≤◌, ◌↔◌, ◌++◌, ◌∷◌, ◌≢◌, false, [], Some, None};
 ghost use Rattle.std.specs.Prelude.{IfOk, IfSome, IfNone, IsTrue, length};
 ghost use Rattle.lot_machine.specs.declared.funding.Node.{Node as ANode};
 ghost use Rattle.lot_machine.specs.declared.funding.Node.TheVariants.{Currency as CurrencyNode, Thread as ThreadNode};
@@ -13,7 +13,7 @@ ghost use Rattle.lot_machine.specs.Lends.{IsLive};
 ghost use Rattle.lot_machine.specs.declared.funding.Lend.TheVariants.{Nobody};
 ghost use Rattle.lot_machine.specs.Equations.{HasEquation, Reaches};
 ghost use Rattle.lot_machine.specs.Value.{node_value, ticket_value};
-ghost use Rattle.lot_graph.specs.Graphs.{IsNodeOf, IsThread, IsMutex, IsCurrency, IsUserCurrency, IsTarget, IsCycle};
+ghost use Rattle.lot_graph.specs.Graphs.{IsNodeOf, IsThread, IsMutex, IsTarget, IsCycle};
 ghost use Rattle.lot_graph.specs.Graphs.{IsFunding, IsLender, IsBorrower, LendReaches, opening_funding};
 ghost use Rattle.lot_graph.specs.Places.{layout_of};
 ghost use Rattle.lot_value.specs.Counts.{counted_up};
@@ -22,7 +22,7 @@ ghost use Rattle.lot_value.specs.Valued.{FollowsGraph, FollowsLives};
 ghost use Rattle.lot_value.specs.Changing.{CanApply, StaleBy, applied};
 ghost use Rattle.lot_value.specs.declared.change.Change.TheVariants.{NewTicket, PutTicket, DropTicket, NewCurrency};
 ghost use Rattle.lot_value.specs.declared.change.Change.TheVariants.{DropCurrency, PutOwner};
-ghost use Rattle.lot_graph.specs.Changes.{with_currencies, with_lends, with_owners, with_tickets};
+ghost use Rattle.lot_graph.specs.Changes.{with_lends, with_owners, with_tickets};
 
 use crate::change::Change;
 use crate::edges::{attach, detach};

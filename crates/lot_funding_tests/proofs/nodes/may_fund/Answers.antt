@@ -1,4 +1,4 @@
-use Rattle.std.proofs.Common.{◌≡◌, not, true, false, refl, subst, sym}
+use Rattle.std.proofs.Common.{◌≡◌, not, true, false, refl, subst}
 use Rattle.lot_graph.specs.Graphs.{LimitedFunding, IsTarget}
 use Rattle.lot_value.proofs.Applied.{target-may}
 use Rattle.lot_funding_tests.proofs.nodes.may_fund.Goals as goal

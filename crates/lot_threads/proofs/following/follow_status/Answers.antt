@@ -1,4 +1,4 @@
-use Rattle.std.proofs.Common.{◌≡◌, ◌∙◌, inl, rules, Some, ap, refl, subst, sym}
+use Rattle.std.proofs.Common.{◌≡◌, ◌∙◌, inl, rules, Some, ap, refl, sym}
 use Rattle.lot_machine.specs.State.{is_live_status, lend_of}
 use Rattle.lot_machine.proofs.Changes.{number-kept}
 use Rattle.lot_value.proofs.Lending.{lend-kept}

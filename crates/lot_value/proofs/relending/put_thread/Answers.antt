@@ -1,4 +1,4 @@
-use Rattle.std.proofs.Common.{◌≡◌, sym, subst}
+use Rattle.std.proofs.Common.{sym, subst}
 use Rattle.lot_value.specs.declared.change.Change.TheVariants.{PutThread}
 use Rattle.lot_value.proofs.Applied.{Done, live-and-lend, lend-and-sleep}
 use Rattle.lot_value.proofs.relending.put_thread.Goals as goal

@@ -1,4 +1,4 @@
-use Rattle.std.proofs.Common.{◌≡◌, subst}
+use Rattle.std.proofs.Common.{subst}
 use Rattle.lot_machine.specs.State.{funding_of}
 use Rattle.lot_kernel.specs.Snapshots.{Snapshot, MakesStale}
 use Rattle.lot_value.proofs.Applied.{target-may}

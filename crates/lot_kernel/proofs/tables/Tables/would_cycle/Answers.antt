@@ -1,6 +1,5 @@
-use Rattle.std.proofs.Common.{Bool, Some, ap, subst, ◌≡◌, ◌↔◌}
+use Rattle.std.proofs.Common.{ap, subst, ◌↔◌}
 use Rattle.std.specs.Prelude.{IsTrue}
-use Rattle.lot_machine.specs.Commands.{is_cycle}
 use Rattle.lot_machine.specs.Funding.{Funding}
 use Rattle.lot_machine.specs.State.{funding_of}
 use Rattle.lot_graph.specs.Graphs.{IsCycle}
