@@ -12,7 +12,8 @@ const TITLE: &str = "What each thread has run";
 /// The request of a command line: exactly one subcommand.
 #[derive(Clone, Copy, Debug)]
 pub(crate) enum Request<'a> {
-    Show(View<'a>),
+    /// The view, and the title that a picture has.
+    Show(View, &'a str),
     Run,
 }
 
@@ -41,14 +42,15 @@ pub(crate) fn request_of<'a, S: AsStr>(
         .subcommand(shares_command(alloc)?)?
         .subcommand(chart_command(alloc)?)?;
     let matches = command.try_get_matches_from(words)?;
-    let view = match matches.subcommand() {
-        Some(("run", _)) => return Ok(Request::Run),
-        Some(("explain", _)) => View::Explain,
-        Some(("shares", given)) => View::Shares(measure_of(given)),
-        Some(("chart", given)) => View::Chart(given.get_str("title").unwrap_or(TITLE)),
-        _ => View::Play,
-    };
-    Ok(Request::Show(view))
+    Ok(match matches.subcommand() {
+        Some(("explain", _)) => Request::Show(View::Explain, TITLE),
+        Some(("run", _)) => Request::Run,
+        Some(("shares", given)) => Request::Show(View::Shares(measure_of(given)), TITLE),
+        Some(("chart", given)) => {
+            Request::Show(View::Chart, given.get_str("title").unwrap_or(TITLE))
+        }
+        _ => Request::Show(View::Play, TITLE),
+    })
 }
 
 /// The command that writes a table.

@@ -87,8 +87,16 @@ fn request_status<H: Threads + Wait + Sync, R: Read + Drop, W: Write + Drop, E: 
         return FAILED;
     };
     let played = match request {
-        Request::Show(view) => {
-            show(alloc, view, &mut diagnostics, &mut reader, &mut writer).ok()
+        Request::Show(view, title) => {
+            show(
+                alloc,
+                view,
+                title,
+                &mut diagnostics,
+                &mut reader,
+                &mut writer,
+            )
+            .ok()
         }
         Request::Run => run(rt, alloc, &mut diagnostics, &mut reader, &mut writer).ok(),
     };

@@ -15,52 +15,54 @@ use std::io::{Read, Write};
 
 /// What is written of the turns of an input's schedule.
 #[derive(Clone, Copy, Debug)]
-pub(crate) enum View<'a> {
+pub(crate) enum View {
     /// A line for each turn, and the report.
     Play,
     /// The same, with the lots of each lottery that was won before its line.
     Explain,
     /// A table of this measure of each thread over time.
     Shares(Measure),
-    /// A picture with this title of the ticks of each thread over time.
-    Chart(&'a str),
+    /// A picture of the ticks of each thread over time.
+    Chart,
 }
 
-/// Reads an input, makes the turns of its schedule, and writes this view of them; or one line, if the input is refused.
-/// Diagnostics are stored in `diagnostics`.
+/// Reads an input, makes the turns of its schedule, and writes this view of them, a picture with this title; or one
+/// line, if the input is refused. Diagnostics are stored in `diagnostics`.
 pub(crate) fn show<R: Read, W: Write>(
     alloc: Global,
-    view: View<'_>,
+    view: View,
+    title: &str,
     diagnostics: &mut Diagnostics,
     reader: &mut Watched<R>,
     writer: &mut Watched<W>,
 ) -> Result<Played, IoFault>
     requires { (reader.old.failed ≡ false) × (writer.old.failed ≡ false) }
     ensures plays { PlaysInput
-        (text_of view) R.remaining reader.old reader.new W.contents writer.old writer.new result }
+        (text_of view title.now) R.remaining reader.old reader.new W.contents writer.old writer.new result }
 {
     let input = read_input(alloc, reader)?;
     diagnostics.take_up(alloc, input);
-    show_bytes(alloc, view, diagnostics, writer)
+    show_bytes(alloc, view, title, diagnostics, writer)
 }
 
 /// Makes the turns of the input that `diagnostics` has, and writes this view of them, or why it is refused.
 fn show_bytes<W: Write>(
     alloc: Global,
-    view: View<'_>,
+    view: View,
+    title: &str,
     diagnostics: &mut Diagnostics,
     writer: &mut Watched<W>,
 ) -> Result<Played, IoFault>
     requires { writer.old.failed ≡ false }
     ensures flushed { OnOk result (writer.new.flushed ≡ true) }
     ensures shown { Plays W.contents writer.old writer.new result
-        (came_of (program_in diagnostics.old.input.items)) (text_of view diagnostics.old.input.items) }
+        (came_of (program_in diagnostics.old.input.items)) (text_of view title.now diagnostics.old.input.items) }
 {
     let input = &mut diagnostics.input;
     match view {
         View::Play => play_bytes(alloc, input, &mut diagnostics.warnings, writer),
         View::Explain => explain_bytes(alloc, input, &mut diagnostics.warnings, writer),
         View::Shares(measure) => shares_bytes(alloc, measure, input, writer),
-        View::Chart(title) => chart_bytes(alloc, title, input, writer),
+        View::Chart => chart_bytes(alloc, title, input, writer),
     }
 }
