@@ -35,12 +35,7 @@ impl Observer for Stretches {
 
     ghost stopped = { λ program turns first now fault. ⊤ };
 
-    fn before(&mut self, program: &Program, system: &mut System, actor: u32) {
-        let _ = self;
-        let _ = program;
-        let _ = system;
-        let _ = actor;
-    }
+    fn before(&mut self, program: &Program, system: &mut System, actor: u32) {}
 
     fn after(
         &mut self,
@@ -48,7 +43,6 @@ impl Observer for Stretches {
         system: &mut System,
         turn: &Turn,
     ) -> Result<(), AllocError> {
-        let _ = program;
         if turn.has_ended {
             return Ok(());
         }

@@ -15,18 +15,17 @@ use std::alloc::{AllocError, Global};
 use std::io::Write;
 
 /// Makes the turns of the input in `bytes`, and writes a table of what each thread has had over time; or one line, if
-/// the input is refused: then `bytes` keeps it, otherwise its memory is freed before the first turn. Out of memory, it
-/// writes nothing.
+/// the input is refused. Out of memory, it writes nothing.
 pub fn shares_bytes<W: Write>(
     alloc: Global,
     measure: Measure,
-    bytes: &mut Vec<u8>,
+    bytes: &[u8],
     writer: &mut Watched<W>,
 ) -> Result<Played, IoFault>
     requires { writer.old.failed ≡ false }
     ensures flushed { OnOk result (writer.new.flushed ≡ true) }
-    ensures shown { Plays W.contents writer.old writer.new result (came_of (program_in bytes.old.items))
-        (shares_output measure bytes.old.items) }
+    ensures shown { Plays W.contents writer.old writer.new result (came_of (program_in bytes.now))
+        (shares_output measure bytes.now) }
 {
     match curves_in(alloc, bytes) {
         Ok(curves) => write_text(table(alloc, &curves, measure), writer),
@@ -36,18 +35,17 @@ pub fn shares_bytes<W: Write>(
 }
 
 /// Makes the turns of the input in `bytes`, and writes a picture with this title of what each thread has had over
-/// time; or one line, if the input is refused: then `bytes` keeps it, otherwise its memory is freed before the first
-/// turn. Out of memory, it writes nothing.
+/// time; or one line, if the input is refused. Out of memory, it writes nothing.
 pub fn chart_bytes<W: Write>(
     alloc: Global,
     title: &str,
-    bytes: &mut Vec<u8>,
+    bytes: &[u8],
     writer: &mut Watched<W>,
 ) -> Result<Played, IoFault>
     requires { writer.old.failed ≡ false }
     ensures flushed { OnOk result (writer.new.flushed ≡ true) }
-    ensures shown { Plays W.contents writer.old writer.new result (came_of (program_in bytes.old.items))
-        (chart_output title.now bytes.old.items) }
+    ensures shown { Plays W.contents writer.old writer.new result (came_of (program_in bytes.now))
+        (chart_output title.now bytes.now) }
 {
     match curves_in(alloc, bytes) {
         Ok(curves) => write_text(chart_of(alloc, &curves, title), writer),
@@ -56,14 +54,12 @@ pub fn chart_bytes<W: Write>(
     }
 }
 
-/// The curves of the input in `bytes`. If it is refused, `bytes` keeps it; otherwise its memory is freed before the
-/// first turn.
-fn curves_in(alloc: Global, bytes: &mut Vec<u8>) -> Result<Curves, ParseFault>
-    ensures curves { IfOk result (HasCurves (program_in bytes.old.items)) }
-    ensures fault { IfErr result (IsParseFaultOf (program_in bytes.old.items)) }
+/// The curves of the input in `bytes`.
+fn curves_in(alloc: Global, bytes: &[u8]) -> Result<Curves, ParseFault>
+    ensures curves { IfOk result (HasCurves (program_in bytes.now)) }
+    ensures fault { IfErr result (IsParseFaultOf (program_in bytes.now)) }
 {
-    let program = parse(alloc, bytes.as_slice())?;
-    *bytes = Vec::new(alloc);
+    let program = parse(alloc, bytes)?;
     match gather(alloc, &program) {
         Ok(curves) => Ok(curves),
         Err(_) => Err(ParseFault::Memory),

@@ -13,8 +13,8 @@ use Rattle.lot_play.specs.declared.inputs.Played.TheVariants.{Done, Refused}
 use Rattle.lot_io.specs.declared.fault.IoFault.TheVariants.{Read, Write}
 use Rattle.lot_io.specs.Reading.{HasRead}
 use Rattle.lot_io.specs.Writing.{Begins, IsFaultOf}
-use Rattle.lot_command.specs.declared.run.RunStop.{RunStop}
-use Rattle.lot_command.specs.declared.run.RunStop.TheVariants.{Play, Workers}
+use Rattle.lot_command.specs.declared.run.InputRunFault.{InputRunFault}
+use Rattle.lot_command.specs.declared.run.InputRunFault.TheVariants.{Play, Workers}
 
 -- The report of a free run of the program was written, and lines that give its history back; or why there is no
 -- program.
@@ -29,26 +29,26 @@ HasBegun (Err fault) old new = Begins old new (fault_line fault)
 
 -- On Ok a free run was written; if the writer has failed, a beginning of one; and with any other fault nothing was.
 -- The bytes were read before, so it is no fault of reading.
-abbrev pub EndsRun : Result Program InputFault → Option (List ℕ) → Option (List ℕ) → Bool → Result Played RunStop → Type 0
+abbrev pub EndsRun : Result Program InputFault → Option (List ℕ) → Option (List ℕ) → Bool → Result Played InputRunFault → Type 0
 EndsRun input old new failed (Ok played) = (failed ≡ false) × HasRun input old new played
 EndsRun input old new failed (Err (Play Write)) = (failed ≡ true) × HasBegun input old new
 EndsRun input old new failed (Err (Play Read)) = ⊥
 EndsRun input old new failed (Err other) = (failed ≡ false) × Keeps old new
 
 -- the same of a watched writer, of which `contents` says what it holds
-abbrev pub Runs : {T : Type 0} → Result Program InputFault → (T → Option (List ℕ)) → Watch T → Watch T → Result Played RunStop → Type 0
+abbrev pub Runs : {T : Type 0} → Result Program InputFault → (T → Option (List ℕ)) → Watch T → Watch T → Result Played InputRunFault → Type 0
 Runs input contents old new result = EndsRun input (contents old.inner) (contents new.inner) new.failed result
 
 -- What a fault leaves: with Write a beginning of a free run of what was read was written, otherwise nothing was.
-abbrev pub HasLeft : Option (List ℕ) → Option (List ℕ) → Option (List ℕ) → Option (List ℕ) → RunStop → Type 0
+abbrev pub HasLeft : Option (List ℕ) → Option (List ℕ) → Option (List ℕ) → Option (List ℕ) → InputRunFault → Type 0
 HasLeft left rest old new (Play Write) = (bytes : List ℕ) × HasRead left rest bytes × HasBegun (program_in bytes) old new
 HasLeft left rest old new other = Keeps old new
 
 -- the same of a watched reader and a watched writer
-abbrev pub RunLeaves : {S : Type 0} {T : Type 0} → (S → Option (List ℕ)) → Watch S → Watch S → (T → Option (List ℕ)) → Watch T → Watch T → RunStop → Type 0
+abbrev pub RunLeaves : {S : Type 0} {T : Type 0} → (S → Option (List ℕ)) → Watch S → Watch S → (T → Option (List ℕ)) → Watch T → Watch T → InputRunFault → Type 0
 RunLeaves remaining reader after contents old new stop = HasLeft (remaining reader.inner) (remaining after.inner) (contents old.inner) (contents new.inner) stop
 
 -- Read if the reader has failed, and Write if the writer has. Neither has if the workers stop early.
-abbrev pub IsStopOf : RunStop → Bool → Bool → Type 0
+abbrev pub IsStopOf : InputRunFault → Bool → Bool → Type 0
 IsStopOf (Play fault) reader writer = IsFaultOf fault reader writer
 IsStopOf (Workers fault) reader writer = (reader ≡ false) × (writer ≡ false)

@@ -1,11 +1,10 @@
 //! Diagnostics in words on standard error.
-ghost use Rattle.std.specs.Prelude.{◌≡◌};
 
 use lot_io::Watched;
 use lot_simulation::InputFault;
 use lot_system::Warnings;
 use lot_text::{ParseFault, parse};
-use lot_words::{CommandLines, write_warnings, write_words};
+use lot_words::{write_warnings, write_words};
 use std::alloc::{AllocError, Global};
 use std::io;
 use std::io::Write;
@@ -13,10 +12,8 @@ use std::io::Write;
 /// The diagnostics for standard error. The output and the status don't depend on them.
 #[derive(Drop)]
 pub(crate) struct Diagnostics {
-    /// The input, if it was refused.
+    /// The input, whose lines they name. It stays while it is played: which lines, only the run shows.
     pub(crate) input: Vec<u8>,
-    /// The lines of its commands, if there was memory for them.
-    lines: CommandLines,
     /// The warnings of its run.
     pub(crate) warnings: Warnings,
 }
@@ -26,20 +23,8 @@ impl Diagnostics {
     pub(crate) fn nothing(alloc: Global) -> Result<Self, AllocError> {
         Ok(Diagnostics {
             input: Vec::new(alloc),
-            lines: CommandLines::none(alloc),
             warnings: Warnings::none(alloc)?,
         })
-    }
-
-    /// Stores the input, and on which lines its commands stand.
-    pub(crate) fn take_up(&mut self, alloc: Global, input: Vec<u8>)
-        ensures { self.new.input ≡ input }
-    {
-        self.lines = match CommandLines::of(alloc, input.as_slice()) {
-            Ok(lines) => lines,
-            Err(_) => CommandLines::none(alloc),
-        };
-        self.input = input;
     }
 
     /// Writes why the input is refused. Out of memory, or if the errors fail, nothing is reported.
@@ -54,7 +39,7 @@ impl Diagnostics {
     /// Writes the warnings of the run. Out of memory, or if the errors fail, nothing is reported.
     pub(crate) fn say_warnings<E: Write>(&self, alloc: Global, errors: &mut Watched<E>) {
         let mut words = Vec::new(alloc);
-        let made = write_warnings(&mut words, &self.warnings, &self.lines);
+        let made = write_warnings(&mut words, &self.warnings, self.input.as_slice());
         say(errors, made, &words);
     }
 }

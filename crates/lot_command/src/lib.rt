@@ -9,4 +9,4 @@ mod run;
 mod view;
 
 pub use exit_status::{status, unread_status};
-pub use run::{RunStop, run_bytes};
+pub use run::{InputRunFault, run_bytes};

@@ -18,7 +18,7 @@ use thiserror::Error;
 
 /// Why a free run of an input stops early. Nothing was written unless the writer has failed.
 #[derive(Debug, Drop, Error)]
-pub enum RunStop {
+pub enum InputRunFault {
     /// Out of memory, or the reader or the writer has failed.
     #[error("{0}")]
     Play(IoFault),
@@ -36,7 +36,7 @@ pub(crate) fn run<R: Read, W: Write, H: Threads + Wait + Sync>(
     diagnostics: &mut Diagnostics,
     reader: &mut Watched<R>,
     writer: &mut Watched<W>,
-) -> Result<Played, RunStop>
+) -> Result<Played, InputRunFault>
     requires { (reader.old.failed ≡ false) × (writer.old.failed ≡ false) }
     ensures ok { OnOk result ((reader.new.failed ≡ false) × (writer.new.failed ≡ false)) }
     ensures flushed { OnOk result (writer.new.flushed ≡ true) }
@@ -48,7 +48,7 @@ pub(crate) fn run<R: Read, W: Write, H: Threads + Wait + Sync>(
 {
     match read_input(alloc, reader) {
         Ok(bytes) => {
-            diagnostics.take_up(alloc, bytes);
+            diagnostics.input = bytes;
             run_bytes(
                 rt,
                 alloc,
@@ -57,7 +57,7 @@ pub(crate) fn run<R: Read, W: Write, H: Threads + Wait + Sync>(
                 writer,
             )
         }
-        Err(fault) => Err(RunStop::Play(fault)),
+        Err(fault) => Err(InputRunFault::Play(fault)),
     }
 }
 
@@ -65,25 +65,26 @@ pub(crate) fn run<R: Read, W: Write, H: Threads + Wait + Sync>(
 /// history; or one line, if the input is refused. Its schedule is ignored. The warnings of the run are stored in
 /// `warnings`. It may block.
 ///
-/// `RunStop::Play` if memory runs out before the workers start, or if the writer fails, and `RunStop::Workers` if
-/// memory runs out for them, or they stop early. Nothing was written unless the writer has failed.
+/// `InputRunFault::Play` if memory runs out before the workers start, or if the writer fails, and
+/// `InputRunFault::Workers` if memory runs out for them, or they stop early. Nothing was written unless the writer has
+/// failed.
 pub fn run_bytes<W: Write, H: Threads + Wait + Sync>(
     rt: &H,
     alloc: Global,
     bytes: &[u8],
     warnings: &mut Warnings,
     writer: &mut Watched<W>,
-) -> Result<Played, RunStop>
+) -> Result<Played, InputRunFault>
     requires { writer.old.failed ≡ false }
     ensures flushed { OnOk result (writer.new.flushed ≡ true) }
     ensures run { Runs (program_in bytes.now) W.contents writer.old writer.new result }
 {
     match parse(alloc, bytes) {
         Ok(program) => run_program(rt, alloc, &program, warnings, writer),
-        Err(ParseFault::Memory) => Err(RunStop::Play(IoFault::Memory)),
+        Err(ParseFault::Memory) => Err(InputRunFault::Play(IoFault::Memory)),
         Err(ParseFault::Input(fault)) => match refuse(fault, writer) {
             Ok(played) => Ok(played),
-            Err(fault) => Err(RunStop::Play(fault)),
+            Err(fault) => Err(InputRunFault::Play(fault)),
         },
     }
 }
@@ -95,18 +96,18 @@ fn run_program<W: Write, H: Threads + Wait + Sync>(
     program: &Program,
     warnings: &mut Warnings,
     writer: &mut Watched<W>,
-) -> Result<Played, RunStop>
+) -> Result<Played, InputRunFault>
     requires { writer.old.failed ≡ false }
     ensures flushed { OnOk result (writer.new.flushed ≡ true) }
     ensures run { Runs (Ok program.now) W.contents writer.old writer.new result }
 {
     let mut system = match free_run(rt, alloc, program, &OpenGate) {
         Ok(system) => system,
-        Err(fault) => return Err(RunStop::Workers(fault)),
+        Err(fault) => return Err(InputRunFault::Workers(fault)),
     };
     match write_end(&mut system, writer) {
         Ok(()) => Ok(noted(&mut system, warnings)),
-        Err(fault) => Err(RunStop::Play(fault)),
+        Err(fault) => Err(InputRunFault::Play(fault)),
     }
 }
 

@@ -40,8 +40,7 @@ pub(crate) fn show<R: Read, W: Write>(
     ensures plays { PlaysInput
         (text_of view title.now) R.remaining reader.old reader.new W.contents writer.old writer.new result }
 {
-    let input = read_input(alloc, reader)?;
-    diagnostics.take_up(alloc, input);
+    diagnostics.input = read_input(alloc, reader)?;
     show_bytes(alloc, view, title, diagnostics, writer)
 }
 
@@ -58,7 +57,7 @@ fn show_bytes<W: Write>(
     ensures shown { Plays W.contents writer.old writer.new result
         (came_of (program_in diagnostics.old.input.items)) (text_of view title.now diagnostics.old.input.items) }
 {
-    let input = &mut diagnostics.input;
+    let input = diagnostics.input.as_slice();
     match view {
         View::Play => play_bytes(alloc, input, &mut diagnostics.warnings, writer),
         View::Explain => explain_bytes(alloc, input, &mut diagnostics.warnings, writer),

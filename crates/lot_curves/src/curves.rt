@@ -58,7 +58,6 @@ impl Curves {
         ensures names { result.now ≡ self.now.names }
         ensures few { length self.now.names < 2 ^ 32 }
     {
-        let _last = self.last;
         self.names.as_slice()
     }
 
@@ -67,7 +66,6 @@ impl Curves {
         ensures stretches { result.now ≡ self.now.stretches }
         ensures few { length self.now.stretches < 2 ^ 32 }
     {
-        let _last = self.last;
         self.stretches.as_slice()
     }
 

@@ -8,3 +8,4 @@ pub mod CountFacts
 pub mod PlayingFacts
 pub mod WorkFacts
 pub mod Openings
+pub mod OneMore

@@ -14,8 +14,8 @@ use Rattle.lot_engine.specs.declared.turn.Work.{Work}
 use Rattle.lot_engine.specs.declared.turn.Answer.{Answer}
 use Rattle.lot_engine.specs.declared.fault.TurnFault.{TurnFault}
 use Rattle.lot_engine.specs.declared.fault.TurnFault.TheVariants.{Stale, Ended, HistoryFull}
-use Rattle.lot_engine.specs.declared.turn.Unmade.{Unmade}
-use Rattle.lot_engine.specs.declared.turn.Unmade.TheVariants as unmade
+use Rattle.lot_engine.specs.declared.turn.TurnFaultKind.{TurnFaultKind}
+use Rattle.lot_engine.specs.declared.turn.TurnFaultKind.TheVariants as kinds
 use Rattle.lot_engine.specs.Seen.{Seen, world_of, after_turn}
 use Rattle.lot_engine.specs.Held.{script_lines}
 
@@ -84,10 +84,10 @@ Faults seen actor given Ended = IsFresh seen actor given × IsEnded seen actor
 Faults seen actor given HistoryFull = IsFresh seen actor given × (¬ IsEnded seen actor) × (seen.setting.room ≤ length seen.history)
 
 -- the same, if the work isn't asked for
-abbrev pub Prevents : Seen → ℕ → Option Parts → Unmade → Type 0
-Prevents seen actor given unmade.Stale = ¬ IsFresh seen actor given
-Prevents seen actor given unmade.Ended = IsFresh seen actor given × IsEnded seen actor
-Prevents seen actor given unmade.HistoryFull = IsFresh seen actor given × (¬ IsEnded seen actor) × (seen.setting.room ≤ length seen.history)
+abbrev pub Prevents : Seen → ℕ → Option Parts → TurnFaultKind → Type 0
+Prevents seen actor given kinds.Stale = ¬ IsFresh seen actor given
+Prevents seen actor given kinds.Ended = IsFresh seen actor given × IsEnded seen actor
+Prevents seen actor given kinds.HistoryFull = IsFresh seen actor given × (¬ IsEnded seen actor) × (seen.setting.room ≤ length seen.history)
 
 -- this holds, if the fault is Stale
 abbrev pub IfStale : TurnFault → Type 0 → Type 0

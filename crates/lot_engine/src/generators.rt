@@ -6,7 +6,7 @@ ghost use Rattle.lot_simulation.specs.World as world;
 ghost use Rattle.lot_simulation.specs.World.{number_from, seed_from};
 ghost use Rattle.lot_engine.specs.Steps.{event_done};
 
-use crate::turn::{Done, event_of, needs_number};
+use crate::turn::{Done, needs_number, put_event};
 use lot_draw::ParkMiller;
 use lot_machine::Event;
 use lot_text::Program;
@@ -67,10 +67,10 @@ pub(crate) fn next_event(
     ensures count { vec_len generators.new ≡ vec_len generators.old }
 {
     if !needs_number(done) {
-        *event = event_of(processor, done, 0);
+        put_event(processor, done, 0, event);
         return;
     }
     let next = next_number(generators, processor, is_wide);
-    *event = event_of(processor, done, next.number);
+    put_event(processor, done, next.number, event);
     generators[processor as usize - 1] = next.after;
 }

@@ -21,7 +21,7 @@ use crate::generators::{generators_of, next_event};
 use crate::known::known;
 use crate::places::{follow_command, follow_turn, pass_slice, places_for, receive};
 use crate::slices::script_numbered;
-use crate::turn::{Answer, KeptWork, Running, Unmade, Work, done_in, matches_work};
+use crate::turn::{Answer, KeptWork, Running, TurnFaultKind, Work, done_in, matches_work};
 use lot_draw::ParkMiller;
 use lot_kernel::Kernel;
 use lot_machine::{CurrencyRow, Event, Kind, Limits, Reply, ThreadRow, TicketRow};
@@ -189,9 +189,9 @@ impl System {
                 reply,
                 next: self.work(actor),
             }),
-            Err(Unmade::Stale) => Err(TurnFault::Stale(self.work(actor))),
-            Err(Unmade::Ended) => Err(TurnFault::Ended),
-            Err(Unmade::HistoryFull) => Err(TurnFault::HistoryFull),
+            Err(TurnFaultKind::Stale) => Err(TurnFault::Stale(self.work(actor))),
+            Err(TurnFaultKind::Ended) => Err(TurnFault::Ended),
+            Err(TurnFaultKind::HistoryFull) => Err(TurnFault::HistoryFull),
         }
     }
 
@@ -203,7 +203,7 @@ impl System {
         actor: u32,
         slice: &Option<Slice>,
         event: &mut Event,
-    ) -> Result<Reply, Unmade>
+    ) -> Result<Reply, TurnFaultKind>
         requires { actor ≤ self.old.setting.program.limits.processors }
         ensures ok { IfOk result (λ reply. Goes self.old actor slice.now × (self.new ≡ after_turn self.old actor)
             × ((system_turn self.old.setting.program (world_of self.old) actor).answer ≡ Answered event.new reply)) }
@@ -212,13 +212,13 @@ impl System {
     {
         let work = self.kept_work(actor);
         if !matches_work(&self.program, &work, slice) {
-            return Err(Unmade::Stale);
+            return Err(TurnFaultKind::Stale);
         }
         if self.is_ended(actor) {
-            return Err(Unmade::Ended);
+            return Err(TurnFaultKind::Ended);
         }
         if self.is_full() {
-            return Err(Unmade::HistoryFull);
+            return Err(TurnFaultKind::HistoryFull);
         }
         let mut reply = Reply::Idle;
         self.make_turn(actor, slice, event, &mut reply);
@@ -283,7 +283,7 @@ impl System {
             ≡ Answered event.new reply.new }
     {
         if actor == 0 {
-            *reply = self.console_turn(event);
+            self.console_turn(event, reply);
             return;
         }
         let done = done_in(slice);
@@ -296,22 +296,22 @@ impl System {
         remember(&mut self.history, actor);
     }
 
-    /// The console's next command.
-    fn console_turn(&mut self, event: &mut Event) -> Reply
+    /// The console's next command. It stores the event and the kernel's reply where the caller keeps them.
+    fn console_turn(&mut self, event: &mut Event, reply: &mut Reply)
         requires left { ¬ IsEnded self.old 0 }
         requires room { length self.old.history < self.old.setting.room }
         ensures seen { self.new ≡ after_turn self.old 0 }
         ensures answer { (system_turn self.old.setting.program (world_of self.old) 0).answer
-            ≡ Answered event.new result }
+            ≡ Answered event.new reply.new }
     {
         *event = Event::Command(self.program.commands()[self.spent].copied());
-        let reply = self.kernel.event(event);
+        self.kernel.answer(event, reply);
+        let told = *reply;
         self.spent += 1;
-        follow_command(&mut self.places, &self.program, &self.kernel, reply);
-        count_turn(&mut self.counts, 0, reply);
-        self.total.add_turn(reply);
+        follow_command(&mut self.places, &self.program, &self.kernel, told);
+        count_turn(&mut self.counts, 0, told);
+        self.total.add_turn(told);
         remember(&mut self.history, 0);
-        reply
     }
 
     /// The slice of the thread that runs on the processor. It advances the thread's place where the system keeps it.

@@ -87,7 +87,7 @@ pub struct Answer {
 
 /// Why a turn isn't made, as `TurnFault` says it, without the work.
 #[derive(Clone, Copy, Debug)]
-pub(crate) enum Unmade {
+pub(crate) enum TurnFaultKind {
     Stale,
     Ended,
     HistoryFull,
@@ -147,26 +147,27 @@ pub(crate) fn done_in(slice: &Option<Slice>) -> Option<Done>
     }
 }
 
-/// The event of a processor's turn whose slice did this, or a draw without one, if this is the processor's next number.
+/// Stores the event of a processor's turn whose slice did this, or a draw without one, if this is the processor's next
+/// number: as a result it would be copied.
 #[inline(always)]
-pub(crate) fn event_of(actor: u32, done: Option<Done>, drawn: u128) -> Event
-    ensures { result ≡ steps.event_done actor drawn done }
+pub(crate) fn put_event(actor: u32, done: Option<Done>, drawn: u128, event: &mut Event)
+    ensures { event.new ≡ steps.event_done actor drawn done }
 {
     match done {
-        None => Event::Draw(actor, drawn),
-        Some(done) => slice_event(actor, done, drawn),
+        None => *event = Event::Draw(actor, drawn),
+        Some(done) => put_slice_event(actor, done, drawn, event),
     }
 }
 
-/// What a slice did as an event: an expiry, or its ticks and then its trap.
+/// Stores what a slice did as an event: an expiry, or its ticks and then its trap.
 #[inline(always)]
-fn slice_event(actor: u32, done: Done, drawn: u128) -> Event
-    ensures { result ≡ steps.event_done actor drawn (Some done) }
+fn put_slice_event(actor: u32, done: Done, drawn: u128, event: &mut Event)
+    ensures { event.new ≡ steps.event_done actor drawn (Some done) }
 {
-    match done.trap {
+    *event = match done.trap {
         None => Event::Expire(actor),
         Some(trap) => Event::Trap(actor, done.ticks, action_of(trap, done.accumulator, drawn)),
-    }
+    };
 }
 
 /// A trap of a script as the kernel takes it. Calls, replies and servings carry the accumulator, and an unlock the

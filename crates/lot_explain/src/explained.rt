@@ -64,7 +64,6 @@ impl<'a, W: Write> Observer for Explained<'a, W> {
         system: &mut System,
         turn: &Turn,
     ) -> Result<(), IoFault> {
-        let _ = program;
         put_explained(
             system,
             turn,

@@ -8,27 +8,27 @@ ghost use Rattle.lot_explain.specs.Explained.{explained_output, explained_progra
 use crate::explained::explain_turns;
 use crate::gathering::Lots;
 use lot_io::{IoFault, Watched};
-use lot_play::{Played, Warnings, end_play, program_of, refuse};
+use lot_play::{Played, Warnings, end_play, refuse};
 use lot_playback::Playback;
-use lot_text::{ParseFault, Program};
+use lot_text::{ParseFault, Program, parse};
 use std::alloc::Global;
 use std::io::Write;
 
 /// Makes the turns of the input in `bytes`, and writes the output of `play`, with the lots of each lottery that was won
-/// before its line; or one line, if the input is refused: then `bytes` keeps it. Otherwise its memory is freed before
-/// the first turn, and the run's warnings are stored in `warnings`. It allocates all its memory before the first turn.
+/// before its line; or one line, if the input is refused. The run's warnings are stored in `warnings`. It allocates all
+/// its memory before the first turn.
 pub fn explain_bytes<W: Write>(
     alloc: Global,
-    bytes: &mut Vec<u8>,
+    bytes: &[u8],
     warnings: &mut Warnings,
     writer: &mut Watched<W>,
 ) -> Result<Played, IoFault>
     requires { writer.old.failed ≡ false }
     ensures flushed { OnOk result (writer.new.flushed ≡ true) }
-    ensures played { Plays W.contents writer.old writer.new result (came_of (program_in bytes.old.items))
-        (explained_output bytes.old.items) }
+    ensures played { Plays W.contents writer.old writer.new result (came_of (program_in bytes.now))
+        (explained_output bytes.now) }
 {
-    match program_of(alloc, bytes) {
+    match parse(alloc, bytes) {
         Ok(program) => explain_program(alloc, &program, warnings, writer),
         Err(ParseFault::Memory) => Err(IoFault::Memory),
         Err(ParseFault::Input(fault)) => refuse(fault, writer),

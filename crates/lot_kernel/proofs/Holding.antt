@@ -1,7 +1,7 @@
 -- The threads go on to be those of the state that the tables hold, through each change.
-use Rattle.std.proofs.Common.{◌≡◌, ◌∙◌, inl, ℕ, Option, Some, None, is_some, true, false, List, [], ◌∷◌, ◌++◌, slice_set, ap, sym, subst}
+use Rattle.std.proofs.Common.{◌≡◌, ◌∙◌, inl, ℕ, Option, None, is_some, false, List, [], slice_set, ap, sym, subst}
 use Rattle.std.specs.List.{Contains}
-use Rattle.std.proofs.lemmas.List.{map-append, map-set}
+use Rattle.std.proofs.lemmas.List.{map-set}
 use Rattle.lot_machine.specs.declared.funding.Node.{Node}
 use Rattle.lot_machine.specs.declared.record.Record.{Record}
 use Rattle.lot_machine.specs.declared.record.Thread.{Thread}
@@ -44,13 +44,6 @@ module _ (sizes : Sizes) (names : List (Option (List ℕ))) (v new : Threaded) (
   held-mutexes trap left meter is left_is =
       subst (λ (l : QueueLists). IsHeld sizes names new l) (sym left_is)
       (subst (λ n. IsHeld sizes names n (record q { mutexes = trap.mutexes })) (sym is) (ap (λ (w : Threaded). record (with_mutexes w trap new.stale) { meter = meter }) was))
-
-  -- one currency more
-  pub held-made : (name : List ℕ) → new ≡ record v { currencies = v.currencies ++ true ∷ []; stale = new.stale } → IsHeld sizes (names ++ Some name ∷ []) new q
-  held-made name is =
-      subst (λ n. IsHeld sizes (names ++ Some name ∷ []) n q) (sym is)
-      (ap (λ (w : Threaded). record w { currencies = w.currencies ++ true ∷ []; stale = new.stale }) was
-      ∙ ap (λ flags. record (threads_of (held sizes names v q) new.stale v.meter) { currencies = flags }) (sym (map-append is_some names (Some name ∷ []))))
 
   -- one currency less
   pub held-removed : (c : ℕ) → new ≡ record v { currencies = slice_set v.currencies c false; stale = new.stale } → IsHeld sizes (slice_set names c None) new q

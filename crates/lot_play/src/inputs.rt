@@ -1,17 +1,16 @@
 //! Playing an input.
-ghost use Rattle.std.specs.Prelude.{◌≡◌, false, true, IfErr, IfOk, OnOk};
+ghost use Rattle.std.specs.Prelude.{◌≡◌, false, true, OnOk};
 ghost use Rattle.lot_simulation.specs.Grammar.{program_in};
 ghost use Rattle.lot_simulation.specs.Output.{output};
 ghost use Rattle.lot_simulation.specs.Texts.{fault_line};
 ghost use Rattle.lot_play.specs.Played.{Plays, PlaysInput, came_of};
 ghost use Rattle.lot_play.specs.declared.inputs.Played.TheVariants.{Refused};
-ghost use Rattle.lot_text.specs.Faults.{IsFaultOf as IsParseFaultOf};
 
 use crate::{Warnings, play_program};
 use lot_io::{IoFault, Watched, flush, read_input};
 use lot_print::write_fault;
 use lot_simulation::InputFault;
-use lot_text::{ParseFault, Program, parse};
+use lot_text::{ParseFault, parse};
 use std::alloc::Global;
 use std::io::{Read, Write};
 
@@ -34,42 +33,31 @@ pub fn play<R: Read, W: Write>(
     requires { (reader.old.failed ≡ false) × (writer.old.failed ≡ false) }
     ensures plays { PlaysInput output R.remaining reader.old reader.new W.contents writer.old writer.new result }
 {
-    let mut bytes = read_input(alloc, reader)?;
+    let bytes = read_input(alloc, reader)?;
     let Ok(mut warnings) = Warnings::none(alloc) else {
         return Err(IoFault::Memory);
     };
-    play_bytes(alloc, &mut bytes, &mut warnings, writer)
+    play_bytes(alloc, bytes.as_slice(), &mut warnings, writer)
 }
 
-/// Plays the input in `bytes`, or writes why it is refused, as `play` does, for callers that report more. If it is
-/// refused, `bytes` keeps it; otherwise its memory is freed before the first turn, and the run's warnings are stored
-/// in `warnings`. It allocates all its memory before the first turn.
+/// Plays the input in `bytes`, or writes why it is refused, as `play` does, for callers that report more: the run's
+/// warnings are stored in `warnings`. It allocates all its memory before the first turn.
 pub fn play_bytes<W: Write>(
     alloc: Global,
-    bytes: &mut Vec<u8>,
+    bytes: &[u8],
     warnings: &mut Warnings,
     writer: &mut Watched<W>,
 ) -> Result<Played, IoFault>
     requires { writer.old.failed ≡ false }
     ensures flushed { OnOk result (writer.new.flushed ≡ true) }
-    ensures played { Plays W.contents writer.old writer.new result (came_of (program_in bytes.old.items))
-        (output bytes.old.items) }
+    ensures played { Plays W.contents writer.old writer.new result (came_of (program_in bytes.now))
+        (output bytes.now) }
 {
-    match program_of(alloc, bytes) {
+    match parse(alloc, bytes) {
         Ok(program) => play_program(alloc, &program, warnings, writer),
         Err(ParseFault::Memory) => Err(IoFault::Memory),
         Err(ParseFault::Input(fault)) => refuse(fault, writer),
     }
-}
-
-/// The program in `bytes`. Unless the input is refused, its memory is freed.
-pub fn program_of(alloc: Global, bytes: &mut Vec<u8>) -> Result<Program, ParseFault>
-    ensures program { IfOk result (λ program. program_in bytes.old.items ≡ Ok program) }
-    ensures fault { IfErr result (IsParseFaultOf (program_in bytes.old.items)) }
-{
-    let program = parse(alloc, bytes.as_slice())?;
-    *bytes = Vec::new(alloc);
-    Ok(program)
 }
 
 /// Writes the one line of a refused input, as `play` does.

@@ -18,7 +18,7 @@ mod warnings;
 pub use answers::{heading, put_answer, style_of};
 pub use ending::write_end;
 pub use first_few::FirstFew;
-pub use inputs::{Played, play, play_bytes, program_of, refuse};
+pub use inputs::{Played, play, play_bytes, refuse};
 pub use lines::play_program;
 pub use playing::play_through;
 pub use report::write_report;

@@ -4,6 +4,7 @@ ghost use Rattle.lot_simulation.specs.Formats.{unit_of};
 ghost use Rattle.lot_simulation.specs.Report as reports;
 ghost use Rattle.lot_io.specs.Writing.{Writes};
 
+use crate::lengths::{ACTORS, SCHEDULE_LINE};
 use crate::line::Line;
 use crate::runs::write_runs;
 use lot_io::{IoFault, Watched};
@@ -33,7 +34,7 @@ fn write_schedule<W: Write>(writer: &mut Watched<W>, history: &[u8]) -> Result<(
 {
     let mut rest = history;
     while !rest.is_empty() {
-        let len = rest.len().min(64);
+        let len = rest.len().min(ACTORS);
         write_schedule_line(writer, &rest[..len])?;
         rest = &rest[len..];
     }
@@ -46,7 +47,7 @@ fn write_schedule_line<W: Write>(writer: &mut Watched<W>, actors: &[u8]) -> Resu
     requires few { length actors.now ≤ 64 }
     ensures { Writes W.contents writer.old writer.new result (reports.schedule_line actors.now) }
 {
-    let mut line = Line::<272>::new();
+    let mut line = Line::<SCHEDULE_LINE>::new();
     line.push_bytes(SCHEDULE_WORD);
     for actor in actors {
         line.push_field(" ", *actor);

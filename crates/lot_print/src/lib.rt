@@ -5,6 +5,7 @@
 
 mod histories;
 mod laws;
+mod lengths;
 mod line;
 mod lots;
 mod page;

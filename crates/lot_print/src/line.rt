@@ -4,6 +4,7 @@ ghost use Rattle.std.specs.Fmt.{decimal};
 ghost use Rattle.lot_simulation.specs.Texts.{behind_point, drawn_value, front, quotient_text, value_text};
 ghost use Rattle.lot_io.specs.Writing.{Writes};
 
+use crate::lengths::ROW;
 use itoa::{Buffer, Integer};
 use lot_io::{IoFault, Watched, write_bytes};
 use lot_simulation::LineStyle;
@@ -334,4 +335,4 @@ impl<const N: usize> Line<N> {
 }
 
 /// The line of a row of a listing, of the report, or of an input's refusal.
-pub(crate) type RowLine = Line<256>;
+pub(crate) type RowLine = Line<ROW>;

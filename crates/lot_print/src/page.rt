@@ -2,16 +2,11 @@
 ghost use Rattle.std.specs.Prelude.{◌≡◌, ◌≤◌, ◌+◌, [], false, length, OnOk};
 ghost use Rattle.lot_io.specs.Writing.{Puts, Writes};
 
+use crate::lengths::{PAGE, TURN};
 use crate::line::Line;
 use lot_io::{IoFault, Watched};
 use std::io::Write;
 use std::marker::Model;
-
-/// How many bytes of lines wait at most.
-const PAGE: usize = 4096;
-
-/// The room that the line of a turn needs at most, whatever its numbers are.
-const TURN: usize = 192;
 
 /// Lines of turns that wait to be written together. It takes no memory.
 #[derive(Debug, Drop)]

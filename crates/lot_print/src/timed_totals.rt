@@ -4,6 +4,7 @@ ghost use Rattle.lot_simulation.specs.TimedReport.{percent_text, waits_text};
 ghost use Rattle.lot_print.specs.Totals.{timed_processor_line, timed_thread_line, timed_total_line};
 ghost use Rattle.lot_io.specs.Writing.{Writes};
 
+use crate::lengths::TIMED_ROW;
 use crate::line::Line;
 use crate::rows::{push_counts, push_named};
 use lot_io::{IoFault, Watched};
@@ -12,7 +13,7 @@ use lot_simulation::Waits;
 use std::io::Write;
 
 /// The line of a report of turns in the order of time.
-type TimedLine = Line<512>;
+type TimedLine = Line<TIMED_ROW>;
 
 /// What the report of turns in the order of time says of a thread, in addition to its row.
 #[derive(Clone, Copy, Debug)]

@@ -1,10 +1,11 @@
 //! Scripts as they are written.
-ghost use Rattle.std.specs.Prelude.{◌≡◌, ◌<◌, ◌≤◌, [], length, OnOk, OnErr};
+ghost use Rattle.std.specs.Prelude.{◌≡◌, ◌↔◌, ◌<◌, ◌≤◌, [], length, OnOk, OnErr, IsTrue};
+ghost use Rattle.lot_machine.specs.Bounds.{IsBetween};
 ghost use Rattle.lot_simulation.specs.Reading.{checked};
 ghost use Rattle.lot_script.specs.Drafts.{IsLine, CanNest, line_checks, loops_after, pushed};
 
 use crate::Script;
-use lot_simulation::{InputRefusal, Line, ScriptTrap};
+use lot_simulation::{InputRefusal, Line, Range, ScriptTrap, ranges};
 use std::alloc::{AllocError, Global};
 use std::marker::Model;
 
@@ -55,9 +56,9 @@ impl ScriptBuilder {
         self.open_loops
     }
 
-    /// Whether the line can come next; otherwise the refusal that an input with it gets: `BadNumber` for a `compute`
-    /// of 0 and a `loop` of 0 or over 65535, `TooDeep` for a ninth open loop, `BadLine` for an `end` without a loop and
-    /// for an exit, which no line is, and `TooLong` for line 1025, checked in this order.
+    /// Whether the line can come next; otherwise the refusal that an input with it gets: `BadNumber` for a `compute` or
+    /// a `loop` out of its range, `TooDeep` for a ninth open loop, `BadLine` for an `end` without a loop and for an
+    /// exit, which no line is, and `TooLong` for line 1025, checked in this order.
     pub fn check(&self, line: Line) -> Result<(), InputRefusal>
         ensures checks { result ≡ checked (line_checks self.now line) tt }
         ensures number { OnOk result (IsLine line) }
@@ -65,8 +66,10 @@ impl ScriptBuilder {
         ensures room { OnOk result (length self.now.lines < 1024) }
     {
         match line {
-            Line::Compute(0) => return Err(InputRefusal::BadNumber),
-            Line::Loop(times) if times == 0 || 65535 < times => {
+            Line::Compute(ticks) if !is_in(ranges::WORK, ticks) => {
+                return Err(InputRefusal::BadNumber);
+            }
+            Line::Loop(times) if !is_in(ranges::TIMES, times) => {
                 return Err(InputRefusal::BadNumber);
             }
             Line::Loop(_) if 8 <= self.open_loops => return Err(InputRefusal::TooDeep),
@@ -105,6 +108,13 @@ impl ScriptBuilder {
         } = self;
         Script { lines }
     }
+}
+
+/// Whether the number is in the range.
+fn is_in(range: Range, number: u32) -> bool
+    ensures { IsTrue result ↔ IsBetween range.first range.last number }
+{
+    range.first <= number && number <= range.last
 }
 
 /// How many loops are open after a line, given how many are open before it.

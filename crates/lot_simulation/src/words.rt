@@ -202,15 +202,22 @@ pub const SCRIPT_WORDS: [WordRow<ScriptWord>; 13] = [
     (b"endscript", ScriptWord::EndScript, Once(&[])),
 ];
 
+// The same tables as data of the program: a constant would be built anew at each call.
+static HEADER_TABLE: [WordRow<HeaderWord>; 7] = HEADER_WORDS;
+
+static BODY_TABLE: [WordRow<BodyWord>; 17] = BODY_WORDS;
+
+static SCRIPT_TABLE: [WordRow<ScriptWord>; 13] = SCRIPT_WORDS;
+
 impl HeaderWord {
     /// The word of the header that the token is in an input of this format, if it is one.
     pub fn of_token(format: Format, token: &[u8]) -> Option<HeaderWord>
         ensures { result ≡ word_in (if is_timed format then timed_header_words else header_words) token.now }
     {
         if format.is_timed() {
-            word_spelled(&HEADER_WORDS, token)
+            word_spelled(&HEADER_TABLE, token)
         } else {
-            word_spelled(&HEADER_WORDS[1..], token)
+            word_spelled(&HEADER_TABLE[1..], token)
         }
     }
 
@@ -228,9 +235,9 @@ impl BodyWord {
         ensures { result ≡ word_in (if is_timed format then timed_body_words else body_words) token.now }
     {
         if format.is_timed() {
-            word_spelled(&BODY_WORDS, token)
+            word_spelled(&BODY_TABLE, token)
         } else {
-            word_spelled(&BODY_WORDS[1..], token)
+            word_spelled(&BODY_TABLE[1..], token)
         }
     }
 }
@@ -241,9 +248,9 @@ impl ScriptWord {
         ensures { result ≡ word_in (if is_timed format then timed_script_words else script_words) token.now }
     {
         if format.is_timed() {
-            word_spelled(&SCRIPT_WORDS, token)
+            word_spelled(&SCRIPT_TABLE, token)
         } else {
-            word_spelled(&SCRIPT_WORDS[1..], token)
+            word_spelled(&SCRIPT_TABLE[1..], token)
         }
     }
 }

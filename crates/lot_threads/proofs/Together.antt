@@ -104,13 +104,6 @@ graph-of v new q threads records runners is lends limit live known kept = record
   runs = is.runs;
 }
 
--- the same, if nothing gets stale
-pub graph-kept : (v new : Valued) (q : Queued) (threads : List Thread) (records : List Record) (runners : List (Option ℕ)) → AreOf v q threads records runners
-    → new.now.funding.lends ≡ v.now.funding.lends → new.now.thread_limit ≡ v.now.thread_limit → new.live ≡ v.live → new.known ≡ v.known
-    → AreOf new q threads records runners
-graph-kept v new q threads records runners is lends limit live known =
-    graph-of v new q threads records runners is lends limit live (ap (λ (k : Known). record k { stale = new.known.stale }) known) (λ node stale. subst (λ (k : Known). IsStale k node) (sym known) stale)
-
 -- after a draw
 pub drawn-of : (v new : Valued) (q then : Queued) (threads : List Thread) (records : List Record) (runners : List (Option ℕ)) → AreOf v q threads records runners
     → new.now ≡ v.now → new.live ≡ v.live → then ≡ record q { weights = then.weights; changed = []; visits = then.visits } → AreWeights then new.known

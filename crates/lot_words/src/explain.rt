@@ -2,8 +2,9 @@
 //! words it has, then each of them, and then the limit that it exceeds.
 
 use crate::forms::{Shape, argument_at, form_outside, has_room_for};
+use crate::header::HeaderLines;
 use crate::input::{OpenScript, Refused, words_of};
-use crate::keywords::{body_word, header_word, script_row};
+use crate::keywords::{body_word, header_word, is_only_timed, script_row};
 use crate::nearest::nearest_word;
 use crate::phrases::phrases_problem;
 use crate::problem::{
@@ -11,8 +12,8 @@ use crate::problem::{
 };
 use crate::word::word_problem;
 use lot_simulation::{
-    BODY_WORDS, BodyWord, FIRST_WORD, Form, Format, HeaderWord, InputRefusal, PortTrap,
-    SCRIPT_WORDS, ScriptWord,
+    BODY_WORDS, BodyWord, FIRST_WORD, Form, Format, HeaderWord, InputRefusal, SCRIPT_WORDS,
+    ScriptWord,
 };
 use std::alloc::Global;
 
@@ -50,17 +51,15 @@ fn is_timed_start(line: &[u8]) -> bool {
 
 /// What is wrong with a line that the header makes wrong. It begins with this word.
 fn header_problem<'a>(refused: &Refused<'a>, word: &'a str) -> HeaderProblem<'a> {
-    if !refused.is_timed() {
-        return HeaderProblem::LateHeader(word);
-    }
     let is_late = match header_word(word) {
         Some(header) => header.place() <= refused.place,
         None => false,
     };
-    if is_late || refused.has_duration {
-        return HeaderProblem::LateTimedHeader(word);
+    if refused.is_timed() && !is_late && !refused.has_duration {
+        return HeaderProblem::NoDuration;
     }
-    HeaderProblem::NoDuration
+    let lines = HeaderLines(refused.format.unwrap_or(Format::V1));
+    HeaderProblem::LateHeader { word, lines }
 }
 
 /// Too many bytes, or the first that is no printable character of ASCII.
@@ -105,7 +104,7 @@ fn script_problem<'a>(
         let problem = no_script_word(alloc, refused, script, word);
         return Some(Problem::Keyword(problem));
     };
-    if keyword == ScriptWord::AtPort(PortTrap::Serve) {
+    if is_only_timed::<ScriptWord>(word) {
         return Some(Problem::Keyword(KeywordProblem::OnlyTimed(word)));
     }
     let problem = form_problem(alloc, refused, word, form);
@@ -166,8 +165,10 @@ fn format_problem(format: Option<Format>, word: &str) -> Option<KeywordProblem<'
         Some(BodyWord::Runs | BodyWord::Schedule) if is_timed => {
             Some(KeywordProblem::ScheduleOfTimed(word))
         }
-        Some(BodyWord::At) if !is_timed => Some(KeywordProblem::OnlyTimed(word)),
-        None if !is_timed && header_word(word) == Some(HeaderWord::For) => {
+        Some(_) if !is_timed && is_only_timed::<BodyWord>(word) => {
+            Some(KeywordProblem::OnlyTimed(word))
+        }
+        None if !is_timed && is_only_timed::<HeaderWord>(word) => {
             Some(KeywordProblem::OnlyTimed(word))
         }
         _ => None,

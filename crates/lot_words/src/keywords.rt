@@ -12,6 +12,35 @@ pub(crate) fn body_word(word: &str) -> Option<BodyWord> {
     BodyWord::of_token(Format::V3, word.as_bytes())
 }
 
+/// A word of the header, of the body or of a script.
+pub(crate) trait Keyword {
+    /// Whether inputs of this format have such a word that is spelled so.
+    fn is_read(format: Format, spelling: &[u8]) -> bool;
+}
+
+impl Keyword for HeaderWord {
+    fn is_read(format: Format, spelling: &[u8]) -> bool {
+        HeaderWord::of_token(format, spelling).is_some()
+    }
+}
+
+impl Keyword for BodyWord {
+    fn is_read(format: Format, spelling: &[u8]) -> bool {
+        BodyWord::of_token(format, spelling).is_some()
+    }
+}
+
+impl Keyword for ScriptWord {
+    fn is_read(format: Format, spelling: &[u8]) -> bool {
+        ScriptWord::of_token(format, spelling).is_some()
+    }
+}
+
+/// Whether this is a word that only an input has whose turns come in the order of time.
+pub(crate) fn is_only_timed<W: Keyword>(word: &str) -> bool {
+    W::is_read(Format::V3, word.as_bytes()) && !W::is_read(Format::V1, word.as_bytes())
+}
+
 /// The row of the word of a script that this one is, if it is one.
 pub(crate) fn script_row(word: &str) -> Option<WordRow<ScriptWord>> {
     row_spelled(&SCRIPT_WORDS, word)

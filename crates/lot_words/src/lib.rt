@@ -9,6 +9,7 @@
 mod commands;
 mod explain;
 mod forms;
+mod header;
 mod input;
 mod keywords;
 mod names;
@@ -20,7 +21,7 @@ mod word;
 
 use crate::explain::problem_of;
 use crate::input::Refused;
-pub use commands::CommandLines;
+pub use commands::line_of_command;
 use lot_simulation::InputFault;
 use std::alloc::Global;
 use std::io;

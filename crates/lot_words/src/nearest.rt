@@ -1,7 +1,8 @@
 //! What may have been meant.
 
+use crate::keywords::Keyword;
 use crate::names::name_declared;
-use lot_simulation::{BodyWord, WordRow};
+use lot_simulation::{BodyWord, Format, WordRow};
 use std::alloc::Global;
 use std::{fmt, str};
 use strsim::levenshtein;
@@ -45,23 +46,24 @@ impl fmt::Display for Nearest<'_> {
     }
 }
 
-/// The word of this table that is nearest to this one. The table's first word is looked at last, and only if turns
-/// come in the order of time.
-pub(crate) fn nearest_word<W>(
+/// The word of this table that is nearest to this one. Words that only an input has whose turns come in the order of
+/// time are looked at last, and only in such an input.
+pub(crate) fn nearest_word<W: Keyword>(
     alloc: Global,
     table: &[WordRow<W>],
     is_timed: bool,
     misspelt: &str,
 ) -> Nearest<'static> {
     let mut nearest = Nearest::NONE;
-    let [first, others @ ..] = table else {
-        return nearest;
-    };
-    for (spelling, _, _) in others {
-        nearest = nearest.or(alloc, misspelt, text_of(*spelling));
+    for (spelling, _, _) in table {
+        if W::is_read(Format::V1, *spelling) {
+            nearest = nearest.or(alloc, misspelt, text_of(*spelling));
+        }
     }
-    if is_timed {
-        nearest = nearest.or(alloc, misspelt, text_of(first.0));
+    for (spelling, _, _) in table {
+        if is_timed && !W::is_read(Format::V1, *spelling) {
+            nearest = nearest.or(alloc, misspelt, text_of(*spelling));
+        }
     }
     nearest
 }

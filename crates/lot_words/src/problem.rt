@@ -1,6 +1,7 @@
 //! What is wrong with a line.
 
 use crate::forms::Shape;
+use crate::header::HeaderLines;
 use crate::names::Declared;
 use crate::nearest::Nearest;
 use lot_simulation::InputRefusal;
@@ -48,12 +49,9 @@ pub(crate) enum ByteProblem {
 pub(crate) enum HeaderProblem<'a> {
     #[error("an input begins with 'lottery 1', 'lottery 2' or 'lottery 3'")]
     NoStart,
-    #[error("'{0}' comes too late: the header has 'lottery', 'processors', 'quantum', \
-        'turns', 'seed' and 'limits', each at most once, in this order and before all else")]
-    LateHeader(&'a str),
-    #[error("'{0}' comes too late: the header has 'lottery', 'processors', 'quantum', \
-        'turns', 'for', 'seed' and 'limits', each at most once, in this order and before all else")]
-    LateTimedHeader(&'a str),
+    #[error("'{word}' comes too late: the header has {lines}, \
+        each at most once, in this order and before all else")]
+    LateHeader { word: &'a str, lines: HeaderLines },
     #[error("the header doesn't say how long the input runs: 'for TICKS' comes before 'seed', 'limits' and all else")]
     NoDuration,
 }

@@ -1,20 +1,21 @@
 //! What a run leaves to tell, in words.
 
-use crate::CommandLines;
+use crate::line_of_command;
 use lot_machine::{Refusal, Status};
 use lot_play::{FirstFew, RefusedCommand, StuckThread, Warnings};
 use std::io::Write;
 use std::{fmt, io, str};
 
 /// Writes what a run leaves to tell, a line for each: commands that were refused or never made, and threads that no
-/// turn to come can move on. The commands stand on these lines of the input. It fails if the writer does.
+/// turn to come can move on. The input was played, and is read again only for the lines of commands that are told. It
+/// fails if the writer does.
 pub fn write_warnings<W: Write>(
     writer: &mut W,
     warnings: &Warnings,
-    lines: &CommandLines,
+    input: &[u8],
 ) -> io::Result<()> {
-    write_refused(writer, &warnings.refused, lines)?;
-    write_unmade(writer, warnings, lines)?;
+    write_refused(writer, &warnings.refused, input)?;
+    write_unmade(writer, warnings, input)?;
     for thread in warnings.weightless.first() {
         writeln!(writer, "{}", Weightless(thread))?;
     }
@@ -33,10 +34,10 @@ pub fn write_warnings<W: Write>(
 fn write_refused<W: Write>(
     writer: &mut W,
     refused: &FirstFew<RefusedCommand>,
-    lines: &CommandLines,
+    input: &[u8],
 ) -> io::Result<()> {
     for command in refused.first() {
-        let line = Line(lines.line_of(command.place));
+        let line = Line(line_of_command(input, command.place));
         let reason = reason(command.refusal);
         writeln!(writer, "{line}the command was refused: {reason}")?;
     }
@@ -44,14 +45,12 @@ fn write_refused<W: Write>(
 }
 
 /// Writes how many commands were never made, if any.
-fn write_unmade<W: Write>(
-    writer: &mut W,
-    warnings: &Warnings,
-    lines: &CommandLines,
-) -> io::Result<()> {
-    let line = Line(lines.line_of(warnings.made));
+fn write_unmade<W: Write>(writer: &mut W, warnings: &Warnings, input: &[u8]) -> io::Result<()> {
+    if warnings.unmade == 0 {
+        return Ok(());
+    }
+    let line = Line(line_of_command(input, warnings.made));
     match warnings.unmade {
-        0 => Ok(()),
         1 => writeln!(
             writer,
             "{line}this command was never made: each 0 in a schedule makes one, and lottery 3 makes those up to its end"

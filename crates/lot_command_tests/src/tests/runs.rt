@@ -2,7 +2,7 @@
 
 use super::same::{check_same, check_same_at};
 use super::{check_words_on, ended_on};
-use lot_command::RunStop;
+use lot_command::InputRunFault;
 use lot_io::IoFault;
 use lot_processors::FreeRunFault;
 use std::alloc::Global;
@@ -173,8 +173,11 @@ fn a_run_is_played_back(rt: HostRuntime) {
 #[test]
 fn texts_of_stops(rt: HostRuntime) {
     for (stop, text) in [
-        (RunStop::Play(IoFault::Read), "the reader has failed"),
-        (RunStop::Workers(FreeRunFault::Memory), "out of memory"),
+        (InputRunFault::Play(IoFault::Read), "the reader has failed"),
+        (
+            InputRunFault::Workers(FreeRunFault::Memory),
+            "out of memory",
+        ),
     ] {
         let shown = format!(in rt.alloc(); "{stop}").expect(&rt, "memory");
         check_same(&rt, &shown.as_str(), &text);

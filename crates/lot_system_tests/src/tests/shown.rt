@@ -13,7 +13,7 @@ use endings::has_written_or_lacked_memory;
 use lot_chart::{chart_bytes, shares_bytes};
 use lot_curves::Measure;
 use lot_explain::explain_bytes;
-use lot_io::{IoFault, Watched, read_input};
+use lot_io::{IoFault, Watched};
 use lot_play::{Played, Warnings};
 use std::alloc::Global;
 use std::io;
@@ -67,54 +67,45 @@ enum Shown {
     Picture(&'static str),
 }
 
-/// Shows the input, and returns the outcome and what is kept of the input.
+/// Shows the input.
 fn show<W: Write>(
     alloc: Global,
     shown: Shown,
     input: &str,
     writer: &mut Watched<W>,
-) -> Result<(Played, Vec<u8>), IoFault>
+) -> Result<Played, IoFault>
     requires { writer.old.failed ≡ false }
 {
-    let mut bytes = read_input(alloc, &mut Watched::new(input.as_bytes()))?;
     let Ok(mut warnings) = Warnings::none(alloc) else {
         return Err(IoFault::Memory);
     };
-    let played = match shown {
-        Shown::Explained => explain_bytes(alloc, &mut bytes, &mut warnings, writer)?,
-        Shown::Table(measure) => shares_bytes(alloc, measure, &mut bytes, writer)?,
-        Shown::Picture(title) => chart_bytes(alloc, title, &mut bytes, writer)?,
-    };
-    Ok((played, bytes))
+    let bytes = input.as_bytes();
+    match shown {
+        Shown::Explained => explain_bytes(alloc, bytes, &mut warnings, writer),
+        Shown::Table(measure) => shares_bytes(alloc, measure, bytes, writer),
+        Shown::Picture(title) => chart_bytes(alloc, title, bytes, writer),
+    }
 }
 
 /// Shows the input, and returns the outcome and how many bytes were written.
 fn counted(alloc: Global, shown: Shown, input: &str) -> (Result<Played, IoFault>, usize) {
     let mut writer = Watched::new(Counting { taken: 0 });
-    let ended = match show(alloc, shown, input, &mut writer) {
-        Ok((played, _)) => Ok(played),
-        Err(fault) => Err(fault),
-    };
+    let ended = show(alloc, shown, input, &mut writer);
     let Counting { taken } = writer.into_inner();
     (ended, taken)
 }
 
-/// Shows the input, and returns the outcome, whether the output is this, and whether the input is kept if and only if
-/// it is refused.
+/// Shows the input, and returns the outcome, and whether the output is this.
 fn outcome(
     alloc: Global,
     shown: Shown,
     input: &str,
     expected: &str,
-) -> Result<(Played, bool, bool), IoFault> {
+) -> Result<(Played, bool), IoFault> {
     let mut writer = Watched::new(Vec::new(alloc));
-    let (played, kept) = show(alloc, shown, input, &mut writer)?;
-    let wanted = match played {
-        Played::Done => "",
-        Played::Refused => input,
-    };
+    let played = show(alloc, shown, input, &mut writer)?;
     let is_written = writer.into_inner().as_slice() == expected.as_bytes();
-    Ok((played, is_written, kept.as_slice() == wanted.as_bytes()))
+    Ok((played, is_written))
 }
 
 /// If an allocation fails, nothing was written.

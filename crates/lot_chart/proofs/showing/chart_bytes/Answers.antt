@@ -5,4 +5,4 @@ use Rattle.lot_chart.proofs.showing.chart_bytes.Goals as goal
 
 pub returns-in-Ok-clause-shown : goal.returns-in-Ok-clause-shown
 returns-in-Ok-clause-shown g c =
-    shows-plays g.W.Write.contents c.args.writer.now c.write_text.new.writer (λ v. v.items) (chart c.args.title.now) c.write_text.result c.requires (program_in c.args.bytes.now.items) c.in-Ok.curves c.chart_of.result c.in-Ok.ensures.curves c.chart_of.ensures c.write_text.ensures.shown
+    shows-plays g.W.Write.contents c.args.writer.now c.write_text.new.writer (λ v. v.items) (chart c.args.title.now) c.write_text.result c.requires (program_in c.args.bytes.now) c.in-Ok.curves c.chart_of.result c.in-Ok.ensures.curves c.chart_of.ensures c.write_text.ensures.shown

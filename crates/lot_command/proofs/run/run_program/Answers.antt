@@ -6,7 +6,7 @@ use Rattle.lot_simulation.specs.World.{Program}
 use Rattle.lot_io.specs.declared.fault.IoFault.{IoFault}
 use Rattle.lot_engine.specs.Seen.{Setting}
 use Rattle.lot_io.specs.Writing.{Begins}
-use Rattle.lot_command.specs.declared.run.RunStop.TheVariants.{Play}
+use Rattle.lot_command.specs.declared.run.InputRunFault.TheVariants.{Play}
 use Rattle.lot_command.specs.Running.{EndsRun}
 use Rattle.lot_command.proofs.run.run_program.Goals as goal
 

@@ -93,7 +93,7 @@ total turns 7 quanta 3 ticks 12 refused 0 left 0
 /// Explains the input, and compares the outcome and the output.
 fn check(rt: &impl Abort, alloc: Global, input: &str, played: Played, expected: &str) {
     let found = outcome(alloc, Shown::Explained, input, expected);
-    check_same_at(rt, &input, &found, &Ok((played, true, true)));
+    check_same_at(rt, &input, &found, &Ok((played, true)));
 }
 
 #[test]

@@ -18,7 +18,7 @@ fn check_shares(
     expected: &str,
 ) {
     let found = outcome(alloc, Shown::Table(measure), input, expected);
-    check_same_at(rt, &input, &found, &Ok((played, true, true)));
+    check_same_at(rt, &input, &found, &Ok((played, true)));
 }
 
 #[test]
@@ -54,10 +54,7 @@ fn tables_in_time(rt: HostRuntime) {
 /// The picture of the first input, if it was drawn.
 fn drawn(rt: &impl Abort, alloc: Global) -> (Result<Played, IoFault>, String) {
     let mut writer = Watched::new(Vec::new(alloc));
-    let came = match show(alloc, Shown::Picture("Two & none"), SCHEDULED, &mut writer) {
-        Ok((played, _)) => Ok(played),
-        Err(fault) => Err(fault),
-    };
+    let came = show(alloc, Shown::Picture("Two & none"), SCHEDULED, &mut writer);
     let picture = String::from_utf8(writer.into_inner()).expect(rt, "a text");
     (came, picture)
 }

@@ -1,7 +1,7 @@
 //! Inputs that are refused, and what is said of each.
 use crate::tests::same::{check_same, check_same_at};
 use lot_text::{ParseFault, parse};
-use lot_words::{CommandLines, write_words};
+use lot_words::{line_of_command, write_words};
 use std::alloc::Global;
 use std::process::Abort;
 
@@ -363,13 +363,12 @@ lstkt
 lscur
 lsthr
 ";
-    let lines = CommandLines::of(rt.alloc(), input).expect(&rt, "memory");
     for (place, line) in [
         (0usize, Some(8u32)),
         (1, Some(10)),
         (2, Some(11)),
         (3, None),
     ] {
-        check_same_at(&rt, &place, &lines.line_of(place), &line);
+        check_same_at(&rt, &place, &line_of_command(input, place), &line);
     }
 }

@@ -1,17 +1,15 @@
 -- The place that moves on is that of the work, and what is held then is what the world comes to.
-use Rattle.std.proofs.Common.{◌≡◌, ◌++◌, [], ◌∷◌, length, ap, sym, ◌∙◌, subst, unwrap_or, arith}
+use Rattle.std.proofs.Common.{◌≡◌, length, ap, sym, ◌∙◌, subst, unwrap_or, arith}
 use Rattle.std.specs.Prelude.{if◌then◌else◌}
 use Rattle.lot_machine.specs.Numbered.{at_number, set_number}
 use Rattle.lot_simulation.specs.Report.{turns_made}
-use Rattle.lot_simulation.specs.World.{IsLegal, number_from, seed_from, system_turn, system_run, takes_number}
+use Rattle.lot_simulation.specs.World.{number_from, seed_from, system_turn, system_run, takes_number}
 use Rattle.lot_simulation.specs.World.Answer.{Answered}
 use Rattle.lot_script.specs.Places.{Fits}
 use Rattle.lot_engine.specs.Seen.{Seen, world_of}
 use Rattle.lot_engine.specs.Steps.{place_of}
-use Rattle.lot_engine.proofs.CountFacts.{each-after, total-after}
 use Rattle.lot_engine.proofs.RunFacts.{run-answer, run-held, run-names, thread-kept, work-kept}
-use Rattle.lot_engine.proofs.Runs.{system_run-one_more, past-more}
-use Rattle.lot_engine.proofs.TurnFacts.{count-processor, legal-more}
+use Rattle.lot_engine.proofs.OneMore.{processor-more}
 use Rattle.lot_engine.proofs.system.System.run_turn.Goals as goal
 
 pub script_numbered-script-requires : goal.script_numbered-script-requires
@@ -65,22 +63,10 @@ invariant_of-self c =
     run-answer s.program (system_run s.program s.history.items) s.kernel.state s.places.items s.generators.items s.spent i.held c.args.actor c.args.running runs.0 runs.1.1 requires.actor
     c.script_numbered-script.result.now c.script_numbered-script.ensures.lines c.pass_slice-done.result c.pass_slice-done.new.places.items passed.slice passed.places passed.accumulator _ number
     c.next_event.new.event c.next_event.ensures.event c.answer.new.self.state c.answer.new.reply c.answer.ensures.state c.answer.ensures.reply in
-    let count = count-processor s.history.items c.args.actor (omega (arith, requires.actor.0)) in
-    let legal : IsLegal s.program s.room (s.history.items ++ c.args.actor ∷ []) = legal-more s.program s.room s.history.items c.args.actor i.legal requires.actor.1 requires.room (omega (arith, count, i.legal.console)) in
-    rw c.remember.ensures.items (record {
-      program = i.program;
-      legal = legal;
-      held = rw (system_run-one_more s.program s.history.items c.args.actor) held;
-      generators = c.next_event.ensures.count ∙ i.generators;
-      wide = i.wide;
-      past = past-more s.program s.history.items c.args.actor c.next_event.new.event c.answer.new.reply i.past answer;
-      spent = omega (arith, count, i.spent);
-      counts = c.count_turn.ensures.count ∙ i.counts;
-      each_counted = each-after s.program s.history.items c.args.actor c.next_event.new.event c.answer.new.reply answer c.count_turn.new.counts.items (c.count_turn.ensures.exact (turns_made s.program s.history.items) (length s.history.items) c.next_event.new.event i.each_counted);
-      total_counted = total-after s.program s.history.items c.args.actor c.next_event.new.event c.answer.new.reply answer s.total _ i.total_counted c.add_turn.ensures.exact (c.add_turn.ensures.small (length s.history.items) i.total_counted.small);
-      threads = omega (arith, c.receive.ensures.room, c.pass_slice-done.ensures.room, i.threads);
-      room = omega (arith, c.remember.ensures.capacity, i.room);
-    })
+    rw c.remember.ensures.items (processor-more s.program s.room s.is_wide s.history.items s.kernel.state s.places.items s.generators.items _ s.spent s.counts.items _ s.total _ _ i c.args.actor requires.room c.next_event.new.event c.answer.new.reply answer
+    (omega (arith, requires.actor.0)) requires.actor.1 c.answer.new.self.state c.receive.new.places.items c.next_event.new.generators.items held _ c.next_event.ensures.count
+    c.count_turn.new.counts.items (c.count_turn.ensures.exact (turns_made s.program s.history.items) (length s.history.items) c.next_event.new.event i.each_counted) _ c.count_turn.ensures.count
+    _ c.add_turn.ensures.exact (c.add_turn.ensures.small (length s.history.items) i.total_counted.small) _ _ (c.receive.ensures.room ∙ c.pass_slice-done.ensures.room) c.remember.ensures.capacity)
 
 pub returns-clause-answer : goal.returns-clause-answer
 returns-clause-answer c =

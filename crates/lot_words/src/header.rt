@@ -1,0 +1,36 @@
+//! The lines of a header.
+
+use crate::keywords::Keyword;
+use crate::nearest::text_of;
+use lot_simulation::{Format, HEADER_WORDS, HeaderWord};
+use std::fmt;
+
+/// The words that begin the lines of a header in inputs of this format, in the order of their lines.
+#[derive(Clone, Copy, Debug)]
+pub(crate) struct HeaderLines(pub(crate) Format);
+
+impl fmt::Display for HeaderLines {
+    fn fmt<W: fmt::Write>(&self, f: &mut fmt::Formatter<W>) -> fmt::Result {
+        let places = HEADER_WORDS.len();
+        let mut between = "";
+        for place in 0..places {
+            let Some(spelling) = spelling_at(self.0, place as u32) else {
+                continue;
+            };
+            write!(f, "{between}'{spelling}'")?;
+            // All formats have the last line.
+            between = if place + 2 == places { " and " } else { ", " };
+        }
+        Ok(())
+    }
+}
+
+/// The spelling of the word whose line has this place in a header, if inputs of this format have such a line.
+fn spelling_at(format: Format, place: u32) -> Option<&'static str> {
+    for (spelling, word, _) in &HEADER_WORDS {
+        if word.place() == place && HeaderWord::is_read(format, *spelling) {
+            return Some(text_of(*spelling));
+        }
+    }
+    None
+}
