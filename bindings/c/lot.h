@@ -139,14 +139,16 @@ enum {
     LOT_LIST_THREADS = 11,
     LOT_DRAW = 12,    // processor, number: a drawn number, any 128 bits
     LOT_EXPIRE = 13,  // processor: the running thread's quantum is over
-    LOT_YIELD = 14,   // processor, ticks. This and the kinds below are traps of the running thread, after `ticks` ticks of work;
+    LOT_YIELD = 14,   // processor, ticks. From here to LOT_SERVE: traps of the running thread, after `ticks` ticks of work;
     LOT_CALL = 15,    // processor, ticks, object: a port, sent         the trap itself costs one tick more
     LOT_RECEIVE = 16, // processor, ticks, object: a port
     LOT_REPLY = 17,   // processor, ticks, sent
     LOT_LOCK = 18,    // processor, ticks, object: a mutex
     LOT_UNLOCK = 19,  // processor, ticks, object: a mutex, number: a drawn number
     LOT_EXIT = 20,    // processor, ticks
-    LOT_SERVE = 21    // processor, ticks, object: a port, sent: a reply, and then a receipt at the port
+    LOT_SERVE = 21,   // processor, ticks, object: a port, sent: a reply, and then a receipt at the port
+    // Inflation and deflation (3.2): the ticket gets another amount, which counts at once, and goes on funding what it funds.
+    LOT_SET_TICKET = 22 // ticket, amount (1 to 4294967295). Refused: LOT_REFUSAL_BAD_AMOUNT, else LOT_REFUSAL_NO_TICKET
 };
 
 // An event. A struct that is all 0 has no kind.

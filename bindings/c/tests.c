@@ -149,6 +149,38 @@ static void currency_graph(void) {
     puts("ok: currency graph");
 }
 
+static bool is_worth(lot_kernel *kernel, uint32_t thread, uint64_t value) {
+    lot_thread_row row;
+    return lot_kernel_thread_row(kernel, thread, &row) == LOT_DONE && row.value == value;
+}
+
+// Inflation and deflation (3.2): 100 of base back alice, whose threads a and b have 10 of it each; c has 100 of base.
+static void inflation(void) {
+    lot_event expiry = {.kind = LOT_EXPIRE, .processor = 1};
+    lot_kernel kernel = made(&SMALL);
+    CHECK(named(&kernel, LOT_MAKE_CURRENCY, 0, 0, "", "alice").currency == 1);
+    CHECK(named(&kernel, LOT_MAKE_TICKET, 0, 100, "base", "").ticket == 1);
+    CHECK(named(&kernel, LOT_FUND, 1, 0, "", "alice").kind == LOT_REPLY_DONE);
+    CHECK(funded(&kernel, 10, "alice", "a").ticket == 2 && funded(&kernel, 10, "alice", "b").ticket == 3);
+    CHECK(funded(&kernel, 100, "base", "c").ticket == 4);
+    CHECK(has_won(drawn(&kernel, 1, 50), 2, 50, 200) && answer(&kernel, expiry).thread == 2);
+    // More of alice's tickets for a: it takes a share of b's, and none of c's.
+    CHECK(named(&kernel, LOT_SET_TICKET, 2, 30, "", "").kind == LOT_REPLY_DONE);
+    lot_ticket_row ticket;
+    CHECK(lot_kernel_ticket_row(&kernel, 2, &ticket) == LOT_DONE && ticket.amount == 30 && ticket.value == 75 && ticket.is_active);
+    CHECK(is_name(ticket.issuer, "alice") && ticket.has_target && is_name(ticket.target, "a"));
+    CHECK(is_worth(&kernel, 1, 75) && is_worth(&kernel, 2, 25) && is_worth(&kernel, 3, 100));
+    CHECK(has_won(drawn(&kernel, 1, 50), 1, 50, 200) && answer(&kernel, expiry).thread == 1);
+    // Fewer of base's for alice: 20 for a and b, whose shares of them stay 3 to 1.
+    CHECK(named(&kernel, LOT_SET_TICKET, 1, 20, "", "").kind == LOT_REPLY_DONE);
+    CHECK(has_won(drawn(&kernel, 1, 15), 2, 15, 120) && answer(&kernel, expiry).thread == 2);
+    CHECK(is_worth(&kernel, 1, 15) && is_worth(&kernel, 2, 5) && is_worth(&kernel, 3, 100));
+    CHECK(named(&kernel, LOT_SET_TICKET, 1, UINT32_MAX, "", "").kind == LOT_REPLY_DONE);
+    CHECK(has_won(drawn(&kernel, 1, 0), 1, 0, UINT64_C(4294967394)));
+    CHECK(lot_kernel_free(&kernel) == LOT_DONE);
+    puts("ok: inflation");
+}
+
 // A server replies and receives in one trap: it takes a call that is queued, or waits (4.6).
 static void servings(void) {
     lot_kernel kernel = made(&SMALL);
@@ -229,6 +261,10 @@ static void refused_commands(lot_kernel *kernel) {
         {LOT_REMOVE_CURRENCY, 0, 0, "x", "", LOT_REFUSAL_IN_USE},
         {LOT_REMOVE_TICKET, 1, 0, "", "", LOT_REFUSAL_FUNDING},
         {LOT_UNFUND, 2, 0, "", "", LOT_REFUSAL_NOT_FUNDING},
+        {LOT_SET_TICKET, 1, 0, "", "", LOT_REFUSAL_BAD_AMOUNT},
+        {LOT_SET_TICKET, 99, UINT64_C(1) << 32, "", "", LOT_REFUSAL_BAD_AMOUNT},
+        {LOT_SET_TICKET, 99, 1, "", "", LOT_REFUSAL_NO_TICKET},
+        {LOT_SET_TICKET, (UINT64_C(1) << 32) + 1, 1, "", "", LOT_REFUSAL_NO_TICKET},
         {LOT_FUND, 2, 0, "", "x", LOT_REFUSAL_CYCLE},
         {LOT_REMOVE_CURRENCY, 0, 0, "base", "", LOT_REFUSAL_BASE_FIXED},
         {LOT_MAKE_CURRENCY, 0, 0, "", "z", LOT_REFUSAL_FULL},
@@ -412,7 +448,7 @@ static void limits(void) {
 
 // Each kind that there isn't, and each name that isn't one: a status of its own, no reply, and nothing changed.
 static void kinds_and_names(void) {
-    static const uint32_t kinds[6] = {0, LOT_SERVE + 1, LOT_SERVE + 2, 255, 1u << 31, UINT32_MAX};
+    static const uint32_t kinds[6] = {0, LOT_SET_TICKET + 1, LOT_SET_TICKET + 2, 255, 1u << 31, UINT32_MAX};
     static const struct {
         const char *text;
         uint32_t length, status;
@@ -463,7 +499,7 @@ static void runs(void) {
     lot_kernel kernel = made(&SMALL);
     lot_event events[4] = {{.kind = LOT_MAKE_CURRENCY, .name = lot_name_of("x")},
                            {.kind = LOT_MAKE_CURRENCY, .name = lot_name_of("y")},
-                           {.kind = LOT_SERVE + 1},
+                           {.kind = LOT_SET_TICKET + 1},
                            {.kind = LOT_MAKE_CURRENCY, .name = lot_name_of("z")}};
     lot_reply replies[4], before;
     memset(replies, 0x5a, sizeof replies);
@@ -501,7 +537,7 @@ static lot_event random_event(void) {
     if (random_bits() % 2 == 0) {
         return event;
     }
-    event.kind = (uint32_t)(random_bits() % (LOT_SERVE + 2));
+    event.kind = (uint32_t)(random_bits() % (LOT_SET_TICKET + 2));
     event.processor = (uint32_t)(random_bits() % 4);
     event.ticks = (uint32_t)(random_bits() % 120);
     event.object = (uint32_t)(random_bits() % 4);
@@ -594,6 +630,7 @@ static void any_bytes(unsigned long count) {
 int main(int argc, char **argv) {
     list_lottery();
     currency_graph();
+    inflation();
     call_and_reply();
     servings();
     refusals();

@@ -73,6 +73,8 @@ LOCK = 18
 UNLOCK = 19
 EXIT = 20
 SERVE = 21
+# Inflation and deflation (3.2): the ticket gets another amount, which counts at once, and goes on funding what it funds.
+SET_TICKET = 22
 
 # The kinds of replies.
 REPLY_TICKET = 1

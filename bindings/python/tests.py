@@ -44,6 +44,37 @@ class Worked(unittest.TestCase):
             self.assertEqual((kernel.ticket_count(), kernel.currency_count(), kernel.sizes().threads, kernel.script_of(1)), (8, 6, 16, 1))
             self.assertGreater(kernel.meter().ticket_reads, 0)
 
+    def test_inflation(self):
+        """Inflation and deflation (3.2): 100 of base back alice, whose threads a and b have 10 of it each; c has 100 of base."""
+        with lot.Kernel() as kernel:
+            kernel.event(lot.MAKE_CURRENCY, name="alice")
+            kernel.event(lot.MAKE_TICKET, amount=100, currency="base")
+            kernel.event(lot.FUND, ticket=1, name="alice")
+            for amount, currency, name in [(10, "alice", "a"), (10, "alice", "b"), (100, "base", "c")]:
+                kernel.event(lot.MAKE_FUNDED, amount=amount, currency=currency, name=name, script=1)
+
+            def drawn(number):
+                reply = kernel.event(lot.DRAW, processor=1, number=number)
+                kernel.event(lot.EXPIRE, processor=1)
+                return reply.kind, reply.thread, int(reply.total)
+
+            self.assertEqual(drawn(50), (lot.REPLY_WINNER, 2, 200))
+            # More of alice's tickets for a: it takes a share of b's, and none of c's.
+            self.assertEqual(kernel.event(lot.SET_TICKET, ticket=2, amount=30).kind, lot.REPLY_DONE)
+            row = kernel.ticket_row(2)
+            self.assertEqual((row.amount, row.value, str(row.issuer), row.has_target, str(row.target)), (30, 75, "alice", True, "a"))
+            self.assertEqual(drawn(50), (lot.REPLY_WINNER, 1, 200))
+            # Fewer of base's for alice: 20 for a and b, whose shares of them stay 3 to 1.
+            self.assertEqual(kernel.event(lot.SET_TICKET, ticket=1, amount=20).kind, lot.REPLY_DONE)
+            self.assertEqual(drawn(15), (lot.REPLY_WINNER, 2, 120))
+            self.assertEqual([kernel.thread_row(thread).value for thread in (1, 2, 3)], [15, 5, 100])
+            for ticket, amount, reason in [
+                (1, 0, lot.REFUSAL_BAD_AMOUNT), (99, 1 << 32, lot.REFUSAL_BAD_AMOUNT),
+                (99, 1, lot.REFUSAL_NO_TICKET), ((1 << 32) + 1, 1, lot.REFUSAL_NO_TICKET),
+            ]:
+                reply = kernel.event(lot.SET_TICKET, ticket=ticket, amount=amount)
+                self.assertEqual((reply.kind, reply.reason), (lot.REPLY_REFUSED, reason))
+
     def test_servings(self):
         with lot.Kernel() as kernel:
             for amount, name in [(10, "v"), (20, "c"), (30, "d")]:
@@ -111,7 +142,7 @@ class Worked(unittest.TestCase):
         self.assertEqual(status_of(lambda: lot.Kernel(threads=4097)), "bad limits")
         self.assertEqual(status_of(lambda: lot.ParkMiller(0)), "bad seed")
         with lot.Kernel() as kernel:
-            self.assertEqual(status_of(lambda: kernel.event(lot.SERVE + 1)), "bad kind")
+            self.assertEqual(status_of(lambda: kernel.event(lot.SET_TICKET + 1)), "bad kind")
             self.assertEqual(status_of(lambda: kernel.event(lot.MAKE_CURRENCY, name="a-very-long-name-")), "long name")
             self.assertEqual(status_of(lambda: kernel.event(lot.MAKE_CURRENCY, name="Base")), "bad name")
             kernel.close()

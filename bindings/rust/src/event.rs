@@ -51,6 +51,13 @@ pub enum Command {
         /// A ticket that funds something.
         ticket: u64,
     },
+    /// Inflation or deflation (3.2): gives a ticket another amount, which counts at once. It goes on funding what it funds.
+    SetTicket {
+        /// Any ticket.
+        ticket: u64,
+        /// 1 to 4294967295.
+        amount: u64,
+    },
     /// A thread that nothing funds.
     MakeThread {
         /// A name that no currency or thread has.
@@ -159,6 +166,7 @@ impl Command {
             }
             Command::Fund { ticket, target } => ffi::Event { ticket, name: target.plain(), ..EventKind::Fund.event() },
             Command::Unfund { ticket } => ffi::Event { ticket, ..EventKind::Unfund.event() },
+            Command::SetTicket { ticket, amount } => ffi::Event { ticket, amount, ..EventKind::SetTicket.event() },
             Command::MakeThread { name, script } => {
                 ffi::Event { name: name.plain(), script, ..EventKind::MakeThread.event() }
             }

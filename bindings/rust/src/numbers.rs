@@ -67,6 +67,7 @@ pub(crate) enum EventKind {
     Unlock = 19,
     Exit = 20,
     Serve = 21,
+    SetTicket = 22,
 }
 
 impl EventKind {

@@ -72,6 +72,32 @@ fn currency_graph() {
     assert_eq!(kernel.sizes(), Sizes::SMALL);
 }
 
+// Inflation and deflation (3.2): 100 of base back alice, whose threads a and b have 10 of it each; c has 100 of base.
+#[test]
+fn inflation() {
+    let mut kernel = Kernel::new(Sizes::SMALL).expect("small");
+    command(&mut kernel, Command::MakeCurrency { name: name("alice") });
+    command(&mut kernel, Command::MakeTicket { amount: 100, currency: name("base") });
+    command(&mut kernel, Command::Fund { ticket: 1, target: name("alice") });
+    for (amount, currency, thread) in [(10, "alice", "a"), (10, "alice", "b"), (100, "base", "c")] {
+        fund_thread(&mut kernel, amount, currency, thread);
+    }
+    let expire = |kernel: &mut Kernel| kernel.event(&Event::Expire { processor: 1 });
+    assert_eq!(draw(&mut kernel, 50), Reply::Winner { thread: 2, number: 50, total: 200, delivered: None });
+    expire(&mut kernel);
+    // More of alice's tickets for a: it takes a share of b's, and none of c's.
+    assert_eq!(command(&mut kernel, Command::SetTicket { ticket: 2, amount: 30 }), Reply::Done);
+    let row = kernel.ticket_row(2).expect("there");
+    assert_eq!((row.amount, row.value, row.issuer, row.target), (30, 75, name("alice"), Some(name("a"))));
+    assert_eq!(draw(&mut kernel, 50), Reply::Winner { thread: 1, number: 50, total: 200, delivered: None });
+    expire(&mut kernel);
+    // Fewer of base's for alice: 20 for a and b, whose shares of them stay 3 to 1.
+    assert_eq!(command(&mut kernel, Command::SetTicket { ticket: 1, amount: 20 }), Reply::Done);
+    assert_eq!(draw(&mut kernel, 15), Reply::Winner { thread: 2, number: 15, total: 120, delivered: None });
+    let values: Vec<u64> = (1..=3).map(|thread| kernel.thread_row(thread).expect("there").value).collect();
+    assert_eq!(values, [15, 5, 100]);
+}
+
 #[test]
 fn call_and_reply() {
     let mut kernel = Kernel::new(Sizes::SMALL).expect("small");
@@ -121,6 +147,14 @@ fn refusals() {
     let mut kernel = Kernel::new(Sizes::SMALL).expect("small");
     let none = Command::MakeTicket { amount: 0, currency: name("base") };
     assert_eq!(command(&mut kernel, none), Reply::Refused(Refusal::BadAmount));
+    for (ticket, amount, why) in [
+        (1, 0, Refusal::BadAmount),
+        (1, 1 << 32, Refusal::BadAmount),
+        (1, 1, Refusal::NoTicket),
+        (1 << 32, 1, Refusal::NoTicket),
+    ] {
+        assert_eq!(command(&mut kernel, Command::SetTicket { ticket, amount }), Reply::Refused(why));
+    }
     assert_eq!(kernel.event(&Event::Draw { processor: 3, number: 0 }), Reply::Refused(Refusal::BadProcessor));
     assert_eq!(kernel.event(&Event::Expire { processor: 1 }), Reply::Refused(Refusal::NotRunning));
     fund_thread(&mut kernel, 1, "base", "a");

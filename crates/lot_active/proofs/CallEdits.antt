@@ -10,7 +10,7 @@ use Rattle.lot_machine.specs.declared.funding.Edge.TheVariants.{OfTicket, OfLend
 use Rattle.lot_machine.specs.declared.funding.Lend.{Lend}
 use Rattle.lot_machine.specs.declared.funding.Lend.TheVariants.{Nobody}
 use Rattle.lot_machine.specs.Numbered.{at_number, set_number}
-use Rattle.lot_machine.specs.Funding.{ticket_at, owner_of, target_node, lend_node, with_new_ticket, without_ticket, with_target}
+use Rattle.lot_machine.specs.Funding.{ticket_at, owner_of, target_node, lend_node, with_new_ticket, without_ticket, with_target, with_amount}
 use Rattle.lot_machine.specs.Lends.{IsLive}
 use Rattle.lot_machine.proofs.Changes.{number-push}
 use Rattle.lot_graph.specs.declared.layout.Layout.{Layout}
@@ -20,7 +20,7 @@ use Rattle.lot_active.specs.declared.edge_ends.EdgeEnds.{EdgeEnds}
 use Rattle.lot_active.specs.Nets.{Net}
 use Rattle.lot_active.specs.Activity.{Activity, IsKept}
 use Rattle.lot_active.specs.Fundings.{AwakeAre, IsKeptFor, AddsEdge, graph_net, edge_between}
-use Rattle.lot_active.proofs.Edits.{HasMore, fund-adds, unfund-adds, lend-adds, unlend-adds, own-adds, disown-adds, issue-same, destroy-same, thread-same}
+use Rattle.lot_active.proofs.Edits.{HasMore, fund-adds, unfund-adds, lend-adds, unlend-adds, own-adds, disown-adds, issue-same, destroy-same, set_amount-same, thread-same}
 use Rattle.lot_graph.specs.Changes.{with_currencies, with_lends, with_owners, with_tickets}
 
 -- ---- one edge
@@ -87,6 +87,9 @@ module _ (v : Activity) (w now : LimitedFunding) (live : List Bool) (kept : IsKe
 
   pub destroy-kept : (n : ℕ) (t : Ticket) → ticket_at w.funding n ≡ Some t → t.target ≡ target.Unfunded → now ≡ with_tickets w (without_ticket w.funding.tickets n) → IsKeptFor v now live
   destroy-kept n t here unfunded is = same-kept v w now live live kept sound fits (ap layout_of is) (ap graph_net is ∙ destroy-same w.funding (layout_of w) n t here unfunded) kept.awake
+
+  pub set_amount-kept : (n amount : ℕ) (t : Ticket) → ticket_at w.funding n ≡ Some t → t.target ≡ target.Unfunded → now ≡ with_tickets w (with_amount w.funding.tickets n amount) → IsKeptFor v now live
+  set_amount-kept n amount t here unfunded is = same-kept v w now live live kept sound fits (ap layout_of is) (ap graph_net is ∙ set_amount-same w.funding (layout_of w) n amount t here unfunded) kept.awake
 
   pub currencies-kept : (currencies : List Bool) → now ≡ with_currencies w currencies → IsKeptFor v now live
   currencies-kept currencies is = same-kept v w now live live kept sound fits (ap layout_of is) (ap graph_net is) kept.awake

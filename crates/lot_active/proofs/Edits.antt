@@ -14,7 +14,7 @@ use Rattle.lot_machine.specs.declared.funding.Edge.TheVariants.{OfTicket, OfLend
 use Rattle.lot_machine.specs.declared.funding.Lend.{Lend}
 use Rattle.lot_machine.specs.declared.funding.Lend.TheVariants.{Nobody}
 use Rattle.lot_machine.specs.Numbered.{at_number, set_number}
-use Rattle.lot_machine.specs.Funding.{Funding, ticket_at, ticket_in, owner_of, target_node, lend_node, ends_of, with_target, with_new_ticket, without_ticket, retargeted}
+use Rattle.lot_machine.specs.Funding.{Funding, ticket_at, ticket_in, owner_of, target_node, lend_node, ends_of, with_target, with_amount, with_new_ticket, without_ticket, retargeted, reissued}
 use Rattle.lot_machine.specs.Lends.{IsLive}
 use Rattle.lot_machine.proofs.Tickets.{at_number-suc, flatten-some, some-injective}
 use Rattle.lot_machine.proofs.Changes.{number-set, number-push}
@@ -218,6 +218,23 @@ module _ (f : Funding) where
 
   pub destroy-same : (l : Layout) (n : ℕ) (t : Ticket) → ticket_at f n ≡ Some t → t.target ≡ target.Unfunded → net_of l (record f { tickets = without_ticket f.tickets n }) ≡ net_of l f
   destroy-same l n t here unfunded = same-net l (record f { tickets = without_ticket f.tickets n }) (destroy-ends n t here unfunded)
+
+  pub set_amount-ends : (n amount : ℕ) (t : Ticket) → ticket_at f n ≡ Some t → t.target ≡ target.Unfunded → (edge : Edge) → ends_of_edge (record f { tickets = with_amount f.tickets n amount }) edge ≡ ends_of_edge f edge
+  set_amount-ends n amount t here unfunded (OfTicket k) = by (number-set f.tickets n (option_map (reissued amount) (ticket_at f n)) k)
+    where
+      by : (at_number (with_amount f.tickets n amount) k ≡ at_number f.tickets k) ⊎ ((k ≡ suc (n - 1)) × (at_number (with_amount f.tickets n amount) k ≡ Some (option_map (reissued amount) (ticket_at f n))))
+          → ticket_ends (option_flatten (at_number (with_amount f.tickets n amount) k)) ≡ ticket_ends (option_flatten (at_number f.tickets k))
+      by (inl is) = ap (λ o. ticket_ends (option_flatten o)) is
+      by (inr (at, is)) =
+          let low = number-low n t here in
+          let k_is : k ≡ n = omega (arith, at, low.0) in
+          ap (λ o. ticket_ends (option_flatten o)) is ∙ ap (λ o. ticket_ends (option_map (reissued amount) o)) here ∙ ticket-none (reissued amount t) (ap target_node unfunded)
+          ∙ sym (ap (λ j. ticket_ends (ticket_at f j)) k_is ∙ ap (ticket_ends) here ∙ ticket-none t (ap target_node unfunded))
+  set_amount-ends n amount t here unfunded (OfLender u) = refl
+  set_amount-ends n amount t here unfunded (OfMutex m) = refl
+
+  pub set_amount-same : (l : Layout) (n amount : ℕ) (t : Ticket) → ticket_at f n ≡ Some t → t.target ≡ target.Unfunded → net_of l (record f { tickets = with_amount f.tickets n amount }) ≡ net_of l f
+  set_amount-same l n amount t here unfunded = same-net l (record f { tickets = with_amount f.tickets n amount }) (set_amount-ends n amount t here unfunded)
 
   pub thread-ends : (edge : Edge) → ends_of_edge (record f { lends = f.lends ++ Nobody ∷ [] }) edge ≡ ends_of_edge f edge
   thread-ends (OfTicket k) = refl

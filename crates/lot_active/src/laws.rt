@@ -13,7 +13,7 @@ ghost use Rattle.lot_machine.specs.declared.funding.Lend.{Lend};
 ghost use Rattle.lot_machine.specs.declared.funding.Lend.TheVariants.{Nobody};
 ghost use Rattle.lot_machine.specs.Numbered.{at_number, set_number};
 ghost use Rattle.lot_machine.specs.Funding.{ticket_at, owner_of, target_node, lend_node, with_new_ticket};
-ghost use Rattle.lot_machine.specs.Funding.{without_ticket, with_target};
+ghost use Rattle.lot_machine.specs.Funding.{without_ticket, with_amount, with_target};
 ghost use Rattle.lot_machine.specs.Activity.{active_amount};
 ghost use Rattle.lot_graph.specs.Graphs.{LimitedFunding, IsSound, IsMutex};
 ghost use Rattle.lot_graph.specs.Places.{FitsLimits, layout_of};
@@ -49,7 +49,8 @@ pub fn calls_change_one_edge()
         → AddsEdge now w (OfMutex m) (edge_between 1 (MutexNode m) (ThreadNode owner)) }
 {}
 
-/// A ticket without a target, a thread that isn't live yet and a currency, made or removed, change nothing kept.
+/// A ticket without a target, a thread that isn't live yet and a currency, made or removed, change nothing kept, and
+/// neither does another amount of such a ticket.
 pub fn others_keep()
     ensures issue { (v : Activity) (w now : LimitedFunding) (live : List Bool) (amount issuer : ℕ)
         → IsKeptFor v w live → IsSound now.funding → FitsLimits now
@@ -58,6 +59,10 @@ pub fn others_keep()
         → IsKeptFor v w live → IsSound now.funding → FitsLimits now → ticket_at w.funding n ≡ Some t
         → t.target ≡ Unfunded
         → now ≡ with_tickets w (without_ticket w.funding.tickets n) → IsKeptFor v now live }
+    ensures set_amount { (v : Activity) (w now : LimitedFunding) (live : List Bool) (n amount : ℕ) (t : Ticket)
+        → IsKeptFor v w live → IsSound now.funding → FitsLimits now → ticket_at w.funding n ≡ Some t
+        → t.target ≡ Unfunded
+        → now ≡ with_tickets w (with_amount w.funding.tickets n amount) → IsKeptFor v now live }
     ensures thread { (v : Activity) (w now : LimitedFunding) (live : List Bool) → IsKeptFor v w live
         → IsSound now.funding → FitsLimits now
         → now ≡ with_lends w (w.funding.lends ++ Nobody ∷ []) → IsKeptFor v now (live ++ false ∷ []) }

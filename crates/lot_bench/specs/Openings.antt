@@ -3,12 +3,13 @@ use Rattle.std.specs.Prelude.{ℕ, List, sum_by}
 use Rattle.lot_machine.specs.declared.command.Command.{Command}
 use Rattle.lot_machine.specs.declared.command.Command.TheVariants.{MakeThread, MakeFunded}
 use Rattle.lot_bench.specs.declared.workload.Workload.{Workload}
-use Rattle.lot_bench.specs.declared.workload.Workload.TheVariants.{Draws, Chain, Yields, PingPong, Contention, Processors}
+use Rattle.lot_bench.specs.declared.workload.Workload.TheVariants.{Draws, Chain, Inflation, Yields, PingPong, Contention, Processors}
 
 -- how many threads a workload has
 abbrev pub threads_of : Workload → ℕ
 threads_of (Draws threads) = threads
 threads_of Chain = 2
+threads_of Inflation = 2
 threads_of (Yields threads) = threads
 threads_of PingPong = 258
 threads_of Contention = 16

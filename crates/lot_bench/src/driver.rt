@@ -1,6 +1,6 @@
 //! Generating the events of a workload.
 
-use crate::opening::{LOOSE_TICKET, currency_name};
+use crate::opening::{FIRST_TICKET, LOOSE_TICKET, currency_name};
 use crate::place::Place;
 use crate::role::role_of;
 use crate::workload::{Workload, processors_of, threads_of};
@@ -35,20 +35,21 @@ impl Driver {
         })
     }
 
-    /// The next event, to be given to a kernel that has got all before it. Processors take turns; in a chain each
-    /// third event is the console's.
+    /// The next event, to be given to a kernel that has got all before it. Processors take turns; over a chain of
+    /// currencies each third event is the console's.
     pub(crate) fn next_event(&mut self, kernel: &Kernel) -> Event {
         let turn = self.made;
         self.made = turn.wrapping_add(1);
         match self.workload {
-            Workload::Chain if turn % 3 == 0 => Event::Command(self.command(turn)),
+            Workload::Chain if turn % 3 == 0 => Event::Command(self.funding(turn)),
+            Workload::Inflation if turn % 3 == 0 => Event::Command(inflation(turn)),
             Workload::Processors => self.processor_event(kernel, (turn % 64) as u32 + 1),
             _ => self.processor_event(kernel, 1),
         }
     }
 
     /// Has the loose ticket fund the first currency, and stop to do so in the next turn.
-    fn command(&self, turn: u64) -> Command {
+    fn funding(&self, turn: u64) -> Command {
         if turn % 2 == 0 {
             return Command::Fund {
                 ticket: LOOSE_TICKET,
@@ -101,6 +102,14 @@ impl Driver {
             Some(generator) => u128::from(generator.number()),
             None => 0,
         }
+    }
+}
+
+/// Gives base's first ticket as much as base's tickets for the first currency of a chain have together in this turn.
+fn inflation(turn: u64) -> Command {
+    Command::SetTicket {
+        ticket: FIRST_TICKET,
+        amount: if turn % 2 == 0 { 1500 } else { 1000 },
     }
 }
 

@@ -11,6 +11,9 @@ use std::alloc::Global;
 /// The ticket of a chain that goes to and from its first currency.
 pub(crate) const LOOSE_TICKET: u64 = 67;
 
+/// Base's ticket that funds the first currency.
+pub(crate) const FIRST_TICKET: u64 = 1;
+
 /// The commands of a workload.
 pub(crate) fn opening(alloc: Global, workload: Workload) -> Result<Vec<Command>>
     ensures { IfOk result (λ commands. threads_made commands.items ≡ openings.threads_of workload) }
@@ -93,7 +96,9 @@ fn link_command(alloc: Global, workload: Workload, currency: u32) -> Result<Comm
 {
     let place = u64::from(currency);
     match workload {
-        Workload::Chain if 0 < currency => ticket_command(alloc, place * 10, currency),
+        Workload::Chain | Workload::Inflation if 0 < currency => {
+            ticket_command(alloc, place * 10, currency)
+        }
         _ => ticket_command(alloc, (place + 1) * 1000, 0),
     }
 }
@@ -131,8 +136,8 @@ fn amount_of(workload: Workload, thread: u32) -> u64
     match workload {
         Workload::Draws(_) | Workload::Processors => thread * 37 % 100 + 1,
         Workload::Yields(_) => thread % 7 + 1,
-        Workload::Chain if thread == 1 => 5,
-        Workload::Chain => 300,
+        Workload::Chain | Workload::Inflation if thread == 1 => 5,
+        Workload::Chain | Workload::Inflation => 300,
         Workload::PingPong if thread == 1 => 3000,
         Workload::PingPong if thread == 2 => 7000,
         Workload::PingPong => 10,
@@ -146,7 +151,7 @@ fn currency_of(workload: Workload, thread: u32) -> u32
 {
     match workload {
         Workload::Yields(_) => thread % 64 + 1,
-        Workload::Chain if thread == 1 => 64,
+        Workload::Chain | Workload::Inflation if thread == 1 => 64,
         _ => 0,
     }
 }

@@ -21,7 +21,8 @@ pub(crate) enum Role {
 /// The role of the thread with this number.
 pub(crate) fn role_of(workload: Workload, thread: u32) -> Role {
     match workload {
-        Workload::Draws(_) | Workload::Chain | Workload::Processors => Role::Computes,
+        Workload::Draws(_) | Workload::Chain | Workload::Inflation | Workload::Processors =>
+            Role::Computes,
         Workload::Yields(_) => Role::Yields,
         Workload::PingPong if thread == 1 => Role::Serves,
         Workload::PingPong if thread == 2 => Role::Calls,

@@ -11,6 +11,9 @@ pub(crate) enum Workload {
     Draws(u32),
     /// A thread at the end of 64 currencies that fund each other, and a ticket that goes to and from the first of them.
     Chain,
+    /// The same thread and currencies, and base's ticket for the first of them, which gets another amount again and
+    /// again.
+    Inflation,
     /// So many threads over 64 currencies, each of which yields before a quarter of its quantum is used.
     Yields(u32),
     /// A server, a client that calls it, and 256 threads that compute.
@@ -22,12 +25,13 @@ pub(crate) enum Workload {
 }
 
 /// The workloads that are compared, by name.
-pub(crate) const WORKLOADS: [(&str, Workload); 9] = [
+pub(crate) const WORKLOADS: [(&str, Workload); 10] = [
     ("draw2", Workload::Draws(2)),
     ("draw16", Workload::Draws(16)),
     ("draw256", Workload::Draws(256)),
     ("draw4096", Workload::Draws(4096)),
     ("chain64", Workload::Chain),
+    ("inflate64", Workload::Inflation),
     ("yield4096", Workload::Yields(4096)),
     ("pingpong", Workload::PingPong),
     ("contention", Workload::Contention),
@@ -40,7 +44,7 @@ pub(crate) fn threads_of(workload: Workload) -> u32
 {
     match workload {
         Workload::Draws(threads) | Workload::Yields(threads) => threads,
-        Workload::Chain => 2,
+        Workload::Chain | Workload::Inflation => 2,
         Workload::PingPong => 258,
         Workload::Contention => 16,
         Workload::Processors => 512,
@@ -52,7 +56,7 @@ pub(crate) fn currencies_of(workload: Workload) -> u32
     ensures { result ≤ 64 }
 {
     match workload {
-        Workload::Chain | Workload::Yields(_) => 64,
+        Workload::Chain | Workload::Inflation | Workload::Yields(_) => 64,
         _ => 0,
     }
 }

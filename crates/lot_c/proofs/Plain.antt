@@ -6,7 +6,7 @@ use Rattle.std.proofs.Math.Seq.{take-append_seam}
 use Rattle.std.proofs.lemmas.Nat.{div-add-mod'}
 use Rattle.lot_machine.specs.Commands.{is_good_name}
 use Rattle.lot_machine.specs.declared.action.Action.TheVariants as action
-use Rattle.lot_machine.specs.declared.command.Command.TheVariants.{MakeTicket, RemoveTicket, MakeCurrency, RemoveCurrency, Fund, Unfund, MakeThread, MakeFunded, List as Listing}
+use Rattle.lot_machine.specs.declared.command.Command.TheVariants.{MakeTicket, RemoveTicket, MakeCurrency, RemoveCurrency, Fund, Unfund, SetTicket, MakeThread, MakeFunded, List as Listing}
 use Rattle.lot_machine.specs.declared.command.Kind.TheVariants.{Tickets, Currencies, Threads}
 use Rattle.lot_machine.specs.declared.event.Event.{Event}
 use Rattle.lot_machine.specs.declared.event.Event.TheVariants as event
@@ -51,6 +51,7 @@ meant (event.Command (MakeCurrency name)) (short, good) = ap (result_map (λ n. 
 meant (event.Command (RemoveCurrency currency)) (short, good) = ap (result_map (λ n. event.Command (RemoveCurrency n))) (named currency short good)
 meant (event.Command (Fund ticket target)) (short, good) = ap (result_map (λ n. event.Command (Fund ticket n))) (named target short good)
 meant (event.Command (Unfund ticket)) has = refl
+meant (event.Command (SetTicket ticket amount)) has = refl
 meant (event.Command (MakeThread name script)) (short, good) = ap (result_map (λ n. event.Command (MakeThread n script))) (named name short good)
 meant (event.Command (MakeFunded amount currency name script)) ((short, good), (short', good')) =
     ap (λ m. result_and_then m (λ c. result_map (λ n. event.Command (MakeFunded amount c n script)) (name_meant (plain_name name)))) (named currency short good)

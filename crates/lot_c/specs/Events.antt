@@ -4,7 +4,7 @@ use Rattle.std.specs.List.{find}
 use Rattle.lot_machine.specs.declared.action.Action.{Action}
 use Rattle.lot_machine.specs.declared.action.Action.TheVariants as action
 use Rattle.lot_machine.specs.declared.command.Command.{Command}
-use Rattle.lot_machine.specs.declared.command.Command.TheVariants.{MakeTicket, RemoveTicket, MakeCurrency, RemoveCurrency, Fund, Unfund, MakeThread, MakeFunded, List as Listing}
+use Rattle.lot_machine.specs.declared.command.Command.TheVariants.{MakeTicket, RemoveTicket, MakeCurrency, RemoveCurrency, Fund, Unfund, SetTicket, MakeThread, MakeFunded, List as Listing}
 use Rattle.lot_machine.specs.declared.command.Kind.TheVariants.{Tickets, Currencies, Threads}
 use Rattle.lot_machine.specs.declared.event.Event.{Event}
 use Rattle.lot_machine.specs.declared.event.Event.TheVariants as event
@@ -52,6 +52,7 @@ meanings =
     ∷ (EventKind.RemoveCurrency, λ e. asks_of e.currency RemoveCurrency)
     ∷ (EventKind.Fund, λ e. asks_of e.name (λ target. Fund e.ticket target))
     ∷ (EventKind.Unfund, λ e. asks (Unfund e.ticket))
+    ∷ (EventKind.SetTicket, λ e. asks (SetTicket e.ticket e.amount))
     ∷ (EventKind.MakeThread, λ e. asks_of e.name (λ name. MakeThread name e.script))
     ∷ (EventKind.MakeFunded, λ e. result_and_then (name_meant e.currency) (λ currency. asks_of e.name (λ name. MakeFunded e.amount currency name e.script)))
     ∷ (EventKind.ListTickets, λ e. asks (Listing Tickets))

@@ -54,6 +54,7 @@ event_number EventKind.Lock = 18
 event_number EventKind.Unlock = 19
 event_number EventKind.Exit = 20
 event_number EventKind.Serve = 21
+event_number EventKind.SetTicket = 22
 
 -- the kinds of replies, with one for each listing
 abbrev pub reply_number : Reply → ℕ

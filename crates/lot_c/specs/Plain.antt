@@ -4,7 +4,7 @@ use Rattle.lot_machine.specs.Commands.{is_good_name}
 use Rattle.lot_machine.specs.declared.action.Action.{Action}
 use Rattle.lot_machine.specs.declared.action.Action.TheVariants as action
 use Rattle.lot_machine.specs.declared.command.Command.{Command}
-use Rattle.lot_machine.specs.declared.command.Command.TheVariants.{MakeTicket, RemoveTicket, MakeCurrency, RemoveCurrency, Fund, Unfund, MakeThread, MakeFunded, List as Listing}
+use Rattle.lot_machine.specs.declared.command.Command.TheVariants.{MakeTicket, RemoveTicket, MakeCurrency, RemoveCurrency, Fund, Unfund, SetTicket, MakeThread, MakeFunded, List as Listing}
 use Rattle.lot_machine.specs.declared.command.Kind.TheVariants.{Tickets, Currencies, Threads}
 use Rattle.lot_machine.specs.declared.event.Event.{Event}
 use Rattle.lot_machine.specs.declared.event.Event.TheVariants as event
@@ -57,6 +57,7 @@ plain_command (MakeCurrency name) = record (of_kind EventKind.MakeCurrency) { na
 plain_command (RemoveCurrency currency) = record (of_kind EventKind.RemoveCurrency) { currency = plain_name currency }
 plain_command (Fund ticket target) = record (of_kind EventKind.Fund) { ticket = ticket; name = plain_name target }
 plain_command (Unfund ticket) = record (of_kind EventKind.Unfund) { ticket = ticket }
+plain_command (SetTicket ticket amount) = record (of_kind EventKind.SetTicket) { ticket = ticket; amount = amount }
 plain_command (MakeThread name script) = record (of_kind EventKind.MakeThread) { name = plain_name name; script = script }
 plain_command (MakeFunded amount currency name script) = record (of_kind EventKind.MakeFunded) { amount = amount; currency = plain_name currency; name = plain_name name; script = script }
 plain_command (Listing Tickets) = of_kind EventKind.ListTickets

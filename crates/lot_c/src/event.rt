@@ -1,5 +1,5 @@
 //! Events in plain fields.
-ghost use Rattle.std.specs.Prelude.{◌≡◌, Ok};
+ghost use Rattle.std.specs.Prelude.{◌≡◌, ◌⊎◌, Ok};
 ghost use Rattle.lot_machine.specs.Bounds.{IsBetween};
 ghost use Rattle.lot_machine.specs.declared.event.Event.TheVariants as event;
 ghost use Rattle.lot_c.specs.Events.{event_meant, result_map};
@@ -52,6 +52,8 @@ const EXIT: u32 = 20;
 
 const SERVE: u32 = 21;
 
+const SET_TICKET: u32 = 22;
+
 /// An event in plain fields. Its kind says which of the others are read.
 #[repr(C)]
 #[derive(Clone, Copy)]
@@ -82,10 +84,10 @@ impl PlainEvent {
     pub(crate) fn read(&self) -> Result<Event, Status>
         ensures { result ≡ event_meant self.now }
     {
-        if self.kind < MAKE_TICKET || self.kind > SERVE {
+        if self.kind < MAKE_TICKET || self.kind > SET_TICKET {
             return Err(Status::BadKind);
         }
-        if self.kind < DRAW {
+        if self.kind < DRAW || self.kind == SET_TICKET {
             return Ok(Event::Command(self.read_command()?));
         }
         Ok(self.read_turn())
@@ -93,17 +95,17 @@ impl PlainEvent {
 
     /// The command that is meant, or why none is.
     fn read_command(&self) -> Result<Command, Status>
-        requires kind { IsBetween MAKE_TICKET LIST_THREADS self.now.kind }
+        requires kind { IsBetween MAKE_TICKET LIST_THREADS self.now.kind ⊎ (self.now.kind ≡ SET_TICKET) }
         ensures { event_meant self.now ≡ result_map event.Command result }
     {
+        let ticket = self.ticket;
+        let amount = self.amount;
         match self.kind {
             MAKE_TICKET => Ok(Command::MakeTicket {
-                amount: self.amount,
+                amount,
                 currency: self.currency.read()?,
             }),
-            REMOVE_TICKET => Ok(Command::RemoveTicket {
-                ticket: self.ticket,
-            }),
+            REMOVE_TICKET => Ok(Command::RemoveTicket { ticket }),
             MAKE_CURRENCY => Ok(Command::MakeCurrency {
                 name: self.name.read()?,
             }),
@@ -111,12 +113,11 @@ impl PlainEvent {
                 currency: self.currency.read()?,
             }),
             FUND => Ok(Command::Fund {
-                ticket: self.ticket,
+                ticket,
                 target: self.name.read()?,
             }),
-            UNFUND => Ok(Command::Unfund {
-                ticket: self.ticket,
-            }),
+            UNFUND => Ok(Command::Unfund { ticket }),
+            SET_TICKET => Ok(Command::SetTicket { ticket, amount }),
             MAKE_THREAD => Ok(Command::MakeThread {
                 name: self.name.read()?,
                 script: self.script,

@@ -1,12 +1,11 @@
 -- What commands change: names, tickets and what they fund.
-use Rattle.std.proofs.Common.{◌≡◌, ◌∙◌, ◌↔◌, ◌⊎◌, inl, inr, ℕ, zero, suc, ◌+◌, ◌-◌, ◌<◌, Bool, true, false, Option, Some, None, List, [], ◌∷◌, ◌++◌, length, slice_get, slice_set, option_and_then, option_map, ap, sym, refl, subst, arith, if◌then◌else◌}
+use Rattle.std.proofs.Common.{◌≡◌, ◌∙◌, ◌↔◌, ◌⊎◌, inl, inr, ℕ, zero, suc, ◌+◌, ◌-◌, ◌<◌, Bool, true, false, Option, Some, None, is_none, List, [], ◌∷◌, ◌++◌, length, slice_get, slice_set, option_and_then, option_map, ap, sym, refl, subst, arith}
 use Rattle.std.specs.Prelude.{IsTrue}
 use Rattle.std.proofs.Math.Seq.{set-append_seam}
 use Rattle.std.specs.List.{Contains}
 use Rattle.std.specs.Option.{option_flatten}
 use Rattle.std.proofs.lemmas.List.{length-map, map-append}
 use Rattle.std.proofs.lemmas.Option.{slice_get_within}
-use Rattle.lot_machine.specs.declared.command.Command.TheVariants.{Fund}
 use Rattle.lot_machine.specs.declared.funding.Edge.{Edge}
 use Rattle.lot_machine.specs.declared.funding.Edge.TheVariants.{OfTicket, OfLender, OfMutex}
 use Rattle.lot_machine.specs.declared.funding.Lend.{Lend}
@@ -14,13 +13,11 @@ use Rattle.lot_machine.specs.declared.funding.Lend.TheVariants.{Nobody}
 use Rattle.lot_machine.specs.declared.funding.Node.{Node}
 use Rattle.lot_machine.specs.declared.funding.Node.TheVariants as node
 use Rattle.lot_machine.specs.declared.record.Record.{Record}
-use Rattle.lot_machine.specs.declared.refusal.Refusal.TheVariants.{Cycle}
-use Rattle.lot_machine.specs.declared.reply.Reply.TheVariants as reply
 use Rattle.lot_machine.specs.declared.ticket.Target.{Target}
 use Rattle.lot_machine.specs.declared.ticket.Target.TheVariants.{Unfunded, Currency, Thread}
 use Rattle.lot_machine.specs.declared.ticket.Ticket.{Ticket}
-use Rattle.lot_machine.specs.Commands.{command_step, is_cycle, is_dead_thread, is_funding, target_named, with_thread}
-use Rattle.lot_machine.specs.Funding.{Funding, WouldCycle, ends_of, is_currency, issuer_of, lend_node, retargeted, target_node, target_of, ticket_at, ticket_in, with_new_ticket, with_target, would_cycle}
+use Rattle.lot_machine.specs.Commands.{is_bad_amount, is_cycle, with_thread}
+use Rattle.lot_machine.specs.Funding.{Funding, WouldCycle, weighed_of, is_currency, issuer_of, retargeted, target_node, target_of, ticket_at, ticket_in, with_new_ticket, with_target, would_cycle}
 use Rattle.lot_machine.specs.Numbered.{at_number, option_any, set_number}
 use Rattle.lot_machine.specs.Order.{IsInOrder}
 use Rattle.lot_machine.specs.State.{State, funding_of, lend_of, live_in}
@@ -29,7 +26,8 @@ use Rattle.lot_machine.proofs.TicketDepth.{would_cycle-exact}
 use Rattle.lot_machine.proofs.Tickets.{at_number-suc, some-injective}
 use Rattle.lot_machine.proofs.TwoSteps.{edges-between, live-between}
 use Rattle.lot_graph.specs.Graphs.{IsCycle, IsTarget}
-use Rattle.lot_threads.proofs.TwoChanges.{makes-both-in}
+use Rattle.lot_value.proofs.Lending.{lent_ends}
+use Rattle.lot_threads.proofs.TwoChanges.{makes-both-in, weighed_one}
 use Rattle.lot_kernel.specs.Snapshots.{IsTargetThere, MakesStale, Snapshot, threads_of}
 
 -- ---- funding
@@ -74,12 +72,20 @@ module _ (s : State) (order : IsInOrder s) (n : ℕ) (t : Ticket) (here : ticket
       by true e = let never : false ≡ true = is.1 ((exact c (slice_get_within (funding_of s).currencies c true there.1)).0 e) in cc
       by false e = e
 
--- a command to fund that passes the checks before the last
-pub fund-step : (s : State) (n : ℕ) (name : List ℕ) (t : Ticket) (to : Target) (cycle : Bool) → ticket_in s.tickets n ≡ Some t → target_named s name ≡ Some to → is_currency 0 to ≡ false → is_dead_thread s to ≡ false
-    → is_funding t ≡ false → is_cycle s n to ≡ cycle
-    → command_step s (Fund n name) ≡ record { state = if cycle then s else record s { tickets = with_target s.tickets n to }; reply = if cycle then reply.Refused Cycle else reply.Done }
-fund-step s n name t to true here named base dead funding test = rw (here, named, base, dead, funding, test) refl
-fund-step s n name t to false here named base dead funding test = rw (here, named, base, dead, funding, test) refl
+-- ---- the amount of a ticket
+
+-- an amount that passes the check is positive
+pub good-amount : (amount : ℕ) → is_bad_amount amount ≡ false → 0 < amount
+good-amount zero good = cc
+good-amount (suc n) good = omega arith
+
+-- a ticket that isn't missing is there
+pub ticket-found : (f : Funding) (n : ℕ) → is_none (ticket_at f n) ≡ false → (t : Ticket) × (ticket_at f n ≡ Some t)
+ticket-found f n found = by (ticket_at f n) refl found
+  where
+    by : (o : Option Ticket) → ticket_at f n ≡ o → is_none o ≡ false → (t : Ticket) × (ticket_at f n ≡ Some t)
+    by None none e = cc
+    by (Some t) some e = (t, some)
 
 -- ---- a new ticket that funds a new thread
 
@@ -104,13 +110,13 @@ funded-new tickets amount issuer to =
     before-last n = omega arith
 
 -- an unfunded ticket more adds no edge
-pub unfunded-ends : (f : Funding) (amount issuer : ℕ) (edge : Edge) → ends_of (record f { tickets = with_new_ticket f.tickets amount issuer Unfunded }) edge ≡ ends_of f edge
-unfunded-ends f amount issuer (OfLender t) = refl
-unfunded-ends f amount issuer (OfMutex m) = refl
-unfunded-ends f amount issuer (OfTicket n) = by (number-push f.tickets (Some (record { amount = amount; issuer = issuer; target = Unfunded })) n)
+pub unfunded-edges : (f : Funding) (amount issuer : ℕ) (edge : Edge) → weighed_of (record f { tickets = with_new_ticket f.tickets amount issuer Unfunded }) edge ≡ weighed_of f edge
+unfunded-edges f amount issuer (OfLender t) = refl
+unfunded-edges f amount issuer (OfMutex m) = refl
+unfunded-edges f amount issuer (OfTicket n) = by (number-push f.tickets (Some (record { amount = amount; issuer = issuer; target = Unfunded })) n)
   where
-    seen : Option (Option Ticket) → Option (Node × Node)
-    seen o = option_and_then (λ t. option_map (λ to. (node.Currency t.issuer, to)) (target_node t.target)) (option_flatten o)
+    seen : Option (Option Ticket) → Option (Node × Node × ℕ)
+    seen o = option_and_then (λ t. option_map (λ to. (node.Currency t.issuer, to, t.amount)) (target_node t.target)) (option_flatten o)
 
     by : (at_number (with_new_ticket f.tickets amount issuer Unfunded) n ≡ at_number f.tickets n) ⊎ ((at_number f.tickets n ≡ None) × (at_number (with_new_ticket f.tickets amount issuer Unfunded) n ≡ Some (Some (record { amount = amount; issuer = issuer; target = Unfunded }))))
         → seen (at_number (with_new_ticket f.tickets amount issuer Unfunded) n) ≡ seen (at_number f.tickets n)
@@ -118,13 +124,13 @@ unfunded-ends f amount issuer (OfTicket n) = by (number-push f.tickets (Some (re
     by (inr (none, new)) = ap seen new ∙ sym (ap seen none)
 
 -- one more thread, which lends to nobody, adds no edge
-pub newborn-ends : (f : Funding) (edge : Edge) → ends_of (record f { lends = f.lends ++ Nobody ∷ [] }) edge ≡ ends_of f edge
-newborn-ends f (OfTicket n) = refl
-newborn-ends f (OfMutex m) = refl
-newborn-ends f (OfLender t) = by (number-push f.lends Nobody t)
+pub newborn-edges : (f : Funding) (edge : Edge) → weighed_of (record f { lends = f.lends ++ Nobody ∷ [] }) edge ≡ weighed_of f edge
+newborn-edges f (OfTicket n) = refl
+newborn-edges f (OfMutex m) = refl
+newborn-edges f (OfLender t) = by (number-push f.lends Nobody t)
   where
-    seen : Option Lend → Option (Node × Node)
-    seen o = option_and_then (λ lend. option_map (λ to. (node.Thread t, to)) (lend_node lend)) o
+    seen : Option Lend → Option (Node × Node × ℕ)
+    seen o = weighed_one (lent_ends t o)
 
     by : (at_number (f.lends ++ Nobody ∷ []) t ≡ at_number f.lends t) ⊎ ((at_number f.lends t ≡ None) × (at_number (f.lends ++ Nobody ∷ []) t ≡ Some Nobody)) → seen (at_number (f.lends ++ Nobody ∷ []) t) ≡ seen (at_number f.lends t)
     by (inl same) = ap seen same
@@ -138,23 +144,23 @@ module _ (old issued added funded : Snapshot) (amount issuer script n t : ℕ) (
   abbrev graph-of : Snapshot → Funding
   graph-of x = funding_of x.state
 
-  issued-ends : (edge : Edge) → ends_of (graph-of issued) edge ≡ ends_of (graph-of old) edge
-  issued-ends edge = ap (λ (x : Snapshot). ends_of (graph-of x) edge) first ∙ unfunded-ends (graph-of old) amount issuer edge
+  issued-edges : (edge : Edge) → weighed_of (graph-of issued) edge ≡ weighed_of (graph-of old) edge
+  issued-edges edge = ap (λ (x : Snapshot). weighed_of (graph-of x) edge) first ∙ unfunded-edges (graph-of old) amount issuer edge
 
-  added-ends : (edge : Edge) → ends_of (graph-of added) edge ≡ ends_of (graph-of old) edge
-  added-ends edge =
-      ap (λ (x : State). ends_of (funding_of x) edge) second
-      ∙ ap (λ (ls : List Lend). ends_of (record (graph-of issued) { lends = ls }) edge) (map-append (λ (r : Record). lend_of r.status) issued.state.records _)
-      ∙ newborn-ends (graph-of issued) edge ∙ issued-ends edge
+  added-edges : (edge : Edge) → weighed_of (graph-of added) edge ≡ weighed_of (graph-of old) edge
+  added-edges edge =
+      ap (λ (x : State). weighed_of (funding_of x) edge) second
+      ∙ ap (λ (ls : List Lend). weighed_of (record (graph-of issued) { lends = ls }) edge) (map-append (λ (r : Record). lend_of r.status) issued.state.records _)
+      ∙ newborn-edges (graph-of issued) edge ∙ issued-edges edge
 
   pub makes-funded : MakesStale issued added → MakesStale added funded → MakesStale old funded
   makes-funded makes_added makes_funded =
       let start = makes-both-in (threads_of old.state old.stale old.meter) (threads_of issued.state issued.stale issued.meter) (threads_of added.state added.stale added.meter)
-      (edges-between (graph-of old) (graph-of issued) (graph-of added) (λ edge. inl (issued-ends edge)))
+      (edges-between (graph-of old) (graph-of issued) (graph-of added) (λ edge. inl (issued-edges edge)))
       (live-between (live_in old.state.records) (live_in issued.state.records) (live_in added.state.records) (λ u. inl (ap (λ (x : Snapshot). at_number (live_in x.state.records) u) first)))
       (λ x stale. inl (subst (λ (y : Snapshot). Contains y.stale x) first stale)) makes_added in
       makes-both-in (threads_of old.state old.stale old.meter) (threads_of added.state added.stale added.meter) (threads_of funded.state funded.stale funded.meter)
-      (edges-between (graph-of old) (graph-of added) (graph-of funded) (λ edge. inl (added-ends edge)))
+      (edges-between (graph-of old) (graph-of added) (graph-of funded) (λ edge. inl (added-edges edge)))
       (live-between (live_in old.state.records) (live_in added.state.records) (live_in funded.state.records) (λ u. inr (sym (ap (λ (x : State). at_number (live_in x.records) u) third))))
       start makes_funded
 

@@ -13,8 +13,8 @@ use Rattle.lot_machine.proofs.TrapCycles.{at_number-map}
 use Rattle.lot_threads.specs.Threaded.{Threaded, MakesStaleIn, funding_in}
 
 same-edge : (f : Funding) (from to : Node) → ¬ IsChangedEdge f f from to
-same-edge f from to (inl (edge, is, differs)) = differs is
-same-edge f from to (inr (edge, is, differs)) = differs is
+same-edge f from to (inl (edge, weight, is, differs)) = differs is
+same-edge f from to (inr (edge, weight, is, differs)) = differs is
 
 same-life : (live : List Bool) (t : ℕ) → ¬ IsChangedLife live live t
 same-life live t (inl (is, differs)) = differs is

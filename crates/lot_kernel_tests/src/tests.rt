@@ -1,3 +1,4 @@
+mod amounts;
 mod bounds;
 mod helpers;
 mod mutexes;
@@ -26,6 +27,7 @@ enum Line<'a> {
     Rmcur(&'a str),
     Fund(u64, &'a str),
     Unfund(u64),
+    Settkt(u64, u64),
     Mkthr(&'a str, u32),
     Fundx(u64, &'a str, &'a str, u32),
     List(Kind),
@@ -86,6 +88,7 @@ fn command(rt: &impl Abort, line: Line<'_>) -> Command {
             Command::Fund { ticket, target }
         }
         Line::Unfund(ticket) => Command::Unfund { ticket },
+        Line::Settkt(ticket, amount) => Command::SetTicket { ticket, amount },
         Line::Mkthr(text, script) => {
             let name = name(rt, text);
             Command::MakeThread { name, script }

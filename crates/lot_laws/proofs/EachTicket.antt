@@ -7,13 +7,13 @@ use Rattle.lot_machine.specs.declared.ticket.Ticket.{Ticket}
 use Rattle.lot_machine.specs.declared.ticket.Target.{Target}
 use Rattle.lot_machine.specs.declared.ticket.Target.TheVariants as target
 use Rattle.lot_machine.specs.declared.command.Command.{Command}
-use Rattle.lot_machine.specs.declared.command.Command.TheVariants.{MakeTicket, RemoveTicket, Fund, Unfund, MakeFunded}
+use Rattle.lot_machine.specs.declared.command.Command.TheVariants.{MakeTicket, RemoveTicket, Fund, Unfund, SetTicket, MakeFunded}
 use Rattle.lot_machine.specs.declared.event.Event.{Event}
 use Rattle.lot_machine.specs.declared.event.Event.TheVariants as event
 use Rattle.lot_machine.specs.declared.refusal.Refusal.TheVariants.{BadName, NameTaken, NoCurrency, NoTicket, NoTarget, BadAmount, Funding, Cycle, BaseFixed, DeadThread, Full, NoScript}
 use Rattle.lot_machine.specs.declared.sizes.Sizes.{Sizes}
 use Rattle.lot_machine.specs.Numbered.{at_number, set_number, option_any}
-use Rattle.lot_machine.specs.Funding.{ticket_in, with_new_ticket, without_ticket, with_target, retargeted, is_currency}
+use Rattle.lot_machine.specs.Funding.{ticket_in, with_new_ticket, without_ticket, with_target, retargeted, with_amount, reissued, is_currency}
 use Rattle.lot_machine.specs.State.{State, opening, funding_of}
 use Rattle.lot_machine.specs.Named.{processor_of}
 use Rattle.lot_machine.specs.Commands.{currency_named, is_good_name, is_taken, is_bad_amount, is_no_script, are_tickets_full, are_threads_full, is_dead_thread, is_funding, is_cycle, command_refusal, command_effect, command_step, currency_or_base, target_named}
@@ -33,10 +33,12 @@ not-base : (o : Option Target) → option_any (is_currency 0) o ≡ false → un
 not-base None is same = cc
 not-base (Some to) is same = let never : false ≡ true = sym is ∙ ap (is_currency 0) same in cc
 
--- what holds of a ticket that is made, and still holds if the ticket is aimed at something but base
+-- what holds of a ticket that is made, and still holds if the ticket is aimed at something but base, or gets another
+-- amount
 module _ (IsSo : Ticket → Type 0)
     (made : (amount issuer : ℕ) (to : Target) → is_bad_amount amount ≡ false → to ≢ target.Currency 0 → IsSo (record { amount = amount; issuer = issuer; target = to }))
-    (aimed : (t : Ticket) (to : Target) → to ≢ target.Currency 0 → IsSo t → IsSo (retargeted to t)) where
+    (aimed : (t : Ticket) (to : Target) → to ≢ target.Currency 0 → IsSo t → IsSo (retargeted to t))
+    (set : (t : Ticket) (amount : ℕ) → is_bad_amount amount ≡ false → IsSo t → IsSo (reissued amount t)) where
   abbrev Each : List (Option Ticket) → Type 0
   Each xs = (n : ℕ) (t : Ticket) → ticket_in xs n ≡ Some t → IsSo t
 
@@ -67,6 +69,13 @@ module _ (IsSo : Ticket → Type 0)
       by t None at is = cc
       by t (Some u) at is = subst IsSo (some-injective (retargeted to u) t is) (aimed u to user (each m u at))
 
+  one-set : (xs : List (Option Ticket)) (m amount : ℕ) → is_bad_amount amount ≡ false → Each xs → Each (with_amount xs m amount)
+  one-set xs m amount good each = one-changed xs m (option_map (reissued amount) (ticket_in xs m)) (λ t is. by t (ticket_in xs m) refl is) each
+    where
+      by : (t : Ticket) (o : Option Ticket) → ticket_in xs m ≡ o → option_map (reissued amount) o ≡ Some t → IsSo t
+      by t None at is = cc
+      by t (Some u) at is = subst IsSo (some-injective (reissued amount u) t is) (set u amount good (each m u at))
+
   -- ---- events
 
   abbrev EachIn : State → Type 0
@@ -85,6 +94,9 @@ module _ (IsSo : Ticket → Type 0)
       ∷ (option_any is_funding (ticket_in s.tickets n), Funding) ∷ (option_any (is_cycle s n) (target_named s name), Cycle) ∷ []) e in
       one-aimed s.tickets n (unwrap_or (target_named s name) target.Unfunded) (not-base (target_named s name) passed.1.1.0) each)
   command-each s (Unfund n) each = unrefused EachIn s _ (command_effect s (Unfund n)) each (λ _. one-aimed s.tickets n target.Unfunded (λ same. cc) each)
+  command-each s (SetTicket n amount) each =
+      unrefused EachIn s _ (command_effect s (SetTicket n amount)) each (λ e.
+      one-set s.tickets n amount (all-pass ((is_bad_amount amount, BadAmount) ∷ (is_none (ticket_in s.tickets n), NoTicket) ∷ []) e).0 each)
   command-each s (MakeFunded amount currency name script) each =
       unrefused EachIn s _ (command_effect s (MakeFunded amount currency name script)) each (λ e.
       let passed = all-pass ((is_bad_amount amount, BadAmount) ∷ (is_none (currency_named s currency), NoCurrency) ∷ (not (is_good_name name), BadName)
@@ -125,13 +137,17 @@ some-aimed : (t : Ticket) (to : Target) → to ≢ target.Currency 0 → HasSome
 unfolding HasSome
 some-aimed t to user some = some
 
+some-set : (t : Ticket) (amount : ℕ) → is_bad_amount amount ≡ false → HasSome t → HasSome (reissued amount t)
+unfolding HasSome
+some-set t amount good had = let some : ¬ (amount ≡ 0) = eqb-false amount 0 (or_parts (amount == 0) (nat_lt 4294967295 amount) good).0 in omega (arith, some)
+
 pub event-amounts : (s : State) (e : Event) → HasAmounts (funding_of s) → HasAmounts (funding_of (step s e).state)
 unfolding HasSome
-event-amounts = event-each HasSome some-made some-aimed
+event-amounts = event-each HasSome some-made some-aimed some-set
 
 pub reachable-amounts : (s : State) → IsReachable s → HasAmounts (funding_of s)
 unfolding HasSome
-reachable-amounts = reachable-each HasSome some-made some-aimed
+reachable-amounts = reachable-each HasSome some-made some-aimed some-set
 
 -- ---- targets
 
@@ -146,13 +162,17 @@ user-aimed : (t : Ticket) (to : Target) → to ≢ target.Currency 0 → IsUser 
 unfolding IsUser
 user-aimed t to user other = user
 
+user-set : (t : Ticket) (amount : ℕ) → is_bad_amount amount ≡ false → IsUser t → IsUser (reissued amount t)
+unfolding IsUser
+user-set t amount good user = user
+
 pub reachable-no-base : (s : State) → IsReachable s → FundsNoBase (funding_of s)
 unfolding IsUser
 reachable-no-base s is n funds = by (ticket_in s.tickets n) refl funds
   where
     by : (o : Option Ticket) → ticket_in s.tickets n ≡ o → option_map (λ (t : Ticket). t.target) o ≡ Some (target.Currency 0) → ⊥
     by None at none = cc
-    by (Some t) at base = reachable-each IsUser user-made user-aimed s is n t at (some-injective t.target (target.Currency 0) base)
+    by (Some t) at base = reachable-each IsUser user-made user-aimed user-set s is n t at (some-injective t.target (target.Currency 0) base)
 
 -- ---- order and runs
 

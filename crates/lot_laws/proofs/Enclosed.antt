@@ -11,7 +11,7 @@ use Rattle.lot_machine.specs.declared.funding.Lend.TheVariants.{Nobody, ToThread
 use Rattle.lot_machine.specs.declared.funding.Edge.{Edge}
 use Rattle.lot_machine.specs.declared.funding.Edge.TheVariants.{OfTicket, OfLender, OfMutex}
 use Rattle.lot_machine.specs.Numbered.{at_number}
-use Rattle.lot_machine.specs.Funding.{Funding, ticket_at, target_of, issuer_of, target_node, lend_node, issued_in, ends_of, IsChain, IsEdge}
+use Rattle.lot_machine.specs.Funding.{Funding, ticket_at, target_of, issuer_of, target_node, lend_node, issued_in, ends_of, weighed_of, IsChain, IsEdge}
 use Rattle.lot_machine.specs.Lends.{IsLive, IsBacked}
 use Rattle.lot_machine.specs.Activity.{IsActive, is_active, active_amount}
 use Rattle.lot_machine.specs.Value.{node_value}
@@ -23,9 +23,9 @@ use Rattle.lot_machine.proofs.TicketDepth.{is_active-exact}
 use Rattle.lot_machine.proofs.NodeBounds.{issuer-amount}
 use Rattle.lot_machine.proofs.Edges.{ends-are}
 use Rattle.lot_laws.specs.Conservation.{HasAmounts}
-use Rattle.lot_laws.specs.Insulation.{KeepsAmounts, FundsNoBase, Encloses, IsChangeInside}
-use Rattle.lot_laws.proofs.KeptPaths.{ends-ticket, ticket-ends, chain-aims, target-one, currency-one, backed-kept}
-use Rattle.lot_laws.proofs.KeptValues.{ends, ends-told, live-told, amount-stays, kept-value}
+use Rattle.lot_laws.specs.Insulation.{FundsNoBase, Encloses, IsChangeInside}
+use Rattle.lot_laws.proofs.KeptPaths.{StaysActive, ends-ticket, ticket-ends, ends-kept, amount-one, chain-aims, target-one, currency-one, backed-kept}
+use Rattle.lot_laws.proofs.KeptValues.{ends, weighed, weighed-told, live-told, amount-stays, kept-value}
 
 -- ---- an amount that is active
 
@@ -62,8 +62,11 @@ not-to-currency f (OfMutex m) from d apart is = let (owner, at, from_is, to_is) 
 
 module _ (f g : Funding) (live now : List Bool) (c : ℕ) (inside : Node → Bool) (encloses : Encloses f c inside) (no_base : FundsNoBase f) (have : HasAmounts f)
     (no_cycle : HasNoCycle f) (there : FundsThere f) (no_cycle_now : HasNoCycle g) (there_now : FundsThere g)
-    (edge-on : (edge : Edge) (from to : Node) → inside to ≡ false → ends_of f edge ≡ ends from to → ends_of g edge ≡ ends from to)
+    (weighed-on : (edge : Edge) (from to : Node) (weight : ℕ) → inside to ≡ false → weighed_of f edge ≡ weighed from to weight → weighed_of g edge ≡ weighed from to weight)
     (life-on : (t : ℕ) → inside (Thread t) ≡ false → IsLive live t → IsLive now t) (some-on : 0 < active_amount f live c → 0 < active_amount g now c) where
+  edge-on : (edge : Edge) (from to : Node) → inside to ≡ false → ends_of f edge ≡ ends from to → ends_of g edge ≡ ends from to
+  edge-on edge from to out = ends-kept f g edge from to (λ weight. weighed-on edge from to weight out)
+
   -- what is outside, and not the currency, leads outside
   outside-next : (from to : Node) → IsEdge f from to → inside from ≡ false → from ≢ Currency c → from ≢ Currency 0 → inside to ≡ false
   outside-next from to edge out apart user = by (inside to) refl
@@ -132,36 +135,41 @@ module _ (f g : Funding) (live now : List Bool) (c : ℕ) (inside : Node → Boo
   pub active-after : (n : ℕ) (from to : Node) → inside to ≡ false → ends_of f (OfTicket n) ≡ ends from to → IsActive f live n → IsActive g now n
   active-after n from to out is (rest, t, chain, backed) = active-on n rest t from to out is chain backed
 
-  -- an active ticket of another currency outside is there after, and active
-  pub there-after : (n : ℕ) (t : Ticket) → ticket_at f n ≡ Some t → inside (Currency t.issuer) ≡ false → t.issuer ≢ c → t.issuer ≢ 0 → is_active f live t ≡ true
-      → (u : Ticket) × (ticket_at g n ≡ Some u) × (t.issuer ≡ u.issuer) × (is_active g now u ≡ true)
+  -- an active ticket of another currency outside is there after, and active, with its amount
+  pub there-after : (n : ℕ) (t : Ticket) → ticket_at f n ≡ Some t → inside (Currency t.issuer) ≡ false → t.issuer ≢ c → t.issuer ≢ 0 → is_active f live t ≡ true → StaysActive g now n t
   there-after n t at out apart user active =
       let is : IsActive f live n = (is_active-exact f no_cycle there live n t at).0 active in
       let (aim, to, aims, to_is) = chain-aims f n is.0 is.1 is.2 in
       let edge : ends_of f (OfTicket n) ≡ ends (Currency t.issuer) to = ticket-ends f n t.issuer aim to (issuer-of f n t at) aims to_is in
       let to_out : inside to ≡ false = outside-next (Currency t.issuer) to (OfTicket n, edge) out (λ e. apart (currency-one t.issuer c e)) (λ e. user (currency-one t.issuer 0 e)) in
       let (u, u_at, u_from, u_to) = ends-ticket g n (Currency t.issuer) to (edge-on (OfTicket n) (Currency t.issuer) to to_out edge) in
-      (u, u_at, currency-one t.issuer u.issuer u_from, (is_active-exact g no_cycle_now there_now now n u u_at).1 (active-after n (Currency t.issuer) to to_out edge is))
+      record {
+        ticket = u;
+        there = u_at;
+        issuer = currency-one t.issuer u.issuer u_from;
+        amount = amount-one f g n (Currency t.issuer) to t u at u_at edge (λ weight. weighed-on (OfTicket n) (Currency t.issuer) to weight to_out);
+        active = (is_active-exact g no_cycle_now there_now now n u u_at).1 (active-after n (Currency t.issuer) to to_out edge is);
+      }
 
 -- ---- values
 
-module _ (f g : Funding) (no_cycle : HasNoCycle f) (there : FundsThere f) (no_cycle_now : HasNoCycle g) (there_now : FundsThere g) (amounts : KeepsAmounts f g) (have : HasAmounts f) (have_now : HasAmounts g)
+module _ (f g : Funding) (no_cycle : HasNoCycle f) (there : FundsThere f) (no_cycle_now : HasNoCycle g) (there_now : FundsThere g) (have : HasAmounts f) (have_now : HasAmounts g)
     (no_base : FundsNoBase f) (no_base_now : FundsNoBase g) (unit : ℕ) (live now : List Bool) (c : ℕ) (inside : Node → Bool) (change : IsChangeInside f g live now c inside)
     (some-on : 0 < active_amount f live c → 0 < active_amount g now c) (some-back : 0 < active_amount g now c → 0 < active_amount f live c) where
-  -- an edge that leads outside, and a thread outside
-  edge-on : (edge : Edge) (from to : Node) → inside to ≡ false → ends_of f edge ≡ ends from to → ends_of g edge ≡ ends from to
-  edge-on edge from to out is = by (ends-told (ends_of g edge) from to)
+  -- an edge that leads outside keeps its weight, and a thread outside its life
+  weighed-on : (edge : Edge) (from to : Node) (weight : ℕ) → inside to ≡ false → weighed_of f edge ≡ weighed from to weight → weighed_of g edge ≡ weighed from to weight
+  weighed-on edge from to weight out is = by (weighed-told (weighed_of g edge) from to weight)
     where
-      by : (ends_of g edge ≡ ends from to) ⊎ (ends_of g edge ≢ ends from to) → ends_of g edge ≡ ends from to
+      by : (weighed_of g edge ≡ weighed from to weight) ⊎ (weighed_of g edge ≢ weighed from to weight) → weighed_of g edge ≡ weighed from to weight
       by (inl same) = same
-      by (inr gone) = let never : false ≡ true = sym out ∙ change.edges from to (inl (edge, is, gone)) in cc
+      by (inr gone) = let never : false ≡ true = sym out ∙ change.edges from to (inl (edge, weight, is, gone)) in cc
 
-  edge-back : (edge : Edge) (from to : Node) → inside to ≡ false → ends_of g edge ≡ ends from to → ends_of f edge ≡ ends from to
-  edge-back edge from to out is = by (ends-told (ends_of f edge) from to)
+  weighed-back : (edge : Edge) (from to : Node) (weight : ℕ) → inside to ≡ false → weighed_of g edge ≡ weighed from to weight → weighed_of f edge ≡ weighed from to weight
+  weighed-back edge from to weight out is = by (weighed-told (weighed_of f edge) from to weight)
     where
-      by : (ends_of f edge ≡ ends from to) ⊎ (ends_of f edge ≢ ends from to) → ends_of f edge ≡ ends from to
+      by : (weighed_of f edge ≡ weighed from to weight) ⊎ (weighed_of f edge ≢ weighed from to weight) → weighed_of f edge ≡ weighed from to weight
       by (inl same) = same
-      by (inr new) = let never : false ≡ true = sym out ∙ change.edges from to (inr (edge, is, new)) in cc
+      by (inr new) = let never : false ≡ true = sym out ∙ change.edges from to (inr (edge, weight, is, new)) in cc
 
   life-on : (t : ℕ) → inside (Thread t) ≡ false → IsLive live t → IsLive now t
   life-on t out alive = by (live-told (at_number now t))
@@ -195,7 +203,7 @@ module _ (f g : Funding) (no_cycle : HasNoCycle f) (there : FundsThere f) (no_cy
   not-it d to out edge same = let never : false ≡ true = sym out ∙ change.enclosed_after.below (Currency d) to edge (inl (ap Currency same)) in cc
 
   amount-kept : (d : ℕ) (to : Node) → IsOut to → IsEdge g (Currency d) to → d ≢ 0 → active_amount f live d ≡ active_amount g now d
-  amount-kept d to out edge user = amount-stays f g live now amounts d after before
+  amount-kept d to out edge user = amount-stays f g live now d after before
     where
       apart : d ≢ c
       apart = not-it d to out edge
@@ -203,19 +211,19 @@ module _ (f g : Funding) (no_cycle : HasNoCycle f) (there : FundsThere f) (no_cy
       d_out : IsOut (Currency d)
       d_out = source (Currency d) to out (inr edge) (λ e. user (currency-one d 0 e))
 
-      after : (n : ℕ) (t : Ticket) → ticket_at f n ≡ Some t → (t.issuer == d) ≡ true → is_active f live t ≡ true → (u : Ticket) × (ticket_at g n ≡ Some u) × (t.issuer ≡ u.issuer) × (is_active g now u ≡ true)
+      after : (n : ℕ) (t : Ticket) → ticket_at f n ≡ Some t → (t.issuer == d) ≡ true → is_active f live t ≡ true → StaysActive g now n t
       after n t at issued =
           let is : t.issuer ≡ d = eqb-true t.issuer d issued in
-          there-after f g live now c inside change.enclosed_before no_base have no_cycle there no_cycle_now there_now edge-on life-on some-on n t at (subst (λ x. IsOut (Currency x)) (sym is) d_out) (λ e. apart (sym is ∙ e)) (λ e. user (sym is ∙ e))
+          there-after f g live now c inside change.enclosed_before no_base have no_cycle there no_cycle_now there_now weighed-on life-on some-on n t at (subst (λ x. IsOut (Currency x)) (sym is) d_out) (λ e. apart (sym is ∙ e)) (λ e. user (sym is ∙ e))
 
-      before : (n : ℕ) (u : Ticket) → ticket_at g n ≡ Some u → (u.issuer == d) ≡ true → is_active g now u ≡ true → (t : Ticket) × (ticket_at f n ≡ Some t) × (u.issuer ≡ t.issuer) × (is_active f live t ≡ true)
+      before : (n : ℕ) (u : Ticket) → ticket_at g n ≡ Some u → (u.issuer == d) ≡ true → is_active g now u ≡ true → StaysActive f live n u
       before n u at issued =
           let is : u.issuer ≡ d = eqb-true u.issuer d issued in
-          there-after g f now live c inside change.enclosed_after no_base_now have_now no_cycle_now there_now no_cycle there edge-back life-back some-back n u at (subst (λ x. IsOut (Currency x)) (sym is) d_out) (λ e. apart (sym is ∙ e)) (λ e. user (sym is ∙ e))
+          there-after g f now live c inside change.enclosed_after no_base_now have_now no_cycle_now there_now no_cycle there weighed-back life-back some-back n u at (subst (λ x. IsOut (Currency x)) (sym is) d_out) (λ e. apart (sym is ∙ e)) (λ e. user (sym is ∙ e))
 
   pub outside-kept : (node : Node) → inside node ≡ false → HasEquation f node → HasEquation g node → node_value unit f live node ≡ node_value unit g now node
   outside-kept =
-      kept-value f g no_cycle there no_cycle_now there_now amounts unit live now IsOut source edge-on edge-back
-      (λ n from to out is is_now. active-after f g live now c inside change.enclosed_before no_base have no_cycle there no_cycle_now there_now edge-on life-on some-on n from to out is)
-      (λ n from to out is is_now. active-after g f now live c inside change.enclosed_after no_base_now have_now no_cycle_now there_now no_cycle there edge-back life-back some-back n from to out is_now)
+      kept-value f g no_cycle there no_cycle_now there_now unit live now IsOut source weighed-on weighed-back
+      (λ n from to out is is_now. active-after f g live now c inside change.enclosed_before no_base have no_cycle there no_cycle_now there_now weighed-on life-on some-on n from to out is)
+      (λ n from to out is is_now. active-after g f now live c inside change.enclosed_after no_base_now have_now no_cycle_now there_now no_cycle there weighed-back life-back some-back n from to out is_now)
       amount-kept

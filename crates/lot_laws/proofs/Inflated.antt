@@ -1,4 +1,4 @@
--- A ticket more inside a currency: all that changes is inside it, and it keeps its active tickets.
+-- A ticket more inside a currency, or one with another amount: all that changes is inside it, and it stays active.
 use Rattle.std.proofs.Common.{◌≡◌, ◌≢◌, ℕ, zero, suc, ◌+◌, ◌-◌, ◌<◌, ◌≤◌, ◌⊎◌, inl, inr, not, Bool, true, false, is_none, Option, Some, None, List, [], ◌∷◌, ◌++◌, length, map, option_map, option_and_then, unwrap_or, slice_get, get_or, refl, sym, ◌∙◌, ap, subst, arith}
 use Rattle.std.specs.Option.{option_flatten}
 use Rattle.std.proofs.lemmas.List.{length-append}
@@ -13,13 +13,13 @@ use Rattle.lot_machine.specs.declared.funding.Edge.TheVariants.{OfTicket, OfLend
 use Rattle.lot_machine.specs.declared.funding.Lend.{Lend}
 use Rattle.lot_machine.specs.declared.record.Record.{Record}
 use Rattle.lot_machine.specs.declared.record.Status.TheVariants as status
-use Rattle.lot_machine.specs.declared.command.Command.TheVariants.{Fund, MakeFunded}
+use Rattle.lot_machine.specs.declared.command.Command.TheVariants.{Fund, MakeFunded, SetTicket}
 use Rattle.lot_machine.specs.declared.event.Event.{Event}
 use Rattle.lot_machine.specs.declared.event.Event.TheVariants as event
 use Rattle.lot_machine.specs.declared.refusal.Refusal.{Refusal}
 use Rattle.lot_machine.specs.declared.refusal.Refusal.TheVariants.{NoTicket, NoTarget, Funding as IsFunding, Cycle, BaseFixed, DeadThread}
 use Rattle.lot_machine.specs.Numbered.{at_number, option_any}
-use Rattle.lot_machine.specs.Funding.{Funding, ticket_at, ticket_in, with_new_ticket, with_target, retargeted, target_node, lend_node, issuer_of, is_currency, ends_of, IsEdge}
+use Rattle.lot_machine.specs.Funding.{Funding, ticket_at, ticket_in, with_new_ticket, with_target, retargeted, target_node, lend_node, issuer_of, is_currency, ends_of, IsEdge, weighed_of, with_amount, reissued}
 use Rattle.lot_machine.specs.Lends.{IsLive}
 use Rattle.lot_machine.specs.Activity.{IsActive, is_active, active_amount}
 use Rattle.lot_machine.specs.Facts.{HasNoCycle, FundsThere}
@@ -28,83 +28,112 @@ use Rattle.lot_machine.specs.Touched.{IsChangedEdge, IsChangedLife}
 use Rattle.lot_machine.specs.State.{State, opening, funding_of, live_of, lend_of, is_live_status}
 use Rattle.lot_machine.specs.Commands.{currency_named, target_named, currency_or_base, is_dead_thread, is_funding, is_unfunded, is_cycle, command_refusal, command_effect, unless_refused, with_thread}
 use Rattle.lot_machine.specs.Step.{step, state_after}
-use Rattle.lot_machine.proofs.Tickets.{at_number-suc, some-injective, issuer-of}
+use Rattle.lot_machine.proofs.Tickets.{at_number-suc, some-injective, issuer-of, ticket-of, flatten-some}
 use Rattle.lot_machine.proofs.TicketDepth.{is_active-exact}
 use Rattle.lot_machine.proofs.NodeBounds.{issuer-amount}
-use Rattle.lot_machine.proofs.Changes.{number-set, number-push}
+use Rattle.lot_machine.proofs.Changes.{number-set, number-push, number-there}
 use Rattle.lot_machine.proofs.CommandsKept.{all-pass}
 use Rattle.lot_machine.proofs.TrapCycles.{at_number-map}
 use Rattle.lot_machine.proofs.StepSizes.{step-grown}
 use Rattle.lot_laws.specs.Conservation.{HasAmounts}
 use Rattle.lot_laws.specs.Insulation.{Encloses, IsChangeInside, ChangesInside, IsNamedInside, amount_in, worth_in}
 use Rattle.lot_laws.specs.Reachable.{IsReachable, IsWellFormed}
-use Rattle.lot_laws.proofs.KeptPaths.{ends-ticket, ticket-ends, chain-aims, active-same}
-use Rattle.lot_laws.proofs.KeptValues.{ends}
+use Rattle.lot_laws.proofs.KeptPaths.{ends-ticket, ticket-ends, chain-aims, active-same, ends-kept}
+use Rattle.lot_laws.proofs.KeptValues.{ends, weighed}
 use Rattle.lot_laws.proofs.Enclosed.{active-found}
 use Rattle.lot_laws.proofs.StaysInside.{well-formed, reachable-run, run-inside}
+use Rattle.lot_machine.proofs.Weighed.{there-weighed, weighed-there}
 
--- ---- edges that come inside
+-- ---- edges that change inside
 
--- each edge stays, and each that comes leads inside from the currency
+-- it leads inside, from the currency or from what is inside
+abbrev LeadsInside : ℕ → (Node → Bool) → Node → Node → Type 0
+LeadsInside c inside from to = ((from ≡ Currency c) ⊎ (inside from ≡ true)) × (inside to ≡ true)
+
+-- each edge keeps its weight, or leads inside
 module _ (f g : Funding) (live now : List Bool) (c : ℕ) (inside : Node → Bool) (encloses : Encloses f c inside)
-    (on : (edge : Edge) (from to : Node) → ends_of f edge ≡ ends from to → ends_of g edge ≡ ends from to)
-    (back : (edge : Edge) (from to : Node) → ends_of g edge ≡ ends from to → (ends_of f edge ≡ ends from to) ⊎ ((from ≡ Currency c) × (inside to ≡ true)))
+    (on : (edge : Edge) (from to : Node) (weight : ℕ) → weighed_of f edge ≡ weighed from to weight → (weighed_of g edge ≡ weighed from to weight) ⊎ LeadsInside c inside from to)
+    (back : (edge : Edge) (from to : Node) (weight : ℕ) → weighed_of g edge ≡ weighed from to weight → (weighed_of f edge ≡ weighed from to weight) ⊎ LeadsInside c inside from to)
     (lives : (t : ℕ) → IsChangedLife live now t → inside (Thread t) ≡ true) where
-  still-encloses : Encloses g c inside
-  still-encloses = record { itself = encloses.itself; below = λ from to edge why. below from to edge why (back edge.0 from to edge.1); alone = λ from to edge is user. alone from to edge is user (back edge.0 from to edge.1) }
+  ends-back : (edge : Edge) (from to : Node) → ends_of g edge ≡ ends from to → (ends_of f edge ≡ ends from to) ⊎ LeadsInside c inside from to
+  ends-back edge from to is = let (weight, was) = weighed-there g edge from to is in by weight (back edge from to weight was)
     where
-      below : (from to : Node) (edge : IsEdge g from to) → (from ≡ Currency c) ⊎ (inside from ≡ true) → (ends_of f edge.0 ≡ ends from to) ⊎ ((from ≡ Currency c) × (inside to ≡ true)) → inside to ≡ true
+      by : (weight : ℕ) → (weighed_of f edge ≡ weighed from to weight) ⊎ LeadsInside c inside from to → (ends_of f edge ≡ ends from to) ⊎ LeadsInside c inside from to
+      by weight (inl same) = inl (there-weighed f edge from to weight same)
+      by weight (inr new) = inr new
+
+  still-encloses : Encloses g c inside
+  still-encloses =
+      record { itself = encloses.itself; below = λ from to edge why. below from to edge why (ends-back edge.0 from to edge.1); alone = λ from to edge is user. alone from to edge is user (ends-back edge.0 from to edge.1) }
+    where
+      below : (from to : Node) (edge : IsEdge g from to) → (from ≡ Currency c) ⊎ (inside from ≡ true) → (ends_of f edge.0 ≡ ends from to) ⊎ LeadsInside c inside from to → inside to ≡ true
       below from to edge why (inl was) = encloses.below from to (edge.0, was) why
       below from to edge why (inr new) = new.1
 
-      alone : (from to : Node) (edge : IsEdge g from to) → inside to ≡ true → from ≢ Currency 0 → (ends_of f edge.0 ≡ ends from to) ⊎ ((from ≡ Currency c) × (inside to ≡ true)) → (from ≡ Currency c) ⊎ (inside from ≡ true)
+      alone : (from to : Node) (edge : IsEdge g from to) → inside to ≡ true → from ≢ Currency 0 → (ends_of f edge.0 ≡ ends from to) ⊎ LeadsInside c inside from to → (from ≡ Currency c) ⊎ (inside from ≡ true)
       alone from to edge is user (inl was) = encloses.alone from to (edge.0, was) is user
-      alone from to edge is user (inr new) = inl new.0
+      alone from to edge is user (inr new) = new.0
 
-  pub comes-inside : IsChangeInside f g live now c inside
-  comes-inside = record { enclosed_before = encloses; enclosed_after = still-encloses; edges = λ from to changed. by from to changed; lives = lives }
+  pub changes-inside : IsChangeInside f g live now c inside
+  changes-inside = record { enclosed_before = encloses; enclosed_after = still-encloses; edges = λ from to changed. by from to changed; lives = lives }
     where
-      came : (from to : Node) (edge : Edge) → ends_of f edge ≢ ends from to → (ends_of f edge ≡ ends from to) ⊎ ((from ≡ Currency c) × (inside to ≡ true)) → inside to ≡ true
-      came from to edge new (inl was) = absurd (new was)
-      came from to edge new (inr is) = is.1
+      within : (first : Option (Node × Node × ℕ)) (from to : Node) (weight : ℕ) → first ≢ weighed from to weight → (first ≡ weighed from to weight) ⊎ LeadsInside c inside from to → inside to ≡ true
+      within first from to weight gone (inl same) = absurd (gone same)
+      within first from to weight gone (inr is) = is.1
 
       by : (from to : Node) → IsChangedEdge f g from to → inside to ≡ true
-      by from to (inl (edge, is, gone)) = absurd (gone (on edge from to is))
-      by from to (inr (edge, is, new)) = came from to edge new (back edge from to is)
+      by from to (inl (edge, weight, is, gone)) = within (weighed_of g edge) from to weight gone (on edge from to weight is)
+      by from to (inr (edge, weight, is, new)) = within (weighed_of f edge) from to weight new (back edge from to weight is)
 
-  -- an active amount stays above 0
-  pub some-stays : HasNoCycle f → FundsThere f → HasNoCycle g → FundsThere g → HasAmounts g → ((t : ℕ) → IsLive live t → IsLive now t) → 0 < active_amount f live c → 0 < active_amount g now c
-  some-stays no_cycle there no_cycle_now there_now have life-on some = found (active-found f live c some)
-    where
-      -- by an active ticket, where its edge leads, and the ticket that has it in the other
-      ends-there : (n : ℕ) (t : Ticket) → t.issuer ≡ c → IsActive f live n → (to : Node) → ends_of f (OfTicket n) ≡ ends (Currency t.issuer) to → ends_of g (OfTicket n) ≡ ends (Currency t.issuer) to
-          → (u : Ticket) × (ticket_at g n ≡ Some u) × (Currency t.issuer ≡ Currency u.issuer) × (target_node u.target ≡ Some to) → 0 < active_amount g now c
-      ends-there n t issued is to before after (u, at, from, leads) =
-          let issuer : t.issuer ≡ u.issuer = cc in
-          let is_now : IsActive g now n = active-same f g live now (λ node. Unit {0}) (λ edge first next clear ends_are. (on edge first next ends_are, tt)) (λ v clear alive. life-on v alive) n (Currency t.issuer) to before after tt is in
-          let amount : u.amount ≤ active_amount g now u.issuer = issuer-amount g now n u at ((is_active-exact g no_cycle_now there_now now n u at).1 is_now) in
-          subst (λ i. 0 < active_amount g now i) (sym issuer ∙ issued) (omega (arith, amount, have n u at))
-
-      active-is : (n : ℕ) (t : Ticket) → ticket_at f n ≡ Some t → t.issuer ≡ c → IsActive f live n → 0 < active_amount g now c
-      active-is n t at issued is =
-          let (aim, to, aims, to_is) = chain-aims f n is.0 is.1 is.2 in
-          let before : ends_of f (OfTicket n) ≡ ends (Currency t.issuer) to = ticket-ends f n t.issuer aim to (issuer-of f n t at) aims to_is in
-          ends-there n t issued is to before (on (OfTicket n) (Currency t.issuer) to before) (ends-ticket g n (Currency t.issuer) to (on (OfTicket n) (Currency t.issuer) to before))
-
-      found : (n : ℕ) × (t : Ticket) × (ticket_at f n ≡ Some t) × (t.issuer ≡ c) × (is_active f live t ≡ true) → 0 < active_amount g now c
-      found (n, t, at, issued, active) = active-is n t at issued ((is_active-exact f no_cycle there live n t at).0 active)
-
--- the node that a ticket's edge leads to, from its issuer
-abbrev edge-of : Option Ticket → Option (Node × Node)
-edge-of o = option_and_then (λ (t : Ticket). option_map (λ to. (Currency t.issuer, to)) (target_node t.target)) o
-
--- the edge of a ticket that is there
-edge-is : (t : Ticket) (from to : Node) → edge-of (Some t) ≡ ends from to → (from ≡ Currency t.issuer) × (target_node t.target ≡ Some to)
-edge-is t from to is = by (target_node t.target) is
+-- an active amount stays above 0 where each edge stays, whatever it weighs
+pub some-stays : (f g : Funding) (live now : List Bool) (c : ℕ) → ((edge : Edge) (from to : Node) → ends_of f edge ≡ ends from to → ends_of g edge ≡ ends from to)
+    → HasNoCycle f → FundsThere f → HasNoCycle g → FundsThere g → HasAmounts g → ((t : ℕ) → IsLive live t → IsLive now t) → 0 < active_amount f live c → 0 < active_amount g now c
+some-stays f g live now c on no_cycle there no_cycle_now there_now have life-on some = found (active-found f live c some)
   where
-    by : (o : Option Node) → option_map (λ (next : Node). (Currency t.issuer, next)) o ≡ ends from to → (from ≡ Currency t.issuer) × (o ≡ Some to)
+    -- by an active ticket, where its edge leads, and the ticket that has it in the other
+    ends-there : (n : ℕ) (t : Ticket) → t.issuer ≡ c → IsActive f live n → (to : Node) → ends_of f (OfTicket n) ≡ ends (Currency t.issuer) to → ends_of g (OfTicket n) ≡ ends (Currency t.issuer) to
+        → (u : Ticket) × (ticket_at g n ≡ Some u) × (Currency t.issuer ≡ Currency u.issuer) × (target_node u.target ≡ Some to) → 0 < active_amount g now c
+    ends-there n t issued is to before after (u, at, from, leads) =
+        let issuer : t.issuer ≡ u.issuer = cc in
+        let is_now : IsActive g now n = active-same f g live now (λ node. Unit {0}) (λ edge first next clear ends_are. (on edge first next ends_are, tt)) (λ v clear alive. life-on v alive) n (Currency t.issuer) to before after tt is in
+        let amount : u.amount ≤ active_amount g now u.issuer = issuer-amount g now n u at ((is_active-exact g no_cycle_now there_now now n u at).1 is_now) in
+        subst (λ i. 0 < active_amount g now i) (sym issuer ∙ issued) (omega (arith, amount, have n u at))
+
+    active-is : (n : ℕ) (t : Ticket) → ticket_at f n ≡ Some t → t.issuer ≡ c → IsActive f live n → 0 < active_amount g now c
+    active-is n t at issued is =
+        let (aim, to, aims, to_is) = chain-aims f n is.0 is.1 is.2 in
+        let before : ends_of f (OfTicket n) ≡ ends (Currency t.issuer) to = ticket-ends f n t.issuer aim to (issuer-of f n t at) aims to_is in
+        ends-there n t issued is to before (on (OfTicket n) (Currency t.issuer) to before) (ends-ticket g n (Currency t.issuer) to (on (OfTicket n) (Currency t.issuer) to before))
+
+    found : (n : ℕ) × (t : Ticket) × (ticket_at f n ≡ Some t) × (t.issuer ≡ c) × (is_active f live t ≡ true) → 0 < active_amount g now c
+    found (n, t, at, issued, active) = active-is n t at issued ((is_active-exact f no_cycle there live n t at).0 active)
+
+-- the edge of a ticket, with its weight
+abbrev edge-of : Option Ticket → Option (Node × Node × ℕ)
+edge-of o = option_and_then (λ (t : Ticket). option_map (λ to. (Currency t.issuer, to, t.amount)) (target_node t.target)) o
+
+-- and its ends
+abbrev ends-by : Option Ticket → Option (Node × Node)
+ends-by o = option_and_then (λ (t : Ticket). option_map (λ (to : Node). (Currency t.issuer, to)) (target_node t.target)) o
+
+-- what the edge of a ticket that is there says of it
+edge-is : (t : Ticket) (from to : Node) (weight : ℕ) → edge-of (Some t) ≡ weighed from to weight → (from ≡ Currency t.issuer) × (target_node t.target ≡ Some to)
+edge-is t from to weight is = by (target_node t.target) is
+  where
+    by : (o : Option Node) → option_map (λ (next : Node). (Currency t.issuer, next, t.amount)) o ≡ weighed from to weight → (from ≡ Currency t.issuer) × (o ≡ Some to)
     by None e = cc
-    by (Some next) e = (sym (ap (λ (x : Node × Node). x.0) (some-injective _ _ e)), ap Some (ap (λ (x : Node × Node). x.1) (some-injective _ _ e)))
+    by (Some next) e = (sym (ap (λ (x : Node × Node × ℕ). x.0) (some-injective _ _ e)), ap Some (ap (λ (x : Node × Node × ℕ). x.1) (some-injective _ _ e)))
+
+-- no life changes where the same threads live
+no-lives : (live : List Bool) (inside : Node → Bool) (t : ℕ) → IsChangedLife live live t → inside (Thread t) ≡ true
+no-lives live inside t (inl (alive, ended)) = absurd (ended alive)
+no-lives live inside t (inr (alive, none)) = absurd (none alive)
+
+-- a lender's edge weighs 1 wherever it leads
+lender-kept : (f g : Funding) (t : ℕ) (from to : Node) (weight : ℕ) → (ends_of f (OfLender t) ≡ ends from to → ends_of g (OfLender t) ≡ ends from to) → weighed_of f (OfLender t) ≡ weighed from to weight
+    → weighed_of g (OfLender t) ≡ weighed from to weight
+lender-kept f g t from to weight kept is =
+    let there : ends_of f (OfLender t) ≡ ends from to = there-weighed f (OfLender t) from to weight is in ap (option_map (λ (x : Node × Node). let y : Node × Node × ℕ = (x.0, x.1, 1) in y)) (kept there ∙ sym there) ∙ is
 
 -- ---- a ticket that is there funds something inside
 
@@ -134,23 +163,23 @@ module _ (s : State) (n c : ℕ) (name : List ℕ) (inside : Node → Bool) (iss
       by zero at = cc
       by (suc i) at = omega arith
 
-  fund-on : (edge : Edge) (from to : Node) → ends_of (funding_of s) edge ≡ ends from to → ends_of (funding_of funded) edge ≡ ends from to
-  fund-on (OfTicket m) from to is = by (number-set s.tickets n (option_map (retargeted (unwrap_or (target_named s name) target.Unfunded)) (ticket_in s.tickets n)) m)
+  fund-on : (edge : Edge) (from to : Node) (weight : ℕ) → weighed_of (funding_of s) edge ≡ weighed from to weight → weighed_of (funding_of funded) edge ≡ weighed from to weight
+  fund-on (OfTicket m) from to weight is = by (number-set s.tickets n (option_map (retargeted (unwrap_or (target_named s name) target.Unfunded)) (ticket_in s.tickets n)) m)
     where
       by : (at_number (with_target s.tickets n (unwrap_or (target_named s name) target.Unfunded)) m ≡ at_number s.tickets m)
           ⊎ ((m ≡ suc (n - 1)) × (at_number (with_target s.tickets n (unwrap_or (target_named s name) target.Unfunded)) m ≡ Some (option_map (retargeted (unwrap_or (target_named s name) target.Unfunded)) (ticket_in s.tickets n))))
-          → edge-of (ticket_in (with_target s.tickets n (unwrap_or (target_named s name) target.Unfunded)) m) ≡ ends from to
+          → edge-of (ticket_in (with_target s.tickets n (unwrap_or (target_named s name) target.Unfunded)) m) ≡ weighed from to weight
       by (inl same) = ap edge-of (ap option_flatten same) ∙ is
       by (inr (at, now)) =
           let (t, there, issuer, none) = the-ticket in
           let here : ticket_in s.tickets m ≡ Some t = ap (ticket_in s.tickets) (at ∙ its-place) ∙ there in
-          let (from_is, to_is) = edge-is t from to (sym (ap edge-of here) ∙ is) in
+          let (from_is, to_is) = edge-is t from to weight (sym (ap edge-of here) ∙ is) in
           let never : None ≡ Some to = sym none ∙ to_is in cc
-  fund-on (OfLender t) from to is = is
-  fund-on (OfMutex m) from to is = is
+  fund-on (OfLender t) from to weight is = is
+  fund-on (OfMutex m) from to weight is = is
 
-  fund-back : (edge : Edge) (from to : Node) → ends_of (funding_of funded) edge ≡ ends from to → (ends_of (funding_of s) edge ≡ ends from to) ⊎ ((from ≡ Currency c) × (inside to ≡ true))
-  fund-back (OfTicket m) from to is = by (number-set s.tickets n (option_map (retargeted (unwrap_or (target_named s name) target.Unfunded)) (ticket_in s.tickets n)) m)
+  fund-back : (edge : Edge) (from to : Node) (weight : ℕ) → weighed_of (funding_of funded) edge ≡ weighed from to weight → (weighed_of (funding_of s) edge ≡ weighed from to weight) ⊎ LeadsInside c inside from to
+  fund-back (OfTicket m) from to weight is = by (number-set s.tickets n (option_map (retargeted (unwrap_or (target_named s name) target.Unfunded)) (ticket_in s.tickets n)) m)
     where
       aims : (o : Option Target) → target_named s name ≡ o → target_node (unwrap_or o target.Unfunded) ≡ Some to → inside to ≡ true
       aims None e none = let never : None ≡ Some to = none in cc
@@ -158,28 +187,24 @@ module _ (s : State) (n c : ℕ) (name : List ℕ) (inside : Node → Bool) (iss
 
       by : (at_number (with_target s.tickets n (unwrap_or (target_named s name) target.Unfunded)) m ≡ at_number s.tickets m)
           ⊎ ((m ≡ suc (n - 1)) × (at_number (with_target s.tickets n (unwrap_or (target_named s name) target.Unfunded)) m ≡ Some (option_map (retargeted (unwrap_or (target_named s name) target.Unfunded)) (ticket_in s.tickets n))))
-          → (edge-of (ticket_in s.tickets m) ≡ ends from to) ⊎ ((from ≡ Currency c) × (inside to ≡ true))
+          → (edge-of (ticket_in s.tickets m) ≡ weighed from to weight) ⊎ LeadsInside c inside from to
       by (inl same) = inl (sym (ap edge-of (ap option_flatten same)) ∙ is)
       by (inr (at, now)) =
           let (t, there, issuer, none) = the-ticket in
           let here : ticket_in (with_target s.tickets n (unwrap_or (target_named s name) target.Unfunded)) m ≡ Some (retargeted (unwrap_or (target_named s name) target.Unfunded) t) =
           ap option_flatten now ∙ ap (option_map (retargeted (unwrap_or (target_named s name) target.Unfunded))) there in
-          let (from_is, to_is) = edge-is (retargeted (unwrap_or (target_named s name) target.Unfunded) t) from to (sym (ap edge-of here) ∙ is) in
-          inr (from_is ∙ ap Currency issuer, aims (target_named s name) refl to_is)
-  fund-back (OfLender t) from to is = inl is
-  fund-back (OfMutex m) from to is = inl is
-
-  fund-lives : (t : ℕ) → IsChangedLife (live_of s) (live_of s) t → inside (Thread t) ≡ true
-  fund-lives t (inl (alive, ended)) = absurd (ended alive)
-  fund-lives t (inr (alive, none)) = absurd (none alive)
+          let (from_is, to_is) = edge-is (retargeted (unwrap_or (target_named s name) target.Unfunded) t) from to weight (sym (ap edge-of here) ∙ is) in
+          inr (inl (from_is ∙ ap Currency issuer), aims (target_named s name) refl to_is)
+  fund-back (OfLender t) from to weight is = inl is
+  fund-back (OfMutex m) from to weight is = inl is
 
   fund-inside : Encloses (funding_of s) c inside → IsChangeInside (funding_of s) (funding_of funded) (live_of s) (live_of funded) c inside
-  fund-inside encloses = comes-inside (funding_of s) (funding_of funded) (live_of s) (live_of s) c inside encloses fund-on fund-back fund-lives
+  fund-inside encloses =
+      changes-inside (funding_of s) (funding_of funded) (live_of s) (live_of s) c inside encloses (λ edge from to weight is. inl (fund-on edge from to weight is)) fund-back (no-lives (live_of s) inside)
 
-  fund-active : Encloses (funding_of s) c inside → HasNoCycle (funding_of s) → FundsThere (funding_of s) → HasNoCycle (funding_of funded) → FundsThere (funding_of funded) → HasAmounts (funding_of funded)
-      → 0 < amount_in s c → 0 < amount_in funded c
-  fund-active encloses no_cycle there no_cycle_now there_now have =
-      some-stays (funding_of s) (funding_of funded) (live_of s) (live_of s) c inside encloses fund-on fund-back fund-lives no_cycle there no_cycle_now there_now have (λ t alive. alive)
+  fund-active : HasNoCycle (funding_of s) → FundsThere (funding_of s) → HasNoCycle (funding_of funded) → FundsThere (funding_of funded) → HasAmounts (funding_of funded) → 0 < amount_in s c → 0 < amount_in funded c
+  fund-active no_cycle there no_cycle_now there_now have =
+      some-stays (funding_of s) (funding_of funded) (live_of s) (live_of s) c (λ edge from to. ends-kept (funding_of s) (funding_of funded) edge from to (fund-on edge from to)) no_cycle there no_cycle_now there_now have (λ t alive. alive)
 
   pub fund-kept : Encloses (funding_of s) c inside → IsReachable s → (e : Event) → (step s e).state ≡ funded → 0 < amount_in s c → (node : Node) → inside node ≡ false → HasEquation (funding_of s) node
       → worth_in (step s e).state node ≡ worth_in s node
@@ -187,7 +212,7 @@ module _ (s : State) (n c : ℕ) (name : List ℕ) (inside : Node → Bool) (iss
       let well = well-formed s reachable in
       let after = subst (λ x. IsWellFormed (funding_of x)) is (well-formed (step s e).state (reachable-run s (e ∷ []) reachable)) in
       run-inside s (e ∷ []) c inside reachable (subst (λ x. ChangesInside s x c inside) (sym is) (fund-inside encloses))
-      (λ _. subst (λ x. 0 < amount_in x c) (sym is) (fund-active encloses well.no_cycle well.funds_there after.no_cycle after.funds_there after.amounts some)) (λ _. some)
+      (λ _. subst (λ x. 0 < amount_in x c) (sym is) (fund-active well.no_cycle well.funds_there after.no_cycle after.funds_there after.amounts some)) (λ _. some)
 
 -- a refused command leaves the state, and with it each value
 pub fund-local : (s : State) (n c : ℕ) (name : List ℕ) (inside : Node → Bool) → IsReachable s → Encloses (funding_of s) c inside → issuer_of (funding_of s) n ≡ Some c → IsNamedInside s name inside → 0 < amount_in s c
@@ -203,6 +228,106 @@ fund-local s n c name inside reachable encloses issued named some node out has =
         let done : (step s (event.Command (Fund n name))).state ≡ record s { tickets = with_target s.tickets n (unwrap_or (target_named s name) target.Unfunded) } =
         ap (λ o. (unless_refused s o (command_effect s (Fund n name))).state) is in
         fund-kept s n c name inside issued named passed.1.1.1.1.0 encloses reachable (event.Command (Fund n name)) done some node out has
+
+-- ---- a ticket of the currency, or of one inside it, gets another amount
+
+module _ (s : State) (n amount d c : ℕ) (inside : Node → Bool) (encloses : Encloses (funding_of s) c inside) (issued : issuer_of (funding_of s) n ≡ Some d) (within : (d ≡ c) ⊎ (inside (Currency d) ≡ true)) where
+  abbrev inflated : State
+  inflated = record s { tickets = with_amount s.tickets n amount }
+
+  its-number : suc (n - 1) ≡ n
+  its-number = let (t, at, is) = ticket-of (funding_of s) n d issued in number-there s.tickets n (Some t) (flatten-some (at_number s.tickets n) t at)
+
+  -- what stands at a ticket's number then
+  abbrev SetAt : ℕ → Type 0
+  SetAt m = (at_number (with_amount s.tickets n amount) m ≡ at_number s.tickets m) ⊎ ((m ≡ suc (n - 1)) × (at_number (with_amount s.tickets n amount) m ≡ Some (option_map (reissued amount) (ticket_in s.tickets n))))
+
+  set-at : (m : ℕ) → SetAt m
+  set-at = number-set s.tickets n (option_map (reissued amount) (ticket_in s.tickets n))
+
+  -- each edge stays where it was
+  set-ends : (edge : Edge) → ends_of (funding_of inflated) edge ≡ ends_of (funding_of s) edge
+  set-ends (OfTicket m) = by (set-at m)
+    where
+      again : (o : Option Ticket) → ends-by (option_map (reissued amount) o) ≡ ends-by o
+      again None = refl
+      again (Some t) = refl
+
+      by : SetAt m → ends-by (ticket_in (with_amount s.tickets n amount) m) ≡ ends-by (ticket_in s.tickets m)
+      by (inl same) = ap ends-by (ap option_flatten same)
+      by (inr (place, now)) = ap ends-by (ap option_flatten now) ∙ again (ticket_in s.tickets n) ∙ ap (λ k. ends-by (ticket_in s.tickets k)) (sym (place ∙ its-number))
+  set-ends (OfLender t) = refl
+  set-ends (OfMutex m) = refl
+
+  ends-on : (edge : Edge) (from to : Node) → ends_of (funding_of s) edge ≡ ends from to → ends_of (funding_of inflated) edge ≡ ends from to
+  ends-on edge from to is = set-ends edge ∙ is
+
+  ends-off : (edge : Edge) (from to : Node) → ends_of (funding_of inflated) edge ≡ ends from to → ends_of (funding_of s) edge ≡ ends from to
+  ends-off edge from to is = sym (set-ends edge) ∙ is
+
+  -- the ticket's edge leads inside
+  leads-inside : (m : ℕ) (from to : Node) → m ≡ n → ends_of (funding_of s) (OfTicket m) ≡ ends from to → LeadsInside c inside from to
+  leads-inside m from to here is =
+      let (t, at, from_is, to_is) = ends-ticket (funding_of s) m from to is in
+      let issuer : t.issuer ≡ d = some-injective t.issuer d (sym (issuer-of (funding_of s) m t at) ∙ ap (issuer_of (funding_of s)) here ∙ issued) in
+      let begins = its within (from_is ∙ ap Currency issuer) in
+      (begins, encloses.below from to (OfTicket m, is) begins)
+    where
+      its : (d ≡ c) ⊎ (inside (Currency d) ≡ true) → from ≡ Currency d → (from ≡ Currency c) ⊎ (inside from ≡ true)
+      its (inl same) is = inl (is ∙ ap Currency same)
+      its (inr is_in) is = inr (ap inside is ∙ is_in)
+
+  set-on : (edge : Edge) (from to : Node) (weight : ℕ) → weighed_of (funding_of s) edge ≡ weighed from to weight → (weighed_of (funding_of inflated) edge ≡ weighed from to weight) ⊎ LeadsInside c inside from to
+  set-on (OfTicket m) from to weight is = by (set-at m)
+    where
+      by : SetAt m → (weighed_of (funding_of inflated) (OfTicket m) ≡ weighed from to weight) ⊎ LeadsInside c inside from to
+      by (inl same) = inl (ap edge-of (ap option_flatten same) ∙ is)
+      by (inr (place, now)) = inr (leads-inside m from to (place ∙ its-number) (there-weighed (funding_of s) (OfTicket m) from to weight is))
+  set-on (OfLender t) from to weight is = inl is
+  set-on (OfMutex m) from to weight is = inl is
+
+  set-back : (edge : Edge) (from to : Node) (weight : ℕ) → weighed_of (funding_of inflated) edge ≡ weighed from to weight → (weighed_of (funding_of s) edge ≡ weighed from to weight) ⊎ LeadsInside c inside from to
+  set-back (OfTicket m) from to weight is = by (set-at m)
+    where
+      by : SetAt m → (weighed_of (funding_of s) (OfTicket m) ≡ weighed from to weight) ⊎ LeadsInside c inside from to
+      by (inl same) = inl (sym (ap edge-of (ap option_flatten same)) ∙ is)
+      by (inr (place, now)) = inr (leads-inside m from to (place ∙ its-number) (ends-off (OfTicket m) from to (there-weighed (funding_of inflated) (OfTicket m) from to weight is)))
+  set-back (OfLender t) from to weight is = inl is
+  set-back (OfMutex m) from to weight is = inl is
+
+  pub set-inside : ChangesInside s inflated c inside
+  set-inside = changes-inside (funding_of s) (funding_of inflated) (live_of s) (live_of s) c inside encloses set-on set-back (no-lives (live_of s) inside)
+
+  -- the currency has an active amount if and only if it had one
+  pub set-kept : IsReachable s → (e : Event) → (step s e).state ≡ inflated → (node : Node) → inside node ≡ false → HasEquation (funding_of s) node → worth_in (step s e).state node ≡ worth_in s node
+  set-kept reachable e is =
+      let well = well-formed s reachable in
+      let now : IsWellFormed (funding_of inflated) = subst (λ x. IsWellFormed (funding_of x)) is (well-formed (step s e).state (reachable-run s (e ∷ []) reachable)) in
+      run-inside s (e ∷ []) c inside reachable (subst (λ x. ChangesInside s x c inside) (sym is) set-inside)
+      (λ some. subst (λ x. 0 < amount_in x c) (sym is)
+      (some-stays (funding_of s) (funding_of inflated) (live_of s) (live_of s) c ends-on well.no_cycle well.funds_there now.no_cycle now.funds_there now.amounts (λ t alive. alive) some))
+      (λ some. some-stays (funding_of inflated) (funding_of s) (live_of s) (live_of s) c ends-off now.no_cycle now.funds_there well.no_cycle well.funds_there well.amounts (λ t alive. alive)
+      (subst (λ x. 0 < amount_in x c) is some))
+
+-- a refused one changes nothing
+pub set-changes-inside : (s : State) (n amount d c : ℕ) (inside : Node → Bool) → Encloses (funding_of s) c inside → issuer_of (funding_of s) n ≡ Some d → (d ≡ c) ⊎ (inside (Currency d) ≡ true)
+    → ChangesInside s (step s (event.Command (SetTicket n amount))).state c inside
+set-changes-inside s n amount d c inside encloses issued within = by (command_refusal s (SetTicket n amount))
+  where
+    by : (o : Option Refusal) → ChangesInside s (unless_refused s o (command_effect s (SetTicket n amount))).state c inside
+    by (Some refusal) =
+        changes-inside (funding_of s) (funding_of s) (live_of s) (live_of s) c inside encloses (λ edge from to weight is. inl is) (λ edge from to weight is. inl is) (no-lives (live_of s) inside)
+    by None = set-inside s n amount d c inside encloses issued within
+
+pub set-local : (s : State) (n amount d c : ℕ) (inside : Node → Bool) → IsReachable s → Encloses (funding_of s) c inside → issuer_of (funding_of s) n ≡ Some d → (d ≡ c) ⊎ (inside (Currency d) ≡ true)
+    → (node : Node) → inside node ≡ false → HasEquation (funding_of s) node → worth_in (step s (event.Command (SetTicket n amount))).state node ≡ worth_in s node
+set-local s n amount d c inside reachable encloses issued within node out has = by (command_refusal s (SetTicket n amount)) refl
+  where
+    by : (o : Option Refusal) → command_refusal s (SetTicket n amount) ≡ o → worth_in (step s (event.Command (SetTicket n amount))).state node ≡ worth_in s node
+    by (Some refusal) is = ap (λ x. worth_in x node) (ap (λ o. (unless_refused s o (command_effect s (SetTicket n amount))).state) is)
+    by None is =
+        set-kept s n amount d c inside encloses issued within reachable (event.Command (SetTicket n amount))
+        (ap (λ o. (unless_refused s o (command_effect s (SetTicket n amount))).state) is) node out has
 
 -- ---- as many threads as records
 
@@ -248,37 +373,42 @@ module _ (s : State) (amount c : ℕ) (currency name : List ℕ) (script : ℕ) 
   lender-is : (records : List Record) (t : ℕ) → option_and_then (λ (lend : Lend). option_map (λ (to : Node). (Thread t, to)) (lend_node lend)) (at_number (map (λ (r : Record). lend_of r.status) records) t) ≡ lend-edge t (at_number records t)
   lender-is records t = ap (option_and_then (λ (lend : Lend). option_map (λ (to : Node). (Thread t, to)) (lend_node lend))) (at_number-map (λ (r : Record). lend_of r.status) records t)
 
-  make-on : (edge : Edge) (from to : Node) → ends_of (funding_of s) edge ≡ ends from to → ends_of (funding_of made) edge ≡ ends from to
-  make-on (OfTicket m) from to is = by (number-push s.tickets (Some its-ticket) m)
-    where
-      by : (at_number (s.tickets ++ Some its-ticket ∷ []) m ≡ at_number s.tickets m) ⊎ ((at_number s.tickets m ≡ None) × (at_number (s.tickets ++ Some its-ticket ∷ []) m ≡ Some (Some its-ticket)))
-          → edge-of (ticket_in (s.tickets ++ Some its-ticket ∷ []) m) ≡ ends from to
-      by (inl same) = ap edge-of (ap option_flatten same) ∙ is
-      by (inr (none, now)) = let never : None ≡ ends from to = sym (ap edge-of (ap option_flatten none)) ∙ is in cc
-  make-on (OfLender t) from to is = lender-is (s.records ++ fresh ∷ []) t ∙ by (number-push s.records fresh t)
+  lend-on : (t : ℕ) (from to : Node) → ends_of (funding_of s) (OfLender t) ≡ ends from to → ends_of (funding_of made) (OfLender t) ≡ ends from to
+  lend-on t from to is = lender-is (s.records ++ fresh ∷ []) t ∙ by (number-push s.records fresh t)
     where
       by : (at_number (s.records ++ fresh ∷ []) t ≡ at_number s.records t) ⊎ ((at_number s.records t ≡ None) × (at_number (s.records ++ fresh ∷ []) t ≡ Some fresh)) → lend-edge t (at_number (s.records ++ fresh ∷ []) t) ≡ ends from to
       by (inl same) = ap (lend-edge t) same ∙ sym (lender-is s.records t) ∙ is
       by (inr (none, now)) = let never : None ≡ ends from to = sym (ap (lend-edge t) none) ∙ sym (lender-is s.records t) ∙ is in cc
-  make-on (OfMutex m) from to is = is
 
-  make-back : (edge : Edge) (from to : Node) → ends_of (funding_of made) edge ≡ ends from to → (ends_of (funding_of s) edge ≡ ends from to) ⊎ ((from ≡ Currency c) × (inside to ≡ true))
-  make-back (OfTicket m) from to is = by (number-push s.tickets (Some its-ticket) m)
+  lend-back : (t : ℕ) (from to : Node) → ends_of (funding_of made) (OfLender t) ≡ ends from to → ends_of (funding_of s) (OfLender t) ≡ ends from to
+  lend-back t from to is = by (number-push s.records fresh t)
+    where
+      by : (at_number (s.records ++ fresh ∷ []) t ≡ at_number s.records t) ⊎ ((at_number s.records t ≡ None) × (at_number (s.records ++ fresh ∷ []) t ≡ Some fresh)) → ends_of (funding_of s) (OfLender t) ≡ ends from to
+      by (inl same) = lender-is s.records t ∙ sym (ap (lend-edge t) same) ∙ sym (lender-is (s.records ++ fresh ∷ []) t) ∙ is
+      by (inr (none, now)) = let never : None ≡ ends from to = sym (ap (lend-edge t) now) ∙ sym (lender-is (s.records ++ fresh ∷ []) t) ∙ is in cc
+
+  make-on : (edge : Edge) (from to : Node) (weight : ℕ) → weighed_of (funding_of s) edge ≡ weighed from to weight → weighed_of (funding_of made) edge ≡ weighed from to weight
+  make-on (OfTicket m) from to weight is = by (number-push s.tickets (Some its-ticket) m)
     where
       by : (at_number (s.tickets ++ Some its-ticket ∷ []) m ≡ at_number s.tickets m) ⊎ ((at_number s.tickets m ≡ None) × (at_number (s.tickets ++ Some its-ticket ∷ []) m ≡ Some (Some its-ticket)))
-          → (edge-of (ticket_in s.tickets m) ≡ ends from to) ⊎ ((from ≡ Currency c) × (inside to ≡ true))
+          → edge-of (ticket_in (s.tickets ++ Some its-ticket ∷ []) m) ≡ weighed from to weight
+      by (inl same) = ap edge-of (ap option_flatten same) ∙ is
+      by (inr (none, now)) = let never : None ≡ weighed from to weight = sym (ap edge-of (ap option_flatten none)) ∙ is in cc
+  make-on (OfLender t) from to weight is = lender-kept (funding_of s) (funding_of made) t from to weight (lend-on t from to) is
+  make-on (OfMutex m) from to weight is = is
+
+  make-back : (edge : Edge) (from to : Node) (weight : ℕ) → weighed_of (funding_of made) edge ≡ weighed from to weight → (weighed_of (funding_of s) edge ≡ weighed from to weight) ⊎ LeadsInside c inside from to
+  make-back (OfTicket m) from to weight is = by (number-push s.tickets (Some its-ticket) m)
+    where
+      by : (at_number (s.tickets ++ Some its-ticket ∷ []) m ≡ at_number s.tickets m) ⊎ ((at_number s.tickets m ≡ None) × (at_number (s.tickets ++ Some its-ticket ∷ []) m ≡ Some (Some its-ticket)))
+          → (edge-of (ticket_in s.tickets m) ≡ weighed from to weight) ⊎ LeadsInside c inside from to
       by (inl same) = inl (sym (ap edge-of (ap option_flatten same)) ∙ is)
       by (inr (none, now)) =
-          let (from_is, to_is) = edge-is its-ticket from to (sym (ap edge-of (ap option_flatten now)) ∙ is) in
+          let (from_is, to_is) = edge-is its-ticket from to weight (sym (ap edge-of (ap option_flatten now)) ∙ is) in
           let to_thread : Thread (length s.threads + 1) ≡ to = some-injective (Thread (length s.threads + 1)) to to_is in
-          inr (from_is ∙ ap (λ (o : Option ℕ). Currency (unwrap_or o 0)) issued, subst (λ x. inside x ≡ true) to_thread new)
-  make-back (OfLender t) from to is = by (number-push s.records fresh t)
-    where
-      by : (at_number (s.records ++ fresh ∷ []) t ≡ at_number s.records t) ⊎ ((at_number s.records t ≡ None) × (at_number (s.records ++ fresh ∷ []) t ≡ Some fresh))
-          → (ends_of (funding_of s) (OfLender t) ≡ ends from to) ⊎ ((from ≡ Currency c) × (inside to ≡ true))
-      by (inl same) = inl (lender-is s.records t ∙ sym (ap (lend-edge t) same) ∙ sym (lender-is (s.records ++ fresh ∷ []) t) ∙ is)
-      by (inr (none, now)) = let never : None ≡ ends from to = sym (ap (lend-edge t) now) ∙ sym (lender-is (s.records ++ fresh ∷ []) t) ∙ is in cc
-  make-back (OfMutex m) from to is = inl is
+          inr (inl (from_is ∙ ap (λ (o : Option ℕ). Currency (unwrap_or o 0)) issued), subst (λ x. inside x ≡ true) to_thread new)
+  make-back (OfLender t) from to weight is = inl (lender-kept (funding_of made) (funding_of s) t from to weight (lend-back t from to) is)
+  make-back (OfMutex m) from to weight is = inl is
 
   -- whether the thread with this record lives
   abbrev lives-by : Option Record → Option Bool
@@ -308,9 +438,9 @@ module _ (s : State) (amount c : ℕ) (currency name : List ℕ) (script : ℕ) 
   make-kept encloses reachable e is some =
       let well = well-formed s reachable in
       let after = subst (λ x. IsWellFormed (funding_of x)) is (well-formed (step s e).state (reachable-run s (e ∷ []) reachable)) in
-      let change : ChangesInside s made c inside = comes-inside (funding_of s) (funding_of made) (live_of s) (live_of made) c inside encloses make-on make-back make-lives in
+      let change : ChangesInside s made c inside = changes-inside (funding_of s) (funding_of made) (live_of s) (live_of made) c inside encloses (λ edge from to weight is. inl (make-on edge from to weight is)) make-back make-lives in
       let active : 0 < amount_in made c =
-      some-stays (funding_of s) (funding_of made) (live_of s) (live_of made) c inside encloses make-on make-back make-lives well.no_cycle well.funds_there after.no_cycle after.funds_there after.amounts make-life some in
+      some-stays (funding_of s) (funding_of made) (live_of s) (live_of made) c (λ edge from to. ends-kept (funding_of s) (funding_of made) edge from to (make-on edge from to)) well.no_cycle well.funds_there after.no_cycle after.funds_there after.amounts make-life some in
       run-inside s (e ∷ []) c inside reachable (subst (λ x. ChangesInside s x c inside) (sym is) change) (λ _. subst (λ x. 0 < amount_in x c) (sym is) active) (λ _. some)
 
 pub make-local : (s : State) (amount c : ℕ) (currency name : List ℕ) (script : ℕ) (inside : Node → Bool) → IsReachable s → Encloses (funding_of s) c inside → currency_named s currency ≡ Some c

@@ -10,13 +10,14 @@ use Rattle.lot_machine.specs.declared.funding.Edge.TheVariants.{OfTicket, OfLend
 use Rattle.lot_machine.specs.declared.funding.Lend.{Lend}
 use Rattle.lot_machine.specs.declared.funding.Lend.TheVariants.{Nobody, ToThread, ToMutex}
 use Rattle.lot_machine.specs.Numbered.{at_number}
-use Rattle.lot_machine.specs.Funding.{Funding, ticket_at, target_of, issuer_of, target_node, lend_node, ends_of, IsChain}
+use Rattle.lot_machine.specs.Funding.{Funding, ticket_at, target_of, issuer_of, target_node, lend_node, ends_of, weighed_of, IsChain}
 use Rattle.lot_machine.specs.Lends.{borrower, LendsTo, IsLendChain, IsLive, IsBacked}
 use Rattle.lot_machine.specs.Activity.{IsActive, is_active}
 use Rattle.lot_machine.specs.Facts.{HasNoCycle, FundsThere}
 use Rattle.lot_machine.proofs.Tickets.{some-injective, target-of, issuer-of, ticket-of}
 use Rattle.lot_machine.proofs.TicketDepth.{is_active-exact}
 use Rattle.lot_machine.proofs.Edges.{pair, ends-are}
+use Rattle.lot_machine.proofs.Weighed.{there-weighed, weighed-there}
 
 -- ---- the ends of edges
 
@@ -50,6 +51,40 @@ ticket-ends f n c aim to issued funds node =
     let aims : t.target ≡ aim = some-injective t.target aim (sym (target-of f n t at) ∙ funds) in
     ap (option_and_then (λ (u : Ticket). option_map (pair (Currency u.issuer)) (target_node u.target))) at
     ∙ ap (λ a. option_map (pair (Currency t.issuer)) (target_node a)) aims ∙ ap (option_map (pair (Currency t.issuer))) node ∙ ap (λ i. Some (Currency i, to)) same
+
+-- ---- weights
+
+-- what a ticket's edge says of it
+abbrev weighs : Ticket → Option (Node × Node × ℕ)
+weighs t = option_map (λ (x : Node). let y : Node × Node × ℕ = (Currency t.issuer, x, t.amount) in y) (target_node t.target)
+
+pub weighed-ticket : (f : Funding) (n : ℕ) (from to : Node) (weight : ℕ) (t : Ticket) → ticket_at f n ≡ Some t → weighed_of f (OfTicket n) ≡ Some (from, to, weight) → t.amount ≡ weight
+weighed-ticket f n from to weight t at is = by (target_node t.target) (sym (ap (option_and_then weighs) at) ∙ is)
+  where
+    by : (o : Option Node) → option_map (λ (x : Node). let y : Node × Node × ℕ = (Currency t.issuer, x, t.amount) in y) o ≡ Some (from, to, weight) → t.amount ≡ weight
+    by None e = cc
+    by (Some x) e = ap (λ (y : Node × Node × ℕ). y.2) (some-injective _ _ e)
+
+-- an edge that is kept with its weight keeps its ends
+pub ends-kept : (f g : Funding) (edge : Edge) (from to : Node) → ((weight : ℕ) → weighed_of f edge ≡ Some (from, to, weight) → weighed_of g edge ≡ Some (from, to, weight))
+    → ends_of f edge ≡ Some (from, to) → ends_of g edge ≡ Some (from, to)
+ends-kept f g edge from to kept is = let (weight, was) = weighed-there f edge from to is in there-weighed g edge from to weight (kept weight was)
+
+-- and a ticket whose edge is kept with its weight has the same amount
+pub amount-one : (f g : Funding) (n : ℕ) (from to : Node) (t u : Ticket) → ticket_at f n ≡ Some t → ticket_at g n ≡ Some u → ends_of f (OfTicket n) ≡ Some (from, to)
+    → ((weight : ℕ) → weighed_of f (OfTicket n) ≡ Some (from, to, weight) → weighed_of g (OfTicket n) ≡ Some (from, to, weight)) → t.amount ≡ u.amount
+amount-one f g n from to t u at at_now is kept =
+    let (weight, was) = weighed-there f (OfTicket n) from to is in weighed-ticket f n from to weight t at was ∙ sym (weighed-ticket g n from to weight u at_now (kept weight was))
+
+-- ---- chains
+
+-- The ticket with this number has the issuer and the amount of this one, and is active.
+pub record StaysActive (g : Funding) (now : List Bool) (n : ℕ) (t : Ticket) : Type 0 where
+  pub ticket : Ticket
+  pub there : ticket_at g n ≡ Some ticket
+  pub issuer : t.issuer ≡ ticket.issuer
+  pub amount : t.amount ≡ ticket.amount
+  pub active : is_active g now ticket ≡ true
 
 -- the first ticket of a chain that leads to a thread funds something
 pub chain-aims : (f : Funding) (n : ℕ) (rest : List ℕ) (t : ℕ) → IsChain f n rest (target.Thread t) → (aim : Target) × (to : Node) × (target_of f n ≡ Some aim) × (target_node aim ≡ Some to)
@@ -121,13 +156,19 @@ module _ (f g : Funding) (live now : List Bool) (IsClear : Node → Type 0)
       let r = tickets-kept n rest t from to before after clear is in (rest, t, r.0, backed-kept t r.1 backed)
 
   module _ (no_cycle : HasNoCycle f) (there : FundsThere f) (no_cycle_now : HasNoCycle g) (there_now : FundsThere g) where
-    -- an active ticket of a clear currency is there in both, and active in both
-    pub active-there : (n : ℕ) (t : Ticket) → ticket_at f n ≡ Some t → IsClear (Currency t.issuer) → is_active f live t ≡ true
-        → (u : Ticket) × (ticket_at g n ≡ Some u) × (t.issuer ≡ u.issuer) × (is_active g now u ≡ true)
-    active-there n t at clear active =
+    -- an active ticket of a clear currency is there in both, and active in both, with the same amount if its edge is kept with its weight
+    pub active-there : (n : ℕ) (t : Ticket) → ticket_at f n ≡ Some t → IsClear (Currency t.issuer)
+        → ((to : Node) (weight : ℕ) → weighed_of f (OfTicket n) ≡ Some (Currency t.issuer, to, weight) → weighed_of g (OfTicket n) ≡ Some (Currency t.issuer, to, weight)) → is_active f live t ≡ true → StaysActive g now n t
+    active-there n t at clear weights active =
         let is : IsActive f live n = (is_active-exact f no_cycle there live n t at).0 active in
         let (aim, to, funds, to_is) = chain-aims f n is.0 is.1 is.2 in
         let before = ticket-ends f n t.issuer aim to (issuer-of f n t at) funds to_is in
         let r = kept (OfTicket n) (Currency t.issuer) to clear before in
         let (u, u_at, u_from, u_to) = ends-ticket g n (Currency t.issuer) to r.0 in
-        (u, u_at, currency-one t.issuer u.issuer u_from, (is_active-exact g no_cycle_now there_now now n u u_at).1 (active-same n (Currency t.issuer) to before r.0 r.1 is))
+        record {
+          ticket = u;
+          there = u_at;
+          issuer = currency-one t.issuer u.issuer u_from;
+          amount = amount-one f g n (Currency t.issuer) to t u at u_at before (weights to);
+          active = (is_active-exact g no_cycle_now there_now now n u u_at).1 (active-same n (Currency t.issuer) to before r.0 r.1 is);
+        }

@@ -8,7 +8,7 @@ use Rattle.lot_machine.specs.declared.funding.Node.{Node}
 use Rattle.lot_machine.specs.declared.funding.Node.TheVariants.{Currency, Thread, Mutex}
 use Rattle.lot_machine.specs.declared.funding.Edge.{Edge}
 use Rattle.lot_machine.specs.declared.funding.Edge.TheVariants.{OfTicket, OfLender, OfMutex}
-use Rattle.lot_machine.specs.Funding.{Funding, ticket_at, all_tickets, ends_of, IsEdge}
+use Rattle.lot_machine.specs.Funding.{Funding, ticket_at, all_tickets, ends_of, weighed_of, IsEdge}
 use Rattle.lot_machine.specs.Activity.{IsActive, is_active, active_amount}
 use Rattle.lot_machine.specs.Value.{node_value}
 use Rattle.lot_machine.specs.Facts.{HasNoCycle, FundsThere}
@@ -20,8 +20,7 @@ use Rattle.lot_machine.proofs.TicketDepth.{is_active-exact}
 use Rattle.lot_machine.proofs.EdgesOnce.{kept-shares}
 use Rattle.lot_machine.proofs.EdgeSums.{sum-there}
 use Rattle.lot_machine.proofs.NodeShares.{values-solve, begins-there, solution}
-use Rattle.lot_laws.specs.Insulation.{KeepsAmounts}
-use Rattle.lot_laws.proofs.KeptPaths.{ends-ticket, currency-one}
+use Rattle.lot_laws.proofs.KeptPaths.{StaysActive, ends-ticket, ends-kept, amount-one, currency-one}
 
 -- ---- what can be told
 
@@ -52,14 +51,19 @@ node-told (Mutex m) (Mutex n) = by (cases_eq m n)
 abbrev pub ends : Node → Node → Option (Node × Node)
 ends from to = Some (from, to)
 
-pub ends-told : (o : Option (Node × Node)) (from to : Node) → (o ≡ ends from to) ⊎ (o ≢ ends from to)
-ends-told None from to = inr (λ e. cc)
-ends-told (Some (a, b)) from to = by (node-told a from) (node-told b to)
+-- an edge's ends and its weight
+abbrev pub weighed : Node → Node → ℕ → Option (Node × Node × ℕ)
+weighed from to weight = Some (from, to, weight)
+
+pub weighed-told : (o : Option (Node × Node × ℕ)) (from to : Node) (weight : ℕ) → (o ≡ weighed from to weight) ⊎ (o ≢ weighed from to weight)
+weighed-told None from to weight = inr (λ e. cc)
+weighed-told (Some (a, b, m)) from to weight = by (node-told a from) (node-told b to) (cases_eq m weight)
   where
-    by : (a ≡ from) ⊎ (a ≢ from) → (b ≡ to) ⊎ (b ≢ to) → (ends a b ≡ ends from to) ⊎ (ends a b ≢ ends from to)
-    by (inl first) (inl second) = inl (ap (λ x. ends x b) first ∙ ap (λ y. ends from y) second)
-    by (inr first) second = inr (λ e. first (ap (λ (x : Node × Node). x.0) (some-injective _ _ e)))
-    by (inl first) (inr second) = inr (λ e. second (ap (λ (x : Node × Node). x.1) (some-injective _ _ e)))
+    by : (a ≡ from) ⊎ (a ≢ from) → (b ≡ to) ⊎ (b ≢ to) → (m ≡ weight) ⊎ (¬ (m ≡ weight)) → (weighed a b m ≡ weighed from to weight) ⊎ (weighed a b m ≢ weighed from to weight)
+    by (inl first) (inl second) (inl third) = inl (ap (λ x. weighed x b m) first ∙ ap (λ y. weighed from y m) second ∙ ap (weighed from to) third)
+    by (inr first) second third = inr (λ e. first (ap (λ (x : Node × Node × ℕ). x.0) (some-injective _ _ e)))
+    by (inl first) (inr second) third = inr (λ e. second (ap (λ (x : Node × Node × ℕ). x.1) (some-injective _ _ e)))
+    by (inl first) (inl second) (inr third) = inr (λ e. third (ap (λ (x : Node × Node × ℕ). x.2) (some-injective _ _ e)))
 
 pub live-told : (o : Option Bool) → (o ≡ Some true) ⊎ (o ≢ Some true)
 live-told None = inr (λ e. cc)
@@ -92,30 +96,31 @@ amount-counted f live c =
     ∙ sum-filter (λ t. cond (is_active f live t) t.amount 0) (λ t. t.issuer == c) (all_tickets f)
     ∙ sym (sum-there (counted f live c) (λ t. cond (t.issuer == c) (cond (is_active f live t) t.amount 0) 0) refl (λ t. refl) f.tickets)
 
--- two tickets count for as much if each counts that the other does
-same-counted : (a b m n : Bool) (x y : ℕ) → x ≡ y → (a ≡ true → m ≡ true → (b ≡ true) × (n ≡ true)) → (b ≡ true → n ≡ true → (a ≡ true) × (m ≡ true)) → cond a (cond m x 0) 0 ≡ cond b (cond n y 0) 0
-same-counted true b true n x y same to back = let r = to refl refl in rw (r.0, r.1) same
-same-counted false true m true x y same to back = let no : false ≡ true = (back refl refl).0 in cc
-same-counted true true false true x y same to back = let no : false ≡ true = (back refl refl).1 in cc
-same-counted true true false false x y same to back = refl
-same-counted true false false true x y same to back = refl
-same-counted true false false false x y same to back = refl
-same-counted false true true false x y same to back = refl
-same-counted false true false false x y same to back = refl
-same-counted false false true true x y same to back = refl
-same-counted false false true false x y same to back = refl
-same-counted false false false true x y same to back = refl
-same-counted false false false false x y same to back = refl
+-- two tickets count for as much if each counts that the other does, and with the same amount
+same-counted : (a b m n : Bool) (x y : ℕ) → (a ≡ true → m ≡ true → (b ≡ true) × (n ≡ true) × (x ≡ y)) → (b ≡ true → n ≡ true → (a ≡ true) × (m ≡ true)) → cond a (cond m x 0) 0 ≡ cond b (cond n y 0) 0
+same-counted true b true n x y to back = let r = to refl refl in rw (r.0, r.1) r.2
+same-counted false true m true x y to back = let no : false ≡ true = (back refl refl).0 in cc
+same-counted true true false true x y to back = let no : false ≡ true = (back refl refl).1 in cc
+same-counted true true false false x y to back = refl
+same-counted true false false true x y to back = refl
+same-counted true false false false x y to back = refl
+same-counted false true true false x y to back = refl
+same-counted false true false false x y to back = refl
+same-counted false false true true x y to back = refl
+same-counted false false true false x y to back = refl
+same-counted false false false true x y to back = refl
+same-counted false false false false x y to back = refl
 
 none-counted : (a m : Bool) (x : ℕ) → (a ≡ true → m ≡ true → ⊥) → cond a (cond m x 0) 0 ≡ 0
 none-counted true true x none = absurd (none refl refl)
 none-counted true false x none = refl
 none-counted false m x none = refl
 
--- A currency's active amount stays if each of its active tickets is still there and active, and no other is.
-module _ (f g : Funding) (live now : List Bool) (amounts : KeepsAmounts f g) (c : ℕ)
-    (after : (n : ℕ) (t : Ticket) → ticket_at f n ≡ Some t → (t.issuer == c) ≡ true → is_active f live t ≡ true → (u : Ticket) × (ticket_at g n ≡ Some u) × (t.issuer ≡ u.issuer) × (is_active g now u ≡ true))
-    (before : (n : ℕ) (u : Ticket) → ticket_at g n ≡ Some u → (u.issuer == c) ≡ true → is_active g now u ≡ true → (t : Ticket) × (ticket_at f n ≡ Some t) × (u.issuer ≡ t.issuer) × (is_active f live t ≡ true)) where
+-- A currency's active amount stays if each of its active tickets is still there and active with its amount, and no
+-- other is.
+module _ (f g : Funding) (live now : List Bool) (c : ℕ)
+    (after : (n : ℕ) (t : Ticket) → ticket_at f n ≡ Some t → (t.issuer == c) ≡ true → is_active f live t ≡ true → StaysActive g now n t)
+    (before : (n : ℕ) (u : Ticket) → ticket_at g n ≡ Some u → (u.issuer == c) ≡ true → is_active g now u ≡ true → StaysActive f live n u) where
   pub amount-stays : active_amount f live c ≡ active_amount g now c
   amount-stays =
       amount-counted f live c ∙ sum-each (counted f live c) (counted g now c) refl refl f.tickets g.tickets (λ i. by i (ticket_at f (suc i)) (ticket_at g (suc i)) refl refl) ∙ sym (amount-counted g now c)
@@ -123,17 +128,17 @@ module _ (f g : Funding) (live now : List Bool) (amounts : KeepsAmounts f g) (c 
       both : (n : ℕ) (o p : Option Ticket) → ticket_at f n ≡ o → ticket_at g n ≡ p → counted f live c o ≡ counted g now c p
       both n None None before_at after_at = refl
       both n (Some t) None before_at after_at =
-          none-counted (t.issuer == c) (is_active f live t) t.amount (λ issued active. let (u, u_at, same, is) = after n t before_at issued active in let no : None ≡ Some u = sym after_at ∙ u_at in cc)
+          none-counted (t.issuer == c) (is_active f live t) t.amount (λ issued active. let u = after n t before_at issued active in let no : None ≡ Some u.ticket = sym after_at ∙ u.there in cc)
       both n None (Some u) before_at after_at =
-          sym (none-counted (u.issuer == c) (is_active g now u) u.amount (λ issued active. let (t, t_at, same, is) = before n u after_at issued active in let no : None ≡ Some t = sym before_at ∙ t_at in cc))
+          sym (none-counted (u.issuer == c) (is_active g now u) u.amount (λ issued active. let t = before n u after_at issued active in let no : None ≡ Some t.ticket = sym before_at ∙ t.there in cc))
       both n (Some t) (Some u) before_at after_at =
-          same-counted (t.issuer == c) (u.issuer == c) (is_active f live t) (is_active g now u) t.amount u.amount (amounts n t u before_at after_at)
-          (λ issued active. let (x, x_at, same, is) = after n t before_at issued active in
-          let x_is : x ≡ u = some-injective x u (sym x_at ∙ after_at) in
-          (eq-eqb u.issuer c (ap (λ (y : Ticket). y.issuer) (sym x_is) ∙ sym same ∙ eqb-true t.issuer c issued), ap (is_active g now) (sym x_is) ∙ is))
-          (λ issued active. let (x, x_at, same, is) = before n u after_at issued active in
-          let x_is : x ≡ t = some-injective x t (sym x_at ∙ before_at) in
-          (eq-eqb t.issuer c (ap (λ (y : Ticket). y.issuer) (sym x_is) ∙ sym same ∙ eqb-true u.issuer c issued), ap (is_active f live) (sym x_is) ∙ is))
+          same-counted (t.issuer == c) (u.issuer == c) (is_active f live t) (is_active g now u) t.amount u.amount
+          (λ issued active. let x = after n t before_at issued active in
+          let x_is : x.ticket ≡ u = some-injective x.ticket u (sym x.there ∙ after_at) in
+          (eq-eqb u.issuer c (ap (λ (y : Ticket). y.issuer) (sym x_is) ∙ sym x.issuer ∙ eqb-true t.issuer c issued), ap (is_active g now) (sym x_is) ∙ x.active, x.amount ∙ ap (λ (y : Ticket). y.amount) x_is))
+          (λ issued active. let x = before n u after_at issued active in
+          let x_is : x.ticket ≡ t = some-injective x.ticket t (sym x.there ∙ before_at) in
+          (eq-eqb t.issuer c (ap (λ (y : Ticket). y.issuer) (sym x_is) ∙ sym x.issuer ∙ eqb-true u.issuer c issued), ap (is_active f live) (sym x_is) ∙ x.active))
 
       by : (i : ℕ) (o p : Option Ticket) → ticket_at f (suc i) ≡ o → ticket_at g (suc i) ≡ p → counted f live c (option_flatten (slice_get f.tickets i)) ≡ counted g now c (option_flatten (slice_get g.tickets i))
       by i o p before_at after_at =
@@ -141,15 +146,21 @@ module _ (f g : Funding) (live now : List Bool) (amounts : KeepsAmounts f g) (c 
 
 -- ---- values
 
--- Some nodes, to which no others lead but base: the same edges lead into them before and after, the same tickets of
--- these are active, and the active amounts of their issuers stay.
-module _ (f g : Funding) (no_cycle : HasNoCycle f) (there : FundsThere f) (no_cycle_now : HasNoCycle g) (there_now : FundsThere g) (amounts : KeepsAmounts f g) (unit : ℕ) (live now : List Bool)
+-- Some nodes, to which no others lead but base: the same edges lead into them before and after with the same weights,
+-- the same tickets of these are active, and the active amounts of their issuers stay.
+module _ (f g : Funding) (no_cycle : HasNoCycle f) (there : FundsThere f) (no_cycle_now : HasNoCycle g) (there_now : FundsThere g) (unit : ℕ) (live now : List Bool)
     (IsKept : Node → Type 0) (source : (from to : Node) → IsKept to → IsEdgeOfEither f g from to → from ≢ Currency 0 → IsKept from)
-    (edge-on : (edge : Edge) (from to : Node) → IsKept to → ends_of f edge ≡ ends from to → ends_of g edge ≡ ends from to)
-    (edge-back : (edge : Edge) (from to : Node) → IsKept to → ends_of g edge ≡ ends from to → ends_of f edge ≡ ends from to)
+    (weighed-on : (edge : Edge) (from to : Node) (weight : ℕ) → IsKept to → weighed_of f edge ≡ weighed from to weight → weighed_of g edge ≡ weighed from to weight)
+    (weighed-back : (edge : Edge) (from to : Node) (weight : ℕ) → IsKept to → weighed_of g edge ≡ weighed from to weight → weighed_of f edge ≡ weighed from to weight)
     (active-on : (n : ℕ) (from to : Node) → IsKept to → ends_of f (OfTicket n) ≡ ends from to → ends_of g (OfTicket n) ≡ ends from to → IsActive f live n → IsActive g now n)
     (active-back : (n : ℕ) (from to : Node) → IsKept to → ends_of f (OfTicket n) ≡ ends from to → ends_of g (OfTicket n) ≡ ends from to → IsActive g now n → IsActive f live n)
     (amount-kept : (c : ℕ) (to : Node) → IsKept to → IsEdge g (Currency c) to → c ≢ 0 → active_amount f live c ≡ active_amount g now c) where
+  edge-on : (edge : Edge) (from to : Node) → IsKept to → ends_of f edge ≡ ends from to → ends_of g edge ≡ ends from to
+  edge-on edge from to kept = ends-kept f g edge from to (λ weight. weighed-on edge from to weight kept)
+
+  edge-back : (edge : Edge) (from to : Node) → IsKept to → ends_of g edge ≡ ends from to → ends_of f edge ≡ ends from to
+  edge-back edge from to kept = ends-kept g f edge from to (λ weight. weighed-back edge from to weight kept)
+
   -- what a ticket passes on, by what it is
   abbrev passed_on : (Node → ℕ) → Bool → ℕ → ℕ → ℕ → ℕ
   passed_on worth active issuer amount all = if active then (if issuer == 0 then amount * unit else worth (Currency issuer) * amount / all) else 0
@@ -168,7 +179,7 @@ module _ (f g : Funding) (no_cycle : HasNoCycle f) (there : FundsThere f) (no_cy
         let (t, t_at, t_from, t_to) = ends-ticket f n from node is in
         let (u, u_at, u_from, u_to) = ends-ticket g n from node is_now in
         let issuer : t.issuer ≡ u.issuer = currency-one t.issuer u.issuer (sym t_from ∙ u_from) in
-        let amount : t.amount ≡ u.amount = amounts n t u t_at u_at in
+        let amount : t.amount ≡ u.amount = amount-one f g n from node t u t_at u_at is (λ weight. weighed-on (OfTicket n) from node weight kept) in
         let exact = is_active-exact f no_cycle there live n t t_at in
         let exact_now = is_active-exact g no_cycle_now there_now now n u u_at in
         let active : is_active f live t ≡ is_active g now u =

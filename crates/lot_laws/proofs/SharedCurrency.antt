@@ -41,8 +41,8 @@ no-edge (OfLender u) next is =
 no-edge (OfMutex m) next is = let (owner, at, from, to) = ends-are shared (OfMutex m) (Thread 2) next is in cc
 
 same-edges : (from to : Node) → ¬ IsChangedEdge shared shared from to
-same-edges from to (inl (edge, is, not)) = not is
-same-edges from to (inr (edge, is, not)) = not is
+same-edges from to (inl (edge, weight, is, not)) = not is
+same-edges from to (inr (edge, weight, is, not)) = not is
 
 unchanged : ¬ IsChangedNode shared shared (true ∷ true ∷ []) (false ∷ true ∷ []) (Thread 2)
 unchanged (inl (other, inl edge)) = same-edges (Thread 2) other edge

@@ -5,7 +5,7 @@ use Rattle.lot_machine.specs.declared.event.Event.{Event}
 use Rattle.lot_machine.specs.declared.ticket.Ticket.{Ticket}
 use Rattle.lot_machine.specs.declared.funding.Node.{Node}
 use Rattle.lot_machine.specs.declared.funding.Node.TheVariants.{Currency}
-use Rattle.lot_machine.specs.Funding.{ticket_at}
+use Rattle.lot_machine.specs.Funding.{ticket_at, reissued}
 use Rattle.lot_machine.specs.Activity.{active_amount}
 use Rattle.lot_machine.specs.Value.{currency_value}
 use Rattle.lot_machine.proofs.ValueDepth.{ticket_value-unfolds}
@@ -15,7 +15,7 @@ use Rattle.lot_machine.specs.Step.{step, state_after}
 use Rattle.lot_laws.specs.Insulation.{ChangesInside, amount_in, worth_in, is_active_in, ticket_worth_in}
 use Rattle.lot_laws.specs.Reachable.{IsReachable, IsWellFormed}
 use Rattle.lot_laws.proofs.EachTicket.{reachable-amounts, reachable-no-base, reachable-order, reachable-next}
-use Rattle.lot_laws.proofs.AmountsKept.{amounts-kept, still-there, worth-after}
+use Rattle.lot_laws.proofs.AmountsKept.{still-there, worth-after}
 use Rattle.lot_laws.proofs.Enclosed.{outside-kept}
 
 pub well-formed : (s : State) → IsReachable s → IsWellFormed (funding_of s)
@@ -34,14 +34,15 @@ run-inside s events c inside reachable change on back node out has =
     let well = well-formed s reachable in
     let after = well-formed (state_after s events) (reachable-run s events reachable) in
     worth-after s events node
-    (outside-kept (funding_of s) (funding_of (state_after s events)) well.no_cycle well.funds_there after.no_cycle after.funds_there (amounts-kept s events) well.amounts after.amounts well.no_base after.no_base
+    (outside-kept (funding_of s) (funding_of (state_after s events)) well.no_cycle well.funds_there after.no_cycle after.funds_there well.amounts after.amounts well.no_base after.no_base
     s.limits.unit (live_of s) (live_of (state_after s events)) c inside change on back node out has (still-there s events node has))
 
--- a ticket of the currency that is active before and after keeps its value, if the active amount stays
-pub run-tickets : (s : State) (events : List Event) (c : ℕ) (inside : Node → Bool) → IsReachable s → ChangesInside s (state_after s events) c inside → amount_in (state_after s events) c ≡ amount_in s c → c ≢ 0
+-- a ticket of the currency that is active before and after is worth what its amount was worth before, if the active
+-- amount stays
+pub run-amounts : (s : State) (events : List Event) (c : ℕ) (inside : Node → Bool) → IsReachable s → ChangesInside s (state_after s events) c inside → amount_in (state_after s events) c ≡ amount_in s c → c ≢ 0
     → (n : ℕ) (t u : Ticket) → ticket_at (funding_of s) n ≡ Some t → ticket_at (funding_of (state_after s events)) n ≡ Some u → t.issuer ≡ c → u.issuer ≡ c
-    → is_active_in s t ≡ true → is_active_in (state_after s events) u ≡ true → ticket_worth_in (state_after s events) u ≡ ticket_worth_in s t
-run-tickets s events c inside reachable change same user n t u at at_now issued issued_now active active_now =
+    → is_active_in s t ≡ true → is_active_in (state_after s events) u ≡ true → ticket_worth_in (state_after s events) u ≡ ticket_worth_in s (reissued u.amount t)
+run-amounts s events c inside reachable change same user n t u at at_now issued issued_now active active_now =
     let after = state_after s events in
     let well = well-formed s reachable in
     let well_now = well-formed after (reachable-run s events reachable) in
@@ -49,9 +50,8 @@ run-tickets s events c inside reachable change same user n t u at at_now issued 
     run-inside s events c inside reachable change (subst (λ (m : ℕ). 0 < m) (sym same)) (subst (λ (m : ℕ). 0 < m) same) (Currency c) change.enclosed_before.itself user in
     let value : currency_value after.limits.unit (funding_of after) (live_of after) c ≡ currency_value s.limits.unit (funding_of s) (live_of s) c =
     sym (of-user after) ∙ worth ∙ of-user s in
-    let amount : t.amount ≡ u.amount = amounts-kept s events n t u at at_now in
-    share-of after u well_now issued_now active_now ∙ ap (λ v. v * u.amount / amount_in after c) value ∙ ap (λ a. currency_value s.limits.unit (funding_of s) (live_of s) c * a / amount_in after c) (sym amount)
-    ∙ ap (λ m. currency_value s.limits.unit (funding_of s) (live_of s) c * t.amount / m) same ∙ sym (share-of s t well issued active)
+    share-of after u well_now issued_now active_now ∙ ap (λ v. v * u.amount / amount_in after c) value
+    ∙ ap (λ m. currency_value s.limits.unit (funding_of s) (live_of s) c * u.amount / m) same ∙ sym (share-of s (reissued u.amount t) well issued active)
   where
     of-user : (x : State) → worth_in x (Currency c) ≡ currency_value x.limits.unit (funding_of x) (live_of x) c
     of-user x = ap (λ b. if b then active_amount (funding_of x) (live_of x) 0 else currency_value x.limits.unit (funding_of x) (live_of x) c) (ne_eqb c 0 user)
@@ -60,3 +60,10 @@ run-tickets s events c inside reachable change same user n t u at at_now issued 
     share-of x y well is on =
         let not_base : (y.issuer == 0) ≡ false = ne_eqb y.issuer 0 (λ base. user (sym is ∙ base)) in
         ticket_value-unfolds (funding_of x) well.no_cycle well.funds_there x.limits.unit (live_of x) y ∙ rw (on, not_base, is) refl
+
+-- so one that keeps its amount keeps its value
+pub run-tickets : (s : State) (events : List Event) (c : ℕ) (inside : Node → Bool) → IsReachable s → ChangesInside s (state_after s events) c inside → amount_in (state_after s events) c ≡ amount_in s c → c ≢ 0
+    → (n : ℕ) (t u : Ticket) → ticket_at (funding_of s) n ≡ Some t → ticket_at (funding_of (state_after s events)) n ≡ Some u → t.issuer ≡ c → u.issuer ≡ c
+    → is_active_in s t ≡ true → is_active_in (state_after s events) u ≡ true → t.amount ≡ u.amount → ticket_worth_in (state_after s events) u ≡ ticket_worth_in s t
+run-tickets s events c inside reachable change same user n t u at at_now issued issued_now active active_now amount =
+    run-amounts s events c inside reachable change same user n t u at at_now issued issued_now active active_now ∙ ap (λ a. ticket_worth_in s (reissued a t)) (sym amount)

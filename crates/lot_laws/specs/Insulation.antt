@@ -1,5 +1,8 @@
 -- Insulation: what a change can't affect, and what is inside a currency (3.2, 3.3).
 use Rattle.std.specs.Prelude.{◌≡◌, ◌≢◌, ◌⊎◌, ℕ, Bool, true, false, Some, List, option_and_then}
+use Rattle.lot_machine.specs.declared.event.Event.{Event}
+use Rattle.lot_machine.specs.declared.event.Event.TheVariants.{Command}
+use Rattle.lot_machine.specs.declared.command.Command.TheVariants.{SetTicket}
 use Rattle.lot_machine.specs.declared.ticket.Ticket.{Ticket}
 use Rattle.lot_machine.specs.declared.ticket.Target.TheVariants as target
 use Rattle.lot_machine.specs.declared.funding.Node.{Node}
@@ -11,9 +14,17 @@ use Rattle.lot_machine.specs.State.{State, funding_of, live_of}
 use Rattle.lot_machine.specs.Commands.{target_named}
 use Rattle.lot_machine.specs.Touched.{PathLeads, IsTouched, IsChangedEdge, IsChangedLife}
 
--- a ticket that is there before and after has the same amount
+-- the ticket with this number has the same amount before and after, if it is there before and after
+abbrev pub KeepsAmount : Funding → Funding → ℕ → Type 0
+KeepsAmount before after n = (t u : Ticket) → ticket_at before n ≡ Some t → ticket_at after n ≡ Some u → t.amount ≡ u.amount
+
+-- and so has each ticket
 abbrev pub KeepsAmounts : Funding → Funding → Type 0
-KeepsAmounts before after = (n : ℕ) (t u : Ticket) → ticket_at before n ≡ Some t → ticket_at after n ≡ Some u → t.amount ≡ u.amount
+KeepsAmounts before after = (n : ℕ) → KeepsAmount before after n
+
+-- the event gives the ticket an amount: it is `settkt` of this ticket
+abbrev pub SetsAmountOf : ℕ → Event → Type 0
+SetsAmountOf n e = (amount : ℕ) × (e ≡ Command (SetTicket n amount))
 
 -- a path, perhaps empty, leads to the node from one that the change touched
 abbrev pub IsAffected : Funding → Funding → List Bool → List Bool → Node → Type 0
@@ -37,8 +48,8 @@ pub record Encloses (f : Funding) (c : ℕ) (inside : Node → Bool) : Type 0 wh
   pub below : (from to : Node) → IsEdge f from to → (from ≡ Currency c) ⊎ (inside from ≡ true) → inside to ≡ true
   pub alone : (from to : Node) → IsEdge f from to → inside to ≡ true → from ≢ Currency 0 → (from ≡ Currency c) ⊎ (inside from ≡ true)
 
--- all that changes is inside the currency: the edges that come or go lead to what is inside, and so are the threads
--- that begin or cease to live
+-- all that changes is inside the currency: the edges that come, go or get another weight lead to what is inside, and
+-- so are the threads that begin or cease to live
 pub record IsChangeInside (before after : Funding) (live_before live_after : List Bool) (c : ℕ) (inside : Node → Bool) : Type 0 where
   pub enclosed_before : Encloses before c inside
   pub enclosed_after : Encloses after c inside

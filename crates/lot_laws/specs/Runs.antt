@@ -18,9 +18,13 @@ nothing_to_share = record (after halves) { tickets = Some (record { amount = 5; 
 abbrev pub two_currencies : List Event
 two_currencies = mkcur (codes "g") ∷ mkcur (codes "h") ∷ mktkt 100 base ∷ fund 1 (codes "g") ∷ mktkt 100 base ∷ fund 2 (codes "h") ∷ fundx 1 (codes "g") (codes "a") ∷ fundx 1 (codes "h") (codes "b") ∷ []
 
--- the same with one more thread in the first currency, whose first thread runs
+-- the same with one more thread in the first currency
+abbrev pub three_threads : List Event
+three_threads = two_currencies ++ fundx 1 (codes "g") (codes "c") ∷ []
+
+-- the same, and the first thread runs
 abbrev pub first_of_three_runs : List Event
-first_of_three_runs = two_currencies ++ fundx 1 (codes "g") (codes "c") ∷ Draw 1 0 ∷ []
+first_of_three_runs = three_threads ++ Draw 1 0 ∷ []
 
 -- a server with no ticket that waits for a call, and a thread that runs
 abbrev pub waiting_server : List Event

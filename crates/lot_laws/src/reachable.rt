@@ -15,7 +15,7 @@ pub fn reachable_states_meet_the_premises()
     ensures run { (s : State) (events : List Event) → IsReachable s → IsReachable (state_after s events) }
 {}
 
-/// No event makes a ticket with the amount 0.
+/// No event makes a ticket with the amount 0, or gives one that amount.
 pub fn events_keep_amounts_positive()
     ensures { (s : State) (e : Event) → HasAmounts (funding_of s) → HasAmounts (funding_of (step s e).state) }
 {}

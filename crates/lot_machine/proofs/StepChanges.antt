@@ -13,7 +13,7 @@ use Rattle.lot_machine.specs.declared.record.Status.TheVariants as status
 use Rattle.lot_machine.specs.declared.action.Action.{Action}
 use Rattle.lot_machine.specs.declared.action.Action.TheVariants.{Yield, Call, Receive, Reply as ReplyTo, Serve, Lock, Unlock, Exit}
 use Rattle.lot_machine.specs.declared.command.Command.{Command}
-use Rattle.lot_machine.specs.declared.command.Command.TheVariants.{MakeTicket, RemoveTicket, MakeCurrency, RemoveCurrency, Fund, Unfund, MakeThread, MakeFunded, List as Listing}
+use Rattle.lot_machine.specs.declared.command.Command.TheVariants.{MakeTicket, RemoveTicket, MakeCurrency, RemoveCurrency, Fund, Unfund, SetTicket, MakeThread, MakeFunded, List as Listing}
 use Rattle.lot_machine.specs.declared.event.Event.{Event}
 use Rattle.lot_machine.specs.declared.event.Event.TheVariants as event
 use Rattle.lot_machine.specs.declared.refusal.Refusal.TheVariants.{BadName, NameTaken, NoCurrency, NoTicket, NoTarget, BadAmount, InUse, Funding as IsFunding, Cycle, BaseFixed, DeadThread, Full, NoScript, BadProcessor, Busy, NotRunning, BadTicks}
@@ -22,7 +22,7 @@ use Rattle.lot_machine.specs.declared.drawn.Drawn.{Drawn}
 use Rattle.lot_machine.specs.declared.after.After.{After}
 use Rattle.lot_machine.specs.declared.after.After.TheVariants.{GoesOn, Leaves, Ends}
 use Rattle.lot_machine.specs.Numbered.{at_number, set_number, option_any}
-use Rattle.lot_machine.specs.Funding.{ticket_in, with_target, retargeted, issued_in, backing_currency, is_currency, currency_funded}
+use Rattle.lot_machine.specs.Funding.{ticket_in, with_target, retargeted, reissued, issued_in, backing_currency, is_currency, currency_funded}
 use Rattle.lot_machine.specs.Bounds.{IsWithinBounds}
 use Rattle.lot_machine.specs.Lottery.{winner}
 use Rattle.lot_machine.specs.State.{State, funding_of, lend_of, QueuedCall, status_of, used_by, thread_on, ready_threads, change_record, value_of, weight_of}
@@ -35,6 +35,7 @@ use Rattle.lot_machine.specs.Facts.{HasNoCycle, FundsThere, RunsApart}
 use Rattle.lot_machine.specs.Order.{HasQueues}
 use Rattle.lot_machine.specs.Change.{Change, NewTicket, PutTicket, NewCurrency, DropCurrency, NewThread, PutRecord, PutClients, PutPort, PutMutex, newborn, applied, applied_all}
 use Rattle.lot_machine.proofs.Idle.{there-alone, free-of, SameUsed, used-changed, used-more, used-stopped_on, index-holds, ready-used, receiver-used, caller-used, client-used, waiter-used, there-used}
+use Rattle.lot_machine.proofs.Amounts.{HasNoCycle-amount, FundsThere-amount, place-of}
 use Rattle.lot_machine.proofs.CommandsKept.{IsFunded, unrefused, all-pass, none-of, named-there, target-currency, keeps-remove_ticket, keeps-unfund, keeps-target}
 use Rattle.lot_machine.proofs.FundingKept.{HasNoCycle-new_ticket, FundsThere-new_ticket, HasNoCycle-currencies, FundsThere-after, FundsThere-removed}
 use Rattle.lot_machine.proofs.LendsKept.{HasNoCycle-lends_more}
@@ -236,6 +237,10 @@ may-issue : (s : State) (amount : ℕ) (to : Target) → is_bad_amount amount �
 may-issue s amount to good free none =
     (refl, omega (arith, ltb-false 4294967295 amount (or_parts (amount == 0) (nat_lt 4294967295 amount) good).1), leb-false s.limits.tickets (length s.tickets) free, none)
 
+amount-small : (o : Option Ticket) (amount : ℕ) → is_bad_amount amount ≡ false → HasAmount (option_map (reissued amount) o)
+amount-small None amount good = tt
+amount-small (Some t) amount good = omega (arith, ltb-false 4294967295 amount (or_parts (amount == 0) (nat_lt 4294967295 amount) good).1)
+
 -- Each command: its checks say that its changes are allowed.
 pub command-leads : (s : State) (c : Command) → Leads Console s (command_step s c).state
 command-leads s (MakeTicket amount currency) =
@@ -270,6 +275,12 @@ command-leads s (Fund n name) =
 command-leads s (Unfund n) =
     unrefused (Leads Console s) s _ (command_effect s (Unfund n)) Stays (λ _.
     Then Stays (PutTicket n (option_map (retargeted target.Unfunded) (ticket_in s.tickets n))) (refl, amount-in s.tickets n target.Unfunded, λ (cycle, there). keeps-unfund s cycle there n target.Unfunded refl))
+command-leads s (SetTicket n amount) =
+    unrefused (Leads Console s) s _ (command_effect s (SetTicket n amount)) Stays (λ e.
+    let passed = all-pass ((is_bad_amount amount, BadAmount) ∷ (is_none (ticket_in s.tickets n), NoTicket) ∷ []) e in
+    let (place, there) = place-of s.tickets n passed.1.0 in
+    Then Stays (PutTicket n (option_map (reissued amount) (ticket_in s.tickets n)))
+    (refl, λ _. amount-small (ticket_in s.tickets n) amount passed.0, λ (cycle, funds). (HasNoCycle-amount (funding_of s) n amount place there cycle, FundsThere-amount (funding_of s) n amount place there funds)))
 command-leads s (MakeThread name script) =
     unrefused (Leads Console s) s _ (command_effect s (MakeThread name script)) Stays (λ _. Then Stays (NewThread (record { name = name; script = script })) refl)
 command-leads s (MakeFunded amount currency name script) =

@@ -1,29 +1,30 @@
--- What a change in two steps touches, if the graph between them has no edge and no live thread that neither end has, and
--- lacks none that both have.
+-- What a change in two steps touches, if the graph between them has no edge with its weight and no live thread that neither end
+-- has, and lacks none that both have.
 use Rattle.std.proofs.Common.{◌≡◌, ◌∙◌, ℕ, ◌⊎◌, inl, inr, sym, Bool, Some, List, [], ◌∷◌}
 use Rattle.lot_machine.specs.declared.funding.Node.{Node}
 use Rattle.lot_machine.specs.declared.funding.Edge.{Edge}
-use Rattle.lot_machine.specs.Funding.{Funding, ends_of}
+use Rattle.lot_machine.specs.Funding.{Funding, ends_of, weighed_of}
 use Rattle.lot_machine.specs.Numbered.{at_number}
 use Rattle.lot_machine.specs.Lends.{IsLive}
-use Rattle.lot_machine.specs.Touched.{IsEdgeOfEither, IsPath, PathLeads, IsChangedEdge, IsChangedLife, IsChangedNode, IsTouched, EdgesBetween, LiveBetween}
+use Rattle.lot_machine.proofs.Weighed.{there-weighed, weighed-there}
+use Rattle.lot_machine.specs.Touched.{IsEdgeOfEither, IsPath, PathLeads, IsChangedEdge, IsChangedLife, IsChangedNode, IsTouched, WeighedBetween, LiveBetween}
 
-module _ (before mid after : Funding) (edges : EdgesBetween before mid after) where
+module _ (before mid after : Funding) (edges : WeighedBetween before mid after) where
+  -- an edge in between is there before or after
+  either : (edge : Edge) (x y : Node) → ends_of mid edge ≡ Some (x, y) → IsEdgeOfEither before after x y
+  either edge x y ends = let (weight, is) = weighed-there mid edge x y ends in by weight (edges.only edge (x, y, weight) is)
+    where
+      by : (weight : ℕ) → (weighed_of before edge ≡ Some (x, y, weight)) ⊎ (weighed_of after edge ≡ Some (x, y, weight)) → IsEdgeOfEither before after x y
+      by weight (inl old) = inl (edge, there-weighed before edge x y weight old)
+      by weight (inr new) = inr (edge, there-weighed after edge x y weight new)
+
   edge-first : (x y : Node) → IsEdgeOfEither before mid x y → IsEdgeOfEither before after x y
   edge-first x y (inl is) = inl is
-  edge-first x y (inr (edge, ends)) = by (edges.only edge (x, y) ends)
-    where
-      by : (ends_of before edge ≡ Some (x, y)) ⊎ (ends_of after edge ≡ Some (x, y)) → IsEdgeOfEither before after x y
-      by (inl old) = inl (edge, old)
-      by (inr new) = inr (edge, new)
+  edge-first x y (inr (edge, ends)) = either edge x y ends
 
   edge-second : (x y : Node) → IsEdgeOfEither mid after x y → IsEdgeOfEither before after x y
   edge-second x y (inr is) = inr is
-  edge-second x y (inl (edge, ends)) = by (edges.only edge (x, y) ends)
-    where
-      by : (ends_of before edge ≡ Some (x, y)) ⊎ (ends_of after edge ≡ Some (x, y)) → IsEdgeOfEither before after x y
-      by (inl old) = inl (edge, old)
-      by (inr new) = inr (edge, new)
+  edge-second x y (inl (edge, ends)) = either edge x y ends
 
   path-first : (x : Node) (path : List Node) (y : Node) → IsPath before mid x path y → IsPath before after x path y
   path-first x [] y is = is
@@ -42,19 +43,19 @@ module _ (before mid after : Funding) (edges : EdgesBetween before mid after) wh
   leads-second x y (path, is) = (path, path-second x path y is)
 
   changed-first : (x y : Node) → IsChangedEdge before mid x y → IsChangedEdge before after x y
-  changed-first x y (inl (edge, old, gone)) = inl (edge, old, λ new. gone (edges.kept edge (x, y) old new))
-  changed-first x y (inr (edge, there, none)) = by (edges.only edge (x, y) there)
+  changed-first x y (inl (edge, weight, old, gone)) = inl (edge, weight, old, λ new. gone (edges.kept edge (x, y, weight) old new))
+  changed-first x y (inr (edge, weight, there, none)) = by (edges.only edge (x, y, weight) there)
     where
-      by : (ends_of before edge ≡ Some (x, y)) ⊎ (ends_of after edge ≡ Some (x, y)) → IsChangedEdge before after x y
+      by : (weighed_of before edge ≡ Some (x, y, weight)) ⊎ (weighed_of after edge ≡ Some (x, y, weight)) → IsChangedEdge before after x y
       by (inl old) = absurd (none old)
-      by (inr new) = inr (edge, new, none)
+      by (inr new) = inr (edge, weight, new, none)
 
   changed-second : (x y : Node) → IsChangedEdge mid after x y → IsChangedEdge before after x y
-  changed-second x y (inr (edge, new, none)) = inr (edge, new, λ old. none (edges.kept edge (x, y) old new))
-  changed-second x y (inl (edge, there, gone)) = by (edges.only edge (x, y) there)
+  changed-second x y (inr (edge, weight, new, none)) = inr (edge, weight, new, λ old. none (edges.kept edge (x, y, weight) old new))
+  changed-second x y (inl (edge, weight, there, gone)) = by (edges.only edge (x, y, weight) there)
     where
-      by : (ends_of before edge ≡ Some (x, y)) ⊎ (ends_of after edge ≡ Some (x, y)) → IsChangedEdge before after x y
-      by (inl old) = inl (edge, old, gone)
+      by : (weighed_of before edge ≡ Some (x, y, weight)) ⊎ (weighed_of after edge ≡ Some (x, y, weight)) → IsChangedEdge before after x y
+      by (inl old) = inl (edge, weight, old, gone)
       by (inr new) = absurd (gone new)
 
 module _ (before mid after : List Bool) (live : LiveBetween before mid after) where
@@ -74,7 +75,7 @@ module _ (before mid after : List Bool) (live : LiveBetween before mid after) wh
       by (inl old) = inl (old, ended)
       by (inr new) = absurd (ended new)
 
-module _ (before mid after : Funding) (lived living lives : List Bool) (edges : EdgesBetween before mid after) (live : LiveBetween lived living lives) where
+module _ (before mid after : Funding) (lived living lives : List Bool) (edges : WeighedBetween before mid after) (live : LiveBetween lived living lives) where
   node-first : (x : Node) → IsChangedNode before mid lived living x → IsChangedNode before after lived lives x
   node-first x (inl (other, inl is)) = inl (other, inl (changed-first before mid after edges x other is))
   node-first x (inl (other, inr is)) = inl (other, inr (changed-first before mid after edges other x is))
@@ -105,14 +106,14 @@ live-between before mid after each = record { kept = λ t old new. kept t old ne
     only t is (inl same) = inl (sym same ∙ is)
     only t is (inr same) = inr (sym same ∙ is)
 
--- the edges in between are those before or those after, edge by edge, and no edge that both have goes
-pub edges-between : (before mid after : Funding) → ((edge : Edge) → (ends_of mid edge ≡ ends_of before edge) ⊎ (ends_of mid edge ≡ ends_of after edge)) → EdgesBetween before mid after
-edges-between before mid after each = record { kept = λ edge ends old new. kept edge ends old new (each edge); only = λ edge ends is. only edge ends is (each edge) }
+-- the edges in between are those before or those after, edge by edge, with the same weights, and no edge that both have goes
+pub edges-between : (before mid after : Funding) → ((edge : Edge) → (weighed_of mid edge ≡ weighed_of before edge) ⊎ (weighed_of mid edge ≡ weighed_of after edge)) → WeighedBetween before mid after
+edges-between before mid after each = record { kept = λ edge weighed old new. kept edge weighed old new (each edge); only = λ edge weighed is. only edge weighed is (each edge) }
   where
-    kept : (edge : Edge) (ends : Node × Node) → ends_of before edge ≡ Some ends → ends_of after edge ≡ Some ends → (ends_of mid edge ≡ ends_of before edge) ⊎ (ends_of mid edge ≡ ends_of after edge) → ends_of mid edge ≡ Some ends
-    kept edge ends old new (inl same) = same ∙ old
-    kept edge ends old new (inr same) = same ∙ new
+    kept : (edge : Edge) (weighed : Node × Node × ℕ) → weighed_of before edge ≡ Some weighed → weighed_of after edge ≡ Some weighed → (weighed_of mid edge ≡ weighed_of before edge) ⊎ (weighed_of mid edge ≡ weighed_of after edge) → weighed_of mid edge ≡ Some weighed
+    kept edge weighed old new (inl same) = same ∙ old
+    kept edge weighed old new (inr same) = same ∙ new
 
-    only : (edge : Edge) (ends : Node × Node) → ends_of mid edge ≡ Some ends → (ends_of mid edge ≡ ends_of before edge) ⊎ (ends_of mid edge ≡ ends_of after edge) → (ends_of before edge ≡ Some ends) ⊎ (ends_of after edge ≡ Some ends)
-    only edge ends is (inl same) = inl (sym same ∙ is)
-    only edge ends is (inr same) = inr (sym same ∙ is)
+    only : (edge : Edge) (weighed : Node × Node × ℕ) → weighed_of mid edge ≡ Some weighed → (weighed_of mid edge ≡ weighed_of before edge) ⊎ (weighed_of mid edge ≡ weighed_of after edge) → (weighed_of before edge ≡ Some weighed) ⊎ (weighed_of after edge ≡ Some weighed)
+    only edge weighed is (inl same) = inl (sym same ∙ is)
+    only edge weighed is (inr same) = inr (sym same ∙ is)

@@ -1,6 +1,6 @@
 -- Notation for small runs: the commands of the console, and the values and listings after them.
 use Rattle.std.specs.Prelude.{ℕ, Bool, List, [], ◌∷◌, map, codes, Option, Some}
-use Rattle.lot_machine.specs.declared.command.Command.TheVariants.{MakeTicket, RemoveTicket, MakeCurrency, RemoveCurrency, Fund, Unfund, MakeThread, MakeFunded}
+use Rattle.lot_machine.specs.declared.command.Command.TheVariants.{MakeTicket, RemoveTicket, MakeCurrency, RemoveCurrency, Fund, Unfund, SetTicket, MakeThread, MakeFunded}
 use Rattle.lot_machine.specs.declared.event.Event.{Event}
 use Rattle.lot_machine.specs.declared.event.Event.TheVariants.{Command}
 use Rattle.lot_machine.specs.declared.reply.Reply.{Reply}
@@ -44,6 +44,9 @@ fund n name = Command (Fund n name)
 
 abbrev pub unfund : ℕ → Event
 unfund n = Command (Unfund n)
+
+abbrev pub settkt : ℕ → ℕ → Event
+settkt n amount = Command (SetTicket n amount)
 
 abbrev pub mkthr : List ℕ → Event
 mkthr name = Command (MakeThread name 1)

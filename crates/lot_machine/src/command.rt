@@ -41,6 +41,11 @@ pub enum Command {
     Unfund {
         ticket: u64,
     },
+    /// `settkt`: the ticket's amount changes, and what it funds stays
+    SetTicket {
+        ticket: u64,
+        amount: u64,
+    },
     /// `mkthr`; script 0 is none
     MakeThread {
         name: Name,
@@ -79,6 +84,10 @@ impl Command {
                 target: target.copied(),
             },
             Command::Unfund { ticket } => Command::Unfund { ticket: *ticket },
+            Command::SetTicket { ticket, amount } => Command::SetTicket {
+                ticket: *ticket,
+                amount: *amount,
+            },
             Command::MakeThread { name, script } => Command::MakeThread {
                 name: name.copied(),
                 script: *script,

@@ -9,11 +9,11 @@ use Rattle.lot_machine.specs.declared.record.Record.{Record}
 use Rattle.lot_machine.specs.declared.reply.Outcome.{Outcome}
 use Rattle.lot_machine.specs.declared.reply.Outcome.TheVariants.{Passed}
 use Rattle.lot_machine.specs.declared.record.Status.TheVariants.{Ready}
-use Rattle.lot_machine.specs.Funding.{Funding, ends_of}
+use Rattle.lot_machine.specs.Funding.{Funding, weighed_of}
 use Rattle.lot_machine.specs.Numbered.{at_number, set_number}
 use Rattle.lot_machine.specs.Lends.{IsLive}
 use Rattle.lot_machine.specs.State.{change_record, is_live_status, live_in, status_of}
-use Rattle.lot_machine.specs.Touched.{IsTouched, PathLeads, EdgesBetween}
+use Rattle.lot_machine.specs.Touched.{IsTouched, PathLeads, WeighedBetween}
 use Rattle.lot_machine.proofs.EachOnce.{contains-nothing}
 use Rattle.lot_machine.proofs.Tickets.{some-injective}
 use Rattle.lot_machine.proofs.TrapCycles.{at_number-map}
@@ -25,10 +25,10 @@ use Rattle.lot_threads.proofs.TwoChanges.{makes-both-in}
 -- ---- edges
 
 -- between new lends and new owners there are the new lends
-lends-first : (f : Funding) (lends : List Lend) (owners : List (Option ℕ)) → EdgesBetween f (record f { lends = lends }) (record f { lends = lends; owners = owners })
+lends-first : (f : Funding) (lends : List Lend) (owners : List (Option ℕ)) → WeighedBetween f (record f { lends = lends }) (record f { lends = lends; owners = owners })
 lends-first f lends owners = edges-between f (record f { lends = lends }) (record f { lends = lends; owners = owners }) each
   where
-    each : (edge : Edge) → (ends_of (record f { lends = lends }) edge ≡ ends_of f edge) ⊎ (ends_of (record f { lends = lends }) edge ≡ ends_of (record f { lends = lends; owners = owners }) edge)
+    each : (edge : Edge) → (weighed_of (record f { lends = lends }) edge ≡ weighed_of f edge) ⊎ (weighed_of (record f { lends = lends }) edge ≡ weighed_of (record f { lends = lends; owners = owners }) edge)
     each (OfTicket n) = inl refl
     each (OfLender u) = inr refl
     each (OfMutex k) = inl refl
@@ -53,10 +53,10 @@ module _ (a b d : Threaded) (m p : ℕ) (records : List Record) (first : b ≡ w
   pub passed : d ≡ record (with_records a records d.stale) { owners = set_number a.owners m (Some p) }
   passed = second ∙ ap (λ (x : Threaded). record x { owners = set_number x.owners m (Some p); stale = d.stale }) first
 
-  edges-first : EdgesBetween (funding_in a) (funding_in b) (funding_in d)
+  edges-first : WeighedBetween (funding_in a) (funding_in b) (funding_in d)
   edges-first =
-      subst (λ (x : Threaded). EdgesBetween (funding_in a) (funding_in b) (funding_in x)) (sym passed)
-      (subst (λ (x : Threaded). EdgesBetween (funding_in a) (funding_in x) (funding_in (record (with_records a records d.stale) { owners = set_number a.owners m (Some p) }))) (sym first)
+      subst (λ (x : Threaded). WeighedBetween (funding_in a) (funding_in b) (funding_in x)) (sym passed)
+      (subst (λ (x : Threaded). WeighedBetween (funding_in a) (funding_in x) (funding_in (record (with_records a records d.stale) { owners = set_number a.owners m (Some p) }))) (sym first)
       (lends-first (funding_in a) (lends_in records) (set_number a.owners m (Some p))))
 
   -- what gets stale by both is what a path reaches from a node that the whole change touched

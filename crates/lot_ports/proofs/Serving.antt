@@ -2,7 +2,7 @@
 use Rattle.std.proofs.Common.{◌≡◌, ◌∙◌, ℕ, ◌⊎◌, inl, inr, suc, ◌-◌, Option, Some, None, List, [], ◌∷◌, Contains, drop, option_map, slice_get, unwrap_or, ap, sym, refl, subst}
 use Rattle.lot_machine.specs.declared.record.Record.{Record}
 use Rattle.lot_machine.specs.declared.record.Status.TheVariants.{Served}
-use Rattle.lot_machine.specs.Funding.{ends_of}
+use Rattle.lot_machine.specs.Funding.{weighed_of}
 use Rattle.lot_machine.specs.Lends.{IsLive}
 use Rattle.lot_machine.specs.Numbered.{at_number, set_number}
 use Rattle.lot_machine.specs.Ports.{clients_of, first_client, port_at, receive, reply}
@@ -64,7 +64,7 @@ module _ (a b c : Threaded) (clients : List (List ℕ)) (ports : List Port) (ser
   same-records : c ≡ with_records b b.records c.stale → MakesStaleIn a c
   same-records is =
       makes-both-in a b c
-      (edges-between (funding_in a) (funding_in b) (funding_in c) (λ edge. inr (sym (ap (λ (v : Threaded). ends_of (funding_in v) edge) is))))
+      (edges-between (funding_in a) (funding_in b) (funding_in c) (λ edge. inr (sym (ap (λ (v : Threaded). weighed_of (funding_in v) edge) is))))
       (live-between (live_in a.records) (live_in b.records) (live_in c.records) (λ t. inr (sym (ap (λ (v : Threaded). at_number (live_in v.records) t) is)))) first_makes then_makes
 
   -- if another thread's does

@@ -44,9 +44,10 @@ body_words =
     ∷ (codes "lscur", body.ListCurrencies) ∷ (codes "lsthr", body.ListThreads) ∷ (codes "schedule", body.Schedule)
     ∷ (codes "runs", body.Runs) ∷ []
 
--- the same of an input whose turns come in the order of time, which also says when its commands are made
+-- The same of an input whose turns come in the order of time, which also says when its commands are made, and may give
+-- tickets other amounts.
 abbrev pub timed_body_words : List (List ℕ × BodyWord)
-timed_body_words = (codes "at", body.At) ∷ body_words
+timed_body_words = (codes "at", body.At) ∷ (codes "settkt", body.SetTicket) ∷ body_words
 
 -- the words of a script
 abbrev pub script_words : List (List ℕ × ScriptWord)

@@ -26,6 +26,7 @@ pub enum BodyWord {
     RemoveCurrency,
     Fund,
     Unfund,
+    SetTicket,
     MakeThread,
     MakeFunded,
     ListTickets,

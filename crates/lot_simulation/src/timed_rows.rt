@@ -157,6 +157,31 @@ pub fn behind_the_point()
         ∷ codes "total turns 9 quanta 1 ticks 0 refused 0 left 0" ∷ []) }
 {}
 
+/// Tickets that get other amounts. Inside its currency one thread gains what another loses, and the thread outside
+/// keeps its value; a currency that is backed with less is worth less.
+#[tactic(auto, unfolding(crate::specs::OnLiterals::texts_on_literals, crate::specs::Timed::timed_room))]
+pub fn amounts_in_time()
+    ensures { output (text (codes "lottery 3" ∷ codes "for 300" ∷ codes "seed 14" ∷ codes "script s"
+        ∷ codes "compute 1000" ∷ codes "endscript" ∷ codes "mkcur g" ∷ codes "mktkt 10 base" ∷ codes "fund 1 g"
+        ∷ codes "fundx 1 g a s" ∷ codes "fundx 1 g b s" ∷ codes "fundx 5 base c s" ∷ codes "at 150"
+        ∷ codes "settkt 9 0" ∷ codes "settkt 9 4" ∷ codes "settkt 3 4" ∷ codes "lsthr" ∷ codes "at 250"
+        ∷ codes "settkt 1 5" ∷ []))
+        ≡ text (codes "0 0 currency 1" ∷ codes "0 0 ticket 1" ∷ codes "0 0 done" ∷ codes "0 0 funded 2 1"
+        ∷ codes "0 0 funded 3 2" ∷ codes "0 0 funded 4 3" ∷ codes "0 1 draw 9.199 of 15 thread 2"
+        ∷ codes "100 1 thread 2 ticks 100 expire" ∷ codes "100 1 draw 3.023 of 15 thread 1"
+        ∷ codes "150 0 refused 6 BadAmount" ∷ codes "150 0 refused 4 NoTicket" ∷ codes "150 0 done"
+        ∷ codes "150 0 lsthr 3" ∷ codes "150 thread 1 a running 1 used 0 value 2 weight 2 quanta 1 ticks 0"
+        ∷ codes "150 thread 2 b ready value 8 weight 8 quanta 1 ticks 100"
+        ∷ codes "150 thread 3 c ready value 5 weight 5 quanta 0 ticks 0" ∷ codes "200 1 thread 1 ticks 100 expire"
+        ∷ codes "200 1 draw 7.484 of 15 thread 2" ∷ codes "250 0 done" ∷ codes "300 1 thread 2 ticks 100 expire"
+        ∷ codes "300 1 draw 6.195 of 10 thread 3" ∷ codes "report"
+        ∷ codes "thread 1 a quanta 1 ticks 100 share 33.333% value 10%"
+        ∷ codes "thread 2 b quanta 2 ticks 200 share 66.666% value 40%"
+        ∷ codes "thread 3 c quanta 1 ticks 0 share 0% value 50%"
+        ∷ codes "processor 1 quanta 4 idle 0 ticks 300 unused 0"
+        ∷ codes "total turns 18 quanta 4 ticks 300 refused 2 left 0" ∷ []) }
+{}
+
 /// Commands that are refused are counted.
 #[tactic(auto, unfolding(crate::specs::OnLiterals::texts_on_literals, crate::specs::Timed::timed_room))]
 pub fn refused_commands()
@@ -222,6 +247,12 @@ pub fn refused_inputs()
         ≡ refused_on_line (codes "2 51 BadLine") }
     ensures at_in_first { output (text (codes "lottery 1" ∷ codes "at 5" ∷ []))
         ≡ refused_on_line (codes "2 51 BadLine") }
+    ensures amount_in_second { output (text (codes "lottery 2" ∷ codes "settkt 1 5" ∷ []))
+        ≡ refused_on_line (codes "2 51 BadLine") }
+    ensures amount_in_first { output (text (codes "lottery 1" ∷ codes "settkt 1 5" ∷ []))
+        ≡ refused_on_line (codes "2 51 BadLine") }
+    ensures amount_lacking { output (text (codes "lottery 3" ∷ codes "for 5" ∷ codes "settkt 1" ∷ []))
+        ≡ refused_on_line (codes "3 51 BadLine") }
     ensures serve_in_first { output (text (codes "lottery 1" ∷ codes "port p" ∷ codes "script s" ∷ codes "serve p"
         ∷ [])) ≡ refused_on_line (codes "4 51 BadLine") }
     ensures other { output (text (codes "lottery 4" ∷ [])) ≡ refused_on_line (codes "1 50 BadHeader") }

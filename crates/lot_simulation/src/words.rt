@@ -71,9 +71,14 @@ pub const HEADER_WORDS: [WordRow<HeaderWord>; 7] = [
     ),
 ];
 
-/// The words of the body, after `at`, which only some formats have.
-pub const BODY_WORDS: [WordRow<BodyWord>; 17] = [
+/// The words of the body, after `at` and `settkt`, which only some formats have.
+pub const BODY_WORDS: [WordRow<BodyWord>; 18] = [
     (b"at", BodyWord::At, Once(&[("TICK", Time(ranges::TICK))])),
+    (
+        b"settkt",
+        BodyWord::SetTicket,
+        Command(&[("TICKET", AnyNumber), ("AMOUNT", AnyNumber)]),
+    ),
     (
         b"port",
         BodyWord::Port,
@@ -205,7 +210,7 @@ pub const SCRIPT_WORDS: [WordRow<ScriptWord>; 13] = [
 // The same tables as data of the program: a constant would be built anew at each call.
 static HEADER_TABLE: [WordRow<HeaderWord>; 7] = HEADER_WORDS;
 
-static BODY_TABLE: [WordRow<BodyWord>; 17] = BODY_WORDS;
+static BODY_TABLE: [WordRow<BodyWord>; 18] = BODY_WORDS;
 
 static SCRIPT_TABLE: [WordRow<ScriptWord>; 13] = SCRIPT_WORDS;
 
@@ -237,7 +242,7 @@ impl BodyWord {
         if format.is_timed() {
             word_spelled(&BODY_TABLE, token)
         } else {
-            word_spelled(&BODY_TABLE[1..], token)
+            word_spelled(&BODY_TABLE[2..], token)
         }
     }
 }

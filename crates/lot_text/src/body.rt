@@ -36,6 +36,7 @@ pub(crate) fn body_line(
         BodyWord::RemoveCurrency => remove_currency(reading, tokens),
         BodyWord::Fund => fund(reading, tokens),
         BodyWord::Unfund => unfund(reading, tokens),
+        BodyWord::SetTicket => set_ticket(reading, tokens),
         BodyWord::MakeThread => make_thread(reading, tokens),
         BodyWord::MakeFunded => make_funded(reading, tokens),
         BodyWord::ListTickets => list_tickets(reading, tokens),
@@ -158,6 +159,17 @@ fn unfund(reading: &mut Reading, tokens: Tokens<'_>) -> Result<(), LineFault>
     let ticket = tokens.only()?;
     let ticket = any_number(ticket)?;
     reading.add_command(Command::Unfund { ticket })
+}
+
+/// `settkt TICKET AMOUNT`, in an input of `lottery 3`
+fn set_ticket(reading: &mut Reading, mut tokens: Tokens<'_>) -> Result<(), LineFault>
+    ensures { (n : ℕ) → Gives reading.new result (body_after_header n reading.old BodyWord.SetTicket tokens.entry) }
+{
+    let ticket = tokens.expected()?;
+    let amount = tokens.only()?;
+    let ticket = any_number(ticket)?;
+    let amount = any_number(amount)?;
+    reading.add_command(Command::SetTicket { ticket, amount })
 }
 
 /// `mkthr NAME SCRIPT`

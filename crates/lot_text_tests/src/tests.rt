@@ -21,6 +21,7 @@ enum Asked<'a> {
     RemoveCurrency(&'a str),
     Fund(u64, &'a str),
     Unfund(u64),
+    SetTicket(u64, u64),
     MakeThread(&'a str, u32),
     MakeFunded(u64, &'a str, &'a str, u32),
     List(Kind),
@@ -60,6 +61,7 @@ fn command(rt: &impl Abort, asked: Asked<'_>) -> Command {
             Command::Fund { ticket, target }
         }
         Asked::Unfund(ticket) => Command::Unfund { ticket },
+        Asked::SetTicket(ticket, amount) => Command::SetTicket { ticket, amount },
         Asked::MakeThread(text, script) => {
             let name = name(rt, text);
             Command::MakeThread { name, script }
@@ -271,7 +273,7 @@ fn reads_the_whole_grammar(rt: HostRuntime) {
 /// What only inputs have whose turns come in the order of time.
 const TIMED: &str =
     "lottery 3\nprocessors 2\nturns 5\nfor 4294967295\nport p\nscript s\nloop 2 serve p yield\nend endscript\n\
-    mkthr a s\nat 10\nat 20\nlstkt\nlscur\nat 20\nlsthr\nat 4294967295";
+    mkthr a s\nat 10\nat 20\nlstkt\nlscur\nat 20\nlsthr\nsettkt 3 0\nsettkt 0 18446744073709551615\nat 4294967295";
 
 /// The seeds are those after 1 of the generator that multiplies by 48271 modulo 2147483647.
 const TIMED_SAYS: Said<'_> = Said {
@@ -299,10 +301,12 @@ const TIMED_SAYS: Said<'_> = Said {
         Asked::List(Kind::Tickets),
         Asked::List(Kind::Currencies),
         Asked::List(Kind::Threads),
+        Asked::SetTicket(3, 0),
+        Asked::SetTicket(0, 18446744073709551615),
     ],
     schedule: &[],
     duration: Some(4294967295),
-    times: &[0, 20, 20, 20],
+    times: &[0, 20, 20, 20, 20, 20],
 };
 
 #[test]
@@ -449,6 +453,9 @@ const REFUSED_BODIES: [Refusals<'_>; 8] = [
             "runs 0 1",
             "for 5",
             "at 5",
+            "settkt 1 5",
+            "settkt 1",
+            "settkt x 5",
         ],
     },
     Refusals {
@@ -570,7 +577,7 @@ const REFUSED_RUNS: [Refusals<'_>; 4] = [
     Refusals {
         line: 2,
         refusal: InputRefusal::BadLine,
-        ends: &["runs 0", "runs"],
+        ends: &["runs 0", "runs", "settkt 1 5", "settkt", "settkt 007 5"],
     },
     Refusals {
         line: 2,
@@ -599,7 +606,7 @@ const REFUSED_DURATIONS: [Refusals<'_>; 3] = [
     Refusals {
         line: 2,
         refusal: InputRefusal::BadHeader,
-        ends: &["quantum 5", "port p", "seed 1\n", "at 0"],
+        ends: &["quantum 5", "port p", "seed 1\n", "at 0", "settkt 1 5"],
     },
     Refusals {
         line: 3,
@@ -618,12 +625,30 @@ const REFUSED_TIMES: [Refusals<'_>; 4] = [
     Refusals {
         line: 3,
         refusal: InputRefusal::BadLine,
-        ends: &["schedule 0", "schedule 2", "runs 0 1", "at", "at 1 2"],
+        ends: &[
+            "schedule 0",
+            "schedule 2",
+            "runs 0 1",
+            "at",
+            "at 1 2",
+            "settkt",
+            "settkt 1",
+            "settkt 1 2 3",
+            "settkt 1 2 #",
+        ],
     },
     Refusals {
         line: 3,
         refusal: InputRefusal::BadNumber,
-        ends: &["at 4294967296", "at x"],
+        ends: &[
+            "at 4294967296",
+            "at x",
+            "settkt 18446744073709551616 5",
+            "settkt 1 18446744073709551616",
+            "settkt 007 5",
+            "settkt 1 -5",
+            "settkt x 5",
+        ],
     },
     Refusals {
         line: 4,

@@ -1,18 +1,19 @@
 -- A change of threads, and then one of a record that the first change left: what a trap does, and what becomes of its thread.
-use Rattle.std.proofs.Common.{◌≡◌, ◌∙◌, ℕ, ◌⊎◌, inl, inr, suc, ◌-◌, Some, option_map, ap, sym}
+use Rattle.std.proofs.Common.{◌≡◌, ◌∙◌, ℕ, ◌⊎◌, inl, inr, suc, ◌-◌, Option, Some, option_map, ap, sym}
 use Rattle.lot_machine.specs.declared.funding.Edge.{Edge}
 use Rattle.lot_machine.specs.declared.funding.Edge.TheVariants.{OfTicket, OfLender, OfMutex}
+use Rattle.lot_machine.specs.declared.funding.Lend.{Lend}
 use Rattle.lot_machine.specs.declared.record.Record.{Record}
-use Rattle.lot_machine.specs.Funding.{ends_of}
+use Rattle.lot_machine.specs.Funding.{weighed_of}
 use Rattle.lot_machine.specs.Numbered.{at_number, set_number}
 use Rattle.lot_machine.specs.State.{is_live_status, lend_of, live_in}
-use Rattle.lot_machine.specs.Touched.{EdgesBetween, LiveBetween}
+use Rattle.lot_machine.specs.Touched.{WeighedBetween, LiveBetween}
 use Rattle.lot_machine.proofs.Changes.{number-set, number-there}
 use Rattle.lot_machine.proofs.TwoSteps.{edges-between, live-between}
 use Rattle.lot_machine.proofs.TrapCycles.{at_number-map}
 use Rattle.lot_threads.specs.Threaded.{Threaded, MakesStaleIn, funding_in, lends_in, with_records}
 use Rattle.lot_value.proofs.Lending.{lent_ends}
-use Rattle.lot_threads.proofs.TwoChanges.{makes-both-in}
+use Rattle.lot_threads.proofs.TwoChanges.{makes-both-in, weighed_one}
 
 module _ (a b c : Threaded) (t : ℕ) (was next : Record) (left : at_number a.records t ≡ Some was) (there : at_number b.records t ≡ Some was)
     (last : c ≡ with_records b (set_number b.records t next) c.stale) where
@@ -31,19 +32,19 @@ module _ (a b c : Threaded) (t : ℕ) (was next : Record) (left : at_number a.re
   life_seen : (v : Threaded) (u : ℕ) → at_number (live_in v.records) u ≡ option_map (λ (r : Record). is_live_status r.status) (at_number v.records u)
   life_seen v u = at_number-map (λ (r : Record). is_live_status r.status) v.records u
 
-  pub edges-last : EdgesBetween (funding_in a) (funding_in b) (funding_in c)
+  pub edges-last : WeighedBetween (funding_in a) (funding_in b) (funding_in c)
   edges-last = edges-between (funding_in a) (funding_in b) (funding_in c) each
     where
-      each : (edge : Edge) → (ends_of (funding_in b) edge ≡ ends_of (funding_in a) edge) ⊎ (ends_of (funding_in b) edge ≡ ends_of (funding_in c) edge)
-      each (OfTicket n) = inr (sym (ap (λ (v : Threaded). ends_of (funding_in v) (OfTicket n)) last))
-      each (OfMutex m) = inr (sym (ap (λ (v : Threaded). ends_of (funding_in v) (OfMutex m)) last))
+      each : (edge : Edge) → (weighed_of (funding_in b) edge ≡ weighed_of (funding_in a) edge) ⊎ (weighed_of (funding_in b) edge ≡ weighed_of (funding_in c) edge)
+      each (OfTicket n) = inr (sym (ap (λ (v : Threaded). weighed_of (funding_in v) (OfTicket n)) last))
+      each (OfMutex m) = inr (sym (ap (λ (v : Threaded). weighed_of (funding_in v) (OfMutex m)) last))
       each (OfLender u) = by (each-record u)
         where
-          lent : (v : Threaded) → at_number b.records u ≡ at_number v.records u → ends_of (funding_in b) (OfLender u) ≡ ends_of (funding_in v) (OfLender u)
-          lent v same = ap (lent_ends u) (lend_seen b u ∙ ap (option_map (λ (r : Record). lend_of r.status)) same ∙ sym (lend_seen v u))
+          lent : (v : Threaded) → at_number b.records u ≡ at_number v.records u → weighed_of (funding_in b) (OfLender u) ≡ weighed_of (funding_in v) (OfLender u)
+          lent v same = ap (λ (o : Option Lend). weighed_one (lent_ends u o)) (lend_seen b u ∙ ap (option_map (λ (r : Record). lend_of r.status)) same ∙ sym (lend_seen v u))
 
           by : (at_number b.records u ≡ at_number a.records u) ⊎ (at_number b.records u ≡ at_number c.records u)
-              → (ends_of (funding_in b) (OfLender u) ≡ ends_of (funding_in a) (OfLender u)) ⊎ (ends_of (funding_in b) (OfLender u) ≡ ends_of (funding_in c) (OfLender u))
+              → (weighed_of (funding_in b) (OfLender u) ≡ weighed_of (funding_in a) (OfLender u)) ⊎ (weighed_of (funding_in b) (OfLender u) ≡ weighed_of (funding_in c) (OfLender u))
           by (inl same) = inl (lent a same)
           by (inr same) = inr (lent c same)
 

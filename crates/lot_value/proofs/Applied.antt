@@ -36,6 +36,10 @@ parts : (v : Valued) (now : LimitedFunding) (live : List Bool) (known : Known) �
 parts v now live known a b c =
     ap (λ (x : LimitedFunding). record v { now = x }) a ∙ ap (λ (x : List Bool). record v { now = now; live = x }) b ∙ ap (λ (x : Known). record v { now = now; live = live; known = x }) c
 
+-- a change of the graph that moves no edge
+pub follows-stays : (w now graph : LimitedFunding) (v : Activity) (c : Known) → now ≡ graph → Stays now v c (live_of w v) → FollowsGraph (seen w v c) (seen now v c) graph
+follows-stays w now graph v c is stays = record { now = is; live = stays.live; known = refl; kept = λ node here. here; reached = λ node here. inl here }
+
 -- ---- changes
 
 -- the change is made

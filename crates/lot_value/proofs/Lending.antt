@@ -8,9 +8,9 @@ use Rattle.lot_machine.specs.declared.funding.Edge.TheVariants.{OfTicket, OfLend
 use Rattle.lot_machine.specs.declared.funding.Node.TheVariants as node
 use Rattle.lot_machine.specs.declared.funding.Lend.{Lend}
 use Rattle.lot_machine.specs.declared.funding.Lend.TheVariants.{Nobody, ToThread, ToMutex}
-use Rattle.lot_machine.specs.Funding.{Funding, ends_of, lend_node}
+use Rattle.lot_machine.specs.Funding.{Funding, ends_of, weighed_of, lend_node}
 use Rattle.lot_machine.specs.Numbered.{at_number, set_number}
-use Rattle.lot_machine.specs.Touched.{EdgesBetween}
+use Rattle.lot_machine.specs.Touched.{WeighedBetween}
 use Rattle.lot_graph.proofs.FieldLemmas.{set-twice}
 use Rattle.lot_graph.specs.Graphs.{LimitedFunding, IsThread, IsMutex, LendReaches, IsWay, Reaches}
 use Rattle.lot_value.specs.Changing.{CanLend}
@@ -44,26 +44,30 @@ lending f lends = record f { lends = lends }
 abbrev pub lent_ends : ℕ → Option Lend → Option (Node × Node)
 lent_ends t o = option_and_then (λ lend. option_map (λ to. (node.Thread t, to)) (lend_node lend)) o
 
+-- the same with the edge's weight
+abbrev lent_weighed : ℕ → Option Lend → Option (Node × Node × ℕ)
+lent_weighed t o = option_map (λ (ends : Node × Node). let x : Node × Node × ℕ = (ends.0, ends.1, 1) in x) (lent_ends t o)
+
 -- what is lent by an edge with these ends
-abbrev lend_back : Option (Node × Node) → Lend
+abbrev lend_back : Option (Node × Node × ℕ) → Lend
 lend_back None = Nobody
-lend_back (Some (from, node.Thread s)) = ToThread s
-lend_back (Some (from, node.Mutex m)) = ToMutex m
-lend_back (Some (from, node.Currency c)) = Nobody
+lend_back (Some (from, node.Thread s, weight)) = ToThread s
+lend_back (Some (from, node.Mutex m, weight)) = ToMutex m
+lend_back (Some (from, node.Currency c, weight)) = Nobody
 
 -- two lends with the same edge are the same
-same-lend : (t : ℕ) (ends : Node × Node) (a b : Lend) → lent_ends t (Some a) ≡ Some ends → lent_ends t (Some b) ≡ Some ends → a ≡ b
-same-lend t ends Nobody b first second = cc
-same-lend t ends (ToThread s) Nobody first second = cc
-same-lend t ends (ToThread s) (ToThread r) first second = ap lend_back (first ∙ sym second)
-same-lend t ends (ToThread s) (ToMutex m) first second = ap lend_back (first ∙ sym second)
-same-lend t ends (ToMutex m) Nobody first second = cc
-same-lend t ends (ToMutex m) (ToThread s) first second = ap lend_back (first ∙ sym second)
-same-lend t ends (ToMutex m) (ToMutex n) first second = ap lend_back (first ∙ sym second)
+same-lend : (t : ℕ) (weighed : Node × Node × ℕ) (a b : Lend) → lent_weighed t (Some a) ≡ Some weighed → lent_weighed t (Some b) ≡ Some weighed → a ≡ b
+same-lend t weighed Nobody b first second = cc
+same-lend t weighed (ToThread s) Nobody first second = cc
+same-lend t weighed (ToThread s) (ToThread r) first second = ap lend_back (first ∙ sym second)
+same-lend t weighed (ToThread s) (ToMutex m) first second = ap lend_back (first ∙ sym second)
+same-lend t weighed (ToMutex m) Nobody first second = cc
+same-lend t weighed (ToMutex m) (ToThread s) first second = ap lend_back (first ∙ sym second)
+same-lend t weighed (ToMutex m) (ToMutex n) first second = ap lend_back (first ∙ sym second)
 
 -- between two different lends of a thread there may be none
 lends-between : (f : Funding) (t : ℕ) (old new : Lend) → at_number f.lends t ≡ Some old → ¬ (old ≡ new)
-    → EdgesBetween f (lending f (set_number f.lends t Nobody)) (lending f (set_number f.lends t new))
+    → WeighedBetween f (lending f (set_number f.lends t Nobody)) (lending f (set_number f.lends t new))
 lends-between f t old new there other = record { kept = kept; only = only }
   where
     none : List Lend
@@ -72,14 +76,14 @@ lends-between f t old new there other = record { kept = kept; only = only }
     after : List Lend
     after = set_number f.lends t new
 
-    kept : (edge : Edge) (ends : Node × Node) → ends_of f edge ≡ Some ends → ends_of (lending f after) edge ≡ Some ends → ends_of (lending f none) edge ≡ Some ends
-    kept (OfTicket n) ends first second = first
-    kept (OfMutex m) ends first second = first
-    kept (OfLender u) ends first second = by (number-set f.lends t Nobody u)
+    kept : (edge : Edge) (weighed : Node × Node × ℕ) → weighed_of f edge ≡ Some weighed → weighed_of (lending f after) edge ≡ Some weighed → weighed_of (lending f none) edge ≡ Some weighed
+    kept (OfTicket n) weighed first second = first
+    kept (OfMutex m) weighed first second = first
+    kept (OfLender u) weighed first second = by (number-set f.lends t Nobody u)
       where
-        by : (at_number none u ≡ at_number f.lends u) ⊎ ((u ≡ suc (t - 1)) × (at_number none u ≡ Some Nobody)) → lent_ends u (at_number none u) ≡ Some ends
-        by (inl same) = ap (lent_ends u) same ∙ first
-        by (inr (at, gone)) = absurd (other (same-lend u ends old new (sym (ap (lent_ends u) here) ∙ first) (sym (ap (lent_ends u) then) ∙ second)))
+        by : (at_number none u ≡ at_number f.lends u) ⊎ ((u ≡ suc (t - 1)) × (at_number none u ≡ Some Nobody)) → lent_weighed u (at_number none u) ≡ Some weighed
+        by (inl same) = ap (lent_weighed u) same ∙ first
+        by (inr (at, gone)) = absurd (other (same-lend u weighed old new (sym (ap (lent_weighed u) here) ∙ first) (sym (ap (lent_weighed u) then) ∙ second)))
           where
             is : u ≡ t
             is = at ∙ number-there f.lends t old there
@@ -90,20 +94,20 @@ lends-between f t old new there other = record { kept = kept; only = only }
             then : at_number after u ≡ Some new
             then = ap (at_number after) is ∙ number-set_same f.lends t new old there
 
-    only : (edge : Edge) (ends : Node × Node) → ends_of (lending f none) edge ≡ Some ends → (ends_of f edge ≡ Some ends) ⊎ (ends_of (lending f after) edge ≡ Some ends)
-    only (OfTicket n) ends is = inl is
-    only (OfMutex m) ends is = inl is
-    only (OfLender u) ends is = by (number-set f.lends t Nobody u)
+    only : (edge : Edge) (weighed : Node × Node × ℕ) → weighed_of (lending f none) edge ≡ Some weighed → (weighed_of f edge ≡ Some weighed) ⊎ (weighed_of (lending f after) edge ≡ Some weighed)
+    only (OfTicket n) weighed is = inl is
+    only (OfMutex m) weighed is = inl is
+    only (OfLender u) weighed is = by (number-set f.lends t Nobody u)
       where
-        by : (at_number none u ≡ at_number f.lends u) ⊎ ((u ≡ suc (t - 1)) × (at_number none u ≡ Some Nobody)) → (lent_ends u (at_number f.lends u) ≡ Some ends) ⊎ (lent_ends u (at_number after u) ≡ Some ends)
-        by (inl same) = inl (sym (ap (lent_ends u) same) ∙ is)
-        by (inr (at, gone)) = let no : lent_ends u (Some Nobody) ≡ Some ends = sym (ap (lent_ends u) gone) ∙ is in cc
+        by : (at_number none u ≡ at_number f.lends u) ⊎ ((u ≡ suc (t - 1)) × (at_number none u ≡ Some Nobody)) → (lent_weighed u (at_number f.lends u) ≡ Some weighed) ⊎ (lent_weighed u (at_number after u) ≡ Some weighed)
+        by (inl same) = inl (sym (ap (lent_weighed u) same) ∙ is)
+        by (inr (at, gone)) = let no : lent_weighed u (Some Nobody) ≡ Some weighed = sym (ap (lent_weighed u) gone) ∙ is in cc
 
 pub edges-lent : (w mid after : LimitedFunding) (t : ℕ) (old new : Lend) → at_number w.funding.lends t ≡ Some old → ¬ (old ≡ new) → mid ≡ with_lends w (set_number w.funding.lends t Nobody) → after ≡ with_lends w (set_number w.funding.lends t new)
-    → EdgesBetween w.funding mid.funding after.funding
+    → WeighedBetween w.funding mid.funding after.funding
 edges-lent w mid after t old new there other one two =
-    subst (λ (m : LimitedFunding). EdgesBetween w.funding m.funding after.funding) (sym one)
-    (subst (λ (a : LimitedFunding). EdgesBetween w.funding (lending w.funding (set_number w.funding.lends t Nobody)) a.funding) (sym two)
+    subst (λ (m : LimitedFunding). WeighedBetween w.funding m.funding after.funding) (sym one)
+    (subst (λ (a : LimitedFunding). WeighedBetween w.funding (lending w.funding (set_number w.funding.lends t Nobody)) a.funding) (sym two)
     (lends-between w.funding t old new there other))
 
 -- a thread that lends this already lends this afterwards

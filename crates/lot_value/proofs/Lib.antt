@@ -21,4 +21,5 @@ pub mod Unchanged
 pub mod TicketWorth
 pub mod Lending
 pub mod TwoChanges
+pub mod Amounts
 pub mod Applied

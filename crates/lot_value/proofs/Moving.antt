@@ -9,6 +9,7 @@ use Rattle.lot_machine.specs.Numbered.{at_number, set_number}
 use Rattle.lot_machine.specs.Funding.{ends_of, owner_of, IsEdge}
 use Rattle.lot_machine.specs.Lends.{IsLive}
 use Rattle.lot_machine.specs.Touched.{IsTouched, IsChangedEdge, PathLeads}
+use Rattle.lot_machine.proofs.Weighed.{only-there}
 use Rattle.lot_machine.specs.Equations.{HasEquation, Reaches, IsWay}
 use Rattle.lot_machine.proofs.EachOnce.{contains-nothing}
 use Rattle.lot_machine.proofs.Queues.{number-set_same}
@@ -127,10 +128,14 @@ module _ (w mid now : LimitedFunding) (v : Activity) (c : Known) (m s t : ℕ) (
 
     -- the edge led to the one owner, and leads to the other
     left : IsChangedEdge w.funding now.funding (Mutex m) (Thread s)
-    left = inl (OfMutex m, there-edge w.funding (OfMutex m) here was.here, λ at. apart (sym (ap node-number (to-is now.funding (OfMutex m) (Mutex m) (Thread s) at next is.here))))
+    left =
+        inl (only-there w.funding now.funding (OfMutex m) (Mutex m) (Thread s) (there-edge w.funding (OfMutex m) here was.here)
+        (λ at. apart (sym (ap node-number (to-is now.funding (OfMutex m) (Mutex m) (Thread s) at next is.here)))))
 
     came : IsChangedEdge w.funding now.funding (Mutex m) (Thread t)
-    came = inr (OfMutex m, there-edge now.funding (OfMutex m) next is.here, λ at. apart (ap node-number (to-is w.funding (OfMutex m) (Mutex m) (Thread t) at here was.here)))
+    came =
+        inr (only-there now.funding w.funding (OfMutex m) (Mutex m) (Thread t) (there-edge now.funding (OfMutex m) next is.here)
+        (λ at. apart (ap node-number (to-is w.funding (OfMutex m) (Mutex m) (Thread t) at here was.here))))
 
     module _ (known : Known) (touched : Touched now c known (λ node. (node ≡ Thread s) ⊎ (node ≡ Thread t))) (stale_s : IsStale known (Thread s)) (stale_t : IsStale known (Thread t)) where
       edges : (edge : Edge) → (ends_of_edge now.funding edge ≡ ends_of_edge w.funding edge) ⊎ ((from to : Node) → (ends_of w.funding edge ≡ Some (from, to)) ⊎ (ends_of now.funding edge ≡ Some (from, to)) → IsStale known to)

@@ -6,6 +6,7 @@ use Rattle.lot_machine.specs.declared.funding.Edge.{Edge}
 use Rattle.lot_machine.specs.declared.funding.Edge.TheVariants.{OfTicket, OfLender, OfMutex}
 use Rattle.lot_machine.specs.Funding.{Funding, ends_of, IsEdge}
 use Rattle.lot_machine.specs.Touched.{IsTouched, IsChangedEdge, PathLeads}
+use Rattle.lot_machine.proofs.Weighed.{only-there}
 use Rattle.lot_machine.specs.Equations.{HasEquation, Reaches}
 use Rattle.lot_graph.specs.Graphs.{LimitedFunding}
 use Rattle.lot_graph.specs.Places.{layout_of}
@@ -90,8 +91,8 @@ module _ (before after : LimitedFunding) (edge : Edge) (ends : EdgeEnds) (differ
   changed-edge = by differ
     where
       by : Differ before after edge ends → IsChangedEdge before.funding after.funding ends.from ends.to
-      by (inl adds) = inr (edge, there-edge after.funding edge ends adds.here, λ at. no-ends before.funding edge ends.from ends.to adds.none at)
-      by (inr adds) = inl (edge, there-edge before.funding edge ends adds.here, λ at. no-ends after.funding edge ends.from ends.to adds.none at)
+      by (inl adds) = inr (only-there after.funding before.funding edge ends.from ends.to (there-edge after.funding edge ends adds.here) (λ at. no-ends before.funding edge ends.from ends.to adds.none at))
+      by (inr adds) = inl (only-there before.funding after.funding edge ends.from ends.to (there-edge before.funding edge ends adds.here) (λ at. no-ends after.funding edge ends.from ends.to adds.none at))
 
   pub ends-have : ((from to : Node) → IsEdge before.funding from to → HasEquation before.funding to) → (from to : Node) → IsEdge after.funding from to → HasEquation after.funding to
   ends-have have from to (other, at) = by (same-or-not other edge)

@@ -7,7 +7,7 @@ use Rattle.lot_machine.specs.declared.funding.Node.TheVariants.{Currency, Thread
 use Rattle.lot_machine.specs.declared.funding.Edge.{Edge}
 use Rattle.lot_machine.specs.declared.funding.Edge.TheVariants.{OfTicket}
 use Rattle.lot_machine.specs.declared.funding.Lend.TheVariants.{Nobody}
-use Rattle.lot_machine.specs.Funding.{Funding, ends_of, target_of, with_new_ticket, without_ticket}
+use Rattle.lot_machine.specs.Funding.{Funding, ends_of, target_of, with_new_ticket, without_ticket, with_amount}
 use Rattle.lot_machine.specs.Activity.{IsActive, active_amount}
 use Rattle.lot_machine.specs.Equations.{HasEquation}
 use Rattle.lot_graph.specs.declared.layout.Layout.{Layout}
@@ -24,8 +24,8 @@ use Rattle.lot_value.specs.Caches.{Known, IsRight, CoversChange}
 use Rattle.lot_value.specs.Valued.{live_of, AreTogether}
 use Rattle.lot_value.proofs.Ends.{edge-there, there-edge}
 use Rattle.lot_value.proofs.Nodes.{node-within, within-node}
-use Rattle.lot_active.proofs.CallEdits.{issue-kept, destroy-kept, currencies-kept, thread-kept}
-use Rattle.lot_active.proofs.Edits.{issue-ends, destroy-ends, thread-ends}
+use Rattle.lot_active.proofs.CallEdits.{issue-kept, destroy-kept, set_amount-kept, currencies-kept, thread-kept}
+use Rattle.lot_active.proofs.Edits.{issue-ends, destroy-ends, set_amount-ends, thread-ends}
 use Rattle.lot_value.proofs.OneEdge.{has-same}
 use Rattle.lot_value.proofs.GraphCalls.{live-one, together-one}
 use Rattle.lot_value.proofs.Following.{live-is, live-length}
@@ -111,6 +111,12 @@ module _ (w now : LimitedFunding) (v : Activity) (c : Known) (together : AreToge
       let (t, at, unfunded) = target-ticket w.funding n target.Unfunded free in
       stays-alike (destroy-kept v w now (live_of w v) together.kept sound fits n t at unfunded destroyed) (ap layout_of destroyed) (ap (λ (x : LimitedFunding). length x.funding.lends) destroyed)
       (λ edge. ap (λ (x : LimitedFunding). ends_of_edge x.funding edge) destroyed ∙ destroy-ends w.funding n t at unfunded edge)
+
+  pub stays-amount : (n amount : ℕ) → target_of w.funding n ≡ Some target.Unfunded → now ≡ with_tickets w (with_amount w.funding.tickets n amount) → IsSound now.funding → FitsLimits now → Stays now v c (live_of w v)
+  stays-amount n amount free changed sound fits =
+      let (t, at, unfunded) = target-ticket w.funding n target.Unfunded free in
+      stays-alike (set_amount-kept v w now (live_of w v) together.kept sound fits n amount t at unfunded changed) (ap layout_of changed) (ap (λ (x : LimitedFunding). length x.funding.lends) changed)
+      (λ edge. ap (λ (x : LimitedFunding). ends_of_edge x.funding edge) changed ∙ set_amount-ends w.funding n amount t at unfunded edge)
 
   pub stays-currencies : (currencies : List Bool) → now ≡ with_currencies w currencies → IsSound now.funding → FitsLimits now → Stays now v c (live_of w v)
   stays-currencies currencies made sound fits =

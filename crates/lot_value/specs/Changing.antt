@@ -8,12 +8,12 @@ use Rattle.lot_machine.specs.declared.funding.Node.TheVariants.{Thread, Mutex}
 use Rattle.lot_machine.specs.declared.funding.Lend.{Lend}
 use Rattle.lot_machine.specs.declared.funding.Lend.TheVariants.{Nobody, ToThread, ToMutex}
 use Rattle.lot_machine.specs.Numbered.{set_number}
-use Rattle.lot_machine.specs.Funding.{Funding, ticket_at, target_of, owner_of, issued_in, backing_currency, retargeted}
+use Rattle.lot_machine.specs.Funding.{Funding, ticket_at, target_of, owner_of, issued_in, backing_currency, retargeted, with_amount}
 use Rattle.lot_machine.specs.Lends.{IsLive}
 use Rattle.lot_machine.specs.Equations.{Reaches}
 use Rattle.lot_graph.specs.Graphs.{LimitedFunding, IsCurrency, IsUserCurrency, IsThread, IsMutex, IsTarget, IsCycle, IsBorrower, LendReaches}
 use Rattle.lot_value.specs.declared.change.Change.{Change}
-use Rattle.lot_value.specs.declared.change.Change.TheVariants.{NewTicket, PutTicket, DropTicket, NewCurrency, DropCurrency, PutOwner, MoveOwner, PutThread}
+use Rattle.lot_value.specs.declared.change.Change.TheVariants.{NewTicket, PutTicket, SetAmount, DropTicket, NewCurrency, DropCurrency, PutOwner, MoveOwner, PutThread}
 use Rattle.lot_value.specs.Caches.{IsStale}
 use Rattle.lot_value.specs.Valued.{Valued, MakesStale}
 
@@ -27,6 +27,7 @@ currencies_after there other = there
 abbrev pub tickets_after : List (Option Ticket) → Change → List (Option Ticket)
 tickets_after tickets (NewTicket t) = tickets ++ Some t ∷ []
 tickets_after tickets (PutTicket n t) = set_number tickets n (Some t)
+tickets_after tickets (SetAmount n amount) = with_amount tickets n amount
 tickets_after tickets (DropTicket n) = set_number tickets n None
 tickets_after tickets other = tickets
 
@@ -95,6 +96,7 @@ CanOwn f m t = IsMutex f m × IsThread f t × (¬ Reaches f (Thread t) (Mutex m)
 abbrev pub CanApply : LimitedFunding → List Bool → Change → Type 0
 CanApply w live (NewTicket t) = IsCurrency w.funding t.issuer × (0 < t.amount) × (t.target ≡ target.Unfunded) × (length w.funding.tickets < w.ticket_limit)
 CanApply w live (PutTicket n t) = (before : Ticket) × (ticket_at w.funding n ≡ Some before) × (t ≡ retargeted t.target before) × CanTarget w.funding n before.target t.target
+CanApply w live (SetAmount n amount) = (before : Ticket) × (ticket_at w.funding n ≡ Some before) × (0 < amount)
 CanApply w live (DropTicket n) = target_of w.funding n ≡ Some target.Unfunded
 CanApply w live NewCurrency = length w.funding.currencies ≤ w.currency_limit
 CanApply w live (DropCurrency c) = IsUserCurrency w.funding c × (issued_in w.funding c ≡ []) × (backing_currency w.funding c ≡ [])

@@ -10,6 +10,8 @@ pub enum Change {
     /// Another ticket in the place of one, of the same amount and issuer: it funds something in place of nothing, or
     /// nothing in place of something.
     PutTicket(u32, Ticket),
+    /// Another amount of a ticket, whether it funds something or not (3.2).
+    SetAmount(u32, u32),
     /// No ticket in the place of one that funds nothing. Its number is never given again.
     DropTicket(u32),
     /// One more currency. Its number is one more than the last.

@@ -14,6 +14,7 @@ pub mod laws;
 mod marking;
 mod meter;
 mod readings;
+mod reissuing;
 mod relending;
 mod settling;
 mod touching;

@@ -5,9 +5,10 @@ ghost use Rattle.lot_machine.specs.declared.funding.Node.{Node as ANode};
 ghost use Rattle.lot_machine.specs.declared.funding.Node.TheVariants.{Currency as CurrencyNode, Thread as ThreadNode};
 ghost use Rattle.lot_machine.specs.declared.funding.Node.TheVariants.{Mutex as MutexNode};
 ghost use Rattle.lot_machine.specs.declared.ticket.Ticket.{Ticket as ATicket};
+ghost use Rattle.lot_machine.specs.declared.ticket.Target.{Target as ATarget};
 ghost use Rattle.lot_machine.specs.declared.ticket.Target.TheVariants.{Unfunded};
 ghost use Rattle.lot_machine.specs.Numbered.{at_number, set_number};
-ghost use Rattle.lot_machine.specs.Funding.{edge_count_into, ticket_at, target_of, owner_of, with_target};
+ghost use Rattle.lot_machine.specs.Funding.{edge_count_into, ticket_at, target_of, owner_of, with_amount, with_target};
 ghost use Rattle.lot_machine.specs.Activity.{IsActive, active_amount};
 ghost use Rattle.lot_machine.specs.Lends.{IsLive};
 ghost use Rattle.lot_machine.specs.declared.funding.Lend.TheVariants.{Nobody};
@@ -26,6 +27,7 @@ ghost use Rattle.lot_graph.specs.Changes.{with_lends, with_owners, with_tickets}
 
 use crate::change::Change;
 use crate::edges::{attach, detach};
+use crate::reissuing::set_amount;
 use crate::relending::put_thread;
 use crate::touching::touch_listed;
 use crate::values::Values;
@@ -100,6 +102,7 @@ impl ValuedGraph {
         match change {
             Change::NewTicket(ticket) => self.new_ticket(ticket),
             Change::PutTicket(number, ticket) => self.put_ticket(number, ticket),
+            Change::SetAmount(number, amount) => set_amount(self, number, amount),
             Change::DropTicket(number) => self.drop_ticket(number),
             Change::NewCurrency => self.new_currency(),
             Change::DropCurrency(currency) => self.drop_currency(currency),
@@ -132,7 +135,7 @@ impl ValuedGraph {
 
     /// Makes a ticket that funds nothing fund a user currency or a thread.
     #[inline(always)]
-    fn give(&mut self, ticket: u32, target: Target)
+    pub(crate) fn give(&mut self, ticket: u32, target: Target)
         requires unfunded { target_of self.old.now.funding ticket ≡ Some Unfunded }
         requires target { IsTarget self.old.now.funding target }
         requires apart { ¬ IsCycle self.old.now.funding ticket target }
@@ -144,17 +147,30 @@ impl ValuedGraph {
         attach(&self.graph, &mut self.active, &mut self.values, edge);
     }
 
-    /// Takes a ticket from what it funds.
-    fn unfund(&mut self, ticket: u32)
+    /// Takes a ticket from what it funds. That is still there.
+    pub(crate) fn unfund(&mut self, ticket: u32)
         requires funding { IsFunding self.old.now.funding ticket }
         ensures follows { FollowsGraph self.old self.new
             (with_tickets self.old.now (with_target self.old.now.funding.tickets ticket Unfunded)) }
+        ensures there { (to : ATarget) → target_of self.old.now.funding ticket ≡ Some to
+            → IsTarget self.new.now.funding to }
     {
         let Some(ends) = ends_of_edge(&self.graph, Edge::OfTicket(ticket)) else {
             unreachable!()
         };
         self.graph.unfund(ticket);
         detach(&self.graph, &mut self.active, &mut self.values, ends);
+    }
+
+    /// Gives a ticket that funds nothing another amount.
+    #[inline(always)]
+    pub(crate) fn reissue(&mut self, ticket: u32, amount: u32)
+        requires unfunded { target_of self.old.now.funding ticket ≡ Some Unfunded }
+        requires amount { 0 < amount }
+        ensures follows { FollowsGraph self.old self.new
+            (with_tickets self.old.now (with_amount self.old.now.funding.tickets ticket amount)) }
+    {
+        self.graph.set_amount(ticket, amount);
     }
 
     #[inline(always)]

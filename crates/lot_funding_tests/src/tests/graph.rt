@@ -6,7 +6,7 @@ ghost use Rattle.lot_graph.specs.Graphs.{IsNodeOf, edge_amount};
 
 use crate::is_target;
 use lot_graph::Graph;
-use lot_machine::{Edge, Lend, Limits, Node, Sizes, Target};
+use lot_machine::{Edge, Lend, Limits, Node, Sizes, Target, Ticket};
 use std::alloc::Global;
 use std::process::Abort;
 use std::test::Fail;
@@ -56,6 +56,13 @@ fn issue(rt: &impl Abort, graph: &mut Graph, currency: u32, amount: u32) -> u32 
 fn destroy(rt: &impl Abort, graph: &mut Graph, ticket: u32) {
     assert!(rt; graph.is_unfunded(ticket));
     graph.destroy(ticket);
+}
+
+/// Gives a ticket that funds nothing another amount.
+fn set_amount(rt: &impl Abort, graph: &mut Graph, ticket: u32, amount: u32) {
+    assert!(rt; 0 < amount);
+    assert!(rt; graph.is_unfunded(ticket));
+    graph.set_amount(ticket, amount);
 }
 
 /// Makes a ticket fund a target, or returns false if it would make a cycle.
@@ -243,6 +250,16 @@ fn edges_out_of(rt: &impl Abort, graph: &Graph, node: Node) -> usize {
     graph.edges_out_of(node).count()
 }
 
+/// Whether a ticket is there with this issuer, amount and target.
+fn is_ticket(graph: &Graph, number: u32, issuer: u32, amount: u32, target: Target) -> bool {
+    graph.ticket(number)
+        == Some(Ticket {
+            amount,
+            issuer,
+            target,
+        })
+}
+
 /// Whether a thread lends to the other.
 fn lends_to(graph: &Graph, thread: u32, server: u32) -> bool {
     match graph.lend_of(thread) {
@@ -270,6 +287,8 @@ enum Step {
     /// A new ticket of this currency and amount, which gets this number.
     Issue(u32, u32, u32),
     Destroy(u32),
+    /// A ticket that funds nothing, and the amount that it gets.
+    SetAmount(u32, u32),
     Fund(u32, Target),
     /// The ticket would make a cycle if it funded this, and doesn't fund it.
     FundCycle(u32, Target),
@@ -299,6 +318,8 @@ enum Fact {
     IsUnused(u32, bool),
     IsUnfunded(u32, bool),
     IsFunding(u32, bool),
+    /// A ticket, the currency that issues it, its amount and its target.
+    IsTicket(u32, u32, u32, Target),
     NoTicket(u32),
     /// How many tickets were made, including the destroyed ones.
     Made(u32),
@@ -323,6 +344,9 @@ fn shows(rt: &impl Abort, graph: &Graph, fact: Fact) -> bool {
         Fact::IsUnused(currency, is) => is_unused(rt, graph, currency) == is,
         Fact::IsUnfunded(ticket, is) => graph.is_unfunded(ticket) == is,
         Fact::IsFunding(ticket, is) => graph.is_funding(ticket) == is,
+        Fact::IsTicket(number, issuer, amount, target) => {
+            is_ticket(graph, number, issuer, amount, target)
+        }
         Fact::NoTicket(ticket) => graph.ticket(ticket).is_none(),
         Fact::Made(count) => graph.ticket_count() == count,
         Fact::Issued(currency, count) => issued_by(rt, graph, currency) == count,
@@ -363,6 +387,7 @@ fn change(rt: &impl Abort, graph: &mut Graph, step: Step) {
         Step::MakeCurrencies(count) => make_currencies(rt, graph, count),
         Step::RemoveCurrency(currency) => remove_currency(rt, graph, currency),
         Step::Destroy(ticket) => destroy(rt, graph, ticket),
+        Step::SetAmount(ticket, amount) => set_amount(rt, graph, ticket, amount),
         Step::Unfund(ticket) => unfund(rt, graph, ticket),
         Step::Unlend(thread) => unlend(rt, graph, thread),
         Step::Give(mutex, thread) => give(rt, graph, mutex, thread),
@@ -428,6 +453,31 @@ const REMOVED: [Step; 18] = [
 #[test]
 fn removed_numbers_are_gone(rt: HostRuntime) -> Result<(), Fail> {
     play(&rt, rt.alloc(), &REMOVED)
+}
+
+const REISSUED: [Step; 17] = [
+    Step::AddThread,
+    Step::MakeCurrency(1),
+    Step::Issue(0, 3, 1),
+    Step::Issue(1, 5, 2),
+    Step::Issue(1, 7, 3),
+    Step::SetAmount(2, 8),
+    Step::Shows(Fact::IsTicket(2, 1, 8, Target::Unfunded)),
+    Step::Shows(Fact::IsTicket(3, 1, 7, Target::Unfunded)),
+    Step::Shows(Fact::Issued(1, 2)),
+    Step::Fund(2, Target::Thread(1)),
+    Step::Shows(Fact::IsTicket(2, 1, 8, Target::Thread(1))),
+    Step::Shows(Fact::FundedWith(1, 8)),
+    Step::Unfund(2),
+    Step::SetAmount(2, u32::MAX),
+    Step::SetAmount(3, 1),
+    Step::Shows(Fact::IsTicket(2, 1, u32::MAX, Target::Unfunded)),
+    Step::Shows(Fact::IsTicket(3, 1, 1, Target::Unfunded)),
+];
+
+#[test]
+fn amounts_change_in_place(rt: HostRuntime) -> Result<(), Fail> {
+    play(&rt, rt.alloc(), &REISSUED)
 }
 
 const LARGEST: [Step; 7] = [

@@ -48,6 +48,7 @@ fn touched_nodes_are_stale(rt: HostRuntime) -> Result<(), Fail> {
 enum Step {
     Funding(u32, u32, Target),
     Unfund(u32),
+    Amount(u32, u32),
     Destroy(u32),
     RemoveCurrency(u32),
     Lend(u32, Lend),
@@ -90,6 +91,13 @@ fn unfund(rt: &impl Abort, graph: &mut ValuedGraph, ticket: u32) {
         ..found
     };
     graph.apply(Change::PutTicket(ticket, unfunded));
+}
+
+/// Gives a ticket another amount.
+fn set_amount(rt: &impl Abort, graph: &mut ValuedGraph, ticket: u32, amount: u32) {
+    let _before = graph.graph().ticket(ticket).expect(rt, "a ticket");
+    assert!(rt; 0 < amount);
+    graph.apply(Change::SetAmount(ticket, amount));
 }
 
 fn lend(rt: &impl Abort, graph: &mut ValuedGraph, thread: u32, lend: Lend) {
@@ -155,6 +163,7 @@ fn make(rt: &impl Abort, graph: &mut ValuedGraph, change: Step) {
             assert!(rt; graph.graph().is_funding(ticket));
             unfund(rt, graph, ticket);
         }
+        Step::Amount(ticket, amount) => set_amount(rt, graph, ticket, amount),
         Step::Destroy(ticket) => {
             assert!(rt; graph.graph().is_unfunded(ticket));
             graph.apply(Change::DropTicket(ticket));
@@ -317,6 +326,78 @@ fn shared_currency(rt: HostRuntime) -> Result<(), Fail> {
     play_all(&rt, &mut graph, &rows);
     assert!(rt; is_ticket_worth(&mut graph, 1, 100));
     assert!(rt; is_ticket_worth(&mut graph, 4, 50));
+    Ok(())
+}
+
+/// Two threads of a currency are worth half of it each. One ticket's amount triples, and they share as 1 to 3; base's
+/// ticket falls to a fifth, and so do they. The same amounts again make nothing stale.
+#[test]
+fn inflation_and_deflation(rt: HostRuntime) -> Result<(), Fail> {
+    let rows = [
+        Row {
+            changes: &[
+                Step::Funding(0, 100, Target::Currency(1)),
+                Step::Funding(1, 1, Target::Thread(1)),
+                Step::Funding(1, 1, Target::Thread(2)),
+                Step::Wake(1),
+                Step::Wake(2),
+            ],
+            reads: 3,
+            worth: &[(Node::Thread(1), 50), (Node::Thread(2), 50)],
+        },
+        Row {
+            changes: &[Step::Amount(3, 3)],
+            reads: 2,
+            worth: &[(Node::Thread(1), 25), (Node::Thread(2), 75)],
+        },
+        Row {
+            changes: &[Step::Amount(1, 20)],
+            reads: 3,
+            worth: &[(Node::Thread(1), 5), (Node::Thread(2), 15)],
+        },
+        Row {
+            changes: &[Step::Amount(3, 3), Step::Amount(1, 20)],
+            reads: 0,
+            worth: &[(Node::Currency(1), 20), (Node::Thread(2), 15)],
+        },
+    ];
+    let mut graph = opening(&rt, rt.alloc(), 2, 1)?;
+    play_all(&rt, &mut graph, &rows);
+    Ok(())
+}
+
+/// A ticket that funds nothing gets another amount, and nothing is stale; then the only one that its currency's value
+/// goes to, whose thread is worth as much as before. Both amounts count when the first ticket funds a thread again.
+#[test]
+fn amount_of_an_unfunded_ticket(rt: HostRuntime) -> Result<(), Fail> {
+    let rows = [
+        Row {
+            changes: &[
+                Step::Funding(0, 20, Target::Currency(1)),
+                Step::Funding(1, 1, Target::Thread(1)),
+                Step::Funding(1, 1, Target::Thread(2)),
+                Step::Wake(1),
+                Step::Wake(2),
+                Step::Unfund(2),
+            ],
+            reads: 2,
+            worth: &[(Node::Thread(1), 0), (Node::Thread(2), 20)],
+        },
+        Row {
+            changes: &[Step::Amount(2, 7)],
+            reads: 0,
+            worth: &[(Node::Thread(1), 0), (Node::Thread(2), 20)],
+        },
+    ];
+    let mut graph = opening(&rt, rt.alloc(), 2, 1)?;
+    play_all(&rt, &mut graph, &rows);
+    set_amount(&rt, &mut graph, 3, 9);
+    assert!(rt; !is_worth(&graph, Node::Thread(2), 20), "it isn't stale");
+    assert!(rt; settle(&mut graph) == 2);
+    assert!(rt; is_worth(&graph, Node::Thread(2), 20));
+    put_target(&rt, &mut graph, 2, Target::Thread(1));
+    assert!(rt; settle(&mut graph) == 2);
+    check(&rt, &graph, &[(Node::Thread(1), 8), (Node::Thread(2), 11)]);
     Ok(())
 }
 

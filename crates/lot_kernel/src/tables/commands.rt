@@ -7,8 +7,8 @@ ghost use Rattle.lot_machine.specs.declared.refusal.Refusal.TheVariants.{Cycle};
 ghost use Rattle.lot_machine.specs.declared.reply.Reply.TheVariants.{Done, Refused};
 ghost use Rattle.lot_machine.specs.declared.ticket.Target.TheVariants.{Unfunded};
 ghost use Rattle.lot_machine.specs.declared.command.Command.TheVariants.{MakeTicket, RemoveTicket, MakeCurrency};
-ghost use Rattle.lot_machine.specs.declared.command.Command.TheVariants.{RemoveCurrency, Fund, Unfund, MakeThread};
-ghost use Rattle.lot_machine.specs.declared.command.Command.TheVariants.{MakeFunded};
+ghost use Rattle.lot_machine.specs.declared.command.Command.TheVariants.{RemoveCurrency, Fund, Unfund, SetTicket};
+ghost use Rattle.lot_machine.specs.declared.command.Command.TheVariants.{MakeThread, MakeFunded};
 ghost use Rattle.lot_machine.specs.Commands as names;
 ghost use Rattle.lot_machine.specs.Commands.{command_step};
 ghost use Rattle.lot_machine.specs.Funding.{target_of, ticket_at, ticket_in, with_new_ticket, with_target};
@@ -43,6 +43,7 @@ impl Tables {
             Command::RemoveCurrency { currency } => *reply = self.remove_currency(currency),
             Command::Fund { ticket, target } => *reply = self.fund(*ticket, target),
             Command::Unfund { ticket } => *reply = self.unfund(*ticket),
+            Command::SetTicket { ticket, amount } => *reply = self.set_ticket(*ticket, *amount),
             Command::MakeThread { name, script } => *reply = self.make_thread(name, *script),
             Command::MakeFunded {
                 amount,
@@ -60,7 +61,7 @@ impl Tables {
         ensures stale { self.new.stale ≡ self.old.stale }
         ensures meter { self.new.meter ≡ self.old.meter }
     {
-        if amount == 0 || amount > 4294967295 {
+        if is_bad_amount(amount) {
             return Reply::Refused(Refusal::BadAmount);
         }
         let Some(issuer) = currency_place(&self.currencies, currency) else {
@@ -202,7 +203,7 @@ impl Tables {
         ensures kept { KeepsStale self.old self.new }
         ensures meter { self.new.meter ≡ self.old.meter }
     {
-        if amount == 0 || amount > 4294967295 {
+        if is_bad_amount(amount) {
             return Reply::Refused(Refusal::BadAmount);
         }
         let Some(issuer) = currency_place(&self.currencies, currency) else {
@@ -325,6 +326,25 @@ impl Tables {
         Reply::Done
     }
 
+    fn set_ticket(&mut self, ticket: u64, amount: u64) -> Reply
+        requires { IsInOrder self.old.state }
+        ensures reply { result ≡ (command_step self.old.state (SetTicket ticket amount)).reply }
+        ensures state { self.new.state ≡ (command_step self.old.state (SetTicket ticket amount)).state }
+        ensures stale { MakesStale self.old self.new }
+        ensures kept { KeepsStale self.old self.new }
+        ensures meter { self.new.meter ≡ self.old.meter }
+    {
+        if is_bad_amount(amount) {
+            return Reply::Refused(Refusal::BadAmount);
+        }
+        if self.ticket_at(ticket).is_none() {
+            return Reply::Refused(Refusal::NoTicket);
+        }
+        self.threads
+            .apply(Change::SetAmount(ticket as u32, amount as u32));
+        Reply::Done
+    }
+
     /// The ticket with this number, if it is there.
     fn ticket_at(&self, number: u64) -> Option<Ticket>
         ensures found { result ≡ ticket_in self.now.state.tickets number }
@@ -359,4 +379,11 @@ impl Tables {
             None => false,
         }
     }
+}
+
+/// Whether no ticket may have this amount: it is 1 to 4294967295.
+fn is_bad_amount(amount: u64) -> bool
+    ensures { result ≡ names.is_bad_amount amount }
+{
+    amount == 0 || amount > 4294967295
 }

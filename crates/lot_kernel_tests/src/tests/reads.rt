@@ -7,6 +7,8 @@ use lot_kernel::Meter;
 enum Count<'a> {
     /// A command that is done and reads nothing.
     Does(Line<'a>),
+    /// A command that is refused with this, and reads nothing.
+    Refuses(Line<'a>, Refusal),
     /// A draw by processor 1 that this thread wins, the number, the total, and how many edges it reads.
     Draws(u128, Winner, u64),
     /// The end of the quantum on processor 1, which reads nothing.
@@ -33,6 +35,10 @@ fn take_step(rt: &impl Abort, kernel: &mut Kernel, step: Count<'_>) -> u64 {
         Count::Does(line) => {
             let reply = answer(rt, kernel, line);
             assert!(rt; !matches!(reply, Reply::Refused(_)));
+            0
+        }
+        Count::Refuses(line, refusal) => {
+            check_answer(rt, kernel, line, Reply::Refused(refusal));
             0
         }
         Count::Draws(d, winner, reads) => {
@@ -117,6 +123,35 @@ const UPSTREAM: &[Count<'static>] = &[
     Count::Draws(59, (1, 59, 60), 3),
 ];
 
+// 100 base fund `g`, which two threads share, and a third thread has base. Another amount of the ticket that funds `g`
+// makes `g` and its two threads stale; another amount of a thread's ticket of `g` makes the two stale, but not `g`; and
+// another amount of the third thread's ticket makes that thread alone stale. Neither a ticket that funds nothing nor a
+// refused command makes anything stale.
+const RESET: &[Count<'static>] = &[
+    Count::Does(Line::Mkcur("g")),
+    Count::Does(Line::Mktkt(100, "base")),
+    Count::Does(Line::Fund(1, "g")),
+    Count::Does(Line::Fundx(1, "g", "a", 1)),
+    Count::Does(Line::Fundx(1, "g", "b", 1)),
+    Count::Does(Line::Fundx(10, "base", "c", 1)),
+    Count::Draws(109, (3, 109, 110), 4),
+    Count::Expires,
+    Count::Does(Line::Settkt(1, 200)),
+    Count::Draws(209, (3, 209, 210), 3),
+    Count::Expires,
+    Count::Does(Line::Settkt(2, 3)),
+    Count::Draws(150, (2, 150, 210), 2),
+    Count::Expires,
+    Count::Does(Line::Settkt(4, 40)),
+    Count::Draws(239, (3, 239, 240), 1),
+    Count::Expires,
+    Count::Does(Line::Mktkt(7, "g")),
+    Count::Does(Line::Settkt(5, 8)),
+    Count::Refuses(Line::Settkt(1, 0), Refusal::BadAmount),
+    Count::Refuses(Line::Settkt(9, 1), Refusal::NoTicket),
+    Count::Draws(0, (1, 0, 240), 0),
+];
+
 // A listing settles what is stale once; a draw after it reads nothing. A ticket's row also reads the ticket.
 const LISTED: &[Count<'static>] = &[
     Count::Does(Line::Fundx(10, "base", "a", 1)),
@@ -143,6 +178,7 @@ const TRAPPED: &[Count<'static>] = &[
 fn what_is_read(rt: HostRuntime) {
     count_all(&rt, rt.alloc(), SHARED);
     count_all(&rt, rt.alloc(), UPSTREAM);
+    count_all(&rt, rt.alloc(), RESET);
     count_all(&rt, rt.alloc(), LISTED);
     count_all(&rt, rt.alloc(), TRAPPED)
 }

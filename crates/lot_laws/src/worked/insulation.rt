@@ -3,20 +3,24 @@ ghost use Rattle.std.specs.Prelude.{◌≡◌, [], ◌∷◌, ◌++◌, codes};
 ghost use Rattle.lot_machine.specs.declared.action.Action.TheVariants.{Exit};
 ghost use Rattle.lot_machine.specs.declared.event.Event.TheVariants.{Draw, Trap};
 ghost use Rattle.lot_machine.specs.declared.funding.Node.TheVariants.{Currency, Thread};
-ghost use Rattle.lot_machine.specs.Worked.{after, values, fundx};
+ghost use Rattle.lot_machine.specs.Worked.{after, values, fundx, settkt};
 ghost use Rattle.lot_machine.specs.WorkedRuns.{currency_graph, two_to_one};
 ghost use Rattle.lot_machine.specs.Touched.{Touches};
-ghost use Rattle.lot_laws.specs.Runs.{two_currencies, first_threads, first_of_three_runs, first_replaced};
-ghost use Rattle.lot_laws.specs.Runs.{shared_thread, idle_currency};
+ghost use Rattle.lot_laws.specs.Runs.{two_currencies, three_threads, first_threads, first_of_three_runs};
+ghost use Rattle.lot_laws.specs.Runs.{first_replaced, shared_thread, idle_currency};
 ghost use Rattle.lot_laws.specs.Insulation.{Affects, ChangesInside, amount_in, worth_in};
 
-/// A new thread in one of alice's currencies takes from her other threads, and nothing from bob's.
+/// A new thread in one of alice's currencies takes from her other threads, and nothing from bob's. So does a ticket of
+/// hers that gets a larger amount, whether it funds a thread or a currency.
 pub fn inflation()
     ensures before { values (after currency_graph) ≡ 400 ∷ 600 ∷ 2000 ∷ [] }
     ensures after { values (after (currency_graph ++ fundx 100 (codes "task1") (codes "thread1") ∷ []))
         ≡ 266 ∷ 399 ∷ 2000 ∷ 333 ∷ [] }
     ensures more { values (after (currency_graph ++ fundx 500 (codes "task2") (codes "thread1") ∷ []))
         ≡ 200 ∷ 300 ∷ 2000 ∷ 500 ∷ [] }
+    ensures thread { values (after (currency_graph ++ settkt 6 700 ∷ [])) ≡ 700 ∷ 300 ∷ 2000 ∷ [] }
+    ensures currency { values (after (currency_graph ++ fundx 100 (codes "task1") (codes "thread1") ∷ settkt 4 800
+        ∷ [])) ≡ 355 ∷ 532 ∷ 2000 ∷ 111 ∷ [] }
 {}
 
 /// A new thread in one of two currencies takes from that one's thread, and doesn't affect the other's. All that
@@ -28,6 +32,28 @@ pub fn other_currency()
         ++ fundx 1 (codes "g") (codes "c") ∷ [])) 1 first_threads }
     ensures before { values (after two_currencies) ≡ 100 ∷ 100 ∷ [] }
     ensures after { values (after (two_currencies ++ fundx 1 (codes "g") (codes "c") ∷ [])) ≡ 50 ∷ 100 ∷ 50 ∷ [] }
+{}
+
+/// The ticket of one of the first currency's two threads gets three times its amount, so this thread takes from the
+/// other one, which isn't touched and yet affected. It takes nothing from the second currency's thread, and all that
+/// changes is inside the first currency.
+pub fn larger_amount()
+    ensures unaffected { ¬ Affects (after three_threads) (after (three_threads ++ settkt 3 3 ∷ [])) (Thread 2) }
+    ensures inside { ChangesInside (after three_threads) (after (three_threads ++ settkt 3 3 ∷ [])) 1 first_threads }
+    ensures untouched { ¬ Touches (after three_threads) (after (three_threads ++ settkt 3 3 ∷ [])) (Thread 3) }
+    ensures affected { Affects (after three_threads) (after (three_threads ++ settkt 3 3 ∷ [])) (Thread 3) }
+    ensures before { values (after three_threads) ≡ 50 ∷ 100 ∷ 50 ∷ [] }
+    ensures after { values (after (three_threads ++ settkt 3 3 ∷ [])) ≡ 75 ∷ 100 ∷ 25 ∷ [] }
+{}
+
+/// Two tickets of a currency exchange their amounts: its active amount stays, and the threads exchange their values.
+/// So where a currency's active amount stays, a ticket that gets another amount is worth what this amount was worth
+/// before.
+pub fn exchanged_amounts()
+    ensures amount { amount_in (after two_to_one) 1 ≡ 3 }
+    ensures amount_stays { amount_in (after (two_to_one ++ settkt 2 1 ∷ settkt 3 2 ∷ [])) 1 ≡ 3 }
+    ensures before { values (after two_to_one) ≡ 133 ∷ 66 ∷ [] }
+    ensures after { values (after (two_to_one ++ settkt 2 1 ∷ settkt 3 2 ∷ [])) ≡ 66 ∷ 133 ∷ [] }
 {}
 
 /// A thread of the first currency exits, and a new one takes its place: the currency's active amount stays, and so do
@@ -63,9 +89,13 @@ pub fn funded_from_outside()
 {}
 
 /// If a currency has no active ticket, the first one in it activates the tickets that fund it, and these take from
-/// those of the same issuer. So inflation is local only in a currency with active tickets.
+/// those of the same issuer. So inflation is local only in a currency with active tickets. Until then it doesn't matter
+/// what amounts they have.
 pub fn first_active_ticket()
     ensures none { amount_in (after idle_currency) 2 ≡ 0 }
     ensures before { values (after idle_currency) ≡ 100 ∷ [] }
     ensures after { values (after (idle_currency ++ fundx 1 (codes "h") (codes "b") ∷ [])) ≡ 50 ∷ 50 ∷ [] }
+    ensures before_set { values (after (idle_currency ++ settkt 3 4 ∷ [])) ≡ 100 ∷ [] }
+    ensures after_set { values (after (idle_currency ++ settkt 3 4 ∷ fundx 1 (codes "h") (codes "b") ∷ []))
+        ≡ 20 ∷ 80 ∷ [] }
 {}

@@ -50,10 +50,21 @@ fn target_name(rt: &impl Abort, alloc: Global, numbers: &mut ParkMiller) -> Name
     thread_name(rt, alloc, numbers)
 }
 
+/// Another amount for a ticket, now and then the largest, or one that no ticket has.
+fn next_setting(numbers: &mut ParkMiller, ticket: u64) -> Command {
+    let amount = match numbers.next() % 16 {
+        0 => 0,
+        1 => 4294967296,
+        2 => 4294967295,
+        _ => u64::from(numbers.next() % 1000) + 1,
+    };
+    Command::SetTicket { ticket, amount }
+}
+
 fn next_command(rt: &impl Abort, alloc: Global, numbers: &mut ParkMiller) -> Command {
     let amount = u64::from(numbers.next() % 1000) + 1;
     let ticket = u64::from(numbers.next() % 8000);
-    match numbers.next() % 10 {
+    match numbers.next() % 11 {
         0 => Command::MakeTicket {
             amount,
             currency: currency_name(rt, alloc, numbers),
@@ -80,6 +91,7 @@ fn next_command(rt: &impl Abort, alloc: Global, numbers: &mut ParkMiller) -> Com
             name: thread_name(rt, alloc, numbers),
             script: 1,
         },
+        9 => next_setting(numbers, ticket),
         _ => Command::List(Kind::Threads),
     }
 }

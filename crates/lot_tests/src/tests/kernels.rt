@@ -157,6 +157,21 @@ fn check_worth_nothing(rt: &impl Abort, kernel: &mut Kernel) {
     }
 }
 
+/// Gives a ticket another amount.
+fn set_ticket(rt: &impl Abort, kernel: &mut Kernel, ticket: u64, amount: u64) {
+    let done = reply_to(kernel, Command::SetTicket { ticket, amount });
+    check(rt, done, Reply::Done);
+}
+
+/// The first thread's quantum expires.
+fn check_expiry(rt: &impl Abort, kernel: &mut Kernel) {
+    let expired = Reply::Expired {
+        thread: 1,
+        ticks: 100,
+    };
+    check_event(rt, kernel, Event::Expire(1), expired);
+}
+
 /// A draw, the exit of the winner, and a draw without a winner.
 fn check_exit(rt: &impl Abort, kernel: &mut Kernel) {
     check_event(rt, kernel, Event::Draw(1, 6), won(1, 6, 7, None));
@@ -177,6 +192,18 @@ fn a_chain_of_all_currencies(rt: HostRuntime) {
     let mut kernel = new_kernel(&rt, rt.alloc());
     make_chain(&rt, &mut kernel, rt.alloc());
     check_exit(&rt, &mut kernel);
+}
+
+// Another amount of base's ticket reaches the thread too, although the thread runs when the ticket gets it.
+#[test]
+fn inflation_of_all_currencies(rt: HostRuntime) {
+    let mut kernel = new_kernel(&rt, rt.alloc());
+    make_chain(&rt, &mut kernel, rt.alloc());
+    check_event(&rt, &mut kernel, Event::Draw(1, 6), won(1, 6, 7, None));
+    set_ticket(&rt, &mut kernel, 4097, 4294967295);
+    check_expiry(&rt, &mut kernel);
+    let winner = won(1, 4294967294, 4294967295, None);
+    check_event(&rt, &mut kernel, Event::Draw(1, 4294967294), winner);
 }
 
 /// Makes a currency that 100 of base fund, and shares it between three threads, funded with 33 of it each.
@@ -219,17 +246,11 @@ fn make_upstream(rt: &impl Abort, kernel: &mut Kernel) {
     make_funded(rt, kernel, 1, "h", "a");
 }
 
-/// Draws before and after base's first ticket stops funding.
-fn check_upstream(rt: &impl Abort, kernel: &mut Kernel) {
-    let unfund = Event::Command(Command::Unfund { ticket: 1 });
-    let expired = Reply::Expired {
-        thread: 1,
-        ticks: 100,
-    };
-    check_event(rt, kernel, Event::Draw(1, 159), won(1, 159, 160, None));
-    check_event(rt, kernel, Event::Expire(1), expired);
-    check_event(rt, kernel, unfund, Reply::Done);
-    check_event(rt, kernel, Event::Draw(1, 59), won(1, 59, 60, None));
+/// A draw that the first thread wins, and the end of its quantum.
+fn check_quantum(rt: &impl Abort, kernel: &mut Kernel, (number, total): (u128, u128)) {
+    let winner = won(1, number, total, None);
+    check_event(rt, kernel, Event::Draw(1, number), winner);
+    check_expiry(rt, kernel);
 }
 
 // A value follows funding two currencies upstream.
@@ -237,5 +258,20 @@ fn check_upstream(rt: &impl Abort, kernel: &mut Kernel) {
 fn an_unfunding_upstream_is_seen(rt: HostRuntime) {
     let mut kernel = new_kernel(&rt, rt.alloc());
     make_upstream(&rt, &mut kernel);
-    check_upstream(&rt, &mut kernel);
+    check_quantum(&rt, &mut kernel, (159, 160));
+    let unfund = Event::Command(Command::Unfund { ticket: 1 });
+    check_event(&rt, &mut kernel, unfund, Reply::Done);
+    check_quantum(&rt, &mut kernel, (59, 60));
+}
+
+// And it follows an amount there. The thread's one ticket has all of its currency, whatever its amount is.
+#[test]
+fn an_amount_upstream_is_seen(rt: HostRuntime) {
+    let mut kernel = new_kernel(&rt, rt.alloc());
+    make_upstream(&rt, &mut kernel);
+    check_quantum(&rt, &mut kernel, (159, 160));
+    set_ticket(&rt, &mut kernel, 1, 40);
+    check_quantum(&rt, &mut kernel, (99, 100));
+    set_ticket(&rt, &mut kernel, 4, 9);
+    check_quantum(&rt, &mut kernel, (99, 100));
 }

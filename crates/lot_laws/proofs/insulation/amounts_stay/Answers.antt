@@ -1,5 +1,11 @@
-use Rattle.lot_laws.proofs.AmountsKept.{amounts-kept}
+use Rattle.lot_laws.proofs.AmountsKept.{event-amount, run-amount}
 use Rattle.lot_laws.proofs.insulation.amounts_stay.Goals as goal
 
-pub returns : goal.returns
-returns c = amounts-kept
+pub returns-clause-event : goal.returns-clause-event
+returns-clause-event c = event-amount
+
+pub returns-clause-run : goal.returns-clause-run
+returns-clause-run c = run-amount
+
+pub returns-clause-all : goal.returns-clause-all
+returns-clause-all c s events none n = run-amount s events n (none n)

@@ -1,10 +1,12 @@
 use Rattle.std.proofs.Common.{ℕ, ◌<◌, sym, subst}
-use Rattle.lot_laws.proofs.StaysInside.{run-inside, run-tickets}
+use Rattle.lot_laws.proofs.StaysInside.{run-inside, run-tickets, run-amounts}
 use Rattle.lot_laws.proofs.insulation.currencies_insulate.Goals as goal
 
 pub returns-clause-outside : goal.returns-clause-outside
 returns-clause-outside c s events currency inside reachable change same = run-inside s events currency inside reachable change (subst (λ (n : ℕ). 0 < n) (sym same)) (subst (λ (n : ℕ). 0 < n) same)
 
 pub returns-clause-tickets : goal.returns-clause-tickets
-returns-clause-tickets c s events currency inside reachable change same user n t u at at_now issued issued_now active active_now =
-    run-tickets s events currency inside reachable change same user n t u at at_now issued issued_now active active_now
+returns-clause-tickets c = run-tickets
+
+pub returns-clause-amounts : goal.returns-clause-amounts
+returns-clause-amounts c = run-amounts

@@ -90,6 +90,72 @@ processor 1 quanta 3 idle 0 ticks 12 unused 0
 total turns 7 quanta 3 ticks 12 refused 0 left 0
 ";
 
+/// Two threads of one currency and one outside. Tickets get other amounts: first one inside the currency, then the one
+/// that funds it. Two such commands are refused.
+const OTHER_AMOUNTS: &str = "lottery 3
+for 300
+seed 14
+script s
+compute 1000
+endscript
+mkcur g
+mktkt 10 base
+fund 1 g
+fundx 1 g a s
+fundx 1 g b s
+fundx 5 base c s
+at 150
+settkt 9 0
+settkt 9 4
+settkt 3 4
+lsthr
+at 250
+settkt 1 5
+";
+
+/// Its explanation, worked out by hand. Of the currency's 10 the first two threads have 5 and 5, then 2 and 8; when it
+/// has 5, they have 1 and 4.
+const EXPLAINED_AMOUNTS: &str = "0 0 currency 1
+0 0 ticket 1
+0 0 done
+0 0 funded 2 1
+0 0 funded 3 2
+0 0 funded 4 3
+0 1 lot thread 1 a weight 5 from 0 below 5
+0 1 lot thread 2 b weight 5 from 5 below 10 wins
+0 1 lot thread 3 c weight 5 from 10 below 15
+0 1 draw 9.199 of 15 thread 2
+100 1 thread 2 ticks 100 expire
+100 1 lot thread 1 a weight 5 from 0 below 5 wins
+100 1 lot thread 2 b weight 5 from 5 below 10
+100 1 lot thread 3 c weight 5 from 10 below 15
+100 1 draw 3.023 of 15 thread 1
+150 0 refused 6 BadAmount
+150 0 refused 4 NoTicket
+150 0 done
+150 0 lsthr 3
+150 thread 1 a running 1 used 0 value 2 weight 2 quanta 1 ticks 0
+150 thread 2 b ready value 8 weight 8 quanta 1 ticks 100
+150 thread 3 c ready value 5 weight 5 quanta 0 ticks 0
+200 1 thread 1 ticks 100 expire
+200 1 lot thread 1 a weight 2 from 0 below 2
+200 1 lot thread 2 b weight 8 from 2 below 10 wins
+200 1 lot thread 3 c weight 5 from 10 below 15
+200 1 draw 7.484 of 15 thread 2
+250 0 done
+300 1 thread 2 ticks 100 expire
+300 1 lot thread 1 a weight 1 from 0 below 1
+300 1 lot thread 2 b weight 4 from 1 below 5
+300 1 lot thread 3 c weight 5 from 5 below 10 wins
+300 1 draw 6.195 of 10 thread 3
+report
+thread 1 a quanta 1 ticks 100 share 33.333% value 10%
+thread 2 b quanta 2 ticks 200 share 66.666% value 40%
+thread 3 c quanta 1 ticks 0 share 0% value 50%
+processor 1 quanta 4 idle 0 ticks 300 unused 0
+total turns 18 quanta 4 ticks 300 refused 2 left 0
+";
+
 /// Explains the input, and compares the outcome and the output.
 fn check(rt: &impl Abort, alloc: Global, input: &str, played: Played, expected: &str) {
     let found = outcome(alloc, Shown::Explained, input, expected);
@@ -101,6 +167,7 @@ fn explains_inputs(rt: HostRuntime) {
     let alloc = rt.alloc();
     check(&rt, alloc, MUTEX_LOTTERY, Played::Done, EXPLAINED);
     check(&rt, alloc, IN_TIME, Played::Done, EXPLAINED_IN_TIME);
+    check(&rt, alloc, OTHER_AMOUNTS, Played::Done, EXPLAINED_AMOUNTS);
     let refused = "refused line 1 50 BadHeader\n";
     check(&rt, alloc, "lottery 9\n", Played::Refused, refused);
 }

@@ -288,6 +288,30 @@ fn turns_in_time(rt: HostRuntime) {
 }
 
 #[test]
+fn commands_of_one_format(rt: HostRuntime) {
+    for (input, expected) in [
+        (
+            "lottery 2\nsettkt 1 5\n",
+            "line 2: 'settkt' is for 'lottery 3', whose turns come in the order of time\n",
+        ),
+        (
+            "lottery 2\nsetkt 1 5\n",
+            "line 2: 'setkt' is no body line; did you mean 'mktkt'?\n",
+        ),
+        (
+            "lottery 3\nfor 5\nsetkt 1 5\n",
+            "line 3: 'setkt' is no body line; did you mean 'settkt'?\n",
+        ),
+        (
+            "lottery 3\nfor 5\nsettkt 1\n",
+            "line 3: this line is written 'settkt TICKET AMOUNT', and here are 2 words\n",
+        ),
+    ] {
+        check(&rt, rt.alloc(), input.as_bytes(), expected);
+    }
+}
+
+#[test]
 fn several_words(rt: HostRuntime) {
     let (rt, alloc) = (&rt, rt.alloc());
     for (line, expected) in [

@@ -1,7 +1,6 @@
 use Rattle.std.proofs.Common.{◌≡◌, Some, refl, ◌∙◌, ap}
 use Rattle.lot_machine.specs.declared.funding.Lend.TheVariants.{Nobody}
-use Rattle.lot_value.specs.Caches.{Known}
-use Rattle.lot_value.proofs.TwoChanges.{edges-both}
+use Rattle.lot_value.proofs.TwoChanges.{follows-both}
 use Rattle.lot_value.proofs.Lending.{lend-kept, lend-twice, lends-nobody, edges-lent, apart-fewer, number-some}
 use Rattle.lot_value.proofs.Applied.{follows-none}
 use Rattle.lot_value.proofs.relending.relend.Goals as goal
@@ -25,14 +24,4 @@ returns-then-ne c =
     let other : ¬ (old ≡ c.args.lend) = λ same. let no = c.if-lends.ensures.1 (there ∙ ap Some same) in cc in
     let lent = lend-twice first.now mid.now last.now t Nobody c.args.lend c.unlend.ensures.follows.now c.lend.ensures.follows.now in
     let edges = edges-lent first.now mid.now last.now t old c.args.lend there other c.unlend.ensures.follows.now lent in
-    let went = c.unlend.ensures.follows in
-    let came = c.lend.ensures.follows in
-    record {
-      follows = record {
-        now = lent;
-        live = came.live ∙ went.live;
-        known = came.known ∙ ap (λ (k : Known). record k { stale = last.known.stale }) went.known;
-        kept = λ node is. came.kept node (went.kept node is);
-        reached = edges-both first mid last went.live edges went.reached came.reached;
-      };
-    }
+    record { follows = follows-both first mid last lent c.unlend.ensures.follows c.lend.ensures.follows edges }

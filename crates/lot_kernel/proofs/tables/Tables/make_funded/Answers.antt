@@ -4,7 +4,7 @@ use Rattle.lot_kernel.specs.Snapshots.{Snapshot}
 use Rattle.lot_machine.specs.declared.reply.Reply.TheVariants.{Funded}
 use Rattle.lot_machine.specs.State.{State, funding_of}
 use Rattle.lot_machine.specs.declared.ticket.Target.TheVariants.{Thread, Unfunded}
-use Rattle.lot_kernel.proofs.Commanding.{funded-new, last-number, makes-funded, target-funded, thread-no-cycle}
+use Rattle.lot_kernel.proofs.Commanding.{funded-new, good-amount, last-number, makes-funded, target-funded, thread-no-cycle}
 use Rattle.lot_machine.proofs.CommandsKept.{named-there}
 use Rattle.std.specs.Option.{option_flatten}
 use Rattle.lot_machine.specs.Funding.{ticket_at, with_new_ticket, with_target}
@@ -62,7 +62,7 @@ returns-clause-kept c x stale =
     c.put_target.ensures.kept x (c.add_thread-thread.ensures.kept x (subst (λ (y : Snapshot). Contains y.stale x) (sym issued) here))
 
 pub issue-requires-clause-amount : goal.issue-requires-clause-amount
-issue-requires-clause-amount c = omega (arith, c.if-amount-eq0.false)
+issue-requires-clause-amount c = good-amount c.args.amount (sym c.is_bad_amount.ensures ∙ c.if-is_bad_amount.false)
 
 pub put_target-requires-clause-target : goal.put_target-requires-clause-target
 put_target-requires-clause-target c =

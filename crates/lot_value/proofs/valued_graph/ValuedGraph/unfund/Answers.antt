@@ -2,6 +2,7 @@ use Rattle.std.proofs.Common.{◌∙◌, sym}
 use Rattle.lot_machine.specs.declared.funding.Edge.TheVariants.{OfTicket}
 use Rattle.lot_active.specs.Fundings.{AddsEdge}
 use Rattle.lot_value.specs.Valued.{StandsFor}
+use Rattle.lot_value.proofs.Amounts.{unfunded-there}
 use Rattle.lot_value.proofs.Applied.{becomes}
 use Rattle.lot_value.proofs.GraphCalls.{unfund-went}
 use Rattle.lot_value.proofs.valued_graph.ValuedGraph.unfund.Goals as goal
@@ -17,9 +18,14 @@ detach-requires-clause-before c = let (adds, stands) = went (goal.at.detach-requ
 pub invariant_of-self : goal.invariant_of-self
 invariant_of-self c = let (adds, stands) = went (goal.at.invariant_of-self c).After-unfund in (c.detach.ensures.follows c.self.inside.graph (OfTicket c.args.ticket) adds stands c.self.invariant).together
 
-pub returns : goal.returns
-returns c =
+pub returns-clause-follows : goal.returns-clause-follows
+returns-clause-follows c =
     let i = c.self.inside in
-    let (adds, stands) = went (goal.at.returns c).After-unfund in
+    let (adds, stands) = went (goal.at.returns-clause-follows c).After-unfund in
     let follows = c.detach.ensures.follows i.graph (OfTicket c.args.ticket) adds stands c.self.invariant in
-    rw (← c.self.view_is) (record { follows = becomes i.graph c.unfund.new.self i.active c.detach.new.active i.values c.detach.new.values _ _ c.unfund.ensures.unfunded follows c.detach.ensures.others c.detach.ensures.kept })
+    rw (← c.self.view_is) (becomes i.graph c.unfund.new.self i.active c.detach.new.active i.values c.detach.new.values _ _ c.unfund.ensures.unfunded follows c.detach.ensures.others c.detach.ensures.kept)
+
+pub returns-clause-there : goal.returns-clause-there
+returns-clause-there c =
+    let i = c.self.inside in
+    rw (← c.self.view_is) (λ to funds. unfunded-there i.graph c.unfund.new.self i.active i.values c.self.invariant c.args.ticket c.in-Some.ends to (sym c.ends_of_edge.ensures.ends ∙ c.in-Some.is) funds c.unfund.ensures.unfunded)

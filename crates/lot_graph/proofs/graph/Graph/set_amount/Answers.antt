@@ -1,0 +1,18 @@
+use Rattle.std.proofs.Common.{◌≡◌, Some, arith, subst, sym}
+use Rattle.lot_machine.specs.declared.ticket.Target.TheVariants.{Unfunded}
+use Rattle.lot_machine.specs.Funding.{target_of}
+use Rattle.lot_graph.specs.Graphs.{LimitedFunding}
+use Rattle.lot_graph.proofs.FieldLemmas.{set_amount-held}
+use Rattle.lot_graph.proofs.LimitLemmas.{graph-fits}
+use Rattle.lot_graph.proofs.graph.Graph.set_amount.Goals as goal
+
+pub invariant_of-self : goal.invariant_of-self
+invariant_of-self c =
+    set_amount-held _ c.self.invariant c.args.ticket c.args.amount _ (subst (λ (v : LimitedFunding). target_of v.funding c.args.ticket ≡ Some Unfunded) (sym c.self.view_is) c.requires.unfunded)
+    c.requires.amount (omega arith) c.set_amount.ensures
+
+pub returns-clause-sound : goal.returns-clause-sound
+returns-clause-sound c = (invariant_of-self c).sound
+
+pub returns-clause-fits : goal.returns-clause-fits
+returns-clause-fits c = graph-fits _ (invariant_of-self c)

@@ -1,0 +1,129 @@
+//! Tickets that get another amount: inflation and deflation.
+use super::*;
+
+/// The amount is checked before the number, of which no part is left out, and a refused command changes nothing.
+const REFUSED_AMOUNTS: [Step<'_>; 19] = [
+    Step::Gives(Line::Settkt(1, 0), Reply::Refused(Refusal::BadAmount)),
+    Step::Gives(
+        Line::Settkt(1, 4294967296),
+        Reply::Refused(Refusal::BadAmount),
+    ),
+    Step::Gives(Line::Settkt(1, 1), Reply::Refused(Refusal::NoTicket)),
+    Step::Gives(Line::Fundx(100, "base", "a", 1), FIRST_FUNDED),
+    Step::Gives(Line::Settkt(1, 0), Reply::Refused(Refusal::BadAmount)),
+    Step::Gives(
+        Line::Settkt(1, 4294967297),
+        Reply::Refused(Refusal::BadAmount),
+    ),
+    Step::Gives(
+        Line::Settkt(1, u64::MAX),
+        Reply::Refused(Refusal::BadAmount),
+    ),
+    Step::Gives(Line::Settkt(0, 300), Reply::Refused(Refusal::NoTicket)),
+    Step::Gives(Line::Settkt(2, 300), Reply::Refused(Refusal::NoTicket)),
+    Step::Gives(
+        Line::Settkt(4294967297, 300),
+        Reply::Refused(Refusal::NoTicket),
+    ),
+    Step::Gives(Line::Mktkt(5, "base"), Reply::Ticket(2)),
+    Step::Gives(Line::Rmtkt(2), Reply::Done),
+    Step::Gives(Line::Settkt(2, 300), Reply::Refused(Refusal::NoTicket)),
+    Step::Ticket((1, 100, "base", "a", true, 100)),
+    Step::Thread((1, "a", Status::Ready, 100, 100, 0, 0)),
+    Step::Gives(Line::Settkt(1, 4294967295), Reply::Done),
+    Step::Thread((1, "a", Status::Ready, 4294967295, 4294967295, 0, 0)),
+    Step::Gives(Line::Settkt(1, 1), Reply::Done),
+    Step::Wins(1, 3, (1, 0, 1), None),
+];
+
+#[test]
+fn refused_amounts(rt: HostRuntime) {
+    play(&rt, rt.alloc(), &REFUSED_AMOUNTS)
+}
+
+/// Two threads with 100 of base each.
+const EVEN: [(u64, &str); 2] = [(100, "a"), (100, "b")];
+
+const EVEN_DRAWS: [Event; 2] = [Event::Draw(1, 199), Event::Expire(1)];
+
+const EVEN_REPLIES: [Reply; 2] = [
+    Reply::Winner {
+        thread: 2,
+        number: 199,
+        total: 200,
+        delivered: None,
+    },
+    Reply::Expired {
+        thread: 2,
+        ticks: 100,
+    },
+];
+
+/// Thread `a` gets 300, and `b` gets 4 while it runs. Both count at once, and each ticket still funds what it did.
+const INFLATION: [Step<'_>; 9] = [
+    Step::Gives(Line::Settkt(1, 300), Reply::Done),
+    Step::Wins(1, 300, (2, 300, 400), None),
+    Step::Gives(Line::Settkt(2, 4), Reply::Done),
+    Step::Wins(2, 300, (1, 0, 300), None),
+    Step::Ticket((1, 300, "base", "a", true, 300)),
+    Step::Ticket((2, 4, "base", "b", true, 4)),
+    Step::Currency((0, "base", 0, 2, 304, 304)),
+    Step::Value(1, 300),
+    Step::Value(2, 4),
+];
+
+#[test]
+fn inflation(rt: HostRuntime) {
+    let mut kernel = largest(&rt, rt.alloc(), 1);
+    fund(&rt, &mut kernel, &EVEN);
+    check_run(&rt, &mut kernel, &EVEN_DRAWS, &EVEN_REPLIES);
+    take_all(&rt, &mut kernel, &INFLATION)
+}
+
+/// Thread `b` yields after one tick of 100, so that it weighs 100 times what it is worth until it next wins: also with
+/// another amount.
+const COMPENSATED: [Step<'_>; 7] = [
+    Step::Wins(1, 199, (2, 199, 200), None),
+    Step::Traps(1, Action::Yield, 2, Outcome::Yielded),
+    Step::Thread((2, "b", Status::Ready, 100, 10000, 1, 1)),
+    Step::Gives(Line::Settkt(2, 300), Reply::Done),
+    Step::Thread((2, "b", Status::Ready, 300, 30000, 1, 1)),
+    Step::Gives(Line::Settkt(1, 1), Reply::Done),
+    Step::Wins(1, 30000, (2, 30000, 30001), None),
+];
+
+#[test]
+fn compensation_stays(rt: HostRuntime) {
+    let mut kernel = largest(&rt, rt.alloc(), 1);
+    fund(&rt, &mut kernel, &EVEN);
+    take_all(&rt, &mut kernel, &COMPENSATED)
+}
+
+/// Currency `g` is worth 100: thread `b` has half of it, and thread `a` the other half, through `h`. A larger amount
+/// for `b` leaves less of `g` to `a`, and where `g` is worth less, both are. A ticket that funds nothing changes no
+/// value.
+const DILUTION: [Step<'_>; 16] = [
+    Step::Gives(Line::Settkt(4, 3), Reply::Done),
+    Step::Value(1, 25),
+    Step::Value(2, 75),
+    Step::Currency((1, "g", 1, 2, 4, 100)),
+    Step::Ticket((4, 3, "g", "b", true, 75)),
+    Step::Gives(Line::Settkt(1, 20), Reply::Done),
+    Step::Value(1, 5),
+    Step::Value(2, 15),
+    Step::Gives(Line::Mktkt(9, "g"), Reply::Ticket(5)),
+    Step::Gives(Line::Settkt(5, 4), Reply::Done),
+    Step::Ticket((5, 4, "g", "-", false, 0)),
+    Step::Currency((1, "g", 1, 3, 4, 20)),
+    Step::Gives(Line::Fund(5, "a"), Reply::Done),
+    Step::Value(1, 12),
+    Step::Value(2, 7),
+    Step::Wins(1, 12, (2, 12, 19), None),
+];
+
+#[test]
+fn dilution(rt: HostRuntime) {
+    let mut kernel = largest(&rt, rt.alloc(), 1);
+    take_all(&rt, &mut kernel, &TWO_LEVELS);
+    take_all(&rt, &mut kernel, &DILUTION)
+}
