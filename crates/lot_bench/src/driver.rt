@@ -6,7 +6,7 @@ use crate::role::role_of;
 use crate::workload::{Workload, processors_of, threads_of};
 use anyhow::{Context, Result};
 use lot_draw::ParkMiller;
-use lot_kernel::{Action, Command, Event, Kernel, Name, Runner};
+use lot_kernel::{Action, Command, Event, Kernel, Name, Processor, Runner};
 use std::alloc::Global;
 
 /// Makes the events of a workload, one after the other, by what the kernel has on its processors.
@@ -63,7 +63,7 @@ impl Driver {
 
     /// A draw by a processor on which no thread runs, or what its thread does.
     fn processor_event(&mut self, kernel: &Kernel, processor: u32) -> Event {
-        match kernel.runner(processor) {
+        match kernel.runner(Processor { number: processor }) {
             Some(runner) => {
                 let budget = kernel.limits().quantum.saturating_sub(runner.used);
                 self.thread_event(processor, runner, budget)
@@ -74,8 +74,9 @@ impl Driver {
 
     /// What a thread does with what is left of its quantum.
     fn thread_event(&mut self, processor: u32, runner: Runner, budget: u32) -> Event {
-        let role = role_of(self.workload, runner.thread);
-        let Some(place) = self.places.get_mut(runner.thread as usize) else {
+        let thread = runner.thread.number;
+        let role = role_of(self.workload, thread);
+        let Some(place) = self.places.get_mut(thread as usize) else {
             return Event::Expire(processor);
         };
         match place.go_on(role, budget) {

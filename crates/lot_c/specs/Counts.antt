@@ -36,4 +36,4 @@ abbrev pub plain_meter : Meter → PlainMeter
 plain_meter m = record { ticket_reads = m.ticket_reads; tree_visits = m.tree_visits }
 
 abbrev pub plain_runner : Runner → PlainRunner
-plain_runner r = record { thread = r.thread; used = r.used }
+plain_runner r = record { thread = r.thread.number; used = r.used }

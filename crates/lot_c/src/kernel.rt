@@ -11,7 +11,7 @@ ghost use Rattle.lot_c.specs.Numbers.{code};
 use crate::handle::Handle;
 use crate::sizes::{PlainMeter, PlainRunner, PlainSizes};
 use crate::status::Status;
-use lot_kernel::Kernel;
+use lot_kernel::{Kernel, Processor, ThreadNumber};
 use std::alloc::Global;
 
 /// Makes a kernel with these sizes, for a handle that holds none. It allocates all the memory that the kernel will
@@ -159,7 +159,7 @@ pub extern "C" fn lot_kernel_runner(
 fn show_runner(kernel: &Kernel, processor: u32, runner: &mut PlainRunner) -> u32
     ensures { ShowsRunner processor result kernel.now runner.old runner.new }
 {
-    match kernel.runner(processor) {
+    match kernel.runner(Processor { number: processor }) {
         None => Status::NotThere.code(),
         Some(found) => {
             *runner = PlainRunner::of(found);
@@ -191,7 +191,7 @@ pub extern "C" fn lot_kernel_script_of(
 fn show_script(kernel: &Kernel, thread: u32, script: &mut u32) -> u32
     ensures { ShowsScript thread result kernel.now script.old script.new }
 {
-    match kernel.script_of(thread) {
+    match kernel.script_of(ThreadNumber { number: thread }) {
         None => Status::NotThere.code(),
         Some(found) => {
             *script = found;

@@ -7,7 +7,7 @@ ghost use Rattle.lot_c.specs.Numbers.{code};
 use crate::handle::Handle;
 use crate::rows::{PlainCurrencyRow, PlainThreadRow, PlainTicketRow};
 use crate::status::Status;
-use lot_kernel::Kernel;
+use lot_kernel::{CurrencyNumber, Kernel, ThreadNumber, TicketNumber};
 use std::alloc::Global;
 
 /// The row of the ticket with this number.
@@ -33,7 +33,7 @@ pub extern "C" fn lot_kernel_ticket_row(
 fn show_ticket(kernel: &mut Kernel, ticket: u32, row: &mut PlainTicketRow) -> u32
     ensures { ShowsTicket ticket result kernel.old kernel.new row.old row.new }
 {
-    match kernel.ticket_row(ticket) {
+    match kernel.ticket_row(TicketNumber { number: ticket }) {
         None => Status::NotThere.code(),
         Some(found) => {
             *row = PlainTicketRow::of(&found);
@@ -65,7 +65,7 @@ pub extern "C" fn lot_kernel_currency_row(
 fn show_currency(kernel: &mut Kernel, currency: u32, row: &mut PlainCurrencyRow) -> u32
     ensures { ShowsCurrency currency result kernel.old kernel.new row.old row.new }
 {
-    match kernel.currency_row(currency) {
+    match kernel.currency_row(CurrencyNumber { number: currency }) {
         None => Status::NotThere.code(),
         Some(found) => {
             *row = PlainCurrencyRow::of(&found);
@@ -97,7 +97,7 @@ pub extern "C" fn lot_kernel_thread_row(
 fn show_thread(kernel: &mut Kernel, thread: u32, row: &mut PlainThreadRow) -> u32
     ensures { ShowsThread thread result kernel.old kernel.new row.old row.new }
 {
-    match kernel.thread_row(thread) {
+    match kernel.thread_row(ThreadNumber { number: thread }) {
         None => Status::NotThere.code(),
         Some(found) => {
             *row = PlainThreadRow::of(&found);

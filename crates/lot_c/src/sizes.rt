@@ -94,7 +94,7 @@ impl PlainRunner {
         ensures { result ≡ plain_runner runner }
     {
         PlainRunner {
-            thread: runner.thread,
+            thread: runner.thread.number,
             used: runner.used,
         }
     }

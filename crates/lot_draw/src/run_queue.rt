@@ -17,7 +17,7 @@ ghost use Rattle.lot_draw.specs.Queued.{AreWeights, CompetesIn, IsChanged, IsPla
 use crate::competing::{Competitor, Winner};
 use crate::lottery::{reduced, weight};
 use lot_lists::Lists;
-use lot_machine::{Limits, Node};
+use lot_machine::{Limits, Node, index_of};
 use lot_tree::SumTree;
 use lot_value::ValuedGraph;
 use std::alloc::{AllocError, Global};
@@ -105,7 +105,7 @@ impl RunQueue {
             → Contains self.new.changed place ↔ (Contains self.old.changed place ⊎ (place ≡ thread - 1)) }
         ensures weights { (c : Known) → AreWeights self.old c → AreWeights self.new c }
     {
-        let place = thread as usize - 1;
+        let place = index_of(thread);
         self.competitors[place] = competitor;
         self.list(place);
     }
@@ -183,7 +183,7 @@ impl RunQueue {
         ensures listed { (t : ℕ) → node ≡ ThreadNode t → IsChanged self.new t }
     {
         if let Node::Thread(thread) = node {
-            self.list(thread as usize - 1);
+            self.list(index_of(thread));
         }
     }
 

@@ -15,7 +15,7 @@ ghost use Rattle.lot_engine.specs.Steps.{places_after, places_received, slice_be
 
 use crate::turn::Done;
 use lot_kernel::Kernel;
-use lot_machine::{Outcome, Reply};
+use lot_machine::{Outcome, Reply, ThreadNumber};
 use lot_script::{Place, Script, Slice};
 use lot_text::Program;
 use std::alloc::{AllocError, Global};
@@ -45,7 +45,7 @@ pub(crate) fn follow_command(
     ensures room { vec_capacity places.new ≡ vec_capacity places.old }
 {
     if let Some(thread) = made_thread(reply) {
-        let script = kernel.script_of(thread).unwrap();
+        let script = kernel.script_of(ThreadNumber { number: thread }).unwrap();
         places.push_reserved(begin(program, script));
     }
 }

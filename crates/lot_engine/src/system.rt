@@ -24,7 +24,10 @@ use crate::slices::script_numbered;
 use crate::turn::{Answer, KeptWork, Running, TurnFaultKind, Work, done_in, matches_work};
 use lot_draw::ParkMiller;
 use lot_kernel::Kernel;
-use lot_machine::{CurrencyRow, Event, Kind, Limits, Reply, ThreadRow, TicketRow};
+use lot_machine::{
+    CurrencyNumber, CurrencyRow, Event, Kind, Limits, MutexNumber, Processor, Reply, ThreadNumber,
+    ThreadRow, TicketNumber, TicketRow, index_of,
+};
 use lot_script::{Place, Slice};
 use lot_simulation::Format;
 use lot_text::Program;
@@ -160,13 +163,13 @@ impl System {
         if actor == 0 {
             return None;
         }
-        let runner = self.kernel.runner(actor)?;
+        let runner = self.kernel.runner(Processor { number: actor })?;
         let script = self.kernel.script_of(runner.thread).unwrap();
         known(script_numbered(&self.program, script));
         Some(KeptWork {
-            thread: runner.thread,
+            thread: runner.thread.number,
             script,
-            place: &self.places[runner.thread as usize - 1],
+            place: &self.places[index_of(runner.thread.number)],
             budget: self.kernel.limits().quantum - runner.used,
         })
     }
@@ -347,7 +350,7 @@ impl System {
         ensures row { result ≡ rows.ticket_row (world_of self.old).state ticket }
         ensures state { self.new ≡ self.old }
     {
-        self.kernel.ticket_row(ticket)
+        self.kernel.ticket_row(TicketNumber { number: ticket })
     }
 
     /// What the kernel shows of the currency with this number, if it exists.
@@ -355,7 +358,8 @@ impl System {
         ensures row { result ≡ rows.currency_row (world_of self.old).state currency }
         ensures state { self.new ≡ self.old }
     {
-        self.kernel.currency_row(currency)
+        self.kernel
+            .currency_row(CurrencyNumber { number: currency })
     }
 
     /// What the kernel shows of the thread with this number, if there is one.
@@ -363,7 +367,7 @@ impl System {
         ensures row { result ≡ rows.thread_row (world_of self.old).state thread }
         ensures state { self.new ≡ self.old }
     {
-        self.kernel.thread_row(thread)
+        self.kernel.thread_row(ThreadNumber { number: thread })
     }
 
     /// Lists in `out` the threads that wait for the mutex, the one that has waited longest first; none if there is no
@@ -375,7 +379,7 @@ impl System {
         ensures few { vec_len out.new ≤ self.now.setting.program.limits.threads }
         ensures room { vec_capacity out.new ≡ vec_capacity out.old }
     {
-        self.kernel.list_waiters(mutex, out);
+        self.kernel.list_waiters(MutexNumber { number: mutex }, out);
     }
 
     /// The format of the program.

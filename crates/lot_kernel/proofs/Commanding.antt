@@ -26,8 +26,8 @@ use Rattle.lot_machine.proofs.TicketDepth.{would_cycle-exact}
 use Rattle.lot_machine.proofs.Tickets.{at_number-suc, some-injective}
 use Rattle.lot_machine.proofs.TwoSteps.{edges-between, live-between}
 use Rattle.lot_graph.specs.Graphs.{IsCycle, IsTarget}
-use Rattle.lot_value.proofs.Lending.{lent_ends}
-use Rattle.lot_threads.proofs.TwoChanges.{makes-both-in, weighed_one}
+use Rattle.lot_threads.proofs.Adding.{newborn-edges}
+use Rattle.lot_threads.proofs.TwoChanges.{makes-both-in}
 use Rattle.lot_kernel.specs.Snapshots.{IsTargetThere, MakesStale, Snapshot, threads_of}
 
 -- ---- funding
@@ -120,19 +120,6 @@ unfunded-edges f amount issuer (OfTicket n) = by (number-push f.tickets (Some (r
 
     by : (at_number (with_new_ticket f.tickets amount issuer Unfunded) n ≡ at_number f.tickets n) ⊎ ((at_number f.tickets n ≡ None) × (at_number (with_new_ticket f.tickets amount issuer Unfunded) n ≡ Some (Some (record { amount = amount; issuer = issuer; target = Unfunded }))))
         → seen (at_number (with_new_ticket f.tickets amount issuer Unfunded) n) ≡ seen (at_number f.tickets n)
-    by (inl same) = ap seen same
-    by (inr (none, new)) = ap seen new ∙ sym (ap seen none)
-
--- one more thread, which lends to nobody, adds no edge
-pub newborn-edges : (f : Funding) (edge : Edge) → weighed_of (record f { lends = f.lends ++ Nobody ∷ [] }) edge ≡ weighed_of f edge
-newborn-edges f (OfTicket n) = refl
-newborn-edges f (OfMutex m) = refl
-newborn-edges f (OfLender t) = by (number-push f.lends Nobody t)
-  where
-    seen : Option Lend → Option (Node × Node × ℕ)
-    seen o = weighed_one (lent_ends t o)
-
-    by : (at_number (f.lends ++ Nobody ∷ []) t ≡ at_number f.lends t) ⊎ ((at_number f.lends t ≡ None) × (at_number (f.lends ++ Nobody ∷ []) t ≡ Some Nobody)) → seen (at_number (f.lends ++ Nobody ∷ []) t) ≡ seen (at_number f.lends t)
     by (inl same) = ap seen same
     by (inr (none, new)) = ap seen new ∙ sym (ap seen none)
 

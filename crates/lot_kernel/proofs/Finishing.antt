@@ -54,26 +54,26 @@ stops-run s stale meter t Dead stops = tt
 
 -- the record of the thread that made a trap, after it
 abbrev pub finished : State → Trap → After → Record → Record
-finished s trap after r = with_ticks trap.ticks (after_trap after trap.processor trap.used s.limits.quantum r)
+finished s trap after r = with_ticks trap.ticks (after_trap after trap.processor.number trap.used s.limits.quantum r)
 
-module _ (s : State) (stale : List Node) (meter : Meter) (trap : Trap) (before : Record) (there : IsThere s.records trap.thread) (timely : IsTimely s.limits.quantum before) (some : 0 < trap.used)
-    (processor : IsBetween 1 s.limits.processors trap.processor) (alone : RunsAlone s.records trap.processor trap.thread) where
-  can-go : CanChange (threads_of s stale meter) trap.thread (finished s trap GoesOn before)
+module _ (s : State) (stale : List Node) (meter : Meter) (trap : Trap) (before : Record) (there : IsThere s.records trap.thread.number) (timely : IsTimely s.limits.quantum before) (some : 0 < trap.used)
+    (processor : IsBetween 1 s.limits.processors trap.processor.number) (alone : RunsAlone s.records trap.processor.number trap.thread.number) where
+  can-go : CanChange (threads_of s stale meter) trap.thread.number (finished s trap GoesOn before)
   can-go = by (nat_lt trap.used s.limits.quantum) refl
     where
-      by : (b : Bool) → nat_lt trap.used s.limits.quantum ≡ b → CanChange (threads_of s stale meter) trap.thread (finished s trap GoesOn before)
+      by : (b : Bool) → nat_lt trap.used s.limits.quantum ≡ b → CanChange (threads_of s stale meter) trap.thread.number (finished s trap GoesOn before)
       by true is = rw is (record { there = there; timely = (timely.0, ltb-true trap.used s.limits.quantum is); lend = tt; run = (processor, λ u more runs. alone u more runs) })
       by false is = rw is (record { there = there; timely = (tt, tt); lend = tt; run = tt })
 
-  can-leave : (status : Status) → ((p used : ℕ) → ¬ (status ≡ Running p used)) → CanLend (funding_of s) trap.thread (lend_of status) → CanChange (threads_of s stale meter) trap.thread (finished s trap (Leaves status) before)
-  can-leave status stops lend = record { there = there; timely = (by (nat_lt trap.used s.limits.quantum), stops-below s.limits.quantum status stops); lend = lend; run = stops-run s stale meter trap.thread status stops }
+  can-leave : (status : Status) → ((p used : ℕ) → ¬ (status ≡ Running p used)) → CanLend (funding_of s) trap.thread.number (lend_of status) → CanChange (threads_of s stale meter) trap.thread.number (finished s trap (Leaves status) before)
+  can-leave status stops lend = record { there = there; timely = (by (nat_lt trap.used s.limits.quantum), stops-below s.limits.quantum status stops); lend = lend; run = stops-run s stale meter trap.thread.number status stops }
     where
       by : (b : Bool) → IfSome (if b then Some trap.used else None) (λ n. 0 < n)
       by true = some
       by false = tt
 
   -- the thread may have the record that the trap leaves it with
-  pub can-finish : (after : After) → StopsIfLeaves after → ((status : Status) → after ≡ Leaves status → CanLend (funding_of s) trap.thread (lend_of status)) → CanChange (threads_of s stale meter) trap.thread (finished s trap after before)
+  pub can-finish : (after : After) → StopsIfLeaves after → ((status : Status) → after ≡ Leaves status → CanLend (funding_of s) trap.thread.number (lend_of status)) → CanChange (threads_of s stale meter) trap.thread.number (finished s trap after before)
   can-finish GoesOn stops lend = can-go
   can-finish (Leaves status) stops lend = can-leave status stops (lend status refl)
   can-finish Ends stops lend = record { there = there; timely = (tt, tt); lend = tt; run = tt }

@@ -22,4 +22,4 @@ effect_of s t action = checked_effect s (trap_refusal s t action) (trap_effect s
 
 -- the trap done, its ticks counted, and its thread gone on or gone
 abbrev pub trapped : State → Trap → Action → Step
-trapped s trap action = finish_trap s trap.processor trap.thread trap.ticks trap.used (effect_of s trap.thread action)
+trapped s trap action = finish_trap s trap.processor.number trap.thread.number trap.ticks trap.used (effect_of s trap.thread.number action)

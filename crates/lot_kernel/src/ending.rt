@@ -4,21 +4,21 @@ ghost use Rattle.lot_machine.specs.declared.after.After.TheVariants.{GoesOn};
 ghost use Rattle.lot_machine.specs.Step as steps;
 ghost use Rattle.lot_machine.specs.Traps.{after_trap, with_ticks};
 
-use lot_machine::{After, Record, Status};
+use lot_machine::{After, Processor, Record, Status, ThreadNumber};
 
 /// A trap that is made: by whom and where, the ticks that it and the work before it cost, and how much of the quantum
 /// is used then.
 #[derive(Clone, Copy, Debug)]
 pub(crate) struct Trap {
-    pub(crate) processor: u32,
-    pub(crate) thread: u32,
+    pub(crate) processor: Processor,
+    pub(crate) thread: ThreadNumber,
     pub(crate) ticks: u32,
     pub(crate) used: u32,
 }
 
 /// The record of the thread that made a trap, after it.
 pub(crate) fn record_after(before: Record, trap: Trap, after: After, quantum: u32) -> Record
-    ensures { result ≡ with_ticks trap.ticks (after_trap after trap.processor trap.used quantum before) }
+    ensures { result ≡ with_ticks trap.ticks (after_trap after trap.processor.number trap.used quantum before) }
 {
     let then = leaving(before, trap, after, quantum);
     Record {
@@ -29,7 +29,7 @@ pub(crate) fn record_after(before: Record, trap: Trap, after: After, quantum: u3
 
 /// The record of a thread after its trap, except for its ticks.
 fn leaving(before: Record, trap: Trap, after: After, quantum: u32) -> Record
-    ensures { result ≡ after_trap after trap.processor trap.used quantum before }
+    ensures { result ≡ after_trap after trap.processor.number trap.used quantum before }
 {
     match after {
         After::GoesOn => going_on(before, trap, quantum),
@@ -52,12 +52,12 @@ fn leaving(before: Record, trap: Trap, after: After, quantum: u32) -> Record
 
 /// The record of a thread that runs on after its trap, if its quantum isn't used up.
 fn going_on(before: Record, trap: Trap, quantum: u32) -> Record
-    ensures { result ≡ after_trap GoesOn trap.processor trap.used quantum before }
+    ensures { result ≡ after_trap GoesOn trap.processor.number trap.used quantum before }
 {
     if trap.used < quantum {
         return Record {
             status: Status::Running {
-                processor: trap.processor,
+                processor: trap.processor.number,
                 used: trap.used,
             },
             ..before

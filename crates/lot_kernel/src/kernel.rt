@@ -15,7 +15,10 @@ ghost use Rattle.lot_kernel.specs.Counted.{AreDone, Counts, settled, with_ticket
 ghost use Rattle.lot_kernel.specs.Snapshots.{MakesStale, starting};
 
 use crate::tables::Tables;
-use lot_machine::{CurrencyRow, Event, Limits, Reply, ThreadRow, TicketRow};
+use lot_machine::{
+    CurrencyNumber, CurrencyRow, Event, Limits, MutexNumber, Processor, Reply, ThreadNumber,
+    ThreadRow, TicketNumber, TicketRow,
+};
 use lot_threads::Runner;
 use lot_value::Meter;
 use std::alloc::{AllocError, Global};
@@ -138,10 +141,10 @@ impl Kernel {
 
     /// The row of the ticket with this number, `None` if and only if it isn't there. Computes what is stale, and
     /// counts that, and one reading of the ticket if it funds something. Changes nothing else, and takes no memory.
-    pub fn ticket_row(&mut self, ticket: u32) -> Option<TicketRow>
-        ensures row { result ≡ rows.ticket_row self.old.state ticket }
+    pub fn ticket_row(&mut self, ticket: TicketNumber) -> Option<TicketRow>
+        ensures row { result ≡ rows.ticket_row self.old.state ticket.number }
         ensures state { self.new.state ≡ self.old.state }
-        ensures settled { (t : ATicket) → ticket_in self.old.state.tickets ticket ≡ Some t
+        ensures settled { (t : ATicket) → ticket_in self.old.state.tickets ticket.number ≡ Some t
             → self.new ≡ record (settled self.old) { meter = with_ticket_read (settled self.old).meter t } }
         ensures once { IfSome result (λ r. HasNoneTwice self.old.stale) }
         ensures unchanged { IfNone result (self.new ≡ self.old) }
@@ -151,8 +154,8 @@ impl Kernel {
 
     /// The row of the currency with this number, `None` if and only if it isn't there; base is worth its active amount.
     /// Computes what is stale, and counts that. Changes nothing else, and takes no memory.
-    pub fn currency_row(&mut self, currency: u32) -> Option<CurrencyRow>
-        ensures row { result ≡ rows.currency_row self.old.state currency }
+    pub fn currency_row(&mut self, currency: CurrencyNumber) -> Option<CurrencyRow>
+        ensures row { result ≡ rows.currency_row self.old.state currency.number }
         ensures state { self.new.state ≡ self.old.state }
         ensures settled { IfSome result (λ r. self.new ≡ settled self.old) }
         ensures once { IfSome result (λ r. HasNoneTwice self.old.stale) }
@@ -163,8 +166,8 @@ impl Kernel {
 
     /// The row of the thread with this number, `None` if and only if there is none. Computes what is stale, and counts
     /// that. Changes nothing else, and takes no memory.
-    pub fn thread_row(&mut self, thread: u32) -> Option<ThreadRow>
-        ensures row { result ≡ rows.thread_row self.old.state thread }
+    pub fn thread_row(&mut self, thread: ThreadNumber) -> Option<ThreadRow>
+        ensures row { result ≡ rows.thread_row self.old.state thread.number }
         ensures state { self.new.state ≡ self.old.state }
         ensures settled { IfSome result (λ r. self.new ≡ settled self.old) }
         ensures once { IfSome result (λ r. HasNoneTwice self.old.stale) }
@@ -174,28 +177,29 @@ impl Kernel {
     }
 
     /// Who runs on the processor, `None` if and only if nobody does. The ticks used are below the quantum.
-    pub fn runner(&self, processor: u32) -> Option<Runner>
-        ensures thread { MatchOption result (thread_on self.now.state.records processor ≡ None)
-            (λ r. thread_on self.now.state.records processor ≡ Some r.thread) }
-        ensures used { IfSome result (λ r. used_by self.now.state.records processor r.thread ≡ Some r.used) }
-        ensures there { IfSome result (λ r. (0 < r.thread) × (r.thread ≤ length self.now.state.records)) }
+    pub fn runner(&self, processor: Processor) -> Option<Runner>
+        ensures thread { MatchOption result (thread_on self.now.state.records processor.number ≡ None)
+            (λ r. thread_on self.now.state.records processor.number ≡ Some r.thread.number) }
+        ensures used { IfSome result (λ r. used_by self.now.state.records processor.number r.thread.number
+            ≡ Some r.used) }
+        ensures there { IfSome result (λ r. (0 < r.thread.number) × (r.thread.number ≤ length self.now.state.records)) }
         ensures below { IfSome result (λ r. r.used < self.now.state.limits.quantum) }
     {
         self.tables.runner(processor)
     }
 
     /// The number of the script that the thread was made with, `None` if and only if there is no such thread.
-    pub fn script_of(&self, thread: u32) -> Option<u32>
-        ensures { result ≡ option_map (λ t. t.script) (numbered.at_number self.now.state.threads thread) }
+    pub fn script_of(&self, thread: ThreadNumber) -> Option<u32>
+        ensures { result ≡ option_map (λ t. t.script) (numbered.at_number self.now.state.threads thread.number) }
     {
         self.tables.script_of(thread)
     }
 
     /// Lists in `out` the threads that wait for the mutex, the one that has waited longest first; none if there is no
     /// such mutex. It takes no memory, since `out` has room for all threads.
-    pub fn list_waiters(&self, mutex: u32, out: &mut Vec<u32>)
+    pub fn list_waiters(&self, mutex: MutexNumber, out: &mut Vec<u32>)
         requires { self.now.state.limits.threads ≤ vec_capacity out.old }
-        ensures waiters { out.new.items ≡ (mutex_at self.now.state.mutexes mutex).waiters }
+        ensures waiters { out.new.items ≡ (mutex_at self.now.state.mutexes mutex.number).waiters }
         ensures there { All (IsBetween 1 (length self.now.state.records)) out.new.items }
         ensures few { vec_len out.new ≤ self.now.state.limits.threads }
         ensures room { vec_capacity out.new ≡ vec_capacity out.old }

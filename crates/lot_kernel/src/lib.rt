@@ -10,8 +10,9 @@ mod tables;
 
 pub use kernel::Kernel;
 pub use lot_machine::{
-    Action, Command, CurrencyRow, Event, Kind, Limits, Name, Outcome, Refusal, Reply, Sizes,
-    Status, ThreadRow, TicketRow, TrapRefusal,
+    Action, Command, CurrencyNumber, CurrencyRow, Event, Kind, Limits, MutexNumber, Name, Outcome,
+    Processor, Refusal, Reply, Sizes, Status, ThreadNumber, ThreadRow, TicketNumber, TicketRow,
+    TrapRefusal,
 };
 pub use lot_threads::Runner;
 pub use lot_value::Meter;

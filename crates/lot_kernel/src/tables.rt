@@ -12,7 +12,7 @@ mod processors;
 mod rows;
 mod traps;
 
-use lot_machine::{Event, Limits, Name, Reply};
+use lot_machine::{Event, Limits, MutexNumber, Name, Processor, Reply};
 use lot_mutex::Lottery;
 use lot_queues::Queues;
 use lot_threads::Threads;
@@ -103,15 +103,15 @@ impl Tables {
 
     /// Lists in `out` the threads that wait for the mutex, the one that has waited longest first; none if there is no
     /// such mutex. It takes no memory.
-    pub(crate) fn list_waiters(&self, mutex: u32, out: &mut Vec<u32>)
+    pub(crate) fn list_waiters(&self, mutex: MutexNumber, out: &mut Vec<u32>)
         requires { self.now.state.limits.threads ≤ vec_capacity out.old }
-        ensures waiters { out.new.items ≡ (mutex_at self.now.state.mutexes mutex).waiters }
+        ensures waiters { out.new.items ≡ (mutex_at self.now.state.mutexes mutex.number).waiters }
         ensures few { vec_len out.new ≤ self.now.state.limits.threads }
         ensures room { vec_capacity out.new ≡ vec_capacity out.old }
     {
         out.clear();
-        if 0 < mutex && mutex <= self.queues.mutexes() {
-            self.queues.list_waiters(mutex, out);
+        if 0 < mutex.number && mutex.number <= self.queues.mutexes() {
+            self.queues.list_waiters(mutex.number, out);
         }
     }
 
@@ -126,9 +126,11 @@ impl Tables {
     {
         match event {
             Event::Command(command) => self.command(command, reply),
-            Event::Draw(processor, d) => self.draw(*processor, *d, reply),
-            Event::Expire(processor) => self.expire(*processor, reply),
-            Event::Trap(processor, ran, action) => self.trap(*processor, *ran, action, reply),
+            Event::Draw(number, d) => self.draw(Processor { number: *number }, *d, reply),
+            Event::Expire(number) => self.expire(Processor { number: *number }, reply),
+            Event::Trap(number, ran, action) => {
+                self.trap(Processor { number: *number }, *ran, action, reply);
+            }
         }
     }
 }

@@ -11,8 +11,8 @@ mod traps;
 
 use crate::{trapped, won};
 use lot_kernel::{
-    Action, Command, CurrencyRow, Event, Kernel, Kind, Limits, Name, Outcome, Refusal, Reply,
-    Sizes, Status, ThreadRow, TicketRow, TrapRefusal,
+    Action, Command, CurrencyNumber, CurrencyRow, Event, Kernel, Kind, Limits, Name, Outcome,
+    Refusal, Reply, Sizes, Status, ThreadNumber, ThreadRow, TicketNumber, TicketRow, TrapRefusal,
 };
 use same::{check_same, check_same_at};
 use std::alloc::Global;
@@ -149,7 +149,12 @@ fn ticket_row(rt: &impl Abort, shown: TicketShown<'_>) -> TicketRow {
 }
 
 fn check_ticket(rt: &impl Abort, kernel: &mut Kernel, number: u32, row: Option<TicketRow>) {
-    check_same_at(rt, &number, &kernel.ticket_row(number), &row);
+    check_same_at(
+        rt,
+        &number,
+        &kernel.ticket_row(TicketNumber { number }),
+        &row,
+    );
 }
 
 fn currency_row(rt: &impl Abort, shown: CurrencyShown<'_>) -> CurrencyRow {
@@ -164,7 +169,12 @@ fn currency_row(rt: &impl Abort, shown: CurrencyShown<'_>) -> CurrencyRow {
 }
 
 fn check_currency(rt: &impl Abort, kernel: &mut Kernel, number: u32, row: Option<CurrencyRow>) {
-    check_same_at(rt, &number, &kernel.currency_row(number), &row);
+    check_same_at(
+        rt,
+        &number,
+        &kernel.currency_row(CurrencyNumber { number }),
+        &row,
+    );
 }
 
 fn thread_row(rt: &impl Abort, shown: ThreadShown<'_>) -> ThreadRow {
@@ -180,12 +190,17 @@ fn thread_row(rt: &impl Abort, shown: ThreadShown<'_>) -> ThreadRow {
 }
 
 fn check_thread(rt: &impl Abort, kernel: &mut Kernel, number: u32, row: Option<ThreadRow>) {
-    check_same_at(rt, &number, &kernel.thread_row(number), &row);
+    check_same_at(
+        rt,
+        &number,
+        &kernel.thread_row(ThreadNumber { number }),
+        &row,
+    );
 }
 
 /// Compares what a thread is worth.
 fn check_value(rt: &impl Abort, kernel: &mut Kernel, thread: u32, value: u64) {
-    let found = match kernel.thread_row(thread) {
+    let found = match kernel.thread_row(ThreadNumber { number: thread }) {
         Some(row) => Some(row.value),
         None => None,
     };
@@ -195,7 +210,7 @@ fn check_value(rt: &impl Abort, kernel: &mut Kernel, thread: u32, value: u64) {
 /// Takes a step.
 fn take(rt: &impl Abort, kernel: &mut Kernel, step: Step<'_>) {
     match step {
-        Step::Gives(line, reply) => return check_answer(rt, kernel, line, reply),
+        Step::Gives(line, reply) => check_answer(rt, kernel, line, reply),
         Step::Wins(processor, d, winner, delivered) => {
             check_event(
                 rt,
@@ -211,6 +226,13 @@ fn take(rt: &impl Abort, kernel: &mut Kernel, step: Step<'_>) {
             let event = Event::Trap(processor, 0, action);
             check_event(rt, kernel, event, trapped(thread, outcome));
         }
+        _ => check_shown(rt, kernel, step),
+    }
+}
+
+/// Compares a row or a value that the kernel has to show.
+fn check_shown(rt: &impl Abort, kernel: &mut Kernel, step: Step<'_>) {
+    match step {
         Step::Ticket(shown) => check_ticket(rt, kernel, shown.0, Some(ticket_row(rt, shown))),
         Step::Currency(shown) => check_currency(rt, kernel, shown.0, Some(currency_row(rt, shown))),
         Step::Thread(shown) => check_thread(rt, kernel, shown.0, Some(thread_row(rt, shown))),
@@ -218,6 +240,8 @@ fn take(rt: &impl Abort, kernel: &mut Kernel, step: Step<'_>) {
         Step::NoTicket(number) => check_ticket(rt, kernel, number, None),
         Step::NoCurrency(number) => check_currency(rt, kernel, number, None),
         Step::NoThread(number) => check_thread(rt, kernel, number, None),
+        // `take` gives these to the kernel.
+        Step::Gives(..) | Step::Wins(..) | Step::Idles(..) | Step::Traps(..) => {}
     }
 }
 
@@ -234,10 +258,15 @@ fn play(rt: &impl Abort, alloc: Global, steps: &[Step<'_>]) {
     take_all(rt, &mut kernel, steps)
 }
 
+/// The name of a letter and a number.
+fn numbered(rt: &impl Abort, alloc: Global, letter: char, number: u32) -> String {
+    format!(in alloc; "{letter}{number}").expect(rt, "memory")
+}
+
 /// Makes this many threads with 1 of base each: `t1`, `t2` and so on.
 fn make_threads(rt: &impl Abort, kernel: &mut Kernel, alloc: Global, count: u32) {
     for number in 1..=count {
-        let text = format!(in alloc; "t{number}").expect(rt, "memory");
+        let text = numbered(rt, alloc, 't', number);
         answer(rt, kernel, Line::Fundx(1, "base", text.as_str(), 1));
     }
 }
@@ -296,15 +325,18 @@ fn fund(rt: &impl Abort, kernel: &mut Kernel, threads: &[(u64, &str)]) {
     }
 }
 
+/// Tickets of base with their numbers and amounts, and the threads that they fund.
+const FIVE: [(u64, u64, &str); 5] = [
+    (1, 10, "a"),
+    (2, 2, "b"),
+    (3, 5, "c"),
+    (4, 1, "d"),
+    (5, 2, "e"),
+];
+
 /// Five threads with 10, 2, 5, 1 and 2 of base.
 fn fund_five(rt: &impl Abort, kernel: &mut Kernel) {
-    for (number, amount, name) in [
-        (1, 10, "a"),
-        (2, 2, "b"),
-        (3, 5, "c"),
-        (4, 1, "d"),
-        (5, 2, "e"),
-    ] {
+    for (number, amount, name) in FIVE {
         fund_thread(rt, kernel, number, amount, name);
     }
 }
@@ -320,22 +352,25 @@ fn check_draw(rt: &impl Abort, kernel: &mut Kernel, d: u128, thread: u32, number
     );
 }
 
+/// Drawn numbers, with the threads that win of 20 with them, and these numbers of 20.
+const DRAWS: [(u128, u32, u128); 13] = [
+    (15, 3, 15),
+    (9, 1, 9),
+    (10, 2, 10),
+    (11, 2, 11),
+    (12, 3, 12),
+    (16, 3, 16),
+    (17, 4, 17),
+    (18, 5, 18),
+    (19, 5, 19),
+    (35, 3, 15),
+    (36090892629924, 1, 4),
+    (166439864623969647858139600294153, 3, 13),
+    (u128::MAX, 3, 15),
+];
+
 fn check_draws(rt: &impl Abort, kernel: &mut Kernel) {
-    for (d, thread, number) in [
-        (15, 3, 15),
-        (9, 1, 9),
-        (10, 2, 10),
-        (11, 2, 11),
-        (12, 3, 12),
-        (16, 3, 16),
-        (17, 4, 17),
-        (18, 5, 18),
-        (19, 5, 19),
-        (35, 3, 15),
-        (36090892629924, 1, 4),
-        (166439864623969647858139600294153, 3, 13),
-        (u128::MAX, 3, 15),
-    ] {
+    for (d, thread, number) in DRAWS {
         check_draw(rt, kernel, d, thread, number);
     }
 }
@@ -780,7 +815,7 @@ fn cycles(rt: HostRuntime) {
 /// Makes this many currencies: `c1`, `c2` and so on.
 fn make_currencies(rt: &impl Abort, kernel: &mut Kernel, alloc: Global, count: u32) {
     for number in 1..=count {
-        let made = format!(in alloc; "c{number}").expect(rt, "memory");
+        let made = numbered(rt, alloc, 'c', number);
         answer(rt, kernel, Line::Mkcur(&made));
     }
 }
@@ -797,8 +832,8 @@ fn fund_anew(rt: &impl Abort, kernel: &mut Kernel, amount: u64, issuer: &str, ta
 
 /// This many tickets of this currency fund the next.
 fn link(rt: &impl Abort, kernel: &mut Kernel, alloc: Global, number: u32, tickets: u32) {
-    let issuer = format!(in alloc; "c{number}").expect(rt, "memory");
-    let target = format!(in alloc; "c{}", number.saturating_add(1)).expect(rt, "memory");
+    let issuer = numbered(rt, alloc, 'c', number);
+    let target = numbered(rt, alloc, 'c', number.saturating_add(1));
     for _ in 0..tickets {
         fund_anew(rt, kernel, 1, &issuer, &target);
     }
@@ -813,7 +848,7 @@ fn link_all(rt: &impl Abort, kernel: &mut Kernel, alloc: Global, count: u32, tic
 
 /// Makes thread `a`, with a ticket of this currency.
 fn fund_last(rt: &impl Abort, kernel: &mut Kernel, alloc: Global, number: u32) {
-    let last = format!(in alloc; "c{number}").expect(rt, "memory");
+    let last = numbered(rt, alloc, 'c', number);
     answer(rt, kernel, Line::Fundx(1, &last, "a", 1));
 }
 

@@ -11,6 +11,7 @@ pub mod kept;
 pub mod laws;
 mod limits;
 mod name;
+mod numbers;
 mod record;
 mod refusal;
 mod reply;
@@ -27,6 +28,9 @@ pub use event::Event;
 pub use funding::{Edge, Lend, Node};
 pub use limits::Limits;
 pub use name::{Name, is_good_name};
+pub use numbers::{
+    CurrencyNumber, MutexNumber, PortNumber, Processor, ThreadNumber, TicketNumber, index_of,
+};
 pub use record::{Record, Status, Thread};
 pub use refusal::{Refusal, TrapRefusal};
 pub use reply::{Outcome, Reply};

@@ -5,16 +5,16 @@ ghost use Rattle.lot_machine.specs.Order.{IsQueue};
 ghost use Rattle.lot_machine.specs.State.{status_of};
 ghost use Rattle.lot_mutex.specs.Listed.{owners_of};
 
-use lot_machine::Status;
+use lot_machine::{MutexNumber, Status, ThreadNumber};
 use lot_queues::Queues;
 use lot_threads::Threads;
 
 /// Whether each of these threads waits for the mutex, and none is listed twice.
-pub fn are_waiting(threads: &Threads, waiters: &[u32], mutex: u32) -> bool
-    ensures { IsTrue result ↔ IsQueue threads.now.records (status.Waiting mutex) waiters.now }
+pub fn are_waiting(threads: &Threads, waiters: &[u32], mutex: MutexNumber) -> bool
+    ensures { IsTrue result ↔ IsQueue threads.now.records (status.Waiting mutex.number) waiters.now }
 {
     for place in 0..waiters.len() {
-        if !is_waiting(threads, waiters[place], mutex) || !is_first(waiters, place) {
+        if !is_waiting(threads, waiters[place], mutex.number) || !is_first(waiters, place) {
             return false;
         }
     }
@@ -39,7 +39,7 @@ pub fn have_same_owners(threads: &Threads, queues: &Queues) -> bool
 fn is_waiting(threads: &Threads, thread: u32, mutex: u32) -> bool
     ensures { IsTrue result ↔ (status_of threads.now.records thread ≡ Some (status.Waiting mutex)) }
 {
-    match threads.record(thread) {
+    match threads.record(ThreadNumber { number: thread }) {
         Some(found) => found.status == Status::Waiting(mutex),
         None => false,
     }

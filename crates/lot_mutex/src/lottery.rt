@@ -10,7 +10,7 @@ ghost use Rattle.lot_queues.specs.QueueLists.{IsThere};
 ghost use Rattle.lot_threads.specs.Threaded.{IsThreadOf, funding_in, worth_in};
 
 use lot_draw::winner;
-use lot_machine::{Drawn, Node};
+use lot_machine::{Drawn, Node, ThreadNumber};
 use lot_queues::Queues;
 use lot_threads::Threads;
 use std::alloc::{AllocError, Global};
@@ -115,6 +115,7 @@ fn list_worths(threads: &Threads, waiters: &[u32], worths: &mut Vec<u128>)
 {
     worths.clear();
     for thread in waiters {
-        worths.push_reserved(u128::from(threads.worth_of(*thread)));
+        let worth = threads.worth_of(ThreadNumber { number: *thread });
+        worths.push_reserved(u128::from(worth));
     }
 }

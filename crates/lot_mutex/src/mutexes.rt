@@ -16,38 +16,45 @@ ghost use Rattle.lot_threads.specs.Threaded.{IsLiveIn, IsStaleIn, MakesStaleIn, 
 ghost use Rattle.lot_mutex.specs.Listed.{IsMutexTrap, owners_of, with_mutexes};
 
 use crate::lottery::Lottery;
-use lot_machine::{After, Drawn, Outcome, Status};
+use lot_machine::{After, Drawn, MutexNumber, Outcome, Status, ThreadNumber};
 use lot_queues::Queues;
 use lot_threads::{Effect, Threads};
 use lot_value::Change;
 
 /// A lock by a thread that runs: it takes a free mutex; otherwise it waits, after earlier threads.
-pub fn lock(threads: &mut Threads, queues: &mut Queues, thread: u32, mutex: u32) -> Effect
-    requires mutex { IsThere queues.old.mutexes mutex }
-    requires thread { IsLiveIn threads.old thread }
-    requires nowhere { IsNowhere queues.old thread }
+pub fn lock(
+    threads: &mut Threads,
+    queues: &mut Queues,
+    thread: ThreadNumber,
+    mutex: MutexNumber,
+) -> Effect
+    requires mutex { IsThere queues.old.mutexes mutex.number }
+    requires thread { IsLiveIn threads.old thread.number }
+    requires nowhere { IsNowhere queues.old thread.number }
     requires same { length threads.old.records ≡ length queues.old.clients }
     requires owners { owners_of queues.old.mutexes ≡ threads.old.owners }
-    ensures outcome { result.outcome ≡ (machine.lock threads.old.records queues.old.mutexes thread mutex).outcome }
-    ensures after { result.after ≡ (machine.lock threads.old.records queues.old.mutexes thread mutex).after }
+    ensures outcome { result.outcome
+        ≡ (machine.lock threads.old.records queues.old.mutexes thread.number mutex.number).outcome }
+    ensures after { result.after
+        ≡ (machine.lock threads.old.records queues.old.mutexes thread.number mutex.number).after }
     ensures threads { threads.new ≡ with_mutexes threads.old
-        (machine.lock threads.old.records queues.old.mutexes thread mutex) threads.new.stale }
+        (machine.lock threads.old.records queues.old.mutexes thread.number mutex.number) threads.new.stale }
     ensures queues { queues.new ≡ record queues.old {
       mutexes =
-          (machine.lock threads.old.records queues.old.mutexes thread mutex).mutexes;
+          (machine.lock threads.old.records queues.old.mutexes thread.number mutex.number).mutexes;
     } }
     ensures kept { (node : ANode) → IsStaleIn threads.old node → IsStaleIn threads.new node }
     ensures stale { MakesStaleIn threads.old threads.new }
 {
-    if queues.owner(mutex).is_some() {
-        queues.push_waiter(mutex, thread);
+    if queues.owner(mutex.number).is_some() {
+        queues.push_waiter(mutex.number, thread.number);
         return Effect {
             outcome: Outcome::Waits,
-            after: After::Leaves(Status::Waiting(mutex)),
+            after: After::Leaves(Status::Waiting(mutex.number)),
         };
     }
-    queues.set_owner(mutex, Some(thread));
-    threads.apply(Change::PutOwner(mutex, Some(thread)));
+    queues.set_owner(mutex.number, Some(thread.number));
+    threads.apply(Change::PutOwner(mutex.number, Some(thread.number)));
     Effect {
         outcome: Outcome::Locked,
         after: After::GoesOn,
@@ -61,47 +68,49 @@ pub fn unlock(
     threads: &mut Threads,
     queues: &mut Queues,
     lottery: &mut Lottery,
-    owner: u32,
-    mutex: u32,
+    owner: ThreadNumber,
+    mutex: MutexNumber,
     d: u128,
 ) -> Effect
-    requires mutex { IsThere queues.old.mutexes mutex }
-    requires owner { (mutex_at queues.old.mutexes mutex).owner ≡ Some owner }
-    requires live { IsLiveIn threads.old owner }
-    requires waiters { IsQueue threads.old.records (status.Waiting mutex) (mutex_at queues.old.mutexes mutex).waiters }
+    requires mutex { IsThere queues.old.mutexes mutex.number }
+    requires owner { (mutex_at queues.old.mutexes mutex.number).owner ≡ Some owner.number }
+    requires live { IsLiveIn threads.old owner.number }
+    requires waiters { IsQueue threads.old.records (status.Waiting mutex.number)
+        (mutex_at queues.old.mutexes mutex.number).waiters }
     requires same { length threads.old.records ≡ length queues.old.clients }
     requires owners { owners_of queues.old.mutexes ≡ threads.old.owners }
     requires room { queues.old.room ≡ lottery.old.room }
     ensures outcome { result.outcome
-        ≡ (machine.unlock threads.old.records queues.old.mutexes (worth_in threads.old) mutex d).outcome }
+        ≡ (machine.unlock threads.old.records queues.old.mutexes (worth_in threads.old) mutex.number d).outcome }
     ensures after { result.after ≡ (machine.unlock threads.old.records queues.old.mutexes
-        (worth_in threads.old) mutex d).after }
+        (worth_in threads.old) mutex.number d).after }
     ensures threads { threads.new ≡ record (with_mutexes threads.old
         (machine.unlock threads.old.records queues.old.mutexes
-        (worth_in threads.old) mutex d) threads.new.stale) { meter = threads.new.meter } }
+        (worth_in threads.old) mutex.number d) threads.new.stale) { meter = threads.new.meter } }
     ensures queues { queues.new ≡ record queues.old {
       mutexes =
-          (machine.unlock threads.old.records queues.old.mutexes (worth_in threads.old) mutex d).mutexes;
+          (machine.unlock threads.old.records queues.old.mutexes (worth_in threads.old) mutex.number d).mutexes;
     } }
     ensures stale { MakesStaleIn threads.old threads.new }
-    ensures kept { (mutex_at queues.old.mutexes mutex).waiters ≡ [] → (node : ANode) → IsStaleIn threads.old node
+    ensures kept { (mutex_at queues.old.mutexes mutex.number).waiters ≡ [] → (node : ANode) → IsStaleIn threads.old node
         → IsStaleIn threads.new node }
-    ensures uncounted { (mutex_at queues.old.mutexes mutex).waiters ≡ [] → threads.new.meter ≡ threads.old.meter }
-    ensures counted { (mutex_at queues.old.mutexes mutex).waiters ≢ []
+    ensures uncounted { (mutex_at queues.old.mutexes mutex.number).waiters ≡ []
+        → threads.new.meter ≡ threads.old.meter }
+    ensures counted { (mutex_at queues.old.mutexes mutex.number).waiters ≢ []
         → threads.new.meter ≡ (settled_in threads.old).meter }
-    ensures once { (mutex_at queues.old.mutexes mutex).waiters ≢ [] → HasNoneTwice threads.old.stale }
+    ensures once { (mutex_at queues.old.mutexes mutex.number).waiters ≢ [] → HasNoneTwice threads.old.stale }
     ensures owners { (next : ℕ) (draw : Option (ℕ × ℕ)) → result.outcome ≡ Passed next draw
-        → IsStaleIn threads.new (ThreadNode owner) × IsStaleIn threads.new (ThreadNode next) }
+        → IsStaleIn threads.new (ThreadNode owner.number) × IsStaleIn threads.new (ThreadNode next) }
     ensures room { lottery.new.room ≡ lottery.old.room }
 {
-    lottery.list(queues, mutex);
+    lottery.list(queues, mutex.number);
     if lottery.is_empty() {
-        return free(threads, queues, mutex);
+        return free(threads, queues, mutex.number);
     }
     threads.settle();
-    let drawn = lottery.hold(threads, mutex, d);
+    let drawn = lottery.hold(threads, mutex.number, d);
     let next = lottery.picked(drawn);
-    pass(threads, queues, owner, mutex, next);
+    pass(threads, queues, owner.number, mutex.number, next);
     Effect {
         outcome: Outcome::Passed {
             to: next,
@@ -165,6 +174,6 @@ fn pass(threads: &mut Threads, queues: &mut Queues, owner: u32, mutex: u32, next
 {
     queues.take_waiter(next);
     queues.set_owner(mutex, Some(next));
-    threads.set_status(next, Status::Ready);
+    threads.set_status(ThreadNumber { number: next }, Status::Ready);
     threads.apply(Change::MoveOwner { mutex, owner, next });
 }

@@ -1,14 +1,13 @@
 //! Calls, their receipt and their replies (4.6).
 ghost use Rattle.std.specs.Prelude.{◌≡◌, Some, length};
-ghost use Rattle.lot_machine.specs.declared.funding.Node.{Node as ANode};
 ghost use Rattle.lot_machine.specs.Ports as machine;
 ghost use Rattle.lot_machine.specs.Ports.{first_client};
 ghost use Rattle.lot_machine.specs.declared.reply.Outcome.TheVariants.{Replied};
 ghost use Rattle.lot_queues.specs.QueueLists.{IsThere, IsNowhere};
-ghost use Rattle.lot_threads.specs.Threaded.{IsLiveIn, IsStaleIn, MakesStaleIn, with_records};
-ghost use Rattle.lot_ports.specs.Traps.{with_ports};
+ghost use Rattle.lot_threads.specs.Threaded.{IsLiveIn};
+ghost use Rattle.lot_ports.specs.Traps.{IsPortTrap};
 
-use lot_machine::{After, Outcome, Status};
+use lot_machine::{After, Outcome, PortNumber, Status, ThreadNumber};
 use lot_queues::Queues;
 use lot_threads::{Effect, Threads};
 
@@ -16,36 +15,27 @@ use lot_threads::{Effect, Threads};
 pub fn call(
     threads: &mut Threads,
     queues: &mut Queues,
-    caller: u32,
-    port: u32,
+    caller: ThreadNumber,
+    port: PortNumber,
     number: u32,
 ) -> Effect
-    requires port { IsThere queues.old.ports port }
-    requires caller { IsThere queues.old.clients caller }
-    requires nowhere { IsNowhere queues.old caller }
+    requires port { IsThere queues.old.ports port.number }
+    requires caller { IsThere queues.old.clients caller.number }
+    requires nowhere { IsNowhere queues.old caller.number }
     requires same { length threads.old.records ≡ length queues.old.clients }
-    ensures outcome { result.outcome
-        ≡ (machine.call threads.old.records queues.old.clients queues.old.ports caller port number).outcome }
-    ensures after { result.after
-        ≡ (machine.call threads.old.records queues.old.clients queues.old.ports caller port number).after }
-    ensures threads { threads.new ≡ with_records threads.old
-        (machine.call threads.old.records queues.old.clients queues.old.ports caller port number).records
-        threads.new.stale }
-    ensures queues { queues.new
-        ≡ with_ports queues.old
-        (machine.call threads.old.records queues.old.clients queues.old.ports caller port number) }
-    ensures kept { (node : ANode) → IsStaleIn threads.old node → IsStaleIn threads.new node }
-    ensures stale { MakesStaleIn threads.old threads.new }
+    ensures { IsPortTrap threads.old queues.old
+        (machine.call threads.old.records queues.old.clients queues.old.ports caller.number port.number number)
+        result threads.new queues.new }
 {
-    let Some(server) = queues.take_receiver(port) else {
-        queues.push_call(port, caller, number);
+    let Some(server) = queues.take_receiver(port.number) else {
+        queues.push_call(port.number, caller.number, number);
         return Effect {
             outcome: Outcome::Queued,
-            after: After::Leaves(Status::Queued(port)),
+            after: After::Leaves(Status::Queued(port.number)),
         };
     };
-    threads.deliver(server, number);
-    queues.push_client(server, caller);
+    threads.deliver(ThreadNumber { number: server }, number);
+    queues.push_client(server, caller.number);
     Effect {
         outcome: Outcome::ServedBy(server),
         after: After::Leaves(Status::Served(server)),
@@ -53,32 +43,32 @@ pub fn call(
 }
 
 /// A receipt at a port by a thread that runs: the call that has waited longest is taken, or the thread waits there.
-pub fn receive(threads: &mut Threads, queues: &mut Queues, server: u32, port: u32) -> Effect
-    requires port { IsThere queues.old.ports port }
-    requires server { IsLiveIn threads.old server }
-    requires nowhere { IsNowhere queues.old server }
+pub fn receive(
+    threads: &mut Threads,
+    queues: &mut Queues,
+    server: ThreadNumber,
+    port: PortNumber,
+) -> Effect
+    requires port { IsThere queues.old.ports port.number }
+    requires server { IsLiveIn threads.old server.number }
+    requires nowhere { IsNowhere queues.old server.number }
     requires same { length threads.old.records ≡ length queues.old.clients }
-    ensures outcome { result.outcome
-        ≡ (machine.receive threads.old.records queues.old.clients queues.old.ports server port).outcome }
-    ensures after { result.after
-        ≡ (machine.receive threads.old.records queues.old.clients queues.old.ports server port).after }
-    ensures threads { threads.new ≡ with_records threads.old
-        (machine.receive threads.old.records queues.old.clients queues.old.ports server port).records
-        threads.new.stale }
-    ensures queues { queues.new
-        ≡ with_ports queues.old (machine.receive threads.old.records queues.old.clients queues.old.ports server port) }
-    ensures kept { (node : ANode) → IsStaleIn threads.old node → IsStaleIn threads.new node }
-    ensures stale { MakesStaleIn threads.old threads.new }
+    ensures { IsPortTrap threads.old queues.old
+        (machine.receive threads.old.records queues.old.clients queues.old.ports server.number port.number)
+        result threads.new queues.new }
 {
-    let Some(call) = queues.take_call(port) else {
-        queues.push_receiver(port, server);
+    let Some(call) = queues.take_call(port.number) else {
+        queues.push_receiver(port.number, server.number);
         return Effect {
             outcome: Outcome::Waits,
-            after: After::Leaves(Status::Receiving(port)),
+            after: After::Leaves(Status::Receiving(port.number)),
         };
     };
-    threads.set_status(call.caller, Status::Served(server));
-    queues.push_client(server, call.caller);
+    let caller = ThreadNumber {
+        number: call.caller,
+    };
+    threads.set_status(caller, Status::Served(server.number));
+    queues.push_client(server.number, call.caller);
     Effect {
         outcome: Outcome::Received {
             client: call.caller,
@@ -92,30 +82,22 @@ pub fn receive(threads: &mut Threads, queues: &mut Queues, server: u32, port: u3
 pub fn reply(
     threads: &mut Threads,
     queues: &mut Queues,
-    server: u32,
-    client: u32,
+    server: ThreadNumber,
+    client: ThreadNumber,
     number: u32,
 ) -> Effect
-    requires server { IsThere queues.old.clients server }
-    requires client { first_client queues.old.clients server ≡ Some client }
+    requires server { IsThere queues.old.clients server.number }
+    requires client { first_client queues.old.clients server.number ≡ Some client.number }
     requires same { length threads.old.records ≡ length queues.old.clients }
-    ensures outcome { result.outcome
-        ≡ (machine.reply threads.old.records queues.old.clients queues.old.ports server number).outcome }
-    ensures after { result.after
-        ≡ (machine.reply threads.old.records queues.old.clients queues.old.ports server number).after }
-    ensures threads { threads.new ≡ with_records threads.old
-        (machine.reply threads.old.records queues.old.clients queues.old.ports server number).records
-        threads.new.stale }
-    ensures queues { queues.new
-        ≡ with_ports queues.old (machine.reply threads.old.records queues.old.clients queues.old.ports server number) }
-    ensures nowhere { IsNowhere queues.new client }
-    ensures kept { (node : ANode) → IsStaleIn threads.old node → IsStaleIn threads.new node }
-    ensures stale { MakesStaleIn threads.old threads.new }
+    ensures done { IsPortTrap threads.old queues.old
+        (machine.reply threads.old.records queues.old.clients queues.old.ports server.number number)
+        result threads.new queues.new }
+    ensures nowhere { IsNowhere queues.new client.number }
 {
-    let _ = queues.take_client(server);
+    let _ = queues.take_client(server.number);
     threads.deliver(client, number);
     Effect {
-        outcome: Outcome::Replied(client),
+        outcome: Outcome::Replied(client.number),
         after: After::GoesOn,
     }
 }
@@ -124,33 +106,24 @@ pub fn reply(
 pub fn serve(
     threads: &mut Threads,
     queues: &mut Queues,
-    server: u32,
-    client: u32,
-    port: u32,
+    server: ThreadNumber,
+    client: ThreadNumber,
+    port: PortNumber,
     number: u32,
 ) -> Effect
-    requires port { IsThere queues.old.ports port }
-    requires server { IsLiveIn threads.old server }
-    requires nowhere { IsNowhere queues.old server }
-    requires client { first_client queues.old.clients server ≡ Some client }
+    requires port { IsThere queues.old.ports port.number }
+    requires server { IsLiveIn threads.old server.number }
+    requires nowhere { IsNowhere queues.old server.number }
+    requires client { first_client queues.old.clients server.number ≡ Some client.number }
     requires same { length threads.old.records ≡ length queues.old.clients }
-    ensures outcome { result.outcome
-        ≡ (machine.serve threads.old.records queues.old.clients queues.old.ports server port number).outcome }
-    ensures after { result.after
-        ≡ (machine.serve threads.old.records queues.old.clients queues.old.ports server port number).after }
-    ensures threads { threads.new ≡ with_records threads.old
-        (machine.serve threads.old.records queues.old.clients queues.old.ports server port number).records
-        threads.new.stale }
-    ensures queues { queues.new
-        ≡ with_ports queues.old
-        (machine.serve threads.old.records queues.old.clients queues.old.ports server port number) }
-    ensures kept { (node : ANode) → IsStaleIn threads.old node → IsStaleIn threads.new node }
-    ensures stale { MakesStaleIn threads.old threads.new }
+    ensures { IsPortTrap threads.old queues.old
+        (machine.serve threads.old.records queues.old.clients queues.old.ports server.number port.number number)
+        result threads.new queues.new }
 {
     let _ = reply(threads, queues, server, client, number);
     let receipt = receive(threads, queues, server, port);
     Effect {
-        outcome: replied_then(client, receipt.outcome),
+        outcome: replied_then(client.number, receipt.outcome),
         after: receipt.after,
     }
 }

@@ -2,6 +2,8 @@
 ghost use Rattle.std.specs.Prelude.{◌≡◌, ◌-◌, ◌<◌};
 ghost use Rattle.lot_queues.specs.Fields as fields;
 
+use lot_machine::index_of;
+
 /// How many threads there is room for, and how many ports and mutexes there are.
 #[derive(Clone, Copy, Debug)]
 pub(crate) struct Layout {
@@ -22,21 +24,21 @@ impl Layout {
         requires { 0 < port }
         ensures { result ≡ fields.calls_list self port }
     {
-        self.room as usize + (port as usize - 1)
+        self.room as usize + index_of(port)
     }
 
     pub(crate) fn receivers(self, port: u32) -> usize
         requires { 0 < port }
         ensures { result ≡ fields.receivers_list self port }
     {
-        self.room as usize + self.ports as usize + (port as usize - 1)
+        self.room as usize + self.ports as usize + index_of(port)
     }
 
     pub(crate) fn waiters(self, mutex: u32) -> usize
         requires { 0 < mutex }
         ensures { result ≡ fields.waiters_list self mutex }
     {
-        self.room as usize + self.ports as usize + self.ports as usize + (mutex as usize - 1)
+        self.room as usize + self.ports as usize + self.ports as usize + index_of(mutex)
     }
 }
 
@@ -45,5 +47,5 @@ pub(crate) fn node_of(thread: u32) -> usize
     requires { 0 < thread }
     ensures { result ≡ thread - 1 }
 {
-    thread as usize - 1
+    index_of(thread)
 }

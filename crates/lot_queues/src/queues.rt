@@ -13,6 +13,7 @@ ghost use Rattle.lot_queues.specs.Fields.{relisted, threads_in, call_of};
 
 use crate::layout::{Layout, node_of};
 use lot_lists::Lists;
+use lot_machine::index_of;
 use std::alloc::{AllocError, Global};
 use std::marker::Model;
 
@@ -226,7 +227,7 @@ impl Queues {
         requires { IsThere self.now.mutexes mutex }
         ensures { result ≡ (mutex_at self.now.mutexes mutex).owner }
     {
-        self.owners[mutex as usize - 1]
+        self.owners[index_of(mutex)]
     }
 
     /// The owner of each mutex.
@@ -241,7 +242,7 @@ impl Queues {
         requires { IsThere self.old.mutexes mutex }
         ensures { self.new ≡ record self.old { mutexes = with_owner self.old.mutexes mutex owner } }
     {
-        self.owners[mutex as usize - 1] = owner;
+        self.owners[index_of(mutex)] = owner;
     }
 
     /// Puts a thread after those that wait for a mutex.

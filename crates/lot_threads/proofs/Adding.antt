@@ -33,9 +33,8 @@ use Rattle.lot_threads.specs.Timely.{IsTimely}
 use Rattle.lot_threads.specs.Runners.{AreRunners, runner_at}
 use Rattle.lot_machine.specs.Change.{newborn}
 use Rattle.lot_threads.specs.Threaded.{AreOf}
-use Rattle.lot_value.proofs.Lending.{number-some, lent_ends}
+use Rattle.lot_value.proofs.Lending.{number-some, lent_weighed}
 use Rattle.lot_threads.proofs.Together.{number-other}
-use Rattle.lot_threads.proofs.TwoChanges.{weighed_one}
 use Rattle.lot_value.proofs.TwoChanges.{makes-both}
 
 -- ---- lists with one more
@@ -68,14 +67,14 @@ number-past {A = A} xs = let next : length xs + 1 ≡ suc (length xs) = omega ar
 -- ---- edges and lives
 
 -- a thread that lends to nobody adds no edge
-same-edges : (f : Funding) (edge : Edge) → weighed_of (record f { lends = f.lends ++ Nobody ∷ [] }) edge ≡ weighed_of f edge
-same-edges f (OfTicket n) = refl
-same-edges f (OfMutex m) = refl
-same-edges f (OfLender t) = ap weighed_one (by (cases_eq t (length f.lends + 1)))
+pub newborn-edges : (f : Funding) (edge : Edge) → weighed_of (record f { lends = f.lends ++ Nobody ∷ [] }) edge ≡ weighed_of f edge
+newborn-edges f (OfTicket n) = refl
+newborn-edges f (OfMutex m) = refl
+newborn-edges f (OfLender t) = by (cases_eq t (length f.lends + 1))
   where
-    by : (t ≡ length f.lends + 1) ⊎ (¬ (t ≡ length f.lends + 1)) → lent_ends t (at_number (f.lends ++ Nobody ∷ []) t) ≡ lent_ends t (at_number f.lends t)
-    by (inl same) = rw same (ap (lent_ends (length f.lends + 1)) (number-next f.lends Nobody) ∙ sym (ap (lent_ends (length f.lends + 1)) (number-past f.lends)))
-    by (inr other) = ap (lent_ends t) (number-before f.lends Nobody t other)
+    by : (t ≡ length f.lends + 1) ⊎ (¬ (t ≡ length f.lends + 1)) → lent_weighed t (at_number (f.lends ++ Nobody ∷ []) t) ≡ lent_weighed t (at_number f.lends t)
+    by (inl same) = rw same (ap (lent_weighed (length f.lends + 1)) (number-next f.lends Nobody) ∙ sym (ap (lent_weighed (length f.lends + 1)) (number-past f.lends)))
+    by (inr other) = ap (lent_weighed t) (number-before f.lends Nobody t other)
 
 live-added : (live after : List Bool) → ((t : ℕ) → IsLive live t → IsLive (live ++ false ∷ []) t) × ((t : ℕ) → IsLive (live ++ false ∷ []) t → IsLive live t)
 live-added live after = (kept, only)
@@ -98,7 +97,7 @@ live-added live after = (kept, only)
 pub made-stale : (v mid new : Valued) → mid.now ≡ with_lends v.now (v.now.funding.lends ++ Nobody ∷ []) → mid.live ≡ v.live ++ false ∷ [] → mid.known ≡ v.known → new.now ≡ mid.now → MakesStale mid new → MakesStale v new
 made-stale v mid new added live known now makes =
     makes-both v mid new
-    (edges-between v.now.funding mid.now.funding new.now.funding (λ edge. inl (ap (λ (w : LimitedFunding). weighed_of w.funding edge) added ∙ same-edges v.now.funding edge)))
+    (edges-between v.now.funding mid.now.funding new.now.funding (λ edge. inl (ap (λ (w : LimitedFunding). weighed_of w.funding edge) added ∙ newborn-edges v.now.funding edge)))
     (record {
       kept = λ t before after. subst (λ (l : List Bool). IsLive l t) (sym live) ((live-added v.live new.live).0 t before);
       only = λ t is. inl ((live-added v.live new.live).1 t (subst (λ (l : List Bool). IsLive l t) live is));

@@ -1,8 +1,7 @@
 -- A change of threads, and then one of a record that the first change left: what a trap does, and what becomes of its thread.
-use Rattle.std.proofs.Common.{◌≡◌, ◌∙◌, ℕ, ◌⊎◌, inl, inr, suc, ◌-◌, Option, Some, option_map, ap, sym}
+use Rattle.std.proofs.Common.{◌≡◌, ◌∙◌, ℕ, ◌⊎◌, inl, inr, suc, ◌-◌, Some, option_map, ap, sym}
 use Rattle.lot_machine.specs.declared.funding.Edge.{Edge}
 use Rattle.lot_machine.specs.declared.funding.Edge.TheVariants.{OfTicket, OfLender, OfMutex}
-use Rattle.lot_machine.specs.declared.funding.Lend.{Lend}
 use Rattle.lot_machine.specs.declared.record.Record.{Record}
 use Rattle.lot_machine.specs.Funding.{weighed_of}
 use Rattle.lot_machine.specs.Numbered.{at_number, set_number}
@@ -12,8 +11,8 @@ use Rattle.lot_machine.proofs.Changes.{number-set, number-there}
 use Rattle.lot_machine.proofs.TwoSteps.{edges-between, live-between}
 use Rattle.lot_machine.proofs.TrapCycles.{at_number-map}
 use Rattle.lot_threads.specs.Threaded.{Threaded, MakesStaleIn, funding_in, lends_in, with_records}
-use Rattle.lot_value.proofs.Lending.{lent_ends}
-use Rattle.lot_threads.proofs.TwoChanges.{makes-both-in, weighed_one}
+use Rattle.lot_value.proofs.Lending.{lent_weighed}
+use Rattle.lot_threads.proofs.TwoChanges.{makes-both-in}
 
 module _ (a b c : Threaded) (t : ℕ) (was next : Record) (left : at_number a.records t ≡ Some was) (there : at_number b.records t ≡ Some was)
     (last : c ≡ with_records b (set_number b.records t next) c.stale) where
@@ -41,7 +40,7 @@ module _ (a b c : Threaded) (t : ℕ) (was next : Record) (left : at_number a.re
       each (OfLender u) = by (each-record u)
         where
           lent : (v : Threaded) → at_number b.records u ≡ at_number v.records u → weighed_of (funding_in b) (OfLender u) ≡ weighed_of (funding_in v) (OfLender u)
-          lent v same = ap (λ (o : Option Lend). weighed_one (lent_ends u o)) (lend_seen b u ∙ ap (option_map (λ (r : Record). lend_of r.status)) same ∙ sym (lend_seen v u))
+          lent v same = ap (lent_weighed u) (lend_seen b u ∙ ap (option_map (λ (r : Record). lend_of r.status)) same ∙ sym (lend_seen v u))
 
           by : (at_number b.records u ≡ at_number a.records u) ⊎ (at_number b.records u ≡ at_number c.records u)
               → (weighed_of (funding_in b) (OfLender u) ≡ weighed_of (funding_in a) (OfLender u)) ⊎ (weighed_of (funding_in b) (OfLender u) ≡ weighed_of (funding_in c) (OfLender u))

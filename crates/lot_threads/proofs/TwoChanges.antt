@@ -1,14 +1,8 @@
 -- What two changes of threads make stale together.
-use Rattle.std.proofs.Common.{ℕ, Option, option_map}
-use Rattle.lot_machine.specs.declared.funding.Node.{Node}
 use Rattle.lot_machine.specs.State.{live_in}
 use Rattle.lot_machine.specs.Touched.{WeighedBetween, LiveBetween}
 use Rattle.lot_value.proofs.TwoChanges.{makes-together}
 use Rattle.lot_threads.specs.Threaded.{Threaded, IsStaleIn, MakesStaleIn, funding_in}
-
--- the ends of an edge that isn't a ticket's, with its weight
-abbrev pub weighed_one : Option (Node × Node) → Option (Node × Node × ℕ)
-weighed_one ends = option_map (λ (x : Node × Node). let y : Node × Node × ℕ = (x.0, x.1, 1) in y) ends
 
 -- if the threads in between have no edge with its weight and no live thread that neither end has, and lack none that both have
 pub makes-both-in : (a b c : Threaded) → WeighedBetween (funding_in a) (funding_in b) (funding_in c) → LiveBetween (live_in a.records) (live_in b.records) (live_in c.records) → MakesStaleIn a b → MakesStaleIn b c → MakesStaleIn a c

@@ -14,19 +14,19 @@ ghost use Rattle.lot_threads.specs.Threaded.{with_records};
 ghost use Rattle.lot_threads.specs.Timely.{IsBelowQuantum};
 
 use crate::Threads;
-use lot_machine::{Record, Status};
+use lot_machine::{Processor, Record, Status, ThreadNumber};
 
 impl Threads {
     /// A draw's winner begins to run on a processor on which nobody runs, and gets the number delivered to it, if any
     /// (3.4, 4.2).
-    pub fn start(&mut self, thread: u32, processor: u32) -> Option<u32>
-        requires thread { IsThreadOf self.old thread }
-        requires processor { IsBetween 1 self.old.processors processor }
-        requires free { thread_on self.old.records processor ≡ None }
+    pub fn start(&mut self, thread: ThreadNumber, processor: Processor) -> Option<u32>
+        requires thread { IsThreadOf self.old thread.number }
+        requires processor { IsBetween 1 self.old.processors processor.number }
+        requires free { thread_on self.old.records processor.number ≡ None }
         requires quantum { 0 < self.old.quantum }
-        ensures delivered { result ≡ option_and_then (λ r. r.delivered) (at_number self.old.records thread) }
+        ensures delivered { result ≡ option_and_then (λ r. r.delivered) (at_number self.old.records thread.number) }
         ensures started { self.new ≡ with_records self.old (change_record
-            (started processor) self.old.records thread) self.new.stale }
+            (started processor.number) self.old.records thread.number) self.new.stale }
         ensures kept { (node : ANode) → IsStaleIn self.old node → IsStaleIn self.new node }
         ensures stale { MakesStaleIn self.old self.new }
     {
@@ -34,7 +34,10 @@ impl Threads {
             unreachable!()
         };
         let next = Record {
-            status: Status::Running { processor, used: 0 },
+            status: Status::Running {
+                processor: processor.number,
+                used: 0,
+            },
             compensation: None,
             delivered: None,
             quanta: before.quanta.saturating_add(1),
@@ -45,13 +48,13 @@ impl Threads {
     }
 
     /// A thread's quantum ends after these further ticks: it is Ready without compensation (4.2).
-    pub fn expire(&mut self, thread: u32, ticks: u32)
-        requires thread { IsThreadOf self.old thread }
+    pub fn expire(&mut self, thread: ThreadNumber, ticks: u32)
+        requires thread { IsThreadOf self.old thread.number }
         ensures expired { self.new ≡ with_records self.old (change_record
             (λ r. with_ticks ticks (record r {
               status = status.Ready;
               compensation = None;
-            })) self.old.records thread) self.new.stale }
+            })) self.old.records thread.number) self.new.stale }
         ensures kept { (node : ANode) → IsStaleIn self.old node → IsStaleIn self.new node }
         ensures stale { MakesStaleIn self.old self.new }
     {
@@ -68,13 +71,13 @@ impl Threads {
     }
 
     /// Gives a thread another status, and leaves the rest of its record as it was.
-    pub fn set_status(&mut self, thread: u32, status: Status)
-        requires thread { IsThreadOf self.old thread }
+    pub fn set_status(&mut self, thread: ThreadNumber, status: Status)
+        requires thread { IsThreadOf self.old thread.number }
         requires below { IsBelowQuantum self.old.quantum status }
-        requires lend { CanLend (funding_in self.old) thread (states.lend_of status) }
-        requires run { CanRun self.old thread status }
+        requires lend { CanLend (funding_in self.old) thread.number (states.lend_of status) }
+        requires run { CanRun self.old thread.number status }
         ensures set { self.new ≡ with_records self.old (change_record
-            (λ r. record r { status = status }) self.old.records thread) self.new.stale }
+            (λ r. record r { status = status }) self.old.records thread.number) self.new.stale }
         ensures kept { (node : ANode) → IsStaleIn self.old node → IsStaleIn self.new node }
         ensures stale { MakesStaleIn self.old self.new }
     {
@@ -85,13 +88,13 @@ impl Threads {
     }
 
     /// Makes a thread Ready again, and delivers a number to it: the thread gets the number when it next runs (4.6).
-    pub fn deliver(&mut self, thread: u32, number: u32)
-        requires thread { IsThreadOf self.old thread }
+    pub fn deliver(&mut self, thread: ThreadNumber, number: u32)
+        requires thread { IsThreadOf self.old thread.number }
         ensures delivered { self.new
             ≡ with_records self.old (change_record (λ r. record r {
               status = status.Ready;
               delivered = Some number;
-            }) self.old.records thread) self.new.stale }
+            }) self.old.records thread.number) self.new.stale }
         ensures kept { (node : ANode) → IsStaleIn self.old node → IsStaleIn self.new node }
         ensures stale { MakesStaleIn self.old self.new }
     {

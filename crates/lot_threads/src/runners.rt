@@ -4,12 +4,12 @@ ghost use Rattle.lot_machine.specs.Bounds.{IsBetween};
 ghost use Rattle.lot_machine.specs.declared.record.Status.TheVariants.{Running};
 ghost use Rattle.lot_threads.specs.Runners.{runner_at, with_runner, without_runner};
 
-use lot_machine::Status;
+use lot_machine::{Status, ThreadNumber, index_of};
 
 /// A thread that runs on a processor, and the ticks of its quantum that it has used there.
 #[derive(Clone, Copy, Debug, PartialEq, Eq)]
 pub struct Runner {
-    pub thread: u32,
+    pub thread: ThreadNumber,
     /// In ticks, below the quantum.
     pub used: u32,
 }
@@ -22,10 +22,10 @@ pub(crate) fn move_runner(runners: &mut Vec<Option<u32>>, thread: u32, before: S
     ensures count { length runners.new.items ≡ length runners.old.items }
 {
     if let Status::Running { processor, .. } = before {
-        runners[processor as usize - 1] = None;
+        runners[index_of(processor)] = None;
     }
     if let Status::Running { processor, .. } = now {
-        runners[processor as usize - 1] = Some(thread);
+        runners[index_of(processor)] = Some(thread);
     }
 }
 
@@ -33,6 +33,8 @@ pub(crate) fn move_runner(runners: &mut Vec<Option<u32>>, thread: u32, before: S
 pub(crate) fn runner_on(runners: &[Option<u32>], processor: u32) -> Option<u32>
     ensures { result ≡ runner_at runners.now processor }
 {
-    let place = (processor as usize).checked_sub(1)?;
-    runners.get(place).copied().flatten()
+    if processor == 0 {
+        return None;
+    }
+    runners.get(index_of(processor)).copied().flatten()
 }

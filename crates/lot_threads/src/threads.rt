@@ -31,7 +31,10 @@ use crate::following::{
 use crate::runners::{Runner, move_runner, runner_on};
 use lot_draw::{RunQueue, Winner};
 use lot_graph::Graph;
-use lot_machine::{Limits, Node, Record, Status, Target, Thread};
+use lot_machine::{
+    CurrencyNumber, Limits, Node, Processor, Record, Status, Target, Thread, ThreadNumber,
+    TicketNumber, index_of,
+};
 use lot_value::{Change, Meter, ValuedGraph};
 use std::alloc::{AllocError, Global};
 use std::marker::Model;
@@ -135,9 +138,9 @@ impl Threads {
 
     /// Makes a thread, which is Ready and has no compensation, and returns its number, one more than the last.
     /// Computes no value.
-    pub fn add_thread(&mut self, thread: Thread) -> u32
+    pub fn add_thread(&mut self, thread: Thread) -> ThreadNumber
         requires room { length self.old.records < self.old.thread_limit }
-        ensures number { result ≡ length self.old.records + 1 }
+        ensures number { result.number ≡ length self.old.records + 1 }
         ensures added { self.new ≡ record (with_records self.old
             (self.old.records ++ newborn ∷ []) self.new.stale) { threads = self.old.threads ++ thread ∷ [] } }
         ensures kept { (node : ANode) → IsStaleIn self.old node → IsStaleIn self.new node }
@@ -149,7 +152,7 @@ impl Threads {
         self.queue.set_competitor(number, competitor_of(NEWBORN));
         self.threads.push_reserved(thread);
         self.records.push_reserved(NEWBORN);
-        number
+        ThreadNumber { number }
     }
 
     /// Makes one change of tickets, currencies or owners, and makes stale what it has to. Computes no value.
@@ -166,13 +169,15 @@ impl Threads {
     /// Gives a thread another record, and updates all that follows from it: whether the thread is live and what it
     /// lends, whether it competes and with what, and where it runs. Computes no value.
     #[inline(always)]
-    pub fn change(&mut self, thread: u32, next: Record)
-        requires { CanChange self.old thread next }
-        ensures changed { self.new ≡ with_records self.old (set_number self.old.records thread next) self.new.stale }
+    pub fn change(&mut self, thread: ThreadNumber, next: Record)
+        requires { CanChange self.old thread.number next }
+        ensures changed { self.new ≡ with_records self.old (set_number self.old.records thread.number next)
+            self.new.stale }
         ensures kept { (node : ANode) → IsStaleIn self.old node → IsStaleIn self.new node }
         ensures stale { MakesStaleIn self.old self.new }
     {
-        let place = thread as usize - 1;
+        let thread = thread.number;
+        let place = index_of(thread);
         let before = self.records[place].status;
         let now = next.status;
         follow_status(&mut self.graph, thread, before, now);
@@ -182,14 +187,14 @@ impl Threads {
     }
 
     /// Whether a thread may have this record, as `change` requires. It changes nothing.
-    pub fn can_change(&mut self, thread: u32, next: Record) -> bool
-        ensures can { IsTrue result ↔ CanChange self.old thread next }
+    pub fn can_change(&mut self, thread: ThreadNumber, next: Record) -> bool
+        ensures can { IsTrue result ↔ CanChange self.old thread.number next }
         ensures unchanged { self.new ≡ self.old }
     {
-        if !self.can_stand(thread, next) {
+        if !self.can_stand(thread.number, next) {
             return false;
         }
-        can_lend(&mut self.graph, thread, lend_of(next.status))
+        can_lend(&mut self.graph, thread.number, lend_of(next.status))
     }
 
     /// Whether a thread may have this record, except for what it lends.
@@ -220,13 +225,13 @@ impl Threads {
     }
 
     /// Whether the ticket would make a cycle if it funded the target (4.4).
-    pub fn would_cycle(&mut self, ticket: u32, target: Target) -> bool
-        requires unfunded { target_of (funding_in self.old) ticket ≡ Some Unfunded }
+    pub fn would_cycle(&mut self, ticket: TicketNumber, target: Target) -> bool
+        requires unfunded { target_of (funding_in self.old) ticket.number ≡ Some Unfunded }
         requires target { IsTarget (funding_in self.old) target }
-        ensures cycle { IsTrue result ↔ IsCycle (funding_in self.old) ticket target }
+        ensures cycle { IsTrue result ↔ IsCycle (funding_in self.old) ticket.number target }
         ensures unchanged { self.new ≡ self.old }
     {
-        self.graph.would_cycle(ticket, target)
+        self.graph.would_cycle(ticket.number, target)
     }
 
     /// Holds a draw with the number `d` among the Ready threads (2, 4.2): `None` if their weights sum to 0. Settles
@@ -270,18 +275,18 @@ impl Threads {
     }
 
     /// Whether a ticket is active (4.4): whether what it funds is backed.
-    pub fn is_active(&self, ticket: u32) -> bool
-        ensures { IsTrue result ↔ IsActive (funding_in self.now) (live_in self.now.records) ticket }
+    pub fn is_active(&self, ticket: TicketNumber) -> bool
+        ensures { IsTrue result ↔ IsActive (funding_in self.now) (live_in self.now.records) ticket.number }
     {
-        self.graph.is_active(ticket)
+        self.graph.is_active(ticket.number)
     }
 
     /// The sum of the amounts of the active tickets of a currency (4.4), in tickets of the currency.
-    pub fn active_amount(&self, currency: u32) -> u64
-        requires currency { currency ≤ self.now.currency_limit }
-        ensures { result ≡ active_amount (funding_in self.now) (live_in self.now.records) currency }
+    pub fn active_amount(&self, currency: CurrencyNumber) -> u64
+        requires currency { currency.number ≤ self.now.currency_limit }
+        ensures { result ≡ active_amount (funding_in self.now) (live_in self.now.records) currency.number }
     {
-        self.graph.active_amount(currency)
+        self.graph.active_amount(currency.number)
     }
 
     /// What a node is worth (4.4), if it isn't stale.
@@ -294,30 +299,30 @@ impl Threads {
     }
 
     /// What a thread is worth (4.4, 4.6, 6.1), in units of base, if it isn't stale.
-    pub fn worth_of(&self, thread: u32) -> u64
-        requires thread { IsThreadOf self.now thread }
-        requires fresh { ¬ IsStaleIn self.now (ThreadNode thread) }
-        ensures { result ≡ worth_in self.now thread }
+    pub fn worth_of(&self, thread: ThreadNumber) -> u64
+        requires thread { IsThreadOf self.now thread.number }
+        requires fresh { ¬ IsStaleIn self.now (ThreadNode thread.number) }
+        ensures { result ≡ worth_in self.now thread.number }
     {
-        self.graph.value_of(Node::Thread(thread))
+        self.graph.value_of(Node::Thread(thread.number))
     }
 
     /// What a ticket is worth (4.4), in units of base, if the currency that issued it isn't stale. If the ticket funds
     /// something, that is one reading, which is counted; otherwise it is worth nothing.
-    pub fn ticket_value(&mut self, ticket: u32) -> u64
-        requires fresh { (t : ATicket) → ticket_at (funding_in self.old) ticket ≡ Some t
+    pub fn ticket_value(&mut self, ticket: TicketNumber) -> u64
+        requires fresh { (t : ATicket) → ticket_at (funding_in self.old) ticket.number ≡ Some t
             → ¬ IsStaleIn self.old (CurrencyNode t.issuer) }
-        ensures worth { (t : ATicket) → ticket_at (funding_in self.old) ticket ≡ Some t
+        ensures worth { (t : ATicket) → ticket_at (funding_in self.old) ticket.number ≡ Some t
             → result ≡ ticket_value self.old.unit (funding_in self.old) (live_in self.old.records) t }
-        ensures counted { IsFunding (funding_in self.old) ticket
+        ensures counted { IsFunding (funding_in self.old) ticket.number
             → self.new ≡ record self.old {
               meter = record self.old.meter {
                 ticket_reads = counted_up self.old.meter.ticket_reads 1;
               };
             } }
-        ensures uncounted { ¬ IsFunding (funding_in self.old) ticket → self.new ≡ self.old }
+        ensures uncounted { ¬ IsFunding (funding_in self.old) ticket.number → self.new ≡ self.old }
     {
-        self.graph.ticket_value(ticket)
+        self.graph.ticket_value(ticket.number)
     }
 
     /// Whether a node is stale: its value is computed again before it is used.
@@ -353,17 +358,19 @@ impl Threads {
     }
 
     /// A thread's record, `None` if and only if there is no such thread.
-    pub fn record(&self, thread: u32) -> Option<Record>
-        ensures record { result ≡ at_number self.now.records thread }
+    pub fn record(&self, thread: ThreadNumber) -> Option<Record>
+        ensures record { result ≡ at_number self.now.records thread.number }
         ensures timely { IfSome result (IsTimely self.now.quantum) }
     {
-        let place = (thread as usize).checked_sub(1)?;
-        self.records.get(place).copied()
+        if thread.number == 0 {
+            return None;
+        }
+        self.records.get(index_of(thread.number)).copied()
     }
 
     /// Whether a thread competes or runs.
-    pub fn is_live(&self, thread: u32) -> bool
-        ensures { IsTrue result ↔ IsLiveIn self.now thread }
+    pub fn is_live(&self, thread: ThreadNumber) -> bool
+        ensures { IsTrue result ↔ IsLiveIn self.now thread.number }
     {
         match self.record(thread) {
             Some(found) => is_live(found.status),
@@ -372,21 +379,24 @@ impl Threads {
     }
 
     /// Who runs on the processor, `None` if and only if nobody does. The ticks used are below the quantum.
-    pub fn runner(&self, processor: u32) -> Option<Runner>
-        ensures thread { MatchOption result (thread_on self.now.records processor ≡ None)
-            (λ r. thread_on self.now.records processor ≡ Some r.thread) }
-        ensures used { IfSome result (λ r. used_by self.now.records processor r.thread ≡ Some r.used) }
-        ensures there { IfSome result (λ r. IsThreadOf self.now r.thread) }
+    pub fn runner(&self, processor: Processor) -> Option<Runner>
+        ensures thread { MatchOption result (thread_on self.now.records processor.number ≡ None)
+            (λ r. thread_on self.now.records processor.number ≡ Some r.thread.number) }
+        ensures used { IfSome result (λ r. used_by self.now.records processor.number r.thread.number ≡ Some r.used) }
+        ensures there { IfSome result (λ r. IsThreadOf self.now r.thread.number) }
         ensures below { IfSome result (λ r. r.used < self.now.quantum) }
     {
-        let Some(thread) = runner_on(&self.runners, processor) else {
+        let Some(number) = runner_on(&self.runners, processor.number) else {
             return None;
         };
-        let status = self.records[thread as usize - 1].status;
+        let status = self.records[index_of(number)].status;
         let Status::Running { used, .. } = status else {
             unreachable!()
         };
-        Some(Runner { thread, used })
+        Some(Runner {
+            thread: ThreadNumber { number },
+            used,
+        })
     }
 }
 

@@ -45,7 +45,7 @@ abbrev pub lent_ends : ℕ → Option Lend → Option (Node × Node)
 lent_ends t o = option_and_then (λ lend. option_map (λ to. (node.Thread t, to)) (lend_node lend)) o
 
 -- the same with the edge's weight
-abbrev lent_weighed : ℕ → Option Lend → Option (Node × Node × ℕ)
+abbrev pub lent_weighed : ℕ → Option Lend → Option (Node × Node × ℕ)
 lent_weighed t o = option_map (λ (ends : Node × Node). let x : Node × Node × ℕ = (ends.0, ends.1, 1) in x) (lent_ends t o)
 
 -- what is lent by an edge with these ends

@@ -30,8 +30,9 @@ pub(crate) fn set_amount(graph: &mut ValuedGraph, ticket: u32, amount: u32)
     }
 }
 
-/// Gives a ticket that funds something another amount. It is taken back and funds the same target again, so that both
-/// ends of its edge are stale, and its new amount is what counts as active.
+/// Gives a ticket that funds something another amount. It is taken back and funds the same target again, so that its
+/// new amount is what counts as active. What it funds gets stale; and if it is active, so does what the other tickets
+/// of its issuer fund, unless the issuer is base. The issuer gets stale only if it stops being active in between.
 fn fund_again(graph: &mut ValuedGraph, ticket: u32, before: Ticket, amount: u32)
     requires sound { IsSound graph.old.now.funding }
     requires ticket { ticket_at graph.old.now.funding ticket ≡ Some before }

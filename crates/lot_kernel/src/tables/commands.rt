@@ -21,7 +21,10 @@ ghost use Rattle.lot_kernel.specs.Snapshots.{IsTargetThere, MakesStale};
 
 use crate::names::{currency_place, thread_place};
 use crate::tables::Tables;
-use lot_machine::{Command, Name, Refusal, Reply, Status, Target, Thread, Ticket, is_good_name};
+use lot_machine::{
+    Command, Name, Refusal, Reply, Status, Target, Thread, ThreadNumber, Ticket, TicketNumber,
+    is_good_name,
+};
 use lot_value::Change;
 
 impl Tables {
@@ -176,13 +179,13 @@ impl Tables {
         if self.threads.threads().len() >= self.limits.threads as usize {
             return Reply::Refused(Refusal::Full);
         }
-        Reply::Thread(self.add_thread(name, script))
+        Reply::Thread(self.add_thread(name, script).number)
     }
 
     /// One more thread, and its number: it is Ready and serves nobody.
-    fn add_thread(&mut self, name: &Name, script: u32) -> u32
+    fn add_thread(&mut self, name: &Name, script: u32) -> ThreadNumber
         requires { length self.old.state.threads < self.old.state.limits.threads }
-        ensures number { result ≡ length self.old.state.threads + 1 }
+        ensures number { result.number ≡ length self.old.state.threads + 1 }
         ensures state { self.new.state ≡ names.with_thread self.old.state name.now script }
         ensures stale { MakesStale self.old self.new }
         ensures kept { KeepsStale self.old self.new }
@@ -224,7 +227,7 @@ impl Tables {
         let Some(ticket) = self.issue(issuer as u32, amount as u32) else {
             return Reply::Refused(Refusal::Full);
         };
-        let thread = self.add_thread(name, script);
+        let thread = self.add_thread(name, script).number;
         let issued = Ticket {
             amount: amount as u32,
             issuer: issuer as u32,
@@ -305,7 +308,8 @@ impl Tables {
         ensures tested { names.is_cycle self.old.state ticket to ≡ result }
         ensures unchanged { self.new ≡ self.old }
     {
-        self.threads.would_cycle(ticket, to)
+        self.threads
+            .would_cycle(TicketNumber { number: ticket }, to)
     }
 
     fn unfund(&mut self, ticket: u64) -> Reply
@@ -374,7 +378,7 @@ impl Tables {
         let Target::Thread(thread) = target else {
             return false;
         };
-        match self.threads.record(thread) {
+        match self.threads.record(ThreadNumber { number: thread }) {
             Some(record) => matches!(record.status, Status::Dead),
             None => false,
         }

@@ -18,35 +18,38 @@ ghost use Rattle.lot_kernel.specs.Trapped.{RunsOn, trapped};
 
 use crate::ending::{Trap, ends_quantum, record_after};
 use crate::tables::Tables;
-use lot_machine::{Action, After, Refusal, Reply};
+use lot_machine::{Action, After, Processor, Refusal, Reply, ThreadNumber, index_of};
 use lot_threads::Runner;
 
 impl Tables {
     /// Who runs on the processor, `None` if and only if nobody does. The ticks used are below the quantum.
-    pub(crate) fn runner(&self, processor: u32) -> Option<Runner>
-        ensures thread { MatchOption result (thread_on self.now.state.records processor ≡ None)
-            (λ r. thread_on self.now.state.records processor ≡ Some r.thread) }
-        ensures used { IfSome result (λ r. used_by self.now.state.records processor r.thread ≡ Some r.used) }
-        ensures there { IfSome result (λ r. (0 < r.thread) × (r.thread ≤ length self.now.state.records)) }
+    pub(crate) fn runner(&self, processor: Processor) -> Option<Runner>
+        ensures thread { MatchOption result (thread_on self.now.state.records processor.number ≡ None)
+            (λ r. thread_on self.now.state.records processor.number ≡ Some r.thread.number) }
+        ensures used { IfSome result (λ r. used_by self.now.state.records processor.number r.thread.number
+            ≡ Some r.used) }
+        ensures there { IfSome result (λ r. (0 < r.thread.number) × (r.thread.number ≤ length self.now.state.records)) }
         ensures below { IfSome result (λ r. r.used < self.now.state.limits.quantum) }
     {
         self.threads.runner(processor)
     }
 
     /// The number of the script that the thread was made with, `None` if and only if there is no such thread.
-    pub(crate) fn script_of(&self, thread: u32) -> Option<u32>
-        ensures { result ≡ option_map (λ t. t.script) (numbered.at_number self.now.state.threads thread) }
+    pub(crate) fn script_of(&self, thread: ThreadNumber) -> Option<u32>
+        ensures { result ≡ option_map (λ t. t.script) (numbered.at_number self.now.state.threads thread.number) }
     {
-        let place = (thread as usize).checked_sub(1)?;
-        Some(self.threads.threads().get(place)?.script)
+        if thread.number == 0 {
+            return None;
+        }
+        Some(self.threads.threads().get(index_of(thread.number))?.script)
     }
 
     /// A draw by a processor.
-    pub(super) fn draw(&mut self, processor: u32, d: u128, reply: &mut Reply)
-        ensures reply { reply.new ≡ (step self.old.state (event.Draw processor d)).reply }
-        ensures state { self.new.state ≡ (step self.old.state (event.Draw processor d)).state }
+    pub(super) fn draw(&mut self, processor: Processor, d: u128, reply: &mut Reply)
+        ensures reply { reply.new ≡ (step self.old.state (event.Draw processor.number d)).reply }
+        ensures state { self.new.state ≡ (step self.old.state (event.Draw processor.number d)).state }
         ensures stale { MakesStale self.old self.new }
-        ensures counts { Counts (event.Draw processor d) reply.new self.old self.new }
+        ensures counts { Counts (event.Draw processor.number d) reply.new self.old self.new }
     {
         if self.is_bad_processor(processor) {
             *reply = Reply::Refused(Refusal::BadProcessor);
@@ -60,7 +63,10 @@ impl Tables {
             *reply = Reply::Idle;
             return;
         };
-        let delivered = self.threads.start(winner.thread, processor);
+        let thread = ThreadNumber {
+            number: winner.thread,
+        };
+        let delivered = self.threads.start(thread, processor);
         *reply = Reply::Winner {
             thread: winner.thread,
             number: winner.number,
@@ -70,9 +76,9 @@ impl Tables {
     }
 
     /// The quantum ends on a processor.
-    pub(super) fn expire(&mut self, processor: u32, reply: &mut Reply)
-        ensures reply { reply.new ≡ (step self.old.state (event.Expire processor)).reply }
-        ensures state { self.new.state ≡ (step self.old.state (event.Expire processor)).state }
+    pub(super) fn expire(&mut self, processor: Processor, reply: &mut Reply)
+        ensures reply { reply.new ≡ (step self.old.state (event.Expire processor.number)).reply }
+        ensures state { self.new.state ≡ (step self.old.state (event.Expire processor.number)).state }
         ensures stale { MakesStale self.old self.new }
         ensures kept { KeepsStale self.old self.new }
         ensures meter { self.new.meter ≡ self.old.meter }
@@ -88,16 +94,25 @@ impl Tables {
         let thread = runner.thread;
         let ticks = self.limits.quantum - runner.used;
         self.threads.expire(thread, ticks);
-        *reply = Reply::Expired { thread, ticks };
+        *reply = Reply::Expired {
+            thread: thread.number,
+            ticks,
+        };
     }
 
     /// A trap on a processor, with the ticks that were run before it.
-    pub(super) fn trap(&mut self, processor: u32, ran: u32, action: &Action, reply: &mut Reply)
+    pub(super) fn trap(
+        &mut self,
+        processor: Processor,
+        ran: u32,
+        action: &Action,
+        reply: &mut Reply,
+    )
         requires { IsInOrder self.old.state }
-        ensures reply { reply.new ≡ (step self.old.state (event.Trap processor ran action.now)).reply }
-        ensures state { self.new.state ≡ (step self.old.state (event.Trap processor ran action.now)).state }
+        ensures reply { reply.new ≡ (step self.old.state (event.Trap processor.number ran action.now)).reply }
+        ensures state { self.new.state ≡ (step self.old.state (event.Trap processor.number ran action.now)).state }
         ensures stale { MakesStale self.old self.new }
-        ensures counts { Counts (event.Trap processor ran action.now) reply.new self.old self.new }
+        ensures counts { Counts (event.Trap processor.number ran action.now) reply.new self.old self.new }
     {
         if self.is_bad_processor(processor) {
             *reply = Reply::Refused(Refusal::BadProcessor);
@@ -126,18 +141,19 @@ impl Tables {
     /// A trap that costs no more than what is left of its thread's quantum.
     fn make_trap(&mut self, trap: Trap, action: &Action, reply: &mut Reply)
         requires order { IsInOrder self.old.state }
-        requires processor { IsBetween 1 self.old.state.limits.processors trap.processor }
-        requires runs { RunsOn self.old.state.records trap.thread trap.processor }
+        requires processor { IsBetween 1 self.old.state.limits.processors trap.processor.number }
+        requires runs { RunsOn self.old.state.records trap.thread.number trap.processor.number }
         requires ticks { (0 < trap.ticks) × (trap.ticks ≤ trap.used) }
         ensures reply { reply.new ≡ (trapped self.old.state trap action.now).reply }
         ensures state { self.new.state ≡ (trapped self.old.state trap action.now).state }
         ensures stale { MakesStale self.old self.new }
-        ensures counts { (ran : ℕ) → Counts (event.Trap trap.processor ran action.now) reply.new self.old self.new }
+        ensures counts { (ran : ℕ)
+            → Counts (event.Trap trap.processor.number ran action.now) reply.new self.old self.new }
     {
         let effect = self.act(trap.thread, action);
         self.finish(trap, effect.after);
         *reply = Reply::Trapped {
-            thread: trap.thread,
+            thread: trap.thread.number,
             ticks: trap.ticks,
             outcome: effect.outcome,
             ends: ends_quantum(trap, effect.after, self.limits.quantum),
@@ -147,18 +163,18 @@ impl Tables {
     /// The thread that made a trap stays on its processor, or leaves it with a status that isn't Running.
     fn finish(&mut self, trap: Trap, after: After)
         requires ticks { (0 < trap.ticks) × (trap.ticks ≤ trap.used) }
-        requires processor { IsBetween 1 self.old.state.limits.processors trap.processor }
-        requires runs { RunsOn self.old.state.records trap.thread trap.processor }
-        requires alone { RunsAlone self.old.state.records trap.processor trap.thread }
+        requires processor { IsBetween 1 self.old.state.limits.processors trap.processor.number }
+        requires runs { RunsOn self.old.state.records trap.thread.number trap.processor.number }
+        requires alone { RunsAlone self.old.state.records trap.processor.number trap.thread.number }
         requires stops { StopsIfLeaves after }
         requires lend { (status : AStatus) → after ≡ Leaves status
-            → CanLend (funding_of self.old.state) trap.thread (lend_of status) }
+            → CanLend (funding_of self.old.state) trap.thread.number (lend_of status) }
         ensures state { self.new.state
             ≡ record self.old.state {
               records = change_record
                   (λ r. with_ticks trap.ticks
-                  (after_trap after trap.processor trap.used self.old.state.limits.quantum r))
-                  self.old.state.records trap.thread;
+                  (after_trap after trap.processor.number trap.used self.old.state.limits.quantum r))
+                  self.old.state.records trap.thread.number;
             } }
         ensures stale { MakesStale self.old self.new }
         ensures kept { KeepsStale self.old self.new }
@@ -171,9 +187,9 @@ impl Tables {
         self.threads.change(trap.thread, next);
     }
 
-    fn is_bad_processor(&self, processor: u32) -> bool
-        ensures { result ≡ steps.is_bad_processor self.now.state processor }
+    fn is_bad_processor(&self, processor: Processor) -> bool
+        ensures { result ≡ steps.is_bad_processor self.now.state processor.number }
     {
-        processor == 0 || processor > self.limits.processors
+        processor.number == 0 || processor.number > self.limits.processors
     }
 }

@@ -13,22 +13,29 @@ ghost use Rattle.lot_kernel.specs.Counted.{settled, with_ticket_read};
 use crate::counts::{count_backing, count_issued};
 use crate::tables::Tables;
 use lot_draw::weight;
-use lot_machine::{CurrencyRow, Name, Node, Target, ThreadRow, TicketRow};
+use lot_machine::{
+    CurrencyNumber, CurrencyRow, Name, Node, Target, ThreadNumber, ThreadRow, TicketNumber,
+    TicketRow, index_of,
+};
 
 impl Tables {
     /// The row of the ticket with this number, `None` if and only if it isn't there. Settles, and reads the ticket.
-    pub(crate) fn ticket_row(&mut self, ticket: u32) -> Option<TicketRow>
+    pub(crate) fn ticket_row(&mut self, ticket: TicketNumber) -> Option<TicketRow>
         requires { IsInOrder self.old.state }
-        ensures row { result ≡ rows.ticket_row self.old.state ticket }
+        ensures row { result ≡ rows.ticket_row self.old.state ticket.number }
         ensures state { self.new.state ≡ self.old.state }
-        ensures settled { (t : ATicket) → ticket_in self.old.state.tickets ticket ≡ Some t
+        ensures settled { (t : ATicket) → ticket_in self.old.state.tickets ticket.number ≡ Some t
             → self.new ≡ record (settled self.old) { meter = with_ticket_read (settled self.old).meter t } }
         ensures once { IfSome result (λ r. HasNoneTwice self.old.stale) }
         ensures unchanged { IfNone result (self.new ≡ self.old) }
     {
-        let found = self.threads.graph().ticket(ticket)?;
+        let found = self.threads.graph().ticket(ticket.number)?;
         // A currency that issues is there. Were it not, the definitions would show an empty name.
-        let issuer = self.currency_name(found.issuer).or(Name::new(""))?;
+        let issuer = self
+            .currency_name(CurrencyNumber {
+                number: found.issuer,
+            })
+            .or(Name::new(""))?;
         let target = self.target_name(found.target);
         self.threads.settle();
         Some(TicketRow {
@@ -41,9 +48,9 @@ impl Tables {
     }
 
     /// The row of the currency with this number, `None` if and only if it isn't there. Settles.
-    pub(crate) fn currency_row(&mut self, currency: u32) -> Option<CurrencyRow>
+    pub(crate) fn currency_row(&mut self, currency: CurrencyNumber) -> Option<CurrencyRow>
         requires { IsInOrder self.old.state }
-        ensures row { result ≡ rows.currency_row self.old.state currency }
+        ensures row { result ≡ rows.currency_row self.old.state currency.number }
         ensures state { self.new.state ≡ self.old.state }
         ensures settled { IfSome result (λ r. self.new ≡ settled self.old) }
         ensures once { IfSome result (λ r. HasNoneTwice self.old.stale) }
@@ -54,29 +61,29 @@ impl Tables {
         let graph = self.threads.graph();
         Some(CurrencyRow {
             name,
-            backing: count_backing(graph, currency),
-            issued: count_issued(graph, currency),
+            backing: count_backing(graph, currency.number),
+            issued: count_issued(graph, currency.number),
             active_amount: self.threads.active_amount(currency),
             value: self.currency_value(currency),
         })
     }
 
     /// What a currency is worth, if nothing is stale; base is worth its active amount.
-    fn currency_value(&self, currency: u32) -> u64
-        requires there { currency < length self.now.state.currencies }
+    fn currency_value(&self, currency: CurrencyNumber) -> u64
+        requires there { currency.number < length self.now.state.currencies }
         requires settled { self.now.stale ≡ [] }
         ensures { result ≡ worth.node_value self.now.state.limits.unit (funding_of self.now.state)
-            (live_of self.now.state) (node.Currency currency) }
+            (live_of self.now.state) (node.Currency currency.number) }
     {
-        if currency == 0 {
-            return self.threads.active_amount(0);
+        if currency.number == 0 {
+            return self.threads.active_amount(CurrencyNumber { number: 0 });
         }
-        self.threads.value_of(Node::Currency(currency))
+        self.threads.value_of(Node::Currency(currency.number))
     }
 
     /// The row of the thread with this number, `None` if and only if there is none. Settles.
-    pub(crate) fn thread_row(&mut self, thread: u32) -> Option<ThreadRow>
-        ensures row { result ≡ rows.thread_row self.old.state thread }
+    pub(crate) fn thread_row(&mut self, thread: ThreadNumber) -> Option<ThreadRow>
+        ensures row { result ≡ rows.thread_row self.old.state thread.number }
         ensures state { self.new.state ≡ self.old.state }
         ensures settled { IfSome result (λ r. self.new ≡ settled self.old) }
         ensures once { IfSome result (λ r. HasNoneTwice self.old.stale) }
@@ -97,10 +104,10 @@ impl Tables {
     }
 
     /// The name of the currency, if it is there.
-    fn currency_name(&self, currency: u32) -> Option<Name>
-        ensures { result ≡ rows.currency_name self.now.state currency }
+    fn currency_name(&self, currency: CurrencyNumber) -> Option<Name>
+        ensures { result ≡ rows.currency_name self.now.state currency.number }
     {
-        match self.currencies.get(currency as usize)? {
+        match self.currencies.get(currency.number as usize)? {
             Some(name) => Some(name.copied()),
             None => None,
         }
@@ -112,16 +119,24 @@ impl Tables {
     {
         match target {
             Target::Unfunded => None,
-            Target::Currency(currency) => self.currency_name(currency),
-            Target::Thread(thread) => self.thread_name(thread),
+            Target::Currency(currency) => self.currency_name(CurrencyNumber { number: currency }),
+            Target::Thread(thread) => self.thread_name(ThreadNumber { number: thread }),
         }
     }
 
     /// The thread's name.
-    fn thread_name(&self, thread: u32) -> Option<Name>
-        ensures { result ≡ rows.thread_name self.now.state thread }
+    fn thread_name(&self, thread: ThreadNumber) -> Option<Name>
+        ensures { result ≡ rows.thread_name self.now.state thread.number }
     {
-        let place = thread.checked_sub(1)?;
-        Some(self.threads.threads().get(place as usize)?.name.copied())
+        if thread.number == 0 {
+            return None;
+        }
+        Some(
+            self.threads
+                .threads()
+                .get(index_of(thread.number))?
+                .name
+                .copied(),
+        )
     }
 }

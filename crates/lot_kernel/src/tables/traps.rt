@@ -12,17 +12,19 @@ ghost use Rattle.lot_kernel.specs.Snapshots.{MakesStale};
 ghost use Rattle.lot_kernel.specs.Trapped.{IsRunning, effect_of};
 
 use crate::tables::Tables;
-use lot_machine::{Action, After, Node, Outcome, Status, TrapRefusal};
+use lot_machine::{
+    Action, After, MutexNumber, Node, Outcome, PortNumber, Status, ThreadNumber, TrapRefusal,
+};
 use lot_threads::Effect;
 
 impl Tables {
     /// What a trap of a thread that runs does, and its effect. A refused trap does nothing.
-    pub(super) fn act(&mut self, thread: u32, action: &Action) -> Effect
+    pub(super) fn act(&mut self, thread: ThreadNumber, action: &Action) -> Effect
         requires order { IsInOrder self.old.state }
-        requires runs { IsRunning self.old.state.records thread }
-        ensures outcome { result.outcome ≡ (effect_of self.old.state thread action.now).outcome }
-        ensures after { result.after ≡ (effect_of self.old.state thread action.now).after }
-        ensures state { self.new.state ≡ (effect_of self.old.state thread action.now).state }
+        requires runs { IsRunning self.old.state.records thread.number }
+        ensures outcome { result.outcome ≡ (effect_of self.old.state thread.number action.now).outcome }
+        ensures after { result.after ≡ (effect_of self.old.state thread.number action.now).after }
+        ensures state { self.new.state ≡ (effect_of self.old.state thread.number action.now).state }
         ensures stale { MakesStale self.old self.new }
         ensures counts { CountsTrap action.now result.outcome self.old self.new }
     {
@@ -31,12 +33,12 @@ impl Tables {
                 outcome: Outcome::Yielded,
                 after: After::Leaves(Status::Ready),
             },
-            Action::Call(port, number) => self.call(thread, port, number),
-            Action::Receive(port) => self.receive(thread, port),
+            Action::Call(port, sent) => self.call(thread, PortNumber { number: port }, sent),
+            Action::Receive(port) => self.receive(thread, PortNumber { number: port }),
             Action::Reply(number) => self.reply(thread, number),
-            Action::Serve(port, number) => self.serve(thread, port, number),
-            Action::Lock(mutex) => self.lock(thread, mutex),
-            Action::Unlock(mutex, d) => self.unlock(thread, mutex, d),
+            Action::Serve(port, sent) => self.serve(thread, PortNumber { number: port }, sent),
+            Action::Lock(mutex) => self.lock(thread, MutexNumber { number: mutex }),
+            Action::Unlock(mutex, d) => self.unlock(thread, MutexNumber { number: mutex }, d),
             Action::Exit => Effect {
                 outcome: Outcome::Exited,
                 after: After::Ends,
@@ -44,85 +46,92 @@ impl Tables {
         }
     }
 
-    fn call(&mut self, thread: u32, port: u32, number: u32) -> Effect
+    fn call(&mut self, thread: ThreadNumber, port: PortNumber, number: u32) -> Effect
         requires order { IsInOrder self.old.state }
-        requires runs { IsRunning self.old.state.records thread }
-        ensures outcome { result.outcome ≡ (effect_of self.old.state thread (action.Call port number)).outcome }
-        ensures after { result.after ≡ (effect_of self.old.state thread (action.Call port number)).after }
-        ensures state { self.new.state ≡ (effect_of self.old.state thread (action.Call port number)).state }
+        requires runs { IsRunning self.old.state.records thread.number }
+        ensures outcome { result.outcome
+            ≡ (effect_of self.old.state thread.number (action.Call port.number number)).outcome }
+        ensures after { result.after ≡ (effect_of self.old.state thread.number (action.Call port.number number)).after }
+        ensures state { self.new.state
+            ≡ (effect_of self.old.state thread.number (action.Call port.number number)).state }
         ensures stale { MakesStale self.old self.new }
         ensures kept { KeepsStale self.old self.new }
         ensures meter { self.new.meter ≡ self.old.meter }
     {
-        if port == 0 || port > self.queues.ports() {
+        if port.number == 0 || port.number > self.queues.ports() {
             return refused(TrapRefusal::NoPort);
         }
         lot_ports::call(&mut self.threads, &mut self.queues, thread, port, number)
     }
 
-    fn receive(&mut self, thread: u32, port: u32) -> Effect
+    fn receive(&mut self, thread: ThreadNumber, port: PortNumber) -> Effect
         requires order { IsInOrder self.old.state }
-        requires runs { IsRunning self.old.state.records thread }
-        ensures outcome { result.outcome ≡ (effect_of self.old.state thread (action.Receive port)).outcome }
-        ensures after { result.after ≡ (effect_of self.old.state thread (action.Receive port)).after }
-        ensures state { self.new.state ≡ (effect_of self.old.state thread (action.Receive port)).state }
+        requires runs { IsRunning self.old.state.records thread.number }
+        ensures outcome { result.outcome
+            ≡ (effect_of self.old.state thread.number (action.Receive port.number)).outcome }
+        ensures after { result.after ≡ (effect_of self.old.state thread.number (action.Receive port.number)).after }
+        ensures state { self.new.state ≡ (effect_of self.old.state thread.number (action.Receive port.number)).state }
         ensures stale { MakesStale self.old self.new }
         ensures kept { KeepsStale self.old self.new }
         ensures meter { self.new.meter ≡ self.old.meter }
     {
-        if port == 0 || port > self.queues.ports() {
+        if port.number == 0 || port.number > self.queues.ports() {
             return refused(TrapRefusal::NoPort);
         }
         lot_ports::receive(&mut self.threads, &mut self.queues, thread, port)
     }
 
-    fn reply(&mut self, thread: u32, number: u32) -> Effect
-        requires runs { IsRunning self.old.state.records thread }
-        ensures outcome { result.outcome ≡ (effect_of self.old.state thread (action.Reply number)).outcome }
-        ensures after { result.after ≡ (effect_of self.old.state thread (action.Reply number)).after }
-        ensures state { self.new.state ≡ (effect_of self.old.state thread (action.Reply number)).state }
+    fn reply(&mut self, thread: ThreadNumber, number: u32) -> Effect
+        requires runs { IsRunning self.old.state.records thread.number }
+        ensures outcome { result.outcome ≡ (effect_of self.old.state thread.number (action.Reply number)).outcome }
+        ensures after { result.after ≡ (effect_of self.old.state thread.number (action.Reply number)).after }
+        ensures state { self.new.state ≡ (effect_of self.old.state thread.number (action.Reply number)).state }
         ensures stale { MakesStale self.old self.new }
         ensures kept { KeepsStale self.old self.new }
         ensures meter { self.new.meter ≡ self.old.meter }
     {
-        let Some(client) = self.queues.first_client(thread) else {
+        let Some(client) = self.queues.first_client(thread.number) else {
             return refused(TrapRefusal::NothingToReply);
         };
+        let client = ThreadNumber { number: client };
         lot_ports::reply(&mut self.threads, &mut self.queues, thread, client, number)
     }
 
-    fn serve(&mut self, thread: u32, port: u32, number: u32) -> Effect
+    fn serve(&mut self, thread: ThreadNumber, port: PortNumber, number: u32) -> Effect
         requires order { IsInOrder self.old.state }
-        requires runs { IsRunning self.old.state.records thread }
-        ensures outcome { result.outcome ≡ (effect_of self.old.state thread (action.Serve port number)).outcome }
-        ensures after { result.after ≡ (effect_of self.old.state thread (action.Serve port number)).after }
-        ensures state { self.new.state ≡ (effect_of self.old.state thread (action.Serve port number)).state }
+        requires runs { IsRunning self.old.state.records thread.number }
+        ensures outcome { result.outcome
+            ≡ (effect_of self.old.state thread.number (action.Serve port.number number)).outcome }
+        ensures after { result.after
+            ≡ (effect_of self.old.state thread.number (action.Serve port.number number)).after }
+        ensures state { self.new.state
+            ≡ (effect_of self.old.state thread.number (action.Serve port.number number)).state }
         ensures stale { MakesStale self.old self.new }
         ensures kept { KeepsStale self.old self.new }
         ensures meter { self.new.meter ≡ self.old.meter }
     {
-        if port == 0 || port > self.queues.ports() {
+        if port.number == 0 || port.number > self.queues.ports() {
             return refused(TrapRefusal::NoPort);
         }
-        let Some(client) = self.queues.first_client(thread) else {
+        let Some(client) = self.queues.first_client(thread.number) else {
             return refused(TrapRefusal::NothingToReply);
         };
         lot_ports::serve(
             &mut self.threads,
             &mut self.queues,
             thread,
-            client,
+            ThreadNumber { number: client },
             port,
             number,
         )
     }
 
-    fn lock(&mut self, thread: u32, mutex: u32) -> Effect
+    fn lock(&mut self, thread: ThreadNumber, mutex: MutexNumber) -> Effect
         requires order { IsInOrder self.old.state }
-        requires runs { IsRunning self.old.state.records thread }
-        ensures outcome { result.outcome ≡ (effect_of self.old.state thread (action.Lock mutex)).outcome }
-        ensures after { result.after ≡ (effect_of self.old.state thread (action.Lock mutex)).after }
-        ensures state { self.new.state ≡ (effect_of self.old.state thread (action.Lock mutex)).state }
+        requires runs { IsRunning self.old.state.records thread.number }
+        ensures outcome { result.outcome ≡ (effect_of self.old.state thread.number (action.Lock mutex.number)).outcome }
+        ensures after { result.after ≡ (effect_of self.old.state thread.number (action.Lock mutex.number)).after }
+        ensures state { self.new.state ≡ (effect_of self.old.state thread.number (action.Lock mutex.number)).state }
         ensures stale { MakesStale self.old self.new }
         ensures kept { KeepsStale self.old self.new }
         ensures meter { self.new.meter ≡ self.old.meter }
@@ -134,53 +143,54 @@ impl Tables {
     }
 
     /// Why a thread can't lock a mutex, if it can't. It changes nothing.
-    fn lock_refusal(&mut self, thread: u32, mutex: u32) -> Option<TrapRefusal>
+    fn lock_refusal(&mut self, thread: ThreadNumber, mutex: MutexNumber) -> Option<TrapRefusal>
         requires order { IsInOrder self.old.state }
-        requires runs { IsRunning self.old.state.records thread }
-        ensures refusal { result ≡ trap_refusal self.old.state thread (action.Lock mutex) }
+        requires runs { IsRunning self.old.state.records thread.number }
+        ensures refusal { result ≡ trap_refusal self.old.state thread.number (action.Lock mutex.number) }
         ensures unchanged { self.new ≡ self.old }
     {
-        if mutex == 0 || mutex > self.queues.mutexes() {
+        if mutex.number == 0 || mutex.number > self.queues.mutexes() {
             return Some(TrapRefusal::NoMutex);
         }
-        let owner = self.queues.owner(mutex)?;
-        if owner == thread {
+        let owner = self.queues.owner(mutex.number)?;
+        if owner == thread.number {
             return Some(TrapRefusal::AlreadyOwner);
         }
-        if self.lends_on_to(owner, thread) {
+        if self.lends_on_to(ThreadNumber { number: owner }, thread) {
             return Some(TrapRefusal::LockCycle);
         }
         None
     }
 
     /// Whether the lends of a thread lead on to another. It changes nothing.
-    fn lends_on_to(&mut self, lender: u32, thread: u32) -> bool
+    fn lends_on_to(&mut self, lender: ThreadNumber, thread: ThreadNumber) -> bool
         requires order { IsInOrder self.old.state }
-        requires runs { IsRunning self.old.state.records thread }
-        requires other { lender ≢ thread }
-        ensures leads { result ≡ lends.lends_on_to (funding_of self.old.state) lender thread }
+        requires runs { IsRunning self.old.state.records thread.number }
+        requires other { lender.number ≢ thread.number }
+        ensures leads { result ≡ lends.lends_on_to (funding_of self.old.state) lender.number thread.number }
         ensures unchanged { self.new ≡ self.old }
     {
         if self.threads.record(lender).is_none() {
             return false;
         }
         self.threads
-            .reaches(Node::Thread(lender), Node::Thread(thread))
+            .reaches(Node::Thread(lender.number), Node::Thread(thread.number))
     }
 
-    fn unlock(&mut self, thread: u32, mutex: u32, d: u128) -> Effect
+    fn unlock(&mut self, thread: ThreadNumber, mutex: MutexNumber, d: u128) -> Effect
         requires order { IsInOrder self.old.state }
-        requires runs { IsRunning self.old.state.records thread }
-        ensures outcome { result.outcome ≡ (effect_of self.old.state thread (action.Unlock mutex d)).outcome }
-        ensures after { result.after ≡ (effect_of self.old.state thread (action.Unlock mutex d)).after }
-        ensures state { self.new.state ≡ (effect_of self.old.state thread (action.Unlock mutex d)).state }
+        requires runs { IsRunning self.old.state.records thread.number }
+        ensures outcome { result.outcome
+            ≡ (effect_of self.old.state thread.number (action.Unlock mutex.number d)).outcome }
+        ensures after { result.after ≡ (effect_of self.old.state thread.number (action.Unlock mutex.number d)).after }
+        ensures state { self.new.state ≡ (effect_of self.old.state thread.number (action.Unlock mutex.number d)).state }
         ensures stale { MakesStale self.old self.new }
-        ensures counts { CountsTrap (action.Unlock mutex d) result.outcome self.old self.new }
+        ensures counts { CountsTrap (action.Unlock mutex.number d) result.outcome self.old self.new }
     {
-        if mutex == 0 || mutex > self.queues.mutexes() {
+        if mutex.number == 0 || mutex.number > self.queues.mutexes() {
             return refused(TrapRefusal::NoMutex);
         }
-        if self.queues.owner(mutex) != Some(thread) {
+        if self.queues.owner(mutex.number) != Some(thread.number) {
             return refused(TrapRefusal::NotOwner);
         }
         lot_mutex::unlock(

@@ -84,13 +84,17 @@ const PAST_A_BOUND: [Sizes; 17] = [
     Sizes { unit: 257, ..MOST },
 ];
 
+/// Compares whether limits may be of these sizes.
+fn check_sizes(rt: &impl Abort, sizes: Sizes, may_be: bool) {
+    check_same_at(rt, &sizes, &Limits::new(sizes).is_some(), &may_be);
+}
+
 #[test]
 fn sizes_past_a_bound(rt: HostRuntime) {
-    for sizes in [LEAST, MOST] {
-        assert!(rt; Limits::new(sizes).is_some(), "{sizes:?}");
-    }
+    check_sizes(&rt, LEAST, true);
+    check_sizes(&rt, MOST, true);
     for sizes in PAST_A_BOUND {
-        assert!(rt; Limits::new(sizes).is_none(), "{sizes:?}");
+        check_sizes(&rt, sizes, false);
     }
 }
 

@@ -1,14 +1,17 @@
 //! What the rows of threads, mutexes and ports share.
-ghost use Rattle.std.specs.Prelude.{◌≡◌, Some, IsTrue};
+ghost use Rattle.std.specs.Prelude.{◌≡◌, Some, IsTrue, length};
 ghost use Rattle.lot_machine.specs.declared.ticket.Target.TheVariants.{Unfunded};
 ghost use Rattle.lot_machine.specs.Funding.{target_of};
 ghost use Rattle.lot_graph.specs.Graphs.{IsTarget};
+ghost use Rattle.lot_queues.specs.QueueLists.{IsThere, IsNowhere};
 ghost use Rattle.lot_value.specs.Changing.{CanTarget};
 ghost use Rattle.lot_threads.specs.Threaded.{funding_in};
 
 use lot_draw::Winner;
 use lot_graph::Graph;
-use lot_machine::{After, Name, Record, Target, Thread, Ticket};
+use lot_machine::{
+    After, Name, Record, Status, Target, Thread, ThreadNumber, Ticket, TicketNumber,
+};
 use lot_queues::Queues;
 use lot_threads::Threads;
 use lot_value::Change;
@@ -25,6 +28,37 @@ pub(crate) fn is_won(winner: Option<Winner>, (thread, number, total): Won) -> bo
     }
 }
 
+/// Whether the thread with this number has this status.
+pub(crate) fn stands(threads: &Threads, number: u32, status: Status) -> bool {
+    match threads.record(ThreadNumber { number }) {
+        Some(found) => found.status == status,
+        None => false,
+    }
+}
+
+/// Whether the thread is there, and the queues are for as many threads as there are.
+pub(crate) fn is_known(threads: &Threads, queues: &Queues, thread: ThreadNumber) -> bool
+    ensures there { IsTrue result → IsThere queues.now.clients thread.number }
+    ensures same { IsTrue result → length threads.now.records ≡ length queues.now.clients }
+{
+    if threads.records().len() != queues.threads() as usize {
+        return false;
+    }
+    0 < thread.number && thread.number <= queues.threads()
+}
+
+/// Whether the thread may wait at a port or for a mutex: it is known, and waits nowhere yet.
+pub(crate) fn may_wait(threads: &Threads, queues: &Queues, thread: ThreadNumber) -> bool
+    ensures there { IsTrue result → IsThere queues.now.clients thread.number }
+    ensures nowhere { IsTrue result → IsNowhere queues.now thread.number }
+    ensures same { IsTrue result → length threads.now.records ≡ length queues.now.clients }
+{
+    if !is_known(threads, queues, thread) {
+        return false;
+    }
+    queues.is_nowhere(thread.number)
+}
+
 /// Shows which step of a row doesn't come out as the row says.
 pub(crate) fn check_step(rt: &impl Abort, number: usize, is_so: bool) {
     assert!(rt; is_so, "step {number}");
@@ -36,9 +70,9 @@ pub(crate) fn add_thread(rt: &impl Abort, threads: &mut Threads, queues: &mut Qu
     assert!(rt; made < threads.graph().layout().threads as usize);
     assert!(rt; queues.threads() < queues.room());
     let name = Name::new("thread").expect(rt, "a name");
-    let thread = threads.add_thread(Thread { name, script: 1 });
+    let made = threads.add_thread(Thread { name, script: 1 });
     queues.add_thread();
-    fund(rt, threads, amount, 0, Target::Thread(thread));
+    fund(rt, threads, amount, 0, Target::Thread(made.number));
 }
 
 /// A new ticket of this amount and currency, which funds the target.
@@ -80,7 +114,7 @@ fn may_fund(threads: &mut Threads, ticket: u32, target: Target) -> bool
     if !is_target(threads.graph(), target) {
         return false;
     }
-    !threads.would_cycle(ticket, target)
+    !threads.would_cycle(TicketNumber { number: ticket }, target)
 }
 
 /// Whether a ticket may fund the target, but for a cycle.
@@ -95,7 +129,7 @@ fn is_target(graph: &Graph, target: Target) -> bool
 }
 
 /// The thread that made a trap goes on, or gets the status that it leaves with.
-pub(crate) fn finish(rt: &impl Abort, threads: &mut Threads, thread: u32, after: After) {
+pub(crate) fn finish(rt: &impl Abort, threads: &mut Threads, thread: ThreadNumber, after: After) {
     let After::Leaves(status) = after else {
         return;
     };

@@ -1,6 +1,12 @@
 //! Locks and unlocks among a few threads, with what is lent by them.
-use super::helpers::{Won, add_thread, check_step, finish, is_won};
-use lot_machine::{Limits, Outcome, Sizes, Status};
+ghost use Rattle.std.specs.Prelude.{IsTrue};
+ghost use Rattle.lot_machine.specs.declared.record.Status.TheVariants as status;
+ghost use Rattle.lot_machine.specs.Mutexes.{mutex_at};
+ghost use Rattle.lot_machine.specs.Order.{IsQueue};
+ghost use Rattle.lot_queues.specs.QueueLists.{IsThere};
+
+use super::helpers::{Won, add_thread, check_step, finish, is_known, is_won, may_wait, stands};
+use lot_machine::{Limits, MutexNumber, Outcome, Sizes, Status, ThreadNumber};
 use lot_mutex::{Lottery, are_waiting, have_same_owners, lock, unlock};
 use lot_queues::Queues;
 use lot_threads::{Effect, Threads};
@@ -34,23 +40,39 @@ fn make_lock(
     rt: &impl Abort,
     threads: &mut Threads,
     queues: &mut Queues,
-    thread: u32,
+    thread: ThreadNumber,
     mutex: u32,
 ) -> Effect {
     assert!(rt; 0 < mutex && mutex <= queues.mutexes());
-    assert!(rt; 0 < thread && thread <= queues.threads());
-    assert!(rt; threads.is_live(thread) && queues.is_nowhere(thread));
-    assert!(rt; threads.records().len() == queues.threads() as usize);
+    assert!(rt; may_wait(threads, queues, thread) && threads.is_live(thread));
     assert!(rt; have_same_owners(threads, queues));
-    lock(threads, queues, thread, mutex)
+    lock(threads, queues, thread, MutexNumber { number: mutex })
+}
+
+/// Whether the threads in the mutex's queue wait for it. They are listed in `waiters`, which needs room for all threads.
+fn are_queued(
+    threads: &Threads,
+    queues: &Queues,
+    waiters: &mut Vec<u32>,
+    mutex: MutexNumber,
+) -> bool
+    requires there { IsThere queues.now.mutexes mutex.number }
+    ensures { IsTrue result → IsQueue threads.now.records (status.Waiting mutex.number)
+        (mutex_at queues.now.mutexes mutex.number).waiters }
+{
+    if waiters.capacity() < queues.room() as usize {
+        return false;
+    }
+    queues.list_waiters(mutex.number, waiters);
+    are_waiting(threads, waiters, mutex)
 }
 
 /// An unlock, and how many edges it reads.
 fn make_unlock(
     rt: &impl Abort,
     scene: &mut Scene,
-    owner: u32,
-    mutex: u32,
+    owner: ThreadNumber,
+    mutex: MutexNumber,
     d: u128,
 ) -> (Effect, u64) {
     let Scene {
@@ -59,13 +81,10 @@ fn make_unlock(
         lottery,
         waiters,
     } = scene;
-    assert!(rt; 0 < mutex && mutex <= queues.mutexes());
-    assert!(rt; queues.owner(mutex) == Some(owner) && threads.is_live(owner));
-    assert!(rt; waiters.capacity() >= queues.room() as usize);
-    queues.list_waiters(mutex, waiters);
-    assert!(rt; are_waiting(threads, waiters, mutex));
-    assert!(rt; threads.records().len() == queues.threads() as usize);
-    assert!(rt; have_same_owners(threads, queues));
+    assert!(rt; 0 < mutex.number && mutex.number <= queues.mutexes());
+    assert!(rt; queues.owner(mutex.number) == Some(owner.number) && threads.is_live(owner));
+    assert!(rt; are_queued(threads, queues, waiters, mutex));
+    assert!(rt; is_known(threads, queues, owner) && have_same_owners(threads, queues));
     assert!(rt; lottery.room() == queues.room());
     let before = threads.meter().ticket_reads;
     let effect = unlock(threads, queues, lottery, owner, mutex, d);
@@ -75,6 +94,7 @@ fn make_unlock(
 
 /// A lock, and whether it comes out so.
 fn locks(rt: &impl Abort, scene: &mut Scene, thread: u32, mutex: u32, outcome: Outcome) -> bool {
+    let thread = ThreadNumber { number: thread };
     let effect = make_lock(rt, &mut scene.threads, &mut scene.queues, thread, mutex);
     finish(rt, &mut scene.threads, thread, effect.after);
     effect.outcome == outcome
@@ -88,7 +108,8 @@ fn unlocks(
     d: u128,
     (outcome, reads): (Outcome, u64),
 ) -> bool {
-    let (effect, read) = make_unlock(rt, scene, owner, mutex, d);
+    let owner = ThreadNumber { number: owner };
+    let (effect, read) = make_unlock(rt, scene, owner, MutexNumber { number: mutex }, d);
     finish(rt, &mut scene.threads, owner, effect.after);
     effect.outcome == outcome && read == reads
 }
@@ -105,9 +126,7 @@ fn take(rt: &impl Abort, scene: &mut Scene, step: Step) -> bool {
             unlocks(rt, scene, (owner, mutex), d, (outcome, reads))
         }
         Step::Wins(d, won) => is_won(scene.threads.draw(d), won),
-        Step::Stands(thread, status) => {
-            scene.threads.record(thread).map(|r| r.status) == Some(status)
-        }
+        Step::Stands(thread, status) => stands(&scene.threads, thread, status),
         Step::Owner(mutex, owner) => scene.threads.graph().owner(mutex) == owner,
     }
 }

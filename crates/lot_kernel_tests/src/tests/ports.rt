@@ -1,6 +1,6 @@
 //! Calls, receipts and replies among a few threads, with what is lent by them.
-use super::helpers::{Won, add_thread, check_step, finish, is_won};
-use lot_machine::{Limits, Outcome, Sizes, Status};
+use super::helpers::{Won, add_thread, check_step, finish, is_known, is_won, may_wait, stands};
+use lot_machine::{Limits, Outcome, PortNumber, Sizes, Status, ThreadNumber};
 use lot_ports::{call, receive, reply, serve};
 use lot_queues::Queues;
 use lot_threads::{Effect, Threads};
@@ -30,14 +30,12 @@ fn make_call(
     rt: &impl Abort,
     threads: &mut Threads,
     queues: &mut Queues,
-    caller: u32,
-    port: u32,
+    caller: ThreadNumber,
+    port: PortNumber,
     number: u32,
 ) -> Effect {
-    assert!(rt; 0 < port && port <= queues.ports());
-    assert!(rt; 0 < caller && caller <= queues.threads());
-    assert!(rt; queues.is_nowhere(caller));
-    assert!(rt; threads.records().len() == queues.threads() as usize);
+    assert!(rt; 0 < port.number && port.number <= queues.ports());
+    assert!(rt; may_wait(threads, queues, caller));
     call(threads, queues, caller, port, number)
 }
 
@@ -45,13 +43,11 @@ fn make_receipt(
     rt: &impl Abort,
     threads: &mut Threads,
     queues: &mut Queues,
-    server: u32,
-    port: u32,
+    server: ThreadNumber,
+    port: PortNumber,
 ) -> Effect {
-    assert!(rt; 0 < port && port <= queues.ports());
-    assert!(rt; 0 < server && server <= queues.threads());
-    assert!(rt; threads.is_live(server) && queues.is_nowhere(server));
-    assert!(rt; threads.records().len() == queues.threads() as usize);
+    assert!(rt; 0 < port.number && port.number <= queues.ports());
+    assert!(rt; may_wait(threads, queues, server) && threads.is_live(server));
     receive(threads, queues, server, port)
 }
 
@@ -59,12 +55,13 @@ fn make_reply(
     rt: &impl Abort,
     threads: &mut Threads,
     queues: &mut Queues,
-    server: u32,
+    server: ThreadNumber,
     number: u32,
 ) -> Option<Effect> {
-    assert!(rt; 0 < server && server <= queues.threads());
-    assert!(rt; threads.records().len() == queues.threads() as usize);
-    let client = queues.first_client(server)?;
+    assert!(rt; is_known(threads, queues, server));
+    let client = ThreadNumber {
+        number: queues.first_client(server.number)?,
+    };
     Some(reply(threads, queues, server, client, number))
 }
 
@@ -72,20 +69,20 @@ fn make_serving(
     rt: &impl Abort,
     threads: &mut Threads,
     queues: &mut Queues,
-    server: u32,
-    port: u32,
+    server: ThreadNumber,
+    port: PortNumber,
     number: u32,
 ) -> Option<Effect> {
-    assert!(rt; 0 < port && port <= queues.ports());
-    assert!(rt; 0 < server && server <= queues.threads());
-    assert!(rt; threads.is_live(server) && queues.is_nowhere(server));
-    assert!(rt; threads.records().len() == queues.threads() as usize);
-    let client = queues.first_client(server)?;
+    assert!(rt; 0 < port.number && port.number <= queues.ports());
+    assert!(rt; may_wait(threads, queues, server) && threads.is_live(server));
+    let client = ThreadNumber {
+        number: queues.first_client(server.number)?,
+    };
     Some(serve(threads, queues, server, client, port, number))
 }
 
 /// The outcome of what a thread did at a port, after which it goes on or leaves.
-fn done(rt: &impl Abort, threads: &mut Threads, thread: u32, effect: Effect) -> Outcome {
+fn done(rt: &impl Abort, threads: &mut Threads, thread: ThreadNumber, effect: Effect) -> Outcome {
     finish(rt, threads, thread, effect.after);
     effect.outcome
 }
@@ -99,21 +96,35 @@ fn make_trap(
 ) -> Option<Outcome> {
     match step {
         Step::Call(caller, port, number, _) => {
+            let caller = ThreadNumber { number: caller };
+            let port = PortNumber { number: port };
             let effect = make_call(rt, threads, queues, caller, port, number);
             Some(done(rt, threads, caller, effect))
         }
         Step::Receive(server, port, _) => {
-            let effect = make_receipt(rt, threads, queues, server, port);
+            let server = ThreadNumber { number: server };
+            let effect = make_receipt(rt, threads, queues, server, PortNumber { number: port });
             Some(done(rt, threads, server, effect))
         }
-        Step::Reply(server, number, _) => Some(
-            make_reply(rt, threads, queues, server, number)?.outcome,
-        ),
+        Step::Reply(server, number, _) => {
+            let server = ThreadNumber { number: server };
+            Some(make_reply(rt, threads, queues, server, number)?.outcome)
+        }
         Step::Serve(server, port, number, _) => {
+            let server = ThreadNumber { number: server };
+            let port = PortNumber { number: port };
             let effect = make_serving(rt, threads, queues, server, port, number)?;
             Some(done(rt, threads, server, effect))
         }
         _ => None,
+    }
+}
+
+/// Whether this is delivered to the thread with this number when it next runs.
+fn gets(threads: &Threads, thread: u32, number: Option<u32>) -> bool {
+    match threads.record(ThreadNumber { number: thread }) {
+        Some(found) => found.delivered == number,
+        None => false,
     }
 }
 
@@ -131,8 +142,8 @@ fn take(rt: &impl Abort, threads: &mut Threads, queues: &mut Queues, step: Step)
             make_trap(rt, threads, queues, step) == outcome
         }
         Step::Wins(d, won) => is_won(threads.draw(d), won),
-        Step::Stands(thread, status) => threads.record(thread).map(|r| r.status) == Some(status),
-        Step::Gets(thread, number) => threads.record(thread).map(|r| r.delivered) == Some(number),
+        Step::Stands(thread, status) => stands(threads, thread, status),
+        Step::Gets(thread, number) => gets(threads, thread, number),
     }
 }
 

@@ -2,7 +2,7 @@
 ghost use Rattle.std.specs.Prelude.{◌≡◌, ◌↔◌, IsTrue, ◌≤◌, vec_capacity};
 ghost use Rattle.lot_queues.specs.QueueLists.{IsThere};
 
-use super::same::check_same;
+use super::same::{check_same, check_same_at};
 use lot_queues::{Queues, TakenCall};
 use std::alloc::Global;
 use std::process::Abort;
@@ -125,51 +125,77 @@ fn take_waiter_at(
     thread
 }
 
+/// Takes the first thread out of a queue, and compares it.
+fn check_taken(rt: &impl Abort, queues: &mut Queues, queue: Queue, expected: Option<u32>) {
+    check_same_at(rt, &queue, &take(rt, queues, queue), &expected);
+}
+
+/// Puts three threads into a queue, which is empty, and takes them out in the same order.
+fn check_order(rt: &impl Abort, queues: &mut Queues, queue: Queue) {
+    for thread in [3, 1, 2] {
+        push(rt, queues, queue, thread);
+    }
+    for expected in [Some(3), Some(1), Some(2), None] {
+        check_taken(rt, queues, queue, expected);
+    }
+}
+
+const IN_ORDER: [Queue; 6] = [
+    Queue::Calls(1),
+    Queue::Calls(2),
+    Queue::Receivers(1),
+    Queue::Receivers(2),
+    Queue::Clients(4),
+    Queue::Clients(5),
+];
+
 #[test]
 fn the_longest_waiting_is_taken_first(rt: HostRuntime) {
     let mut queues = full(&rt, rt.alloc());
-    for queue in [
-        Queue::Calls(1),
-        Queue::Calls(2),
-        Queue::Receivers(1),
-        Queue::Receivers(2),
-        Queue::Clients(4),
-        Queue::Clients(5),
-    ] {
-        for thread in [3, 1, 2] {
-            push(&rt, &mut queues, queue, thread);
-        }
-        for expected in [Some(3), Some(1), Some(2), None] {
-            check_same(&rt, &take(&rt, &mut queues, queue), &expected);
-        }
+    for queue in IN_ORDER {
+        check_order(&rt, &mut queues, queue);
     }
+}
+
+/// One thread for each of some queues.
+const PUSHED: [(Queue, u32); 4] = [
+    (Queue::Calls(1), 4),
+    (Queue::Receivers(2), 2),
+    (Queue::Clients(2), 5),
+    (Queue::Waiters(3), 1),
+];
+
+/// Whether each thread is nowhere then.
+const NOWHERE: [(u32, bool); 5] = [(1, false), (2, false), (3, true), (4, false), (5, false)];
+
+/// The first thread of each queue then.
+const FIRSTS: [(Queue, Option<u32>); 7] = [
+    (Queue::Calls(2), None),
+    (Queue::Receivers(1), None),
+    (Queue::Clients(1), None),
+    (Queue::Clients(5), None),
+    (Queue::Calls(1), Some(4)),
+    (Queue::Receivers(2), Some(2)),
+    (Queue::Clients(2), Some(5)),
+];
+
+/// Compares whether a thread is nowhere.
+fn check_nowhere(rt: &impl Abort, queues: &Queues, thread: u32, expected: bool) {
+    assert!(rt; has_thread(queues, thread));
+    check_same_at(rt, &thread, &queues.is_nowhere(thread), &expected);
 }
 
 #[test]
 fn each_queue_has_its_own_threads(rt: HostRuntime) {
     let mut queues = full(&rt, rt.alloc());
-    for (queue, thread) in [
-        (Queue::Calls(1), 4),
-        (Queue::Receivers(2), 2),
-        (Queue::Clients(2), 5),
-        (Queue::Waiters(3), 1),
-    ] {
+    for (queue, thread) in PUSHED {
         push(&rt, &mut queues, queue, thread);
     }
-    for (thread, expected) in [(1, false), (2, false), (3, true), (4, false), (5, false)] {
-        assert!(rt; has_thread(&queues, thread));
-        check_same(&rt, &queues.is_nowhere(thread), &expected);
+    for (thread, expected) in NOWHERE {
+        check_nowhere(&rt, &queues, thread, expected);
     }
-    for (queue, expected) in [
-        (Queue::Calls(2), None),
-        (Queue::Receivers(1), None),
-        (Queue::Clients(1), None),
-        (Queue::Clients(5), None),
-        (Queue::Calls(1), Some(4)),
-        (Queue::Receivers(2), Some(2)),
-        (Queue::Clients(2), Some(5)),
-    ] {
-        check_same(&rt, &take(&rt, &mut queues, queue), &expected);
+    for (queue, expected) in FIRSTS {
+        check_taken(&rt, &mut queues, queue, expected);
     }
     check_waiters(&rt, rt.alloc(), &queues, 2, &[]);
     check_waiters(&rt, rt.alloc(), &queues, 3, &[1]);

@@ -29,42 +29,37 @@ fn read_since(kernel: &Kernel, before: Meter) -> u64 {
         .saturating_sub(before.ticket_reads)
 }
 
-/// Takes a step, and returns how many edges it is to read.
-fn take_step(rt: &impl Abort, kernel: &mut Kernel, step: Count<'_>) -> u64 {
+/// How many edges a step is to read.
+fn reads_of(step: Count<'_>) -> u64 {
     match step {
-        Count::Does(line) => {
-            let reply = answer(rt, kernel, line);
-            assert!(rt; !matches!(reply, Reply::Refused(_)));
-            0
-        }
+        Count::Draws(_, _, reads) | Count::Traps(_, _, reads) => reads,
+        Count::ThreadRow(_, reads) | Count::TicketRow(_, reads) => reads,
+        _ => 0,
+    }
+}
+
+/// Takes a step, and returns whether it comes out as the row says.
+fn take_step(rt: &impl Abort, kernel: &mut Kernel, step: Count<'_>) -> bool {
+    match step {
+        Count::Does(line) => !matches!(answer(rt, kernel, line), Reply::Refused(_)),
         Count::Refuses(line, refusal) => {
             check_answer(rt, kernel, line, Reply::Refused(refusal));
-            0
+            true
         }
-        Count::Draws(d, winner, reads) => {
-            check_same(
-                rt,
-                &kernel.event(&Event::Draw(1, d)),
-                &winning(winner, None),
-            );
-            reads
+        Count::Draws(d, winner, _) => {
+            check_event(rt, kernel, Event::Draw(1, d), winning(winner, None));
+            true
         }
-        Count::Expires => {
-            let reply = kernel.event(&Event::Expire(1));
-            assert!(rt; matches!(reply, Reply::Expired { .. }));
-            0
-        }
-        Count::Traps(action, outcome, reads) => {
+        Count::Expires => matches!(kernel.event(&Event::Expire(1)), Reply::Expired { .. }),
+        Count::Traps(action, outcome, _) => {
             take_trap(rt, kernel, action, outcome);
-            reads
+            true
         }
-        Count::ThreadRow(thread, reads) => {
-            assert!(rt; kernel.thread_row(thread).is_some());
-            reads
+        Count::ThreadRow(thread, _) => {
+            kernel.thread_row(ThreadNumber { number: thread }).is_some()
         }
-        Count::TicketRow(ticket, reads) => {
-            assert!(rt; kernel.ticket_row(ticket).is_some());
-            reads
+        Count::TicketRow(ticket, _) => {
+            kernel.ticket_row(TicketNumber { number: ticket }).is_some()
         }
     }
 }
@@ -82,8 +77,8 @@ fn count_all(rt: &impl Abort, alloc: Global, steps: &[Count<'_>]) {
     let mut kernel = largest(rt, alloc, 1);
     for step in steps {
         let before = kernel.meter();
-        let wanted = take_step(rt, &mut kernel, *step);
-        check_same(rt, &read_since(&kernel, before), &wanted);
+        assert!(rt; take_step(rt, &mut kernel, *step));
+        check_same(rt, &read_since(&kernel, before), &reads_of(*step));
     }
 }
 

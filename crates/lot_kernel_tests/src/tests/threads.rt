@@ -1,12 +1,16 @@
 //! Threads of small graphs and of large ones, whose records change between draws.
 ghost use Rattle.std.specs.Prelude.{IsTrue};
 ghost use Rattle.lot_graph.specs.Graphs.{IsNodeOf};
+ghost use Rattle.lot_threads.specs.Threaded.{IsLiveIn};
 
 use super::helpers::{Won, check_step, fund, is_won};
 use super::same::check_same;
 use lot_draw::Winner;
 use lot_graph::Graph;
-use lot_machine::{Limits, Name, Node, Record, Sizes, Status, Target, Thread, Ticket};
+use lot_machine::{
+    CurrencyNumber, Limits, Name, Node, Processor, Record, Sizes, Status, Target, Thread,
+    ThreadNumber, Ticket,
+};
 use lot_threads::Threads;
 use lot_value::Change;
 use std::alloc::Global;
@@ -57,8 +61,8 @@ fn add_thread(rt: &impl Abort, threads: &mut Threads) {
     let made = threads.records().len();
     assert!(rt; made < threads.graph().layout().threads as usize);
     let name = Name::new("thread").expect(rt, "a name");
-    let number = threads.add_thread(Thread { name, script: 1 });
-    check_same(rt, &(number as usize), &(made + 1));
+    let thread = threads.add_thread(Thread { name, script: 1 });
+    check_same(rt, &(thread.number as usize), &(made + 1));
     check_same(rt, &threads.threads().len(), &(made + 1));
 }
 
@@ -84,7 +88,7 @@ fn unfund(rt: &impl Abort, threads: &mut Threads, ticket: u32) {
 fn record_with(
     rt: &impl Abort,
     threads: &Threads,
-    thread: u32,
+    thread: ThreadNumber,
     status: Status,
     compensation: Option<u32>,
 ) -> Record {
@@ -103,8 +107,9 @@ fn change(
     status: Status,
     compensation: Option<u32>,
 ) {
+    let thread = ThreadNumber { number: thread };
     let next = record_with(rt, threads, thread, status, compensation);
-    assert!(rt; threads.can_change(thread, next), "{thread} can't change");
+    assert!(rt; threads.can_change(thread, next), "{thread:?} can't change");
     threads.change(thread, next);
     assert!(rt; threads.record(thread) == Some(next));
 }
@@ -122,11 +127,17 @@ fn give_up(rt: &impl Abort, threads: &mut Threads, mutex: u32) {
     threads.apply(Change::PutOwner(mutex, None));
 }
 
+fn is_live(threads: &Threads, number: u32) -> bool
+    ensures { IsTrue result → IsLiveIn threads.now number }
+{
+    threads.is_live(ThreadNumber { number })
+}
+
 fn move_mutex(rt: &impl Abort, threads: &mut Threads, mutex: u32, owner: u32, next: u32) {
     let graph = threads.graph();
-    assert!(rt; 0 < mutex && mutex <= graph.mutexes() && graph.owner(mutex) == Some(owner));
-    assert!(rt; 0 < next && next <= graph.threads() && owner != next);
-    assert!(rt; threads.is_live(owner) && threads.is_live(next));
+    assert!(rt; is_node(graph, Node::Mutex(mutex)) && is_node(graph, Node::Thread(next)));
+    assert!(rt; graph.owner(mutex) == Some(owner) && owner != next);
+    assert!(rt; is_live(threads, owner) && is_live(threads, next));
     assert!(rt; !threads.reaches(Node::Thread(next), Node::Mutex(mutex)));
     threads.apply(Change::MoveOwner { mutex, owner, next });
 }
@@ -148,7 +159,7 @@ fn worth(rt: &impl Abort, threads: &mut Threads, node: Node) -> u64 {
 
 fn active(rt: &impl Abort, threads: &Threads, currency: u32) -> u64 {
     assert!(rt; threads.graph().is_currency(currency));
-    threads.active_amount(currency)
+    threads.active_amount(CurrencyNumber { number: currency })
 }
 
 /// Makes a change of the threads.
@@ -168,6 +179,7 @@ fn make_change(rt: &impl Abort, threads: &mut Threads, step: Step) {
 
 /// Whether the thread can't change to this status.
 fn refuses(rt: &impl Abort, threads: &mut Threads, thread: u32, status: Status) -> bool {
+    let thread = ThreadNumber { number: thread };
     let next = record_with(rt, threads, thread, status, None);
     !threads.can_change(thread, next)
 }
@@ -178,6 +190,14 @@ fn wins(threads: &mut Threads, d: u128, won: Won, reads: u64) -> bool {
     is_won(winner, won) && read == reads
 }
 
+/// Who runs on the processor with this number, and the ticks used there.
+fn runner(threads: &Threads, number: u32) -> Option<(u32, u32)> {
+    match threads.runner(Processor { number }) {
+        Some(found) => Some((found.thread.number, found.used)),
+        None => None,
+    }
+}
+
 /// Asks, and returns whether the answer is as the row says.
 fn holds(rt: &impl Abort, threads: &mut Threads, step: Step) -> bool {
     match step {
@@ -185,9 +205,7 @@ fn holds(rt: &impl Abort, threads: &mut Threads, step: Step) -> bool {
         Step::Wins(d, won) => is_won(draw(threads, d).0, won),
         Step::Reads(d, won, reads) => wins(threads, d, won, reads),
         Step::Idles(d) => draw(threads, d).0.is_none(),
-        Step::Runs(processor, runs) => {
-            threads.runner(processor).map(|r| (r.thread, r.used)) == runs
-        }
+        Step::Runs(processor, runs) => runner(threads, processor) == runs,
         Step::Worth(node, value) => worth(rt, threads, node) == value,
         Step::Active(currency, amount) => active(rt, threads, currency) == amount,
         _ => true,

@@ -3,7 +3,9 @@ use super::same::check_same;
 use super::{
     Line, Step, check_run, check_thread, fund, largest, play, take, take_all, thread_row, won,
 };
-use lot_kernel::{Action, Event, Kernel, Outcome, Refusal, Reply, Status, TrapRefusal};
+use lot_kernel::{
+    Action, Event, Kernel, MutexNumber, Outcome, Refusal, Reply, Status, TrapRefusal,
+};
 use std::alloc::Global;
 use std::process::Abort;
 
@@ -578,24 +580,23 @@ const TWO_WAITERS: [Event; 7] = [
     Event::Trap(1, 0, Action::Lock(1)),
 ];
 
-/// The threads that wait for the mutex.
-fn waiters_for(rt: &impl Abort, alloc: Global, kernel: &Kernel, mutex: u32) -> Vec<u32> {
+/// Compares the threads that wait for the mutex.
+fn check_waiters(rt: &impl Abort, alloc: Global, kernel: &Kernel, mutex: u32, wanted: &[u32]) {
     let room = kernel.limits().threads as usize;
     let mut waiters = Vec::with_capacity(alloc, room).expect(rt, "memory");
-    kernel.list_waiters(mutex, &mut waiters);
-    waiters
+    kernel.list_waiters(MutexNumber { number: mutex }, &mut waiters);
+    check_same(rt, &waiters.as_slice(), &wanted);
 }
 
 #[test]
 fn waiters_stand_in_order_of_waiting(rt: HostRuntime) {
     let mut kernel = largest(&rt, rt.alloc(), 1);
     fund(&rt, &mut kernel, &[(50, "a"), (300, "b"), (100, "c")]);
-    assert!(rt; waiters_for(&rt, rt.alloc(), &kernel, 1).is_empty());
+    check_waiters(&rt, rt.alloc(), &kernel, 1, &[]);
     for event in &TWO_WAITERS {
         kernel.event(event);
     }
-    let waiters = waiters_for(&rt, rt.alloc(), &kernel, 1);
-    check_same(&rt, &waiters.as_slice(), &[3, 2].as_slice());
-    assert!(rt; waiters_for(&rt, rt.alloc(), &kernel, 2).is_empty());
-    assert!(rt; waiters_for(&rt, rt.alloc(), &kernel, 300).is_empty());
+    check_waiters(&rt, rt.alloc(), &kernel, 1, &[3, 2]);
+    check_waiters(&rt, rt.alloc(), &kernel, 2, &[]);
+    check_waiters(&rt, rt.alloc(), &kernel, 300, &[]);
 }

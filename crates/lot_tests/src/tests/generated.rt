@@ -4,7 +4,10 @@
 use super::reads::may_read;
 use super::same::check_same;
 use lot_draw::ParkMiller;
-use lot_kernel::{Action, Command, Event, Kernel, Kind, Limits, Meter, Name, Sizes};
+use lot_kernel::{
+    Action, Command, CurrencyNumber, Event, Kernel, Kind, Limits, Meter, Name, Sizes, ThreadNumber,
+    TicketNumber,
+};
 use std::alloc::Global;
 use std::process::Abort;
 
@@ -144,18 +147,22 @@ fn give(
 fn check_rows(rt: &impl Abort, kernel: &mut Kernel, fresh: &mut Kernel) {
     check_same(rt, &kernel.ticket_count(), &fresh.ticket_count());
     for ticket in 0..kernel.ticket_count() {
-        let number = ticket.saturating_add(1);
-        check_same(rt, &kernel.ticket_row(number), &fresh.ticket_row(number));
+        let ticket = TicketNumber {
+            number: ticket.saturating_add(1),
+        };
+        check_same(rt, &kernel.ticket_row(ticket), &fresh.ticket_row(ticket));
     }
     check_same(rt, &kernel.currency_count(), &fresh.currency_count());
-    for currency in 0..kernel.currency_count() {
+    for number in 0..kernel.currency_count() {
+        let currency = CurrencyNumber { number };
         check_same(
             rt,
             &kernel.currency_row(currency),
             &fresh.currency_row(currency),
         );
     }
-    for thread in 1..=4096 {
+    for number in 1..=4096 {
+        let thread = ThreadNumber { number };
         check_same(rt, &kernel.thread_row(thread), &fresh.thread_row(thread));
     }
 }

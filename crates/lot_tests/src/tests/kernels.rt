@@ -2,7 +2,7 @@
 
 use super::reads::is_worth_nothing;
 use super::same::check_same;
-use lot_kernel::Kernel;
+use lot_kernel::{CurrencyNumber, Kernel};
 use lot_kernel_tests::{trapped, won};
 use lot_machine::{Action, Command, Event, Limits, Name, Outcome, Reply, Sizes};
 use std::alloc::Global;
@@ -149,10 +149,10 @@ fn make_chain(rt: &impl Abort, kernel: &mut Kernel, alloc: Global) {
 
 /// Compares all currencies of the chain with what is worth nothing.
 fn check_worth_nothing(rt: &impl Abort, kernel: &mut Kernel) {
-    for currency in 0..=4096 {
+    for number in 0..=4096 {
         assert!(rt;
-            is_worth_nothing(kernel.currency_row(currency)),
-            "currency {currency}"
+            is_worth_nothing(kernel.currency_row(CurrencyNumber { number })),
+            "currency {number}"
         );
     }
 }
@@ -182,7 +182,8 @@ fn check_exit(rt: &impl Abort, kernel: &mut Kernel) {
         trapped(1, Outcome::Exited),
     );
     check_worth_nothing(rt, kernel);
-    assert!(rt; kernel.currency_row(4097).is_none());
+    let beyond = CurrencyNumber { number: 4097 };
+    assert!(rt; kernel.currency_row(beyond).is_none());
     check_event(rt, kernel, Event::Draw(1, 6), Reply::Idle);
 }
 

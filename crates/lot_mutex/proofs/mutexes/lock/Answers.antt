@@ -7,14 +7,14 @@ use Rattle.lot_mutex.proofs.mutexes.lock.Goals as goal
 
 pub returns-then-is_some-clause-threads : goal.returns-then-is_some-clause-threads
 returns-then-is_some-clause-threads c =
-    lock-waits c.args.threads.now c.args.queues.now.mutexes c.args.thread c.args.mutex c.requires.mutex c.requires.owners c.owner.result (sym c.owner.ensures) (search rules)
+    lock-waits c.args.threads.now c.args.queues.now.mutexes c.args.thread.number c.args.mutex.number c.requires.mutex c.requires.owners c.owner.result (sym c.owner.ensures) (search rules)
 
 pub apply-requires-clause-allowed : goal.apply-requires-clause-allowed
 apply-requires-clause-allowed c =
     let v = c.args.threads.now in
     let mutexes = c.args.queues.now.mutexes in
-    let free = ap (λ (xs : List (Option ℕ)). option_flatten (at_number xs c.args.mutex)) (sym c.requires.owners) ∙ ap option_flatten (owner-at mutexes c.args.mutex c.requires.mutex) ∙ free-owner mutexes c.args.mutex c.owner.result c.owner.ensures (search rules) in
-    ((owned-there mutexes v.owners c.args.mutex c.requires.mutex c.requires.owners, live-there v c.args.thread c.requires.thread, live-apart v c.args.thread c.args.mutex c.requires.thread), free)
+    let free = ap (λ (xs : List (Option ℕ)). option_flatten (at_number xs c.args.mutex.number)) (sym c.requires.owners) ∙ ap option_flatten (owner-at mutexes c.args.mutex.number c.requires.mutex) ∙ free-owner mutexes c.args.mutex.number c.owner.result c.owner.ensures (search rules) in
+    ((owned-there mutexes v.owners c.args.mutex.number c.requires.mutex c.requires.owners, live-there v c.args.thread.number c.requires.thread, live-apart v c.args.thread.number c.args.mutex.number c.requires.thread), free)
 
 pub returns-clause-threads : goal.returns-clause-threads
-returns-clause-threads c = lock-takes c.args.threads.now c.args.queues.now.mutexes c.args.thread c.args.mutex c.requires.mutex c.requires.owners c.apply.new.self (free-owner c.args.queues.now.mutexes c.args.mutex c.owner.result c.owner.ensures (search rules)) c.apply.ensures.applied
+returns-clause-threads c = lock-takes c.args.threads.now c.args.queues.now.mutexes c.args.thread.number c.args.mutex.number c.requires.mutex c.requires.owners c.apply.new.self (free-owner c.args.queues.now.mutexes c.args.mutex.number c.owner.result c.owner.ensures (search rules)) c.apply.ensures.applied

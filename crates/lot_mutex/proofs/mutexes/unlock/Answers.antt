@@ -17,40 +17,40 @@ use Rattle.lot_mutex.proofs.mutexes.unlock.Goals as goal
 use Rattle.lot_mutex.proofs.mutexes.unlock.Goals.{After-picked-next}
 
 -- the lottery has the mutex's waiters
-listed : (c : After-picked-next) → c.list.new.self.waiters ≡ (mutex_at c.args.queues.now.mutexes c.args.mutex).waiters
+listed : (c : After-picked-next) → c.list.new.self.waiters ≡ (mutex_at c.args.queues.now.mutexes c.args.mutex.number).waiters
 listed c = ap (λ (l : Listed). l.waiters) c.list.ensures
 
 -- somebody waits
-some : (c : After-picked-next) → (mutex_at c.args.queues.now.mutexes c.args.mutex).waiters ≢ []
+some : (c : After-picked-next) → (mutex_at c.args.queues.now.mutexes c.args.mutex.number).waiters ≢ []
 some c none = let empty = c.if-is_empty.ensures.1 (listed c ∙ none) in cc
 
 -- the mutex passes to who was drawn
 step : (c : After-picked-next)
-    → unlock c.args.threads.now.records c.args.queues.now.mutexes (worth_in c.args.threads.now) c.args.mutex c.args.d ≡ passing c.args.threads.now.records c.args.queues.now.mutexes c.args.mutex (mutex_at c.args.queues.now.mutexes c.args.mutex).waiters c.hold-drawn.result
+    → unlock c.args.threads.now.records c.args.queues.now.mutexes (worth_in c.args.threads.now) c.args.mutex.number c.args.d ≡ passing c.args.threads.now.records c.args.queues.now.mutexes c.args.mutex.number (mutex_at c.args.queues.now.mutexes c.args.mutex.number).waiters c.hold-drawn.result
 step c =
     let v = c.args.threads.now in
-    let ws = (mutex_at c.args.queues.now.mutexes c.args.mutex).waiters in
+    let ws = (mutex_at c.args.queues.now.mutexes c.args.mutex.number).waiters in
     let drawn : c.hold-drawn.result ≡ winner (map (worth_in v) ws) c.args.d =
     c.hold-drawn.ensures.drawn ∙ ap (λ (x : Threaded). winner (map (worth_in x) c.list.new.self.waiters) c.args.d) c.settle.ensures.settled ∙ ap (λ xs. winner (map (worth_in v) xs) c.args.d) (listed c) in
-    unlock-passes v.records c.args.queues.now.mutexes (worth_in v) c.args.mutex c.args.d ws refl (some c) c.hold-drawn.result drawn
+    unlock-passes v.records c.args.queues.now.mutexes (worth_in v) c.args.mutex.number c.args.d ws refl (some c) c.hold-drawn.result drawn
 
 -- who is picked is the waiter at that place
-next : (c : After-picked-next) → c.picked-next.result ≡ slice_index (mutex_at c.args.queues.now.mutexes c.args.mutex).waiters (place_of c.hold-drawn.result)
+next : (c : After-picked-next) → c.picked-next.result ≡ slice_index (mutex_at c.args.queues.now.mutexes c.args.mutex.number).waiters (place_of c.hold-drawn.result)
 next c =
     let place = place_of c.hold-drawn.result in
     c.picked-next.ensures ∙ ap (λ (l : Listed). slice_index l.waiters place) c.hold-drawn.ensures.same ∙ ap (λ xs. slice_index xs place) (listed c)
 
 -- and waits there
-next-at : (c : After-picked-next) → slice_get (mutex_at c.args.queues.now.mutexes c.args.mutex).waiters (place_of c.hold-drawn.result) ≡ Some c.picked-next.result
+next-at : (c : After-picked-next) → slice_get (mutex_at c.args.queues.now.mutexes c.args.mutex.number).waiters (place_of c.hold-drawn.result) ≡ Some c.picked-next.result
 next-at c =
-    let ws = (mutex_at c.args.queues.now.mutexes c.args.mutex).waiters in
+    let ws = (mutex_at c.args.queues.now.mutexes c.args.mutex.number).waiters in
     let below = place-below ws c.hold-drawn.result (some c) (subst (λ xs. IfSome c.hold-drawn.result (λ (w : Drawn). w.place < length xs)) (listed c) c.hold-drawn.ensures.within) in
     slice_get-get_or ws (place_of c.hold-drawn.result) 0 below ∙ ap Some (sym (next c))
 
 pub returns-clause-outcome : goal.returns-clause-outcome
 returns-clause-outcome c =
     let done = (goal.at.returns-clause-outcome c).After-picked-next in
-    let ws = (mutex_at c.args.queues.now.mutexes c.args.mutex).waiters in
+    let ws = (mutex_at c.args.queues.now.mutexes c.args.mutex.number).waiters in
     ap (λ t. Passed t c.drawn_numbers.result) (next done) ∙ ap (Passed (slice_index ws (place_of c.hold-drawn.result))) c.drawn_numbers.ensures ∙ sym (ap (λ (e : MutexTrap). e.outcome) (step done))
 
 pub returns-clause-threads : goal.returns-clause-threads
@@ -58,16 +58,16 @@ returns-clause-threads c =
     let done = (goal.at.returns-clause-threads c).After-picked-next in
     let v = c.args.threads.now in
     let mutexes = c.args.queues.now.mutexes in
-    let ws = (mutex_at mutexes c.args.mutex).waiters in
+    let ws = (mutex_at mutexes c.args.mutex.number).waiters in
     let place = place_of c.hold-drawn.result in
-    let after = owners-after mutexes v.owners c.args.mutex (record { owner = Some (slice_index ws place); waiters = remove ws place }) c.requires.owners in
-    let passes = pass-threads v c.settle.new.self c.pass.new.threads c.picked-next.result (slice_index ws place) c.args.mutex _ c.settle.ensures.settled (next done) after c.pass.ensures.threads in
+    let after = owners-after mutexes v.owners c.args.mutex.number (record { owner = Some (slice_index ws place); waiters = remove ws place }) c.requires.owners in
+    let passes = pass-threads v c.settle.new.self c.pass.new.threads c.picked-next.result (slice_index ws place) c.args.mutex.number _ c.settle.ensures.settled (next done) after c.pass.ensures.threads in
     passes ∙ sym (ap (λ (e : MutexTrap). record (with_mutexes v e c.pass.new.threads.stale) { meter = c.pass.new.threads.meter }) (step done))
 
 pub returns-then-is_empty-clause-threads : goal.returns-then-is_empty-clause-threads
 returns-then-is_empty-clause-threads c =
     let v = c.args.threads.now in
-    let step = unlock v.records c.args.queues.now.mutexes (worth_in v) c.args.mutex c.args.d in
+    let step = unlock v.records c.args.queues.now.mutexes (worth_in v) c.args.mutex.number c.args.d in
     let freed = (c.free.ensures.frees (worth_in v) c.args.d).threads in
     freed ∙ ap (λ (counts : Meter). record (with_mutexes v step c.free.new.threads.stale) { meter = counts }) (sym (ap (λ (x : Threaded). x.meter) freed))
 
@@ -81,10 +81,10 @@ pub returns-clause-queues : goal.returns-clause-queues
 returns-clause-queues c =
     let done = (goal.at.returns-clause-queues c).After-picked-next in
     let mutexes = c.args.queues.now.mutexes in
-    let ws = (mutex_at mutexes c.args.mutex).waiters in
+    let ws = (mutex_at mutexes c.args.mutex.number).waiters in
     let place = place_of c.hold-drawn.result in
     c.pass.ensures.queues place (next-at done)
-    ∙ ap (λ t. record c.args.queues.now { mutexes = set_number mutexes c.args.mutex (record { owner = Some t; waiters = remove ws place }) }) (next done)
+    ∙ ap (λ t. record c.args.queues.now { mutexes = set_number mutexes c.args.mutex.number (record { owner = Some t; waiters = remove ws place }) }) (next done)
     ∙ sym (ap (λ (e : MutexTrap). record c.args.queues.now { mutexes = e.mutexes }) (step done))
 
 pub returns-clause-stale : goal.returns-clause-stale
@@ -109,7 +109,7 @@ pub returns-clause-once : goal.returns-clause-once
 returns-clause-once c some = c.settle.ensures.once
 
 pub pass-requires-clause-live : goal.pass-requires-clause-live
-pass-requires-clause-live c = subst (λ (x : Threaded). IsLiveIn x c.args.owner) (sym c.settle.ensures.settled) c.requires.live
+pass-requires-clause-live c = subst (λ (x : Threaded). IsLiveIn x c.args.owner.number) (sym c.settle.ensures.settled) c.requires.live
 
 pub pass-requires-clause-same : goal.pass-requires-clause-same
 pass-requires-clause-same c = ap (λ (x : Threaded). length x.records) c.settle.ensures.settled ∙ c.requires.same

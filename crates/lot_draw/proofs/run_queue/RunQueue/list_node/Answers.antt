@@ -1,4 +1,4 @@
-use Rattle.std.proofs.Common.{◌≡◌, ℕ, ◌+◌, ◌-◌, ◌<◌, ◌⊎◌, ◌∙◌, inl, inr, ap, arith}
+use Rattle.std.proofs.Common.{◌≡◌, ℕ, ◌+◌, ◌-◌, ◌<◌, ◌⊎◌, ◌∙◌, inl, inr, ap, arith, sym}
 use Rattle.lot_machine.specs.declared.funding.Node.{Node}
 use Rattle.lot_machine.specs.declared.funding.Node.TheVariants.{Thread}
 use Rattle.lot_draw.proofs.run_queue.RunQueue.list_node.Goals as goal
@@ -14,9 +14,9 @@ returns-in-Thread-clause-kept c x there = (c.list.ensures.listed x).1 (inl there
 pub returns-in-Thread-clause-only : goal.returns-in-Thread-clause-only
 returns-in-Thread-clause-only c x there =
     let is : c.args.node ≡ Thread c.in-Thread.thread = cc in
-    at-place c.args.node c.in-Thread.thread x is (c.requires.place c.in-Thread.thread is).0 ((c.list.ensures.listed x).0 there)
+    at-place c.args.node c.in-Thread.thread x is (c.requires.place c.in-Thread.thread is).0 (rw c.index_of.ensures at (c.list.ensures.listed x).0 there)
 
 pub returns-in-Thread-clause-listed : goal.returns-in-Thread-clause-listed
 returns-in-Thread-clause-listed c t is =
     let same : t ≡ c.in-Thread.thread = cc in
-    (c.list.ensures.listed (t - 1)).1 (inr (ap (λ n. n - 1) same))
+    (c.list.ensures.listed (t - 1)).1 (inr (ap (λ n. n - 1) same ∙ sym c.index_of.ensures))

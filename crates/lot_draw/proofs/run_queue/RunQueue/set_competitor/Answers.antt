@@ -6,7 +6,7 @@ use Rattle.lot_draw.proofs.Weighing.{weights-set}
 use Rattle.lot_draw.proofs.run_queue.RunQueue.set_competitor.Goals as goal
 
 pub returns-clause-listed : goal.returns-clause-listed
-returns-clause-listed c = rw (← c.self.view_is) c.list.ensures.listed
+returns-clause-listed c = rw (← c.self.view_is) (rw c.index_of-place.ensures at c.list.ensures.listed)
 
 pub returns-clause-weights : goal.returns-clause-weights
 returns-clause-weights c known =
@@ -14,4 +14,4 @@ returns-clause-weights c known =
     let new = c.list.new.self in
     let q : Queued = record { quantum = i.quantum; competitors = i.competitors.items; weights = i.tree; changed = nodes_of i.changed 0; visits = i.visits } in
     let set : new ≡ record q { competitors = set_number q.competitors c.args.thread c.args.competitor; changed = new.changed } = search rules in
-    rw (← c.self.view_is) (λ weights. subst (λ (x : Queued). AreWeights x known) (sym set) (weights-set q c.args.thread c.args.competitor new.changed known (λ x there. (c.list.ensures.listed x).1 there) weights))
+    rw (← c.self.view_is) (λ weights. subst (λ (x : Queued). AreWeights x known) (sym set) (weights-set q c.args.thread c.args.competitor new.changed known (λ x there. (rw c.index_of-place.ensures at c.list.ensures.listed x).1 there) weights))

@@ -20,7 +20,7 @@ script_numbered-requires c =
     let s = c.self.inside in
     let i = c.self.invariant in
     let e = c.in_ok-runner.ensures in
-    script-there s.program (system_run s.program s.history.items) s.kernel.state s.places.items s.generators.items s.spent i.held c.args.actor c.in_ok-runner.runner.thread c.unwrap-script.result (omega (arith, e.there.0), e.there.1) (sym c.script_of.ensures ∙ c.unwrap-script.ensures)
+    script-there s.program (system_run s.program s.history.items) s.kernel.state s.places.items s.generators.items s.spent i.held c.args.actor c.in_ok-runner.runner.thread.number c.unwrap-script.result (omega (arith, e.there.0), e.there.1) (sym c.script_of.ensures ∙ c.unwrap-script.ensures)
 
 pub returns : goal.returns
 returns c =
@@ -34,5 +34,5 @@ returns c =
     rw (← c.self.view_is) (
       omega (arith, c.if-actor-eq0.false),
       work-is s.program (system_run s.program s.history.items) s.kernel.state s.places.items s.generators.items s.spent i.held c.args.actor _ c.in_ok-runner.runner.used e.thread e.used (omega (arith, e.there.0), e.there.1) e.below most
-          (sym c.script_of.ensures ∙ c.unwrap-script.ensures) c.index.result.now c.index.ensures (ap (λ n. n - c.in_ok-runner.runner.used) quantum) legal,
+          (sym c.script_of.ensures ∙ c.unwrap-script.ensures) c.index.result.now (rw c.index_of.ensures at c.index.ensures) (ap (λ n. n - c.in_ok-runner.runner.used) quantum) legal,
     )

@@ -25,4 +25,4 @@ waiters-there s m order = from (at_number s.mutexes m) refl
 pub returns-clause-there : goal.returns-clause-there
 returns-clause-there c =
     let s = c.args.self.now.state in
-    rw c.list_waiters.ensures.waiters (rw c.self.view_is (waiters-there s c.args.mutex (rw (← c.self.view_is) c.self.invariant)))
+    rw c.list_waiters.ensures.waiters (rw c.self.view_is (waiters-there s c.args.mutex.number (rw (← c.self.view_is) c.self.invariant)))

@@ -9,4 +9,4 @@ pub returns-then-currency-eq0 : goal.returns-then-currency-eq0
 returns-then-currency-eq0 c =
     let i = c.self.inside in
     let amount = ap (λ (v : Threaded). active_amount (funding_in v) (live_in v.records) 0) c.self.invariant.threads in
-    rw (← c.self.view_is, eq-eqb c.args.currency 0 c.if-currency-eq0.true) (c.active_amount.ensures ∙ amount)
+    rw (← c.self.view_is, eq-eqb c.args.currency.number 0 c.if-currency-eq0.true) (c.active_amount.ensures ∙ amount)

@@ -27,19 +27,19 @@ pub returns-in_default-clause-reply : goal.returns-in_default-clause-reply
 returns-in_default-clause-reply c =
     let i = c.self.inside in
     let s = (the_view i).state in
-    let good : is_bad_processor s c.args.processor ≡ false = search rules in
-    let free : is_some (thread_on s.records c.args.processor) ≡ false = search rules in
+    let good : is_bad_processor s c.args.processor.number ≡ false = search rules in
+    let free : is_some (thread_on s.records c.args.processor.number) ≡ false = search rules in
     let none = ap (λ (v : Threaded). drawn_in v c.args.d) (sym c.self.invariant.threads) ∙ sym c.draw.ensures.winner ∙ c.in_default.is in
-    rw (← c.self.view_is) (sym (ap (λ (x : Step). x.reply) (step-idle s c.args.processor c.args.d good free i.threads.stale i.threads.meter none)))
+    rw (← c.self.view_is) (sym (ap (λ (x : Step). x.reply) (step-idle s c.args.processor.number c.args.d good free i.threads.stale i.threads.meter none)))
 
 pub returns-in_default-clause-state : goal.returns-in_default-clause-state
 returns-in_default-clause-state c =
     let i = c.self.inside in
     let s = (the_view i).state in
-    let good : is_bad_processor s c.args.processor ≡ false = search rules in
-    let free : is_some (thread_on s.records c.args.processor) ≡ false = search rules in
+    let good : is_bad_processor s c.args.processor.number ≡ false = search rules in
+    let free : is_some (thread_on s.records c.args.processor.number) ≡ false = search rules in
     let none = ap (λ (v : Threaded). drawn_in v c.args.d) (sym c.self.invariant.threads) ∙ sym c.draw.ensures.winner ∙ c.in_default.is in
-    rw (← c.self.view_is) (ap (λ (v : Threaded). held (sizes_of i.limits) i.currencies.items v i.queues) c.draw.ensures.settled ∙ sym (ap (λ (x : Step). x.state) (step-idle s c.args.processor c.args.d good free i.threads.stale i.threads.meter none)))
+    rw (← c.self.view_is) (ap (λ (v : Threaded). held (sizes_of i.limits) i.currencies.items v i.queues) c.draw.ensures.settled ∙ sym (ap (λ (x : Step). x.state) (step-idle s c.args.processor.number c.args.d good free i.threads.stale i.threads.meter none)))
 
 pub returns-in_default-clause-counts : goal.returns-in_default-clause-counts
 returns-in_default-clause-counts c =
@@ -57,37 +57,37 @@ returns-clause-reply c =
     let i = c.self.inside in
     let s = (the_view i).state in
     let w = c.in-Some.winner in
-    let good : is_bad_processor s c.args.processor ≡ false = search rules in
-    let free : is_some (thread_on s.records c.args.processor) ≡ false = search rules in
+    let good : is_bad_processor s c.args.processor.number ≡ false = search rules in
+    let free : is_some (thread_on s.records c.args.processor.number) ≡ false = search rules in
     let some = ap (λ (v : Threaded). drawn_in v c.args.d) (sym c.self.invariant.threads) ∙ sym c.draw.ensures.winner ∙ c.in-Some.is in
     let delivered = c.start-delivered.ensures.delivered ∙ ap (λ (v : Threaded). option_and_then (λ (r : Record). r.delivered) (at_number v.records w.thread)) c.draw.ensures.settled in
-    rw (← c.self.view_is) (ap (answer.Winner w.thread w.number w.total) delivered ∙ sym (ap (λ (x : Step). x.reply) (step-won s c.args.processor c.args.d good free i.threads.stale i.threads.meter w some)))
+    rw (← c.self.view_is) (ap (answer.Winner w.thread w.number w.total) delivered ∙ sym (ap (λ (x : Step). x.reply) (step-won s c.args.processor.number c.args.d good free i.threads.stale i.threads.meter w some)))
 
 pub returns-clause-state : goal.returns-clause-state
 returns-clause-state c =
     let i = c.self.inside in
     let s = (the_view i).state in
     let w = c.in-Some.winner in
-    let good : is_bad_processor s c.args.processor ≡ false = search rules in
-    let free : is_some (thread_on s.records c.args.processor) ≡ false = search rules in
+    let good : is_bad_processor s c.args.processor.number ≡ false = search rules in
+    let free : is_some (thread_on s.records c.args.processor.number) ≡ false = search rules in
     let some = ap (λ (v : Threaded). drawn_in v c.args.d) (sym c.self.invariant.threads) ∙ sym c.draw.ensures.winner ∙ c.in-Some.is in
     rw (← c.self.view_is) (ap (λ (v : Threaded). held (sizes_of i.limits) i.currencies.items v i.queues) c.start-delivered.ensures.started
-    ∙ ap (λ (v : Threaded). held (sizes_of i.limits) i.currencies.items (with_records v (change_record (started c.args.processor) v.records w.thread) v.stale) i.queues) c.draw.ensures.settled
-    ∙ sym (ap (λ (x : Step). x.state) (step-won s c.args.processor c.args.d good free i.threads.stale i.threads.meter w some)))
+    ∙ ap (λ (v : Threaded). held (sizes_of i.limits) i.currencies.items (with_records v (change_record (started c.args.processor.number) v.records w.thread) v.stale) i.queues) c.draw.ensures.settled
+    ∙ sym (ap (λ (x : Step). x.state) (step-won s c.args.processor.number c.args.d good free i.threads.stale i.threads.meter w some)))
 
 fresh : (v settled new : Threaded) (p t : ℕ) → settled ≡ record v { stale = []; meter = settled.meter } → status_of v.records t ≡ Some Ready → new ≡ with_records settled (change_record (started p) settled.records t) new.stale → MakesStaleIn settled new → new.stale ≡ []
 fresh v settled new p t is ready = start-fresh settled new p t (ap (λ (x : Threaded). x.stale) is) (ap (λ (x : Threaded). status_of x.records t) is ∙ ready)
 
 pub returns-clause-stale : goal.returns-clause-stale
 returns-clause-stale c x stale =
-    let none = fresh c.self.inside.threads c.draw.new.self c.start-delivered.new.self c.args.processor c.in-Some.winner.thread c.draw.ensures.settled c.in-Some.ensures.ready c.start-delivered.ensures.started c.start-delivered.ensures.stale in
+    let none = fresh c.self.inside.threads c.draw.new.self c.start-delivered.new.self c.args.processor.number c.in-Some.winner.thread c.draw.ensures.settled c.in-Some.ensures.ready c.start-delivered.ensures.started c.start-delivered.ensures.stale in
     absurd (contains-nothing x (subst (λ (nodes : List Node). Contains nodes x) none stale))
 
 pub returns-clause-counts : goal.returns-clause-counts
 returns-clause-counts c =
     let i = c.self.inside in
     let reads = ap (λ (v : Threaded). counted_up i.threads.meter.ticket_reads (edges_into_all (funding_in v) v.stale)) c.self.invariant.threads in
-    let none = fresh i.threads c.draw.new.self c.start-delivered.new.self c.args.processor c.in-Some.winner.thread c.draw.ensures.settled c.in-Some.ensures.ready c.start-delivered.ensures.started c.start-delivered.ensures.stale in
+    let none = fresh i.threads c.draw.new.self c.start-delivered.new.self c.args.processor.number c.in-Some.winner.thread c.draw.ensures.settled c.in-Some.ensures.ready c.start-delivered.ensures.started c.start-delivered.ensures.stale in
     let limit = ap (λ (v : Threaded). v.thread_limit) c.self.invariant.threads in
     let kept = ap (λ (v : Threaded). v.meter) c.start-delivered.ensures.started in
     let visits = subst (λ n. CountsReads n i.threads.meter.tree_visits c.draw.new.self.meter.tree_visits) limit c.in-Some.ensures.visits in

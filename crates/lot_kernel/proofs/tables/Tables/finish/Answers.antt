@@ -16,13 +16,13 @@ change-requires c =
     let i = c.self.inside in
     let s = (the_view i).state in
     let runs = rw (← c.self.view_is) at c.requires.runs in
-    let there = status-there s.records c.args.trap.thread _ runs.1 in
+    let there = status-there s.records c.args.trap.thread.number _ runs.1 in
     let found = c.record.ensures.timely in
     let timely : IsTimely s.limits.quantum c.in-Some.before = search rules in
     let may = can-finish s i.threads.stale i.threads.meter c.args.trap c.in-Some.before there timely (omega (arith, c.requires.ticks.0, c.requires.ticks.1))
     (rw (← c.self.view_is) at c.requires.processor) (rw (← c.self.view_is) at c.requires.alone) c.args.after c.requires.stops (rw (← c.self.view_is) at c.requires.lend) in
-    subst (λ (v : Threaded). CanChange v c.args.trap.thread c.record_after-next.result) (sym c.self.invariant.threads)
-    (subst (λ (r : Record). CanChange (threads_of s i.threads.stale i.threads.meter) c.args.trap.thread r) (sym c.record_after-next.ensures) may)
+    subst (λ (v : Threaded). CanChange v c.args.trap.thread.number c.record_after-next.result) (sym c.self.invariant.threads)
+    (subst (λ (r : Record). CanChange (threads_of s i.threads.stale i.threads.meter) c.args.trap.thread.number r) (sym c.record_after-next.ensures) may)
 
 pub returns-clause-stale : goal.returns-clause-stale
 returns-clause-stale c =

@@ -1,9 +1,11 @@
-use Rattle.std.proofs.Common.{Contains, ap, rules, sym, ◌∙◌}
+use Rattle.std.proofs.Common.{Contains, ap, refl, rules, sym, ◌∙◌}
 use Rattle.lot_kernel.proofs.Holding.{held-mutexes, makes-held}
 use Rattle.lot_machine.specs.Mutexes.{lock}
-use Rattle.lot_kernel.proofs.Trapping.{lock-count, running-nowhere}
+use Rattle.lot_kernel.proofs.Trapping.{lock-count, lock-there, running-nowhere}
 use Rattle.lot_machine.specs.State.{sizes_of}
 use Rattle.lot_threads.specs.Threaded.{Threaded}
+use Rattle.lot_threads.proofs.Ways.{live-status}
+use Rattle.lot_machine.specs.declared.record.Status.TheVariants.{Running}
 use Rattle.lot_kernel.specs.contracts.tables.Tables.{the_view}
 use Rattle.lot_kernel.proofs.tables.Tables.lock.Goals as goal
 
@@ -13,13 +15,13 @@ lock-requires-clause-nowhere c =
     let same = c.self.view_is ∙ c.lock_refusal.ensures.unchanged in
     let order = rw (← same) at c.requires.order in
     let runs = rw (← same) at c.requires.runs in
-    running-nowhere (sizes_of i.limits) i.currencies.items i.threads i.queues c.args.thread order runs
+    running-nowhere (sizes_of i.limits) i.currencies.items i.threads i.queues c.args.thread.number order runs
 
 pub invariant_of-self : goal.invariant_of-self
 invariant_of-self c =
     let i = c.self.inside in
-    let left = lock i.threads.records i.queues.mutexes c.args.thread c.args.mutex in
-    let count = lock-count i.threads.records i.queues.mutexes c.args.thread c.args.mutex in
+    let left = lock i.threads.records i.queues.mutexes c.args.thread.number c.args.mutex.number in
+    let count = lock-count i.threads.records i.queues.mutexes c.args.thread.number c.args.mutex.number in
     let threads = held-mutexes (sizes_of i.limits) i.currencies.items i.threads c.lock.new.threads i.queues c.self.invariant.threads left c.lock.new.queues i.threads.meter c.lock.ensures.threads c.lock.ensures.queues in
     search (rules, threads, count)
 
@@ -27,7 +29,7 @@ pub returns-clause-stale : goal.returns-clause-stale
 returns-clause-stale c =
     let i = c.self.inside in
     let same = c.self.view_is ∙ c.lock_refusal.ensures.unchanged in
-    let left = lock i.threads.records i.queues.mutexes c.args.thread c.args.mutex in
+    let left = lock i.threads.records i.queues.mutexes c.args.thread.number c.args.mutex.number in
     let threads = held-mutexes (sizes_of i.limits) i.currencies.items i.threads c.lock.new.threads i.queues c.self.invariant.threads left c.lock.new.queues i.threads.meter c.lock.ensures.threads c.lock.ensures.queues in
     rw (← same) (makes-held (sizes_of i.limits) i.currencies.items i.currencies.items i.threads c.lock.new.threads i.queues c.lock.new.queues c.self.invariant.threads threads c.lock.ensures.stale)
 
@@ -47,3 +49,13 @@ pub returns-clause-meter : goal.returns-clause-meter
 returns-clause-meter c =
     let same = c.self.view_is ∙ c.lock_refusal.ensures.unchanged in
     rw (← same) (ap (λ (v : Threaded). v.meter) c.lock.ensures.threads)
+
+pub lock-requires-clause-mutex : goal.lock-requires-clause-mutex
+lock-requires-clause-mutex c =
+    let none = sym c.in_default.ensures.refusal in
+    lock-there (the_view c.self.inside).state c.args.thread.number c.args.mutex.number (rw (← (c.self.view_is ∙ c.lock_refusal.ensures.unchanged)) at none)
+
+pub lock-requires-clause-thread : goal.lock-requires-clause-thread
+lock-requires-clause-thread c =
+    let runs = rw (← (c.self.view_is ∙ c.lock_refusal.ensures.unchanged)) at c.requires.runs in
+    live-status c.self.inside.threads.records c.args.thread.number (Running runs.0 runs.1.0) runs.1.1 refl

@@ -42,8 +42,8 @@ returns-clause-state c =
     let old = the_view c.self.inside in
     let issued : c.issue.new.self ≡ record old { state = record old.state { tickets = with_new_ticket old.state.tickets c.args.amount c.in-Some.issuer Unfunded } } = search rules in
     let number : c.in-Some-issue.ticket ≡ length old.state.tickets + 1 = search rules in
-    let thread : c.add_thread-thread.result ≡ length old.state.threads + 1 = c.add_thread-thread.ensures.number ∙ ap (λ (x : Snapshot). length x.state.threads + 1) issued in
-    let made = made-state old.state c.issue.new.self.state c.add_thread-thread.new.self.state c.put_target.new.self.state c.args.amount c.in-Some.issuer c.args.script c.in-Some-issue.ticket c.add_thread-thread.result c.args.name.now
+    let thread : c.add_thread-thread.result.number ≡ length old.state.threads + 1 = c.add_thread-thread.ensures.number ∙ ap (λ (x : Snapshot). length x.state.threads + 1) issued in
+    let made = made-state old.state c.issue.new.self.state c.add_thread-thread.new.self.state c.put_target.new.self.state c.args.amount c.in-Some.issuer c.args.script c.in-Some-issue.ticket c.add_thread-thread.result.number c.args.name.now
     (ap (λ (x : Snapshot). x.state) issued) c.add_thread-thread.ensures.state c.put_target.ensures.state number thread in
     search (rules, made)
 
@@ -51,7 +51,7 @@ pub returns-clause-stale : goal.returns-clause-stale
 returns-clause-stale c =
     let old = the_view c.self.inside in
     let issued : c.issue.new.self ≡ record old { state = record old.state { tickets = with_new_ticket old.state.tickets c.args.amount c.in-Some.issuer Unfunded } } = search rules in
-    rw (← c.self.view_is) (makes-funded old c.issue.new.self c.add_thread-thread.new.self c.put_target.new.self c.args.amount c.in-Some.issuer c.args.script c.in-Some-issue.ticket c.add_thread-thread.result c.args.name.now
+    rw (← c.self.view_is) (makes-funded old c.issue.new.self c.add_thread-thread.new.self c.put_target.new.self c.args.amount c.in-Some.issuer c.args.script c.in-Some-issue.ticket c.add_thread-thread.result.number c.args.name.now
     issued c.add_thread-thread.ensures.state c.put_target.ensures.state c.add_thread-thread.ensures.stale c.put_target.ensures.stale)
 
 pub returns-clause-kept : goal.returns-clause-kept
@@ -72,17 +72,17 @@ put_target-requires-clause-target c =
     ap (λ (x : Snapshot). length x.state.threads) issued ∙ c.self.invariant.count ∙ sym (ap (λ (x : Snapshot). length x.state.records) issued) in
     let after = c.add_thread-thread.new.self.state in
     let size : length after.records ≡ length c.issue.new.self.state.records + 1 = ap (λ (x : State). length x.records) c.add_thread-thread.ensures.state ∙ length-append c.issue.new.self.state.records _ in
-    let there = target-funded after (Thread c.add_thread-thread.result) (omega (arith, c.add_thread-thread.ensures.number), omega (arith, c.add_thread-thread.ensures.number, count, size)) refl in
-    (refl, there, thread-no-cycle (funding_of after) c.in-Some-issue.ticket c.add_thread-thread.result)
+    let there = target-funded after (Thread c.add_thread-thread.result.number) (omega (arith, c.add_thread-thread.ensures.number), omega (arith, c.add_thread-thread.ensures.number, count, size)) refl in
+    (refl, there, thread-no-cycle (funding_of after) c.in-Some-issue.ticket c.add_thread-thread.result.number)
 
 pub returns-clause-reply : goal.returns-clause-reply
 returns-clause-reply c =
     let old = the_view c.self.inside in
     let issued : c.issue.new.self ≡ record old { state = record old.state { tickets = with_new_ticket old.state.tickets c.args.amount c.in-Some.issuer Unfunded } } = search rules in
     let number : c.in-Some-issue.ticket ≡ length old.state.tickets + 1 = search rules in
-    let thread : c.add_thread-thread.result ≡ length old.state.threads + 1 = c.add_thread-thread.ensures.number ∙ ap (λ (x : Snapshot). length x.state.threads + 1) issued in
-    let made : Funded c.in-Some-issue.ticket c.add_thread-thread.result ≡ Funded (length old.state.tickets + 1) (length old.state.threads + 1) =
-    ap (λ n. Funded n c.add_thread-thread.result) number ∙ ap (λ t. Funded (length old.state.tickets + 1) t) thread in
+    let thread : c.add_thread-thread.result.number ≡ length old.state.threads + 1 = c.add_thread-thread.ensures.number ∙ ap (λ (x : Snapshot). length x.state.threads + 1) issued in
+    let made : Funded c.in-Some-issue.ticket c.add_thread-thread.result.number ≡ Funded (length old.state.tickets + 1) (length old.state.threads + 1) =
+    ap (λ n. Funded n c.add_thread-thread.result.number) number ∙ ap (λ t. Funded (length old.state.tickets + 1) t) thread in
     search (rules, made)
 
 pub returns-clause-meter : goal.returns-clause-meter

@@ -25,29 +25,29 @@ left-alone s order t p action (used, runs) = effect-leaves s t p used action run
 pub finish-requires-clause-runs : goal.finish-requires-clause-runs
 finish-requires-clause-runs c =
     let s = c.args.self.now.state in
-    let t = c.args.trap.thread in
-    let left = left-alone s c.requires.order t c.args.trap.processor c.args.action.now c.requires.runs in
+    let t = c.args.trap.thread.number in
+    let left = left-alone s c.requires.order t c.args.trap.processor.number c.args.action.now c.requires.runs in
     (c.requires.runs.0, ap (λ (x : State). status_of x.records t) c.act-effect.ensures.state ∙ ap (option_map (λ (r : Record). r.status)) left ∙ c.requires.runs.1)
 
 pub finish-requires-clause-alone : goal.finish-requires-clause-alone
 finish-requires-clause-alone c =
     let s = c.args.self.now.state in
-    let t = c.args.trap.thread in
-    let p = c.args.trap.processor in
+    let t = c.args.trap.thread.number in
+    let p = c.args.trap.processor.number in
     subst (λ (x : State). RunsAlone x.records p t) (sym c.act-effect.ensures.state) (effect-runs s t p c.requires.runs.0 c.args.action.now c.requires.order c.requires.runs.1).1
 
 pub finish-requires-clause-stops : goal.finish-requires-clause-stops
 finish-requires-clause-stops c =
     let s = c.args.self.now.state in
-    let t = c.args.trap.thread in
-    let p = c.args.trap.processor in
+    let t = c.args.trap.thread.number in
+    let p = c.args.trap.processor.number in
     subst StopsIfLeaves (sym c.act-effect.ensures.after) (effect-runs s t p c.requires.runs.0 c.args.action.now c.requires.order c.requires.runs.1).2
 
 pub finish-requires-clause-lend : goal.finish-requires-clause-lend
 finish-requires-clause-lend c status leaves =
     let s = c.args.self.now.state in
-    let t = c.args.trap.thread in
-    let p = c.args.trap.processor in
+    let t = c.args.trap.thread.number in
+    let p = c.args.trap.processor.number in
     let used = c.requires.runs.0 in
     let runs = c.requires.runs.1 in
     let left = left-alone s c.requires.order t p c.args.action.now c.requires.runs in
@@ -60,29 +60,29 @@ pub returns-clause-reply : goal.returns-clause-reply
 returns-clause-reply c =
     let s = c.args.self.now.state in
     let trap = c.args.trap in
-    let limits = ap (λ (x : State). x.limits) c.finish.ensures.state ∙ ap (λ (x : State). x.limits) c.act-effect.ensures.state ∙ effect-limits s trap.thread c.args.action.now in
+    let limits = ap (λ (x : State). x.limits) c.finish.ensures.state ∙ ap (λ (x : State). x.limits) c.act-effect.ensures.state ∙ effect-limits s trap.thread.number c.args.action.now in
     let quantum : c.self.inside.limits.quantum ≡ s.limits.quantum = ap (λ (v : Snapshot). v.state.limits.quantum) c.self.view_is ∙ ap (λ (l : Sizes). l.quantum) limits in
-    finished-reply s trap.processor trap.thread trap.ticks trap.used (effect_of s trap.thread c.args.action.now) c.act-effect.result.outcome c.act-effect.result.after c.ends_quantum.result
+    finished-reply s trap.processor.number trap.thread.number trap.ticks trap.used (effect_of s trap.thread.number c.args.action.now) c.act-effect.result.outcome c.act-effect.result.after c.ends_quantum.result
     c.act-effect.ensures.outcome c.act-effect.ensures.after (c.ends_quantum.ensures ∙ ap (ends_quantum c.act-effect.result.after trap.used) quantum)
 
 pub returns-clause-state : goal.returns-clause-state
 returns-clause-state c =
     let s = c.args.self.now.state in
     let trap = c.args.trap in
-    let effect = effect_of s trap.thread c.args.action.now in
+    let effect = effect_of s trap.thread.number c.args.action.now in
     let mid = c.act-effect.new.self.state in
     c.finish.ensures.state
-    ∙ finished-state s mid trap.processor trap.thread trap.ticks trap.used effect c.act-effect.result.after c.act-effect.ensures.state
-    (ap (λ (x : State). x.limits) c.act-effect.ensures.state ∙ effect-limits s trap.thread c.args.action.now) c.act-effect.ensures.after
+    ∙ finished-state s mid trap.processor.number trap.thread.number trap.ticks trap.used effect c.act-effect.result.after c.act-effect.ensures.state
+    (ap (λ (x : State). x.limits) c.act-effect.ensures.state ∙ effect-limits s trap.thread.number c.args.action.now) c.act-effect.ensures.after
 
 pub returns-clause-stale : goal.returns-clause-stale
 returns-clause-stale c =
     let s = c.args.self.now.state in
     let trap = c.args.trap in
-    let left = left-alone s c.requires.order trap.thread trap.processor c.args.action.now c.requires.runs in
-    let was = record-of s.records trap.thread (Running trap.processor c.requires.runs.0) c.requires.runs.1 in
-    makes-trap c.args.self.now c.act-effect.new.self c.finish.new.self trap.thread _ was.0 was.1
-    (ap (λ (x : State). at_number x.records trap.thread) c.act-effect.ensures.state ∙ left ∙ was.1) c.finish.ensures.state c.act-effect.ensures.stale c.finish.ensures.stale
+    let left = left-alone s c.requires.order trap.thread.number trap.processor.number c.args.action.now c.requires.runs in
+    let was = record-of s.records trap.thread.number (Running trap.processor.number c.requires.runs.0) c.requires.runs.1 in
+    makes-trap c.args.self.now c.act-effect.new.self c.finish.new.self trap.thread.number _ was.0 was.1
+    (ap (λ (x : State). at_number x.records trap.thread.number) c.act-effect.ensures.state ∙ left ∙ was.1) c.finish.ensures.state c.act-effect.ensures.stale c.finish.ensures.stale
 
 pub returns-clause-counts : goal.returns-clause-counts
 returns-clause-counts c ran = trap-then c.args.self.now c.act-effect.new.self c.finish.new.self c.finish.ensures.kept c.finish.ensures.meter c.args.action.now c.act-effect.result.outcome c.act-effect.ensures.counts

@@ -7,12 +7,12 @@ use Rattle.lot_kernel.proofs.tables.Tables.reply.Goals as goal
 
 pub reply-requires-clause-server : goal.reply-requires-clause-server
 reply-requires-clause-server c =
-    let there = running-there c.self.inside.threads.records c.args.thread (rw (← c.self.view_is) at c.requires.runs) in
+    let there = running-there c.self.inside.threads.records c.args.thread.number (rw (← c.self.view_is) at c.requires.runs) in
     (there.0, omega (arith, there.1, c.self.invariant.clients))
 
 pub invariant_of-self : goal.invariant_of-self
-invariant_of-self c = let left = port-leaves (sizes_of c.self.inside.limits) c.self.inside.currencies.items c.self.inside.threads c.self.inside.queues c.reply.new.threads c.reply.new.queues _ c.self.invariant.threads (reply-keeps c.self.inside.threads.records c.self.inside.queues.clients c.self.inside.queues.ports c.args.thread c.args.number) c.reply.ensures.threads c.reply.ensures.queues in search (rules, left.0, left.1, left.2)
+invariant_of-self c = let left = port-leaves (sizes_of c.self.inside.limits) c.self.inside.currencies.items c.self.inside.threads c.self.inside.queues c.reply.new.threads c.reply.new.queues _ c.self.invariant.threads (reply-keeps c.self.inside.threads.records c.self.inside.queues.clients c.self.inside.queues.ports c.args.thread.number c.args.number) c.reply.ensures.done.threads c.reply.ensures.done.queues in search (rules, left.0, left.1, left.2)
 
 pub returns : goal.returns
-returns c = let shown = port-shows (sizes_of c.self.inside.limits) c.self.inside.currencies.items c.self.inside.threads c.self.inside.queues c.reply.new.threads c.reply.new.queues _ _ _ _ c.self.invariant.threads (reply-done (the_view c.self.inside).state c.args.thread c.in-Some.client c.args.number (sym c.in-Some.ensures)) c.reply.ensures.outcome c.reply.ensures.after c.reply.ensures.threads c.reply.ensures.queues c.reply.ensures.stale c.reply.ensures.kept in
+returns c = let shown = port-shows (sizes_of c.self.inside.limits) c.self.inside.currencies.items c.self.inside.threads c.self.inside.queues c.reply.new.threads c.reply.new.queues _ _ _ _ c.self.invariant.threads (reply-done (the_view c.self.inside).state c.args.thread.number c.in-Some.client c.args.number (sym c.in-Some.ensures)) c.reply.ensures.done.outcome c.reply.ensures.done.after c.reply.ensures.done.threads c.reply.ensures.done.queues c.reply.ensures.done.stale c.reply.ensures.done.kept in
     rw (← c.self.view_is) (record { outcome = shown.outcome; after = shown.after; state = shown.state; stale = shown.stale; kept = shown.kept; meter = shown.meter })

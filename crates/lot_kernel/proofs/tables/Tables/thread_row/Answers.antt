@@ -15,10 +15,10 @@ pub returns-clause-row : goal.returns-clause-row
 returns-clause-row c =
     let i = c.self.inside in
     let s = (the_view i).state in
-    let found : at_number s.records c.args.thread ≡ Some c.in_ok-found.found = search rules in
-    let named : thread_name s c.args.thread ≡ Some c.in_ok-name.name = search rules in
-    let value = c.worth_of-value.ensures ∙ ap (λ (v : Threaded). worth_in v c.args.thread) (c.settle.ensures.settled ∙ ap settled_in c.self.invariant.threads) in
-    rw (← c.self.view_is) (thread-row-of s c.args.thread c.in_ok-found.found c.in_ok-name.name c.worth_of-value.result c.weight.result found named value c.weight.ensures.weight)
+    let found : at_number s.records c.args.thread.number ≡ Some c.in_ok-found.found = search rules in
+    let named : thread_name s c.args.thread.number ≡ Some c.in_ok-name.name = search rules in
+    let value = c.worth_of-value.ensures ∙ ap (λ (v : Threaded). worth_in v c.args.thread.number) (c.settle.ensures.settled ∙ ap settled_in c.self.invariant.threads) in
+    rw (← c.self.view_is) (thread-row-of s c.args.thread.number c.in_ok-found.found c.in_ok-name.name c.worth_of-value.result c.weight.result found named value c.weight.ensures.weight)
 
 pub invariant_of-self : goal.invariant_of-self
 invariant_of-self c =

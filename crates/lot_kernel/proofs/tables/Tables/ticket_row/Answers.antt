@@ -35,13 +35,13 @@ returns-clause-row c =
     let s = (the_view i).state in
     let order = rw (← c.self.view_is) at c.requires in
     let t = c.in_ok-found.found in
-    let found : ticket_in s.tickets c.args.ticket ≡ Some t = search rules in
+    let found : ticket_in s.tickets c.args.ticket.number ≡ Some t = search rules in
     let named : unwrap_or (currency_name s t.issuer) [] ≡ c.in_ok-issuer.issuer = search rules in
     let targeted : c.target_name-target.result ≡ target_name s t.target = search rules in
-    let active = active-tested s order c.args.ticket t i.threads c.settle.new.self c.is_active.result c.self.invariant.threads c.settle.ensures.settled found c.is_active.ensures in
-    let there : ticket_at (funding_in c.settle.new.self) c.args.ticket ≡ Some t = ap (λ (v : Threaded). ticket_at (funding_in v) c.args.ticket) c.settle.ensures.settled ∙ found in
+    let active = active-tested s order c.args.ticket.number t i.threads c.settle.new.self c.is_active.result c.self.invariant.threads c.settle.ensures.settled found c.is_active.ensures in
+    let there : ticket_at (funding_in c.settle.new.self) c.args.ticket.number ≡ Some t = ap (λ (v : Threaded). ticket_at (funding_in v) c.args.ticket.number) c.settle.ensures.settled ∙ found in
     let value = c.ticket_value.ensures.worth t there ∙ ap (λ (v : Threaded). ticket_value v.unit (funding_in v) (live_in v.records) t) (c.settle.ensures.settled ∙ ap settled_in c.self.invariant.threads) in
-    rw (← c.self.view_is) (ticket-row-of s c.args.ticket t c.in_ok-issuer.issuer c.target_name-target.result c.is_active.result c.ticket_value.result found named targeted active value)
+    rw (← c.self.view_is) (ticket-row-of s c.args.ticket.number t c.in_ok-issuer.issuer c.target_name-target.result c.is_active.result c.ticket_value.result found named targeted active value)
 
 -- what is counted
 read-meter : (n : ℕ) (t : Ticket) (v new : Threaded) → ticket_in v.tickets n ≡ Some t → (IsFunding (funding_in v) n → new ≡ record v { meter = record v.meter { ticket_reads = counted_up v.meter.ticket_reads 1 } }) → (¬ IsFunding (funding_in v) n → new ≡ v)
@@ -59,9 +59,9 @@ pub returns-clause-settled : goal.returns-clause-settled
 returns-clause-settled c t there =
     let i = c.self.inside in
     let s = (the_view i).state in
-    let found : ticket_in s.tickets c.args.ticket ≡ Some t = rw (← c.self.view_is) at there in
-    let here : ticket_in c.settle.new.self.tickets c.args.ticket ≡ Some t = ap (λ (v : Threaded). ticket_in v.tickets c.args.ticket) c.settle.ensures.settled ∙ found in
-    let read = read-meter c.args.ticket t c.settle.new.self c.ticket_value.new.self here c.ticket_value.ensures.counted c.ticket_value.ensures.uncounted in
+    let found : ticket_in s.tickets c.args.ticket.number ≡ Some t = rw (← c.self.view_is) at there in
+    let here : ticket_in c.settle.new.self.tickets c.args.ticket.number ≡ Some t = ap (λ (v : Threaded). ticket_in v.tickets c.args.ticket.number) c.settle.ensures.settled ∙ found in
+    let read = read-meter c.args.ticket.number t c.settle.new.self c.ticket_value.new.self here c.ticket_value.ensures.counted c.ticket_value.ensures.uncounted in
     let after = settles-held (sizes_of i.limits) i.currencies.items i.threads c.settle.new.self i.queues c.self.invariant.threads c.settle.ensures.settled in
     rw (← c.self.view_is)
     (ap (snapshot_of (sizes_of i.limits) i.currencies.items i.queues) read ∙ ap (λ (x : Snapshot). record x { meter = with_ticket_read x.meter t }) after)
@@ -70,9 +70,9 @@ pub invariant_of-self : goal.invariant_of-self
 invariant_of-self c =
     let i = c.self.inside in
     let t = c.in_ok-found.found in
-    let found : ticket_in i.threads.tickets c.args.ticket ≡ Some t = search rules in
-    let here : ticket_in c.settle.new.self.tickets c.args.ticket ≡ Some t = ap (λ (v : Threaded). ticket_in v.tickets c.args.ticket) c.settle.ensures.settled ∙ found in
-    let read = read-meter c.args.ticket t c.settle.new.self c.ticket_value.new.self here c.ticket_value.ensures.counted c.ticket_value.ensures.uncounted in
+    let found : ticket_in i.threads.tickets c.args.ticket.number ≡ Some t = search rules in
+    let here : ticket_in c.settle.new.self.tickets c.args.ticket.number ≡ Some t = ap (λ (v : Threaded). ticket_in v.tickets c.args.ticket.number) c.settle.ensures.settled ∙ found in
+    let read = read-meter c.args.ticket.number t c.settle.new.self c.ticket_value.new.self here c.ticket_value.ensures.counted c.ticket_value.ensures.uncounted in
     let whole = read ∙ ap (λ (v : Threaded). record v { meter = with_ticket_read v.meter t }) c.settle.ensures.settled in
     let threads = held-stale (sizes_of i.limits) i.currencies.items i.threads c.ticket_value.new.self i.queues c.self.invariant.threads [] (with_ticket_read (settled_in i.threads).meter t) whole in
     search (rules, threads, whole)
@@ -81,9 +81,9 @@ pub returns-clause-state : goal.returns-clause-state
 returns-clause-state c =
     let i = c.self.inside in
     let t = c.in_ok-found.found in
-    let found : ticket_in i.threads.tickets c.args.ticket ≡ Some t = search rules in
-    let here : ticket_in c.settle.new.self.tickets c.args.ticket ≡ Some t = ap (λ (v : Threaded). ticket_in v.tickets c.args.ticket) c.settle.ensures.settled ∙ found in
-    let read = read-meter c.args.ticket t c.settle.new.self c.ticket_value.new.self here c.ticket_value.ensures.counted c.ticket_value.ensures.uncounted in
+    let found : ticket_in i.threads.tickets c.args.ticket.number ≡ Some t = search rules in
+    let here : ticket_in c.settle.new.self.tickets c.args.ticket.number ≡ Some t = ap (λ (v : Threaded). ticket_in v.tickets c.args.ticket.number) c.settle.ensures.settled ∙ found in
+    let read = read-meter c.args.ticket.number t c.settle.new.self c.ticket_value.new.self here c.ticket_value.ensures.counted c.ticket_value.ensures.uncounted in
     let after = settles-held (sizes_of i.limits) i.currencies.items i.threads c.settle.new.self i.queues c.self.invariant.threads c.settle.ensures.settled in
     rw (← c.self.view_is)
     (ap (λ (x : Snapshot). x.state) (ap (snapshot_of (sizes_of i.limits) i.currencies.items i.queues) read ∙ ap (λ (x : Snapshot). record x { meter = with_ticket_read x.meter t }) after))

@@ -16,8 +16,8 @@ use Rattle.lot_kernel.specs.contracts.tables.Tables.{the_view}
 pub invariant_of-self : goal.invariant_of-self
 invariant_of-self c =
     let i = c.self.inside in
-    let left = unlock i.threads.records i.queues.mutexes (worth_in i.threads) c.args.mutex c.args.d in
-    let count = unlock-count i.threads.records i.queues.mutexes (worth_in i.threads) c.args.mutex c.args.d in
+    let left = unlock i.threads.records i.queues.mutexes (worth_in i.threads) c.args.mutex.number c.args.d in
+    let count = unlock-count i.threads.records i.queues.mutexes (worth_in i.threads) c.args.mutex.number c.args.d in
     let threads = held-mutexes (sizes_of i.limits) i.currencies.items i.threads c.unlock.new.threads i.queues c.self.invariant.threads left c.unlock.new.queues c.unlock.new.threads.meter c.unlock.ensures.threads c.unlock.ensures.queues in
     search (rules, threads, count)
 
@@ -25,45 +25,45 @@ pub returns-clause-outcome : goal.returns-clause-outcome
 returns-clause-outcome c =
     let i = c.self.inside in
     let s = (the_view i).state in
-    let there : IsThere i.queues.mutexes c.args.mutex = (omega (arith, c.if-mutex-eq0.false), omega (arith, c.if-mutex-mutexes.false, c.mutexes.ensures)) in
-    let owned : (mutex_at i.queues.mutexes c.args.mutex).owner ≡ Some c.args.thread = search rules in
-    rw (← c.self.view_is) (c.unlock.ensures.outcome ∙ ap (λ (e : MutexTrap). e.outcome) (unlock-same (sizes_of i.limits) i.currencies.items i.threads i.queues c.self.invariant.threads c.args.mutex c.args.d)
-    ∙ sym (ap (λ (e : Effect). e.outcome) (unlock-done s c.args.thread c.args.mutex c.args.d there owned)))
+    let there : IsThere i.queues.mutexes c.args.mutex.number = (omega (arith, c.if-mutex-eq0.false), omega (arith, c.if-mutex-mutexes.false, c.mutexes.ensures)) in
+    let owned : (mutex_at i.queues.mutexes c.args.mutex.number).owner ≡ Some c.args.thread.number = search rules in
+    rw (← c.self.view_is) (c.unlock.ensures.outcome ∙ ap (λ (e : MutexTrap). e.outcome) (unlock-same (sizes_of i.limits) i.currencies.items i.threads i.queues c.self.invariant.threads c.args.mutex.number c.args.d)
+    ∙ sym (ap (λ (e : Effect). e.outcome) (unlock-done s c.args.thread.number c.args.mutex.number c.args.d there owned)))
 
 pub returns-clause-after : goal.returns-clause-after
 returns-clause-after c =
     let i = c.self.inside in
     let s = (the_view i).state in
-    let there : IsThere i.queues.mutexes c.args.mutex = (omega (arith, c.if-mutex-eq0.false), omega (arith, c.if-mutex-mutexes.false, c.mutexes.ensures)) in
-    let owned : (mutex_at i.queues.mutexes c.args.mutex).owner ≡ Some c.args.thread = search rules in
-    rw (← c.self.view_is) (c.unlock.ensures.after ∙ ap (λ (e : MutexTrap). e.after) (unlock-same (sizes_of i.limits) i.currencies.items i.threads i.queues c.self.invariant.threads c.args.mutex c.args.d)
-    ∙ sym (ap (λ (e : Effect). e.after) (unlock-done s c.args.thread c.args.mutex c.args.d there owned)))
+    let there : IsThere i.queues.mutexes c.args.mutex.number = (omega (arith, c.if-mutex-eq0.false), omega (arith, c.if-mutex-mutexes.false, c.mutexes.ensures)) in
+    let owned : (mutex_at i.queues.mutexes c.args.mutex.number).owner ≡ Some c.args.thread.number = search rules in
+    rw (← c.self.view_is) (c.unlock.ensures.after ∙ ap (λ (e : MutexTrap). e.after) (unlock-same (sizes_of i.limits) i.currencies.items i.threads i.queues c.self.invariant.threads c.args.mutex.number c.args.d)
+    ∙ sym (ap (λ (e : Effect). e.after) (unlock-done s c.args.thread.number c.args.mutex.number c.args.d there owned)))
 
 pub returns-clause-state : goal.returns-clause-state
 returns-clause-state c =
     let i = c.self.inside in
     let s = (the_view i).state in
-    let left = unlock i.threads.records i.queues.mutexes (worth_in i.threads) c.args.mutex c.args.d in
-    let there : IsThere i.queues.mutexes c.args.mutex = (omega (arith, c.if-mutex-eq0.false), omega (arith, c.if-mutex-mutexes.false, c.mutexes.ensures)) in
-    let owned : (mutex_at i.queues.mutexes c.args.mutex).owner ≡ Some c.args.thread = search rules in
+    let left = unlock i.threads.records i.queues.mutexes (worth_in i.threads) c.args.mutex.number c.args.d in
+    let there : IsThere i.queues.mutexes c.args.mutex.number = (omega (arith, c.if-mutex-eq0.false), omega (arith, c.if-mutex-mutexes.false, c.mutexes.ensures)) in
+    let owned : (mutex_at i.queues.mutexes c.args.mutex.number).owner ≡ Some c.args.thread.number = search rules in
     rw (← c.self.view_is) (mutexes-state (sizes_of i.limits) i.currencies.items i.threads c.unlock.new.threads i.queues c.unlock.new.queues c.self.invariant.threads left c.unlock.new.threads.meter c.unlock.ensures.threads c.unlock.ensures.queues
-    ∙ ap (λ (e : MutexTrap). (of_mutexes s e).state) (unlock-same (sizes_of i.limits) i.currencies.items i.threads i.queues c.self.invariant.threads c.args.mutex c.args.d)
-    ∙ sym (ap (λ (e : Effect). e.state) (unlock-done s c.args.thread c.args.mutex c.args.d there owned)))
+    ∙ ap (λ (e : MutexTrap). (of_mutexes s e).state) (unlock-same (sizes_of i.limits) i.currencies.items i.threads i.queues c.self.invariant.threads c.args.mutex.number c.args.d)
+    ∙ sym (ap (λ (e : Effect). e.state) (unlock-done s c.args.thread.number c.args.mutex.number c.args.d there owned)))
 
 pub returns-clause-stale : goal.returns-clause-stale
 returns-clause-stale c =
     let i = c.self.inside in
-    let left = unlock i.threads.records i.queues.mutexes (worth_in i.threads) c.args.mutex c.args.d in
+    let left = unlock i.threads.records i.queues.mutexes (worth_in i.threads) c.args.mutex.number c.args.d in
     let threads = held-mutexes (sizes_of i.limits) i.currencies.items i.threads c.unlock.new.threads i.queues c.self.invariant.threads left c.unlock.new.queues c.unlock.new.threads.meter c.unlock.ensures.threads c.unlock.ensures.queues in
     rw (← c.self.view_is) (makes-held (sizes_of i.limits) i.currencies.items i.currencies.items i.threads c.unlock.new.threads i.queues c.unlock.new.queues c.self.invariant.threads threads c.unlock.ensures.stale)
 
 pub returns-clause-counts : goal.returns-clause-counts
 returns-clause-counts c =
     let i = c.self.inside in
-    let owned : (mutex_at i.queues.mutexes c.args.mutex).owner ≡ Some c.args.thread = search rules in
+    let owned : (mutex_at i.queues.mutexes c.args.mutex.number).owner ≡ Some c.args.thread.number = search rules in
     let reads = ap (λ (v : Threaded). (settled_in v).meter) c.self.invariant.threads in
-    rw (← c.self.view_is) (unlock-counts i.threads.records i.queues.mutexes (worth_in i.threads) c.args.mutex c.args.d (the_view i) (record { state = held (sizes_of i.limits) i.currencies.items c.unlock.new.threads c.unlock.new.queues; stale = c.unlock.new.threads.stale; meter = c.unlock.new.threads.meter }) c.unlock.result.outcome
-    c.unlock.ensures.outcome c.unlock.ensures.kept c.unlock.ensures.uncounted (λ some. c.unlock.ensures.counted some ∙ reads) c.unlock.ensures.once c.args.thread owned c.unlock.ensures.owners)
+    rw (← c.self.view_is) (unlock-counts i.threads.records i.queues.mutexes (worth_in i.threads) c.args.mutex.number c.args.d (the_view i) (record { state = held (sizes_of i.limits) i.currencies.items c.unlock.new.threads c.unlock.new.queues; stale = c.unlock.new.threads.stale; meter = c.unlock.new.threads.meter }) c.unlock.result.outcome
+    c.unlock.ensures.outcome c.unlock.ensures.kept c.unlock.ensures.uncounted (λ some. c.unlock.ensures.counted some ∙ reads) c.unlock.ensures.once c.args.thread.number owned c.unlock.ensures.owners)
 
 pub unlock-requires-clause-mutex : goal.unlock-requires-clause-mutex
 unlock-requires-clause-mutex c = (omega (arith, c.if-mutex-eq0.false), omega (arith, c.if-mutex-mutexes.false, c.mutexes.ensures))
@@ -73,7 +73,7 @@ unlock-requires-clause-waiters c =
     let i = c.self.inside in
     let order = rw (← c.self.view_is) at c.requires.order in
     let runs = rw (← c.self.view_is) at c.requires.runs in
-    waiters-queue i.threads.records c.args.thread runs.0 runs.1.0 runs.1.1 i.queues.clients i.queues.ports i.queues.mutexes order.queues c.args.mutex
+    waiters-queue i.threads.records c.args.thread.number runs.0 runs.1.0 runs.1.1 i.queues.clients i.queues.ports i.queues.mutexes order.queues c.args.mutex.number
 
 pub unlock-requires-clause-same : goal.unlock-requires-clause-same
 unlock-requires-clause-same c = sym c.self.invariant.clients

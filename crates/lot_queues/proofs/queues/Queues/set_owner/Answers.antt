@@ -1,4 +1,4 @@
-use Rattle.std.proofs.Common.{◌-◌, arith, refl}
+use Rattle.std.proofs.Common.{arith}
 use Rattle.lot_queues.proofs.Holds.{opened, in-mutexes, set-owner}
 use Rattle.lot_queues.proofs.queues.Queues.set_owner.Goals as goal
 
@@ -9,4 +9,4 @@ index_mut-requires c =
     omega (arith, within.0, within.1, held.laid.owners)
 
 pub returns : goal.returns
-returns c = let after = set-owner (opened _ _ c.self.view_is c.self.invariant) c.args.mutex (c.args.mutex - 1) c.args.owner c.requires refl in after.is
+returns c = let after = set-owner (opened _ _ c.self.view_is c.self.invariant) c.args.mutex c.index_of.result c.args.owner c.requires c.index_of.ensures in after.is

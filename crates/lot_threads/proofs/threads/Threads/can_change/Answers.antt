@@ -15,8 +15,8 @@ returns-clause-can c =
       λ yes. record {
         there = stands.0;
         timely = stands.1;
-        lend = lend-same i.graph.now.funding (funding_in c.args.self.now) c.args.thread c.lend_of.result lend same c.lend_of.ensures (c.can_lend.ensures.can.0 yes);
+        lend = lend-same i.graph.now.funding (funding_in c.args.self.now) c.args.thread.number c.lend_of.result lend same c.lend_of.ensures (c.can_lend.ensures.can.0 yes);
         run = stands.2;
       },
-      λ can. c.can_lend.ensures.can.1 (lend-same (funding_in c.args.self.now) i.graph.now.funding c.args.thread lend c.lend_of.result (sym same) (sym c.lend_of.ensures) can.lend),
+      λ can. c.can_lend.ensures.can.1 (lend-same (funding_in c.args.self.now) i.graph.now.funding c.args.thread.number lend c.lend_of.result (sym same) (sym c.lend_of.ensures) can.lend),
     )

@@ -27,7 +27,7 @@ pub invariant_of-self : goal.invariant_of-self
 invariant_of-self c =
     let i = c.self.inside in
     let of = c.self.invariant.together in
-    let same = read-alone i.graph c.ticket_value.new.self c.args.ticket c.ticket_value.ensures.counted c.ticket_value.ensures.uncounted in
+    let same = read-alone i.graph c.ticket_value.new.self c.args.ticket.number c.ticket_value.ensures.counted c.ticket_value.ensures.uncounted in
     record {
       together = subst (λ (v : Valued). AreOf v i.queue i.threads.items i.records.items i.runners.items) (sym same) (record {
         names = of.names;

@@ -10,13 +10,13 @@ use Rattle.lot_threads.proofs.threads.Threads.worth_of.Goals as goal
 
 pub value_of-requires : goal.value_of-requires
 value_of-requires c =
-    let thread = subst (λ (v : Threaded). IsThreadOf v c.args.thread) (sym c.self.view_is) c.requires.thread in
+    let thread = subst (λ (v : Threaded). IsThreadOf v c.args.thread.number) (sym c.self.view_is) c.requires.thread in
     record { node = (thread.0, omega (arith, thread.1, c.self.invariant.together.ready.few, c.self.invariant.together.competes.places)) }
 
 pub returns : goal.returns
 returns c =
     let i = c.self.inside in
-    let t = c.args.thread in
+    let t = c.args.thread.number in
     let thread = subst (λ (v : Threaded). IsThreadOf v t) (sym c.self.view_is) c.requires.thread in
     let was = graph-is i.graph i.queue i.threads.items i.records.items i.runners.items c.self.invariant.together in
     let count = ap (λ (w : LimitedFunding). length w.funding.lends) was in
