@@ -1,34 +1,53 @@
-//! What a call fails with.
+//! Why a call fails.
 
+use crate::numbers::CallStatus;
 use std::fmt;
 
-/// What a call fails with. It has changed nothing then.
-#[derive(Clone, Copy, Debug, PartialEq, Eq)]
+/// Why a call fails. A call that fails has changed nothing.
+///
+/// That the kernel refuses an event is no failure of the call: the refusal is in the [`Reply`](crate::Reply).
+#[derive(Clone, Copy, Debug, PartialEq, Eq, Hash)]
 #[non_exhaustive]
 pub enum Error {
-    /// A size of the kernel is out of its bounds.
+    /// A size of the kernel is out of its bounds, which [`Sizes`](crate::Sizes) has.
     BadLimits,
-    /// There was no memory.
+    /// The system gave no memory.
     NoMemory,
-    /// A name of more than 16 bytes.
+    /// A name has more than 16 bytes.
     LongName,
-    /// A name that isn't a letter a to z, and then letters a to z, digits, `_` or `-`.
+    /// A name isn't a letter a to z followed by letters a to z, digits, `_` or `-`.
     BadName,
-    /// A generator's seed that is 0 or above 2147483646.
+    /// A generator's seed is 0 or above 2147483646.
     BadSeed,
-    /// Weights that sum to 2 ^ 128 or more.
+    /// Weights sum to 2 ^ 128 or more.
     TooLarge,
+}
+
+impl Error {
+    /// The failure that a status stands for. `None` for `Done`, and for statuses that are answers or that no call here
+    /// can have.
+    pub(crate) fn of(status: CallStatus) -> Option<Error> {
+        match status {
+            CallStatus::BadLimits => Some(Error::BadLimits),
+            CallStatus::NoMemory => Some(Error::NoMemory),
+            CallStatus::LongName => Some(Error::LongName),
+            CallStatus::BadName => Some(Error::BadName),
+            CallStatus::BadSeed => Some(Error::BadSeed),
+            CallStatus::TooLarge => Some(Error::TooLarge),
+            _ => None,
+        }
+    }
 }
 
 impl fmt::Display for Error {
     fn fmt(&self, f: &mut fmt::Formatter<'_>) -> fmt::Result {
         f.write_str(match self {
-            Error::BadLimits => "a size is out of its bounds",
-            Error::NoMemory => "no memory",
-            Error::LongName => "a name of more than 16 bytes",
-            Error::BadName => "not a name",
-            Error::BadSeed => "a seed out of its range",
-            Error::TooLarge => "weights that are too large",
+            Error::BadLimits => "a size of the kernel is out of its bounds",
+            Error::NoMemory => "the system gave no memory",
+            Error::LongName => "the name has more than 16 bytes",
+            Error::BadName => "the name isn't a letter a to z followed by letters a to z, digits, '_' or '-'",
+            Error::BadSeed => "the seed is 0 or above 2147483646",
+            Error::TooLarge => "the weights sum to 2 ^ 128 or more",
         })
     }
 }

@@ -3,8 +3,9 @@
 use crate::numbers::EventKind;
 use crate::{ffi, Name};
 
-/// What a listing is of. Its rows are read one by one, by [`crate::Kernel::ticket_row`] and its like.
-#[derive(Clone, Copy, Debug, PartialEq, Eq)]
+/// What a listing is of. The rows are read one by one, by [`Kernel::ticket_row`](crate::Kernel::ticket_row) and its
+/// like.
+#[derive(Clone, Copy, Debug, PartialEq, Eq, Hash)]
 pub enum Listing {
     /// Tickets.
     Tickets,
@@ -14,146 +15,300 @@ pub enum Listing {
     Threads,
 }
 
-/// A command of the console.
-#[derive(Clone, Copy, Debug, PartialEq, Eq)]
+/// A command of the console. Each says its refusals, [`EventRefusal`](crate::EventRefusal)s, in the order of the
+/// checks: the first check that fails is the refusal.
+///
+/// Amounts of tickets are 1 to 4294967295, scripts are numbered from 1 to [`Sizes::scripts`](crate::Sizes::scripts).
+#[derive(Clone, Copy, Debug, PartialEq, Eq, Hash)]
 pub enum Command {
-    /// A ticket of a currency, which funds nothing.
+    /// Makes a ticket, which funds nothing yet. Answered by [`Reply::Ticket`](crate::Reply::Ticket).
+    ///
+    /// Refusals: `BadAmount`, `NoCurrency`, `Full`.
     MakeTicket {
         /// 1 to 4294967295.
         amount: u64,
         /// The currency that issues it.
         currency: Name,
     },
-    /// Removes a ticket that funds nothing.
+    /// Removes a ticket that funds nothing. Its number is never used again. Answered by
+    /// [`Reply::Done`](crate::Reply::Done).
+    ///
+    /// Refusals: `NoTicket`, `Funding`.
     RemoveTicket {
-        /// Its number.
+        /// The ticket's number, from 1.
         ticket: u64,
     },
-    /// A currency.
+    /// Makes a currency, which has no tickets yet. Answered by [`Reply::Currency`](crate::Reply::Currency).
+    ///
+    /// Refusals: `NameTaken`, `Full`.
     MakeCurrency {
-        /// A name that no currency or thread has.
+        /// A name that no currency and no thread has, ended threads included.
         name: Name,
     },
-    /// Removes a currency without tickets.
+    /// Removes a currency that no ticket is issued in and none funds. Answered by [`Reply::Done`](crate::Reply::Done).
+    ///
+    /// Refusals: `NoCurrency`, `BaseFixed`, `InUse`.
     RemoveCurrency {
-        /// Its name.
+        /// A currency but base.
         currency: Name,
     },
-    /// Has a ticket fund a currency or a thread.
+    /// Has a ticket fund a currency or a thread. Answered by [`Reply::Done`](crate::Reply::Done).
+    ///
+    /// Refusals: `NoTicket`, `NoTarget`, `BaseFixed`, `DeadThread`, `Funding`, `Cycle`.
     Fund {
-        /// A ticket that funds nothing.
+        /// The number of a ticket that funds nothing.
         ticket: u64,
-        /// A currency but base, or a thread.
+        /// A currency but base, or a thread that hasn't ended.
         target: Name,
     },
-    /// Has a ticket fund nothing.
+    /// Has a ticket fund nothing. Answered by [`Reply::Done`](crate::Reply::Done).
+    ///
+    /// Refusals: `NoTicket`, `NotFunding`.
     Unfund {
-        /// A ticket that funds something.
+        /// The number of a ticket that funds something.
         ticket: u64,
     },
-    /// Inflation or deflation (3.2): gives a ticket another amount, which counts at once. It goes on funding what it funds.
+    /// Gives a ticket another amount, which counts at once: inflation and deflation (3.2). It goes on funding what it
+    /// funds. Answered by [`Reply::Done`](crate::Reply::Done).
+    ///
+    /// Refusals: `BadAmount`, `NoTicket`.
     SetTicket {
-        /// Any ticket.
+        /// The ticket's number, from 1.
         ticket: u64,
         /// 1 to 4294967295.
         amount: u64,
     },
-    /// A thread that nothing funds.
+    /// Makes a thread, which is ready, and which nothing funds yet. Answered by
+    /// [`Reply::Thread`](crate::Reply::Thread).
+    ///
+    /// Refusals: `NameTaken`, `NoScript`, `Full`.
     MakeThread {
-        /// A name that no currency or thread has.
+        /// A name that no currency and no thread has, ended threads included.
         name: Name,
         /// The number of its script, from 1.
         script: u32,
     },
-    /// A thread, and a new ticket that funds it.
+    /// Makes a thread, and a ticket that funds it. Answered by [`Reply::Funded`](crate::Reply::Funded).
+    ///
+    /// Refusals: `BadAmount`, `NoCurrency`, `NameTaken`, `NoScript`, `Full`.
     MakeFunded {
         /// 1 to 4294967295.
         amount: u64,
         /// The currency that issues the ticket.
         currency: Name,
-        /// A name that no currency or thread has.
+        /// A name that no currency and no thread has, ended threads included.
         name: Name,
         /// The number of its script, from 1.
         script: u32,
     },
-    /// A listing.
+    /// Asks for a listing. Answered by [`Reply::List`](crate::Reply::List), and never refused.
     List(Listing),
 }
 
-/// What a trap of a running thread asks for.
-#[derive(Clone, Copy, Debug, PartialEq, Eq)]
+/// What a trap of a running thread asks for. Each says its refusals, [`TrapRefusal`](crate::TrapRefusal)s, in the
+/// order of the checks, and its outcomes, [`Outcome`](crate::Outcome)s.
+///
+/// Ports are numbered from 1 to [`Sizes::ports`](crate::Sizes::ports), mutexes likewise. A number that is sent is any
+/// 32 bits.
+#[derive(Clone, Copy, Debug, PartialEq, Eq, Hash)]
 pub enum Action {
-    /// To give up the rest of its quantum.
+    /// Gives up the rest of the quantum: `Yielded`. It is never refused.
     Yield,
-    /// To send a number to a port, and wait for the answer.
+    /// Sends a number to a port, and waits for the answer: `ServedBy` or `Queued`.
+    ///
+    /// Refusal: `NoPort`.
     Call {
-        /// From 1.
+        /// The port's number, from 1.
         port: u32,
         /// What is sent.
         number: u32,
     },
-    /// To receive a call at a port.
+    /// Receives a call at a port, or waits for one: `Received` or `Waits`.
+    ///
+    /// Refusal: `NoPort`.
     Receive {
-        /// From 1.
+        /// The port's number, from 1.
         port: u32,
     },
-    /// To answer the client that was taken first.
+    /// Answers the client that was taken first: `Replied`.
+    ///
+    /// Refusal: `NothingToReply`.
     Reply {
         /// What is sent.
         number: u32,
     },
-    /// To answer the client that was taken first, and then receive a call at a port.
+    /// Answers the client that was taken first, and then receives a call at a port or waits for one:
+    /// `RepliedThenReceived` or `RepliedThenWaits`.
+    ///
+    /// Refusals: `NoPort`, `NothingToReply`.
     Serve {
-        /// From 1.
+        /// The port's number, from 1.
         port: u32,
         /// What is sent.
         number: u32,
     },
-    /// To own a mutex.
+    /// Takes a mutex, or waits for it: `Locked` or `Waits`.
+    ///
+    /// Refusals: `NoMutex`, `AlreadyOwner`, `LockCycle`.
     Lock {
-        /// From 1.
+        /// The mutex's number, from 1.
         mutex: u32,
     },
-    /// To free a mutex, or pass it on by a lottery.
+    /// Frees a mutex, or passes it on to a waiter by a lottery: `Freed` or `Passed`.
+    ///
+    /// Refusals: `NoMutex`, `NotOwner`.
     Unlock {
-        /// From 1.
+        /// The mutex's number, from 1.
         mutex: u32,
         /// The drawn number of the lottery, any 128 bits.
         number: u128,
     },
-    /// To end.
+    /// Ends the thread: `Exited`. It is never refused. The thread keeps its name, its mutexes and its clients.
     Exit,
 }
 
-/// One event.
-#[derive(Clone, Copy, Debug, PartialEq, Eq)]
+/// One event. There is a function for each kind, so that `Event::draw(1, 9)` is
+/// `Event::Draw { processor: 1, number: 9 }`.
+///
+/// Each says its refusals, [`EventRefusal`](crate::EventRefusal)s, in the order of the checks. Processors are numbered
+/// from 1 to [`Sizes::processors`](crate::Sizes::processors).
+///
+/// ```
+/// use lot::{Action, Command, Event, Name};
+///
+/// let fund = Event::fund(1, "alice".parse()?);
+/// assert_eq!(fund, Event::Command(Command::Fund { ticket: 1, target: "alice".parse()? }));
+/// assert_eq!(Event::draw(1, 9), Event::Draw { processor: 1, number: 9 });
+/// let lock = Event::trap(1, 20, Action::Lock { mutex: 2 });
+/// assert_eq!(lock, Event::Trap { processor: 1, ticks: 20, action: Action::Lock { mutex: 2 } });
+/// # Ok::<(), lot::Error>(())
+/// ```
+#[derive(Clone, Copy, Debug, PartialEq, Eq, Hash)]
 pub enum Event {
-    /// A command.
+    /// A command of the console, with the refusals that it says.
     Command(Command),
-    /// A draw by a processor on which nobody runs.
+    /// A draw by a processor on which nobody runs. Answered by [`Reply::Winner`](crate::Reply::Winner) or
+    /// [`Reply::Idle`](crate::Reply::Idle).
+    ///
+    /// Refusals: `BadProcessor`, `Busy`.
     Draw {
-        /// From 1.
+        /// The processor's number, from 1.
         processor: u32,
-        /// A drawn number, any 128 bits.
+        /// A drawn number, any 128 bits. The kernel takes it modulo the sum of the weights.
         number: u128,
     },
-    /// The end of the quantum of the thread that runs on a processor.
+    /// The end of the quantum of the thread that runs on a processor. What was left of the quantum counts as used.
+    /// Answered by [`Reply::Expired`](crate::Reply::Expired).
+    ///
+    /// Refusals: `BadProcessor`, `NotRunning`.
     Expire {
-        /// From 1.
+        /// The processor's number, from 1.
         processor: u32,
     },
-    /// A trap of the thread that runs on a processor.
+    /// A trap of the thread that runs on a processor. Answered by [`Reply::Trapped`](crate::Reply::Trapped), also
+    /// where what it asks for is refused by a [`TrapRefusal`](crate::TrapRefusal).
+    ///
+    /// Refusals: `BadProcessor`, `NotRunning`, `BadTicks`.
     Trap {
-        /// From 1.
+        /// The processor's number, from 1.
         processor: u32,
-        /// The ticks of work before it. It costs one tick itself.
+        /// The ticks of work before the trap, which costs one tick more itself. Together they are at most what the
+        /// quantum has left.
         ticks: u32,
         /// What it asks for.
         action: Action,
     },
 }
 
+/// A function for each kind of event. The variants say what each does, its ranges and its refusals.
+impl Event {
+    /// [`Command::MakeTicket`].
+    #[must_use]
+    pub const fn make_ticket(amount: u64, currency: Name) -> Event {
+        Event::Command(Command::MakeTicket { amount, currency })
+    }
+
+    /// [`Command::RemoveTicket`].
+    #[must_use]
+    pub const fn remove_ticket(ticket: u64) -> Event {
+        Event::Command(Command::RemoveTicket { ticket })
+    }
+
+    /// [`Command::MakeCurrency`].
+    #[must_use]
+    pub const fn make_currency(name: Name) -> Event {
+        Event::Command(Command::MakeCurrency { name })
+    }
+
+    /// [`Command::RemoveCurrency`].
+    #[must_use]
+    pub const fn remove_currency(currency: Name) -> Event {
+        Event::Command(Command::RemoveCurrency { currency })
+    }
+
+    /// [`Command::Fund`].
+    #[must_use]
+    pub const fn fund(ticket: u64, target: Name) -> Event {
+        Event::Command(Command::Fund { ticket, target })
+    }
+
+    /// [`Command::Unfund`].
+    #[must_use]
+    pub const fn unfund(ticket: u64) -> Event {
+        Event::Command(Command::Unfund { ticket })
+    }
+
+    /// [`Command::SetTicket`].
+    #[must_use]
+    pub const fn set_ticket(ticket: u64, amount: u64) -> Event {
+        Event::Command(Command::SetTicket { ticket, amount })
+    }
+
+    /// [`Command::MakeThread`].
+    #[must_use]
+    pub const fn make_thread(name: Name, script: u32) -> Event {
+        Event::Command(Command::MakeThread { name, script })
+    }
+
+    /// [`Command::MakeFunded`].
+    #[must_use]
+    pub const fn make_funded(amount: u64, currency: Name, name: Name, script: u32) -> Event {
+        Event::Command(Command::MakeFunded { amount, currency, name, script })
+    }
+
+    /// [`Command::List`].
+    #[must_use]
+    pub const fn list(listing: Listing) -> Event {
+        Event::Command(Command::List(listing))
+    }
+
+    /// [`Event::Draw`].
+    #[must_use]
+    pub const fn draw(processor: u32, number: u128) -> Event {
+        Event::Draw { processor, number }
+    }
+
+    /// [`Event::Expire`].
+    #[must_use]
+    pub const fn expire(processor: u32) -> Event {
+        Event::Expire { processor }
+    }
+
+    /// [`Event::Trap`].
+    #[must_use]
+    pub const fn trap(processor: u32, ticks: u32, action: Action) -> Event {
+        Event::Trap { processor, ticks, action }
+    }
+}
+
+impl From<Command> for Event {
+    fn from(command: Command) -> Event {
+        Event::Command(command)
+    }
+}
+
 impl Command {
+    /// The event as the archive takes it.
     fn plain(&self) -> ffi::Event {
         match *self {
             Command::MakeTicket { amount, currency } => {
@@ -166,13 +321,13 @@ impl Command {
             }
             Command::Fund { ticket, target } => ffi::Event { ticket, name: target.plain(), ..EventKind::Fund.event() },
             Command::Unfund { ticket } => ffi::Event { ticket, ..EventKind::Unfund.event() },
-            Command::SetTicket { ticket, amount } => ffi::Event { ticket, amount, ..EventKind::SetTicket.event() },
+            Command::SetTicket { ticket, amount } => ffi::Event { amount, ticket, ..EventKind::SetTicket.event() },
             Command::MakeThread { name, script } => {
                 ffi::Event { name: name.plain(), script, ..EventKind::MakeThread.event() }
             }
             Command::MakeFunded { amount, currency, name, script } => {
                 let (currency, name) = (currency.plain(), name.plain());
-                ffi::Event { amount, currency, name, script, ..EventKind::MakeFunded.event() }
+                ffi::Event { script, amount, currency, name, ..EventKind::MakeFunded.event() }
             }
             Command::List(Listing::Tickets) => EventKind::ListTickets.event(),
             Command::List(Listing::Currencies) => EventKind::ListCurrencies.event(),
@@ -182,6 +337,7 @@ impl Command {
 }
 
 impl Action {
+    /// The event as the archive takes it, without its processor and ticks.
     fn plain(&self) -> ffi::Event {
         match *self {
             Action::Yield => EventKind::Yield.event(),
@@ -199,6 +355,7 @@ impl Action {
 }
 
 impl Event {
+    /// The event as the archive takes it.
     pub(crate) fn plain(&self) -> ffi::Event {
         match self {
             Event::Command(command) => command.plain(),

@@ -1,8 +1,12 @@
-//! The archive's calls, as `bindings/c/lot.h` has them.
+//! The archive's calls and structs, as `bindings/c/lot.h` has them.
+//!
+//! Left out is `lot_kernel_run`: it stops only at an event of no kind or with a bad name, and this crate has no such
+//! events.
 
 use crate::numbers::CallStatus;
-use crate::{Meter, Runner, Sizes};
+use crate::{Error, Meter, Runner, Sizes};
 use std::ffi::c_void;
+use std::mem::size_of;
 
 #[repr(C)]
 #[derive(Clone, Copy, Default)]
@@ -19,6 +23,8 @@ pub struct Wide {
 }
 
 impl Wide {
+    // The low half is what the cast is to keep.
+    #[allow(clippy::cast_possible_truncation)]
     pub fn of(number: u128) -> Wide {
         Wide { low: number as u64, high: (number >> 64) as u64 }
     }
@@ -125,6 +131,9 @@ pub struct Drawn {
     pub place: u64,
 }
 
+// The sizes that the structs of one call have in lot.h.
+const _: () = assert!(size_of::<Event>() == 96 && size_of::<Reply>() == 80);
+
 extern "C" {
     pub fn lot_name_new(bytes: *const u8, count: usize, name: *mut Name) -> u32;
     pub fn lot_kernel_new(sizes: *const Sizes, kernel: *mut Handle) -> u32;
@@ -147,12 +156,22 @@ extern "C" {
     pub fn lot_winner(weights: *const Wide, count: usize, number: *const Wide, drawn: *mut Drawn) -> u32;
 }
 
-/// Where a call can fail in no other way.
-pub fn must_be_done(status: u32) {
-    assert_eq!(CallStatus::of(status), CallStatus::Done, "a call of the kernel that cannot fail");
+/// What a call with this status came to, for one that has no other statuses than `Done` and those of [`Error`].
+pub fn done(status: u32) -> Result<(), Error> {
+    let status = CallStatus::of(status);
+    if let Some(error) = Error::of(status) {
+        return Err(error);
+    }
+    assert_eq!(status, CallStatus::Done, "a status that this call of the archive never has");
+    Ok(())
 }
 
-/// What is there, if the call says that it is.
+/// For a call that cannot fail as this crate makes it.
+pub fn must_be_done(status: u32) {
+    assert_eq!(CallStatus::of(status), CallStatus::Done, "a call of the archive that cannot fail");
+}
+
+/// What the call has found, or `None` if it says that nothing is there.
 pub fn if_there<T>(status: u32, found: T) -> Option<T> {
     if CallStatus::of(status) == CallStatus::NotThere {
         return None;

@@ -1,62 +1,25 @@
 //! The kernel.
 
-use crate::numbers::CallStatus;
-use crate::{ffi, CurrencyRow, Error, Event, Reply, ThreadRow, TicketRow};
+use crate::{ffi, CurrencyRow, Error, Event, Reply, Sizes, Stopped, ThreadRow, TicketRow};
+use std::cell::UnsafeCell;
 use std::fmt;
+use std::iter::FusedIterator;
 use std::ptr::null_mut;
-
-/// How large a kernel is. It never grows.
-#[repr(C)]
-#[derive(Clone, Copy, Debug, PartialEq, Eq)]
-pub struct Sizes {
-    /// How many tickets may be made in all, 1 to 65535.
-    pub tickets: u32,
-    /// How many currencies may be made in all besides base, 1 to 4096.
-    pub currencies: u32,
-    /// How many threads may be made in all, 1 to 4096.
-    pub threads: u32,
-    /// At most 256.
-    pub ports: u32,
-    /// At most 256.
-    pub mutexes: u32,
-    /// 1 to 64.
-    pub processors: u32,
-    /// At most 256. A thread's script is a number that the kernel keeps for its caller.
-    pub scripts: u32,
-    /// In ticks, 1 to 1000.
-    pub quantum: u32,
-    /// How much one of base is worth: 1, or 256 for finer shares.
-    pub unit: u32,
-}
-
-impl Sizes {
-    /// Enough for a first try: 64 tickets, 16 currencies and threads, 2 ports and mutexes, 2 processors and a quantum of 100 ticks.
-    pub const SMALL: Sizes = Sizes {
-        tickets: 64,
-        currencies: 16,
-        threads: 16,
-        ports: 2,
-        mutexes: 2,
-        processors: 2,
-        scripts: 1,
-        quantum: 100,
-        unit: 1,
-    };
-}
+use std::slice;
 
 /// A thread that runs on a processor.
 #[repr(C)]
-#[derive(Clone, Copy, Debug, PartialEq, Eq)]
+#[derive(Clone, Copy, Debug, PartialEq, Eq, Hash)]
 pub struct Runner {
-    /// Its number.
+    /// The thread's number, from 1.
     pub thread: u32,
     /// The ticks of its quantum that it has used, below the quantum.
     pub used: u32,
 }
 
-/// What a kernel has counted of its own work.
+/// What a kernel has counted of its own work since it was made.
 #[repr(C)]
-#[derive(Clone, Copy, Debug, PartialEq, Eq)]
+#[derive(Clone, Copy, Debug, PartialEq, Eq, Hash)]
 pub struct Meter {
     /// How many tickets, lends and owners were read for values.
     pub ticket_reads: u64,
@@ -65,114 +28,294 @@ pub struct Meter {
 }
 
 /// A lottery-scheduled kernel. It takes all its memory when it is made, and gives it back when it is dropped.
+///
+/// It may move to another thread. Threads that share one need a lock around it, such as a [`Mutex`](std::sync::Mutex),
+/// since readers change the kernel inside too:
+///
+/// ```compile_fail,E0277
+/// fn needs_sync<T: Sync>() {}
+/// needs_sync::<lot::Kernel>();
+/// ```
+///
+/// ```
+/// fn needs_sync<T: Sync>() {}
+/// needs_sync::<std::sync::Mutex<lot::Kernel>>();
+/// ```
 pub struct Kernel {
-    handle: ffi::Handle,
+    // Readers have `&self`, and the archive's readers take a mutable pointer: each takes the kernel out of the handle
+    // for the time of the call, and rows compute the values that are out of date. So the handle changes behind a
+    // shared reference, which only an `UnsafeCell` allows.
+    handle: UnsafeCell<ffi::Handle>,
 }
 
-// A kernel shares nothing with another, so it may go from thread to thread: the archive's own handle is proved to be `Send`. It is not
-// `Sync`, since each call needs it alone.
+// SAFETY: lot.h lets a kernel go from one thread to another, and different kernels have nothing in common. It isn't
+// `Sync`: of two readers at once both would take the kernel out of the handle.
 unsafe impl Send for Kernel {}
 
+const _: () = {
+    const fn needs_send<T: Send>() {}
+    needs_send::<Kernel>();
+};
+
 impl Kernel {
-    /// A kernel with base alone. `BadLimits` or `NoMemory`.
+    /// Makes a kernel with base alone. This takes all the memory that it will ever use: 13 kilobytes for some dozen
+    /// threads, 6 megabytes at the largest sizes.
+    ///
+    /// ```
+    /// use lot::{Error, Kernel, Sizes};
+    ///
+    /// let kernel = Kernel::new(Sizes { processors: 4, ..Sizes::default() })?;
+    /// assert_eq!(kernel.sizes().processors, 4);
+    /// assert_eq!(Kernel::new(Sizes { processors: 65, ..Sizes::default() }).err(), Some(Error::BadLimits));
+    /// # Ok::<(), lot::Error>(())
+    /// ```
+    ///
+    /// # Errors
+    ///
+    /// [`Error::BadLimits`] if a size is out of its bounds, otherwise [`Error::NoMemory`] if the system gave no
+    /// memory.
     pub fn new(sizes: Sizes) -> Result<Kernel, Error> {
         let mut handle = ffi::Handle { at: null_mut() };
-        // Both are whole, and nothing else points to the handle. It is so in each call below.
-        let status = unsafe { ffi::lot_kernel_new(&sizes, &mut handle) };
-        match CallStatus::of(status) {
-            CallStatus::BadLimits => Err(Error::BadLimits),
-            CallStatus::NoMemory => Err(Error::NoMemory),
-            _ => {
-                ffi::must_be_done(status);
-                Ok(Kernel { handle })
-            }
-        }
+        // SAFETY: both are whole and apart, and the handle holds no kernel.
+        ffi::done(unsafe { ffi::lot_kernel_new(&sizes, &mut handle) })?;
+        Ok(Kernel { handle: UnsafeCell::new(handle) })
     }
 
-    /// One event. It takes no memory. A refused event changes nothing; a trap that is answered as refused costs its ticks.
+    /// Gives the kernel one event, and returns its reply. It takes no memory.
+    ///
+    /// A refused event has changed nothing, and a refused trap nothing but its thread's ticks. Only the reply tells,
+    /// and [`Reply::ok`] makes an error of it:
+    ///
+    /// ```
+    /// use lot::{Event, Kernel, Name, Reply, Sizes};
+    ///
+    /// let mut kernel = Kernel::new(Sizes::default())?;
+    /// kernel.event(&Event::make_funded(10, Name::BASE, "first".parse()?, 1)).ok()?;
+    /// let reply = kernel.event(&Event::draw(1, 9)).ok()?;
+    /// assert_eq!(reply, Reply::Winner { thread: 1, number: 9, total: 10, delivered: None });
+    /// # Ok::<(), Box<dyn std::error::Error>>(())
+    /// ```
+    ///
+    /// The compiler warns of a reply that is dropped, or doesn't compile it if the caller says so:
+    ///
+    /// ```compile_fail
+    /// #![deny(unused_must_use)]
+    /// let mut kernel = lot::Kernel::new(lot::Sizes::default()).unwrap();
+    /// kernel.event(&lot::Event::expire(1)); // refused: nobody runs
+    /// ```
+    // It is the call that must be used and not the type `Reply`: `event(..).ok()?;`, which has looked, would warn too.
+    #[must_use = "only the reply tells if the event was refused, and who is to run"]
     pub fn event(&mut self, event: &Event) -> Reply {
         let mut reply = ffi::Reply::default();
-        ffi::must_be_done(unsafe { ffi::lot_kernel_event(&mut self.handle, &event.plain(), &mut reply) });
+        // SAFETY: `here` says it of the handle; the event and the reply are whole, and the three are apart.
+        ffi::must_be_done(unsafe { ffi::lot_kernel_event(self.here(), &event.plain(), &mut reply) });
         Reply::of(&reply)
     }
 
-    /// Events in order, with the reply to each.
-    pub fn run<'a>(&'a mut self, events: &'a [Event]) -> impl Iterator<Item = Reply> + 'a {
-        events.iter().map(|event| self.event(event))
+    /// Gives the kernel events in order, up to the first that is refused, and returns the replies.
+    ///
+    /// ```
+    /// use lot::{Event, EventRefusal, Kernel, Name, Refusal, Sizes};
+    ///
+    /// let mut kernel = Kernel::new(Sizes::default())?;
+    /// let make = Event::make_funded(10, Name::BASE, "first".parse()?, 1);
+    /// let stopped = kernel.run(&[make, make, Event::draw(1, 9)]).unwrap_err();
+    /// assert_eq!(stopped.done(), 1);
+    /// assert_eq!(stopped.refusal, Refusal::Event(EventRefusal::NameTaken));
+    /// # Ok::<(), lot::Error>(())
+    /// ```
+    ///
+    /// # Errors
+    ///
+    /// [`Stopped`] if an event or a trap is refused: it has the replies before, and so how many events were done, the
+    /// refused one's reply and why. The events after it weren't given.
+    pub fn run(&mut self, events: &[Event]) -> Result<Vec<Reply>, Stopped> {
+        let mut replies = Vec::with_capacity(events.len());
+        for reply in self.replies(events) {
+            if let Some(refusal) = reply.refusal() {
+                return Err(Stopped { replies, reply, refusal });
+            }
+            replies.push(reply);
+        }
+        Ok(replies)
     }
 
-    /// The row of the ticket with this number, if it is there. It computes values that are out of date, and changes no answer.
-    pub fn ticket_row(&mut self, ticket: u32) -> Option<TicketRow> {
+    /// Gives the kernel events in order, each when its reply is asked for, and goes on after refused ones.
+    ///
+    /// ```
+    /// use lot::{Event, EventRefusal, Kernel, Reply, Sizes};
+    ///
+    /// let mut kernel = Kernel::new(Sizes::default())?;
+    /// let replies: Vec<Reply> = kernel.replies(&[Event::expire(1), Event::draw(1, 0)]).collect();
+    /// assert_eq!(replies, [Reply::Refused(EventRefusal::NotRunning), Reply::Idle]);
+    /// # Ok::<(), lot::Error>(())
+    /// ```
+    pub fn replies<'a>(&'a mut self, events: &'a [Event]) -> Replies<'a> {
+        Replies { kernel: self, events: events.iter() }
+    }
+
+    /// The row of the ticket with this number, from 1. `None` if there is none, or it is removed.
+    #[must_use]
+    pub fn ticket_row(&self, ticket: u32) -> Option<TicketRow> {
         let mut row = ffi::TicketRow::default();
-        let status = unsafe { ffi::lot_kernel_ticket_row(&mut self.handle, ticket, &mut row) };
+        // SAFETY: `here` says it of the handle; the row is whole and apart from it.
+        let status = unsafe { ffi::lot_kernel_ticket_row(self.here(), ticket, &mut row) };
         ffi::if_there(status, row).map(TicketRow::of)
     }
 
-    /// The row of the currency with this number, if it is there. Base has number 0.
-    pub fn currency_row(&mut self, currency: u32) -> Option<CurrencyRow> {
+    /// The row of the currency with this number; base has 0. `None` if there is none, or it is removed.
+    #[must_use]
+    pub fn currency_row(&self, currency: u32) -> Option<CurrencyRow> {
         let mut row = ffi::CurrencyRow::default();
-        let status = unsafe { ffi::lot_kernel_currency_row(&mut self.handle, currency, &mut row) };
+        // SAFETY: `here` says it of the handle; the row is whole and apart from it.
+        let status = unsafe { ffi::lot_kernel_currency_row(self.here(), currency, &mut row) };
         ffi::if_there(status, row).map(CurrencyRow::of)
     }
 
-    /// The row of the thread with this number, if there is one.
-    pub fn thread_row(&mut self, thread: u32) -> Option<ThreadRow> {
+    /// The row of the thread with this number, from 1. `None` if there is none. A thread that has ended has one.
+    ///
+    /// ```
+    /// use lot::{Event, Kernel, Name, Runner, Sizes, Status};
+    ///
+    /// let mut kernel = Kernel::new(Sizes::default())?;
+    /// kernel.event(&Event::make_funded(10, Name::BASE, "first".parse()?, 1)).ok()?;
+    /// kernel.event(&Event::draw(2, 9)).ok()?;
+    /// let row = kernel.thread_row(1).expect("it was made");
+    /// assert_eq!((row.name.as_str(), row.status), ("first", Status::Running { processor: 2, used: 0 }));
+    /// assert_eq!(kernel.runner(2), Some(Runner { thread: 1, used: 0 }));
+    /// assert_eq!(kernel.thread_row(2), None);
+    /// # Ok::<(), Box<dyn std::error::Error>>(())
+    /// ```
+    #[must_use]
+    pub fn thread_row(&self, thread: u32) -> Option<ThreadRow> {
         let mut row = ffi::ThreadRow::default();
-        let status = unsafe { ffi::lot_kernel_thread_row(&mut self.handle, thread, &mut row) };
+        // SAFETY: `here` says it of the handle; the row is whole and apart from it.
+        let status = unsafe { ffi::lot_kernel_thread_row(self.here(), thread, &mut row) };
         ffi::if_there(status, row).map(ThreadRow::of)
     }
 
-    /// Who runs on the processor, if somebody does.
-    pub fn runner(&mut self, processor: u32) -> Option<Runner> {
+    /// The tickets that there are, with their numbers, by rising number.
+    pub fn tickets(&self) -> impl Iterator<Item = (u32, TicketRow)> + '_ {
+        (1..=self.ticket_count()).filter_map(|ticket| Some((ticket, self.ticket_row(ticket)?)))
+    }
+
+    /// The currencies that there are, with their numbers, by rising number. The first is base, 0.
+    pub fn currencies(&self) -> impl Iterator<Item = (u32, CurrencyRow)> + '_ {
+        (0..self.currency_count()).filter_map(|currency| Some((currency, self.currency_row(currency)?)))
+    }
+
+    /// The threads that were made, with their numbers, by rising number. Those that have ended are among them.
+    ///
+    /// ```
+    /// use lot::{Event, Kernel, Name, Sizes};
+    ///
+    /// let mut kernel = Kernel::new(Sizes::default())?;
+    /// kernel.event(&Event::make_funded(10, Name::BASE, "first".parse()?, 1)).ok()?;
+    /// kernel.event(&Event::make_funded(5, Name::BASE, "second".parse()?, 1)).ok()?;
+    /// let values: Vec<u64> = kernel.threads().map(|(_, row)| row.value).collect();
+    /// assert_eq!(values, [10, 5]);
+    /// # Ok::<(), Box<dyn std::error::Error>>(())
+    /// ```
+    pub fn threads(&self) -> impl Iterator<Item = (u32, ThreadRow)> + '_ {
+        (1..).map_while(|thread| Some((thread, self.thread_row(thread)?)))
+    }
+
+    /// Who runs on the processor with this number, from 1. `None` if nobody does, or there is no such processor.
+    #[must_use]
+    pub fn runner(&self, processor: u32) -> Option<Runner> {
         let mut runner = Runner { thread: 0, used: 0 };
-        let status = unsafe { ffi::lot_kernel_runner(&mut self.handle, processor, &mut runner) };
+        // SAFETY: `here` says it of the handle; the runner is whole and apart from it.
+        let status = unsafe { ffi::lot_kernel_runner(self.here(), processor, &mut runner) };
         ffi::if_there(status, runner)
     }
 
-    /// The number of the script that the thread was made with, if there is such a thread.
-    pub fn script_of(&mut self, thread: u32) -> Option<u32> {
+    /// The number of the script that the thread was made with. `None` if there is no such thread.
+    #[must_use]
+    pub fn script_of(&self, thread: u32) -> Option<u32> {
         let mut script = 0;
-        let status = unsafe { ffi::lot_kernel_script_of(&mut self.handle, thread, &mut script) };
+        // SAFETY: `here` says it of the handle; the number is whole and apart from it.
+        let status = unsafe { ffi::lot_kernel_script_of(self.here(), thread, &mut script) };
         ffi::if_there(status, script)
     }
 
-    /// How many tickets were made, including those removed since: they have the numbers from 1.
-    pub fn ticket_count(&mut self) -> u32 {
+    /// How many tickets were made, including those removed since. They have the numbers from 1 to this.
+    #[must_use]
+    pub fn ticket_count(&self) -> u32 {
         let mut count = 0;
-        ffi::must_be_done(unsafe { ffi::lot_kernel_ticket_count(&mut self.handle, &mut count) });
+        // SAFETY: `here` says it of the handle; the number is whole and apart from it.
+        ffi::must_be_done(unsafe { ffi::lot_kernel_ticket_count(self.here(), &mut count) });
         count
     }
 
-    /// How many currencies were made, including base and those removed since: they have the numbers from 0.
-    pub fn currency_count(&mut self) -> u32 {
+    /// How many currencies were made, including base and those removed since. They have the numbers from 0 to below
+    /// this.
+    #[must_use]
+    pub fn currency_count(&self) -> u32 {
         let mut count = 0;
-        ffi::must_be_done(unsafe { ffi::lot_kernel_currency_count(&mut self.handle, &mut count) });
+        // SAFETY: `here` says it of the handle; the number is whole and apart from it.
+        ffi::must_be_done(unsafe { ffi::lot_kernel_currency_count(self.here(), &mut count) });
         count
     }
 
     /// The sizes that the kernel was made with.
-    pub fn sizes(&mut self) -> Sizes {
+    #[must_use]
+    pub fn sizes(&self) -> Sizes {
         let mut sizes = Sizes::SMALL;
-        ffi::must_be_done(unsafe { ffi::lot_kernel_limits(&mut self.handle, &mut sizes) });
+        // SAFETY: `here` says it of the handle; the sizes are whole and apart from it.
+        ffi::must_be_done(unsafe { ffi::lot_kernel_limits(self.here(), &mut sizes) });
         sizes
     }
 
-    /// What the kernel has counted of its own work.
-    pub fn meter(&mut self) -> Meter {
+    /// What the kernel has counted of its own work. Rows count too, where they compute values that are out of date.
+    #[must_use]
+    pub fn meter(&self) -> Meter {
         let mut meter = Meter { ticket_reads: 0, tree_visits: 0 };
-        ffi::must_be_done(unsafe { ffi::lot_kernel_meter(&mut self.handle, &mut meter) });
+        // SAFETY: `here` says it of the handle; the meter is whole and apart from it.
+        ffi::must_be_done(unsafe { ffi::lot_kernel_meter(self.here(), &mut meter) });
         meter
+    }
+
+    /// The handle, for one call of the archive: it is whole, holds a kernel from `new` to `drop`, and no reference to
+    /// it is ever made. No two calls overlap, since the kernel isn't `Sync` and no call comes back into this crate.
+    fn here(&self) -> *mut ffi::Handle {
+        self.handle.get()
     }
 }
 
 impl Drop for Kernel {
     fn drop(&mut self) {
-        unsafe { ffi::lot_kernel_free(&mut self.handle) };
+        // SAFETY: `here` says it of the handle, and this is the last call with it.
+        unsafe { ffi::lot_kernel_free(self.here()) };
     }
 }
 
 impl fmt::Debug for Kernel {
     fn fmt(&self, f: &mut fmt::Formatter<'_>) -> fmt::Result {
-        f.write_str("Kernel")
+        f.debug_struct("Kernel").field("sizes", &self.sizes()).finish_non_exhaustive()
     }
 }
+
+/// The replies to events, each of which is given to the kernel when its reply is asked for. [`Kernel::replies`] makes
+/// it.
+#[derive(Debug)]
+#[must_use = "an event is given only when its reply is asked for"]
+pub struct Replies<'a> {
+    kernel: &'a mut Kernel,
+    events: slice::Iter<'a, Event>,
+}
+
+impl Iterator for Replies<'_> {
+    type Item = Reply;
+
+    fn next(&mut self) -> Option<Reply> {
+        let event = self.events.next()?;
+        Some(self.kernel.event(event))
+    }
+
+    fn size_hint(&self) -> (usize, Option<usize>) {
+        self.events.size_hint()
+    }
+}
+
+impl ExactSizeIterator for Replies<'_> {}
+impl FusedIterator for Replies<'_> {}

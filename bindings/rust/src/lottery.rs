@@ -1,21 +1,33 @@
-//! The lottery alone.
+//! The lottery alone, without a kernel.
 
 use crate::ffi::{self, Wide};
 use crate::numbers::CallStatus;
 use crate::Error;
+use std::iter::FusedIterator;
+use std::num::NonZeroU32;
 
-/// What a thread of this value weighs in a draw. The compensation is how many ticks of its quantum it had used when it yielded or
-/// blocked before the quantum's end: then the weight is the value times the quantum divided by it, rounded down.
-pub fn weight(value: u64, compensation: Option<std::num::NonZeroU32>, quantum: u32) -> u128 {
+/// What a thread of this value weighs in a draw. The compensation is how many ticks of its quantum it had used when it
+/// yielded or blocked before the quantum's end: then the weight is the value times the quantum divided by it, rounded
+/// down. Otherwise the weight is the value.
+///
+/// ```
+/// use std::num::NonZeroU32;
+///
+/// assert_eq!(lot::weight(400, NonZeroU32::new(20), 100), 2000);
+/// assert_eq!(lot::weight(400, None, 100), 400);
+/// ```
+#[must_use]
+pub fn weight(value: u64, compensation: Option<NonZeroU32>, quantum: u32) -> u128 {
     let mut weight = Wide::default();
-    unsafe { ffi::lot_weight(value, compensation.map_or(0, |used| used.get()), quantum, &mut weight) };
+    // SAFETY: the weight is whole.
+    unsafe { ffi::lot_weight(value, compensation.map_or(0, NonZeroU32::get), quantum, &mut weight) };
     weight.number()
 }
 
 /// Who won a lottery.
-#[derive(Clone, Copy, Debug, PartialEq, Eq)]
+#[derive(Clone, Copy, Debug, PartialEq, Eq, Hash)]
 pub struct Drawn {
-    /// The winner's place among the weights, from 0.
+    /// The winner's index among the weights.
     pub place: usize,
     /// The number that was drawn, below the total.
     pub number: u128,
@@ -23,66 +35,115 @@ pub struct Drawn {
     pub total: u128,
 }
 
-/// Holds a lottery with this number: `None` if the weights sum to 0, else the first place whose running sum is greater than the number
-/// modulo the sum. `TooLarge` or `NoMemory`.
-pub fn winner(weights: &[u128], number: u128) -> Result<Option<Drawn>, Error> {
-    let weights: Vec<Wide> = weights.iter().map(|weight| Wide::of(*weight)).collect();
-    let mut drawn = ffi::Drawn::default();
-    let status = unsafe { ffi::lot_winner(weights.as_ptr(), weights.len(), &Wide::of(number), &mut drawn) };
-    match CallStatus::of(status) {
-        CallStatus::NoWinner => Ok(None),
-        CallStatus::TooLarge => Err(Error::TooLarge),
-        CallStatus::NoMemory => Err(Error::NoMemory),
-        _ => {
-            ffi::must_be_done(status);
-            Ok(Some(Drawn {
-                place: drawn.place as usize,
-                number: drawn.number.number(),
-                total: drawn.total.number(),
-            }))
-        }
+impl Drawn {
+    fn of(drawn: ffi::Drawn) -> Drawn {
+        Drawn { place: index_of(drawn.place), number: drawn.number.number(), total: drawn.total.number() }
     }
 }
 
-/// The generator of Park and Miller: each value is 16807 times the one before, modulo 2147483647. Its values are 1 to 2147483646.
-#[derive(Clone, Debug, PartialEq, Eq)]
+fn index_of(place: u64) -> usize {
+    usize::try_from(place).expect("an index of a slice")
+}
+
+/// Holds a lottery over the weights with this number, any 128 bits. The winner is the first place whose running sum is
+/// greater than the number modulo the sum of the weights. `None` if the weights sum to 0. It takes memory for a copy
+/// of the weights, and gives it back.
+///
+/// ```
+/// let drawn = lot::winner(&[10, 2, 5, 1, 2], 15)?.expect("some weight");
+/// assert_eq!((drawn.place, drawn.number, drawn.total), (2, 15, 20));
+/// assert_eq!(lot::winner(&[0, 0], 7)?, None);
+/// # Ok::<(), lot::Error>(())
+/// ```
+///
+/// # Errors
+///
+/// [`Error::TooLarge`] if the weights sum to 2 ^ 128 or more, [`Error::NoMemory`] if the system gave no memory.
+pub fn winner(weights: &[u128], number: u128) -> Result<Option<Drawn>, Error> {
+    let weights: Vec<Wide> = weights.iter().map(|weight| Wide::of(*weight)).collect();
+    let mut drawn = ffi::Drawn::default();
+    // SAFETY: the pointer and the count are those of one slice; the number and `drawn` are whole, and the three are
+    // apart.
+    let status = unsafe { ffi::lot_winner(weights.as_ptr(), weights.len(), &Wide::of(number), &mut drawn) };
+    if CallStatus::of(status) == CallStatus::NoWinner {
+        return Ok(None);
+    }
+    ffi::done(status)?;
+    Ok(Some(Drawn::of(drawn)))
+}
+
+/// The generator of Park and Miller: each value is 16807 times the one before, modulo 2147483647. Its values are 1 to
+/// 2147483646.
+///
+/// As an iterator it never ends, and its items are those of [`number`](ParkMiller::number).
+///
+/// ```
+/// use lot::ParkMiller;
+///
+/// let numbers: Vec<u64> = ParkMiller::new(1)?.take(2).collect();
+/// assert_eq!(numbers, [36_090_892_629_924, 3_484_614_493_785_666_169]);
+/// # Ok::<(), lot::Error>(())
+/// ```
+#[derive(Clone, Debug, PartialEq, Eq, Hash)]
 pub struct ParkMiller {
     value: u32,
 }
 
 impl ParkMiller {
-    /// The generator whose value is the seed. `BadSeed`.
+    /// The generator whose value is the seed, 1 to 2147483646.
+    ///
+    /// # Errors
+    ///
+    /// [`Error::BadSeed`] if the seed is 0 or above 2147483646.
     pub fn new(seed: u32) -> Result<ParkMiller, Error> {
         let mut generator = ffi::Generator::default();
-        let status = unsafe { ffi::lot_generator_new(seed, &mut generator) };
-        if CallStatus::of(status) == CallStatus::BadSeed {
-            return Err(Error::BadSeed);
-        }
-        ffi::must_be_done(status);
+        // SAFETY: the generator is whole.
+        ffi::done(unsafe { ffi::lot_generator_new(seed, &mut generator) })?;
         Ok(ParkMiller { value: generator.value })
     }
 
-    /// Goes on to the next value, and answers it.
+    /// Goes on to the next value, and returns it: 1 to 2147483646.
     pub fn next_value(&mut self) -> u32 {
-        let (mut generator, mut value) = (ffi::Generator { value: self.value }, 0);
-        ffi::must_be_done(unsafe { ffi::lot_generator_next(&mut generator, &mut value) });
-        self.value = generator.value;
+        let mut value = 0;
+        // SAFETY: both are whole and apart.
+        self.go_on(|generator| unsafe { ffi::lot_generator_next(generator, &mut value) });
         value
     }
 
-    /// The number that is drawn from the next two values.
+    /// Returns the number that is drawn from the next two values, 0 to 4611686009837453315, and goes on to the second.
     pub fn number(&mut self) -> u64 {
-        let (mut generator, mut number) = (ffi::Generator { value: self.value }, 0);
-        ffi::must_be_done(unsafe { ffi::lot_generator_number(&mut generator, &mut number) });
-        self.value = generator.value;
+        let mut number = 0;
+        // SAFETY: both are whole and apart.
+        self.go_on(|generator| unsafe { ffi::lot_generator_number(generator, &mut number) });
         number
     }
 
-    /// The wide number that is drawn from the next four values: below 2^124.
+    /// Returns the wide number that is drawn from the next four values, below 2 ^ 124, and goes on to the fourth.
     pub fn wide_number(&mut self) -> u128 {
-        let (mut generator, mut number) = (ffi::Generator { value: self.value }, Wide::default());
-        ffi::must_be_done(unsafe { ffi::lot_generator_wide_number(&mut generator, &mut number) });
-        self.value = generator.value;
+        let mut number = Wide::default();
+        // SAFETY: both are whole and apart.
+        self.go_on(|generator| unsafe { ffi::lot_generator_wide_number(generator, &mut number) });
         number.number()
     }
+
+    /// Makes a call that changes the generator's value. It can't fail, since the value is always one of a generator.
+    fn go_on(&mut self, call: impl FnOnce(&mut ffi::Generator) -> u32) {
+        let mut generator = ffi::Generator { value: self.value };
+        ffi::must_be_done(call(&mut generator));
+        self.value = generator.value;
+    }
 }
+
+impl Iterator for ParkMiller {
+    type Item = u64;
+
+    fn next(&mut self) -> Option<u64> {
+        Some(self.number())
+    }
+
+    fn size_hint(&self) -> (usize, Option<usize>) {
+        (usize::MAX, None)
+    }
+}
+
+impl FusedIterator for ParkMiller {}

@@ -1,39 +1,53 @@
 //! Names of currencies and threads.
 
-use crate::numbers::CallStatus;
 use crate::{ffi, Error};
+use std::borrow::Borrow;
 use std::fmt;
+use std::hash::{Hash, Hasher};
+use std::str::FromStr;
 
-/// A name of a currency or a thread: a letter a to z, and then letters a to z, digits, `_` or `-`, at most 16 bytes.
-#[derive(Clone, Copy, PartialEq, Eq, PartialOrd, Ord, Hash)]
+/// A name of a currency or a thread: a letter a to z, followed by letters a to z, digits, `_` or `-`, in all 1 to 16
+/// bytes. Names compare, sort and hash as their texts do.
+///
+/// ```
+/// use lot::{Error, Name};
+///
+/// let name: Name = "web-server".parse()?;
+/// assert_eq!(name, "web-server");
+/// assert_eq!(Name::try_from(&b"web-server"[..])?, name);
+/// assert_eq!(Name::new("Web"), Err(Error::BadName));
+/// # Ok::<(), lot::Error>(())
+/// ```
+// The bytes after the name are 0, and no name has a 0 in it. So the derived order, by bytes first, is that of texts.
+#[derive(Clone, Copy, PartialEq, Eq, PartialOrd, Ord)]
 pub struct Name {
-    length: u8,
     bytes: [u8; 16],
+    length: u8,
 }
 
 impl Name {
-    /// The name with this text. `LongName` or `BadName` if it isn't one.
+    /// The name of the currency that every kernel has: `base`.
+    pub const BASE: Name = Name { bytes: *b"base\0\0\0\0\0\0\0\0\0\0\0\0", length: 4 };
+
+    /// The name with this text.
+    ///
+    /// # Errors
+    ///
+    /// [`Error::LongName`] if the text has more than 16 bytes, otherwise [`Error::BadName`] if it isn't a name.
     pub fn new(text: &str) -> Result<Name, Error> {
-        let mut name = ffi::Name::default();
-        // The pointer and the count are those of a slice, and nothing else points to `name`.
-        let status = unsafe { ffi::lot_name_new(text.as_ptr(), text.len(), &mut name) };
-        match CallStatus::of(status) {
-            CallStatus::LongName => Err(Error::LongName),
-            CallStatus::BadName => Err(Error::BadName),
-            _ => {
-                ffi::must_be_done(status);
-                Ok(Name::of(name))
-            }
-        }
+        Name::try_from(text.as_bytes())
     }
 
     /// The text of the name.
+    #[must_use]
     pub fn as_str(&self) -> &str {
-        std::str::from_utf8(&self.bytes[..usize::from(self.length)]).expect("a name is ASCII")
+        text_of(&self.bytes[..usize::from(self.length)])
     }
 
+    /// A name that the archive has made or checked.
     pub(crate) fn of(name: ffi::Name) -> Name {
-        Name { length: name.length as u8, bytes: name.bytes }
+        let length = u8::try_from(name.length).expect("a name of at most 16 bytes");
+        Name { bytes: name.bytes, length }
     }
 
     pub(crate) fn plain(self) -> ffi::Name {
@@ -41,14 +55,76 @@ impl Name {
     }
 }
 
+fn text_of(bytes: &[u8]) -> &str {
+    std::str::from_utf8(bytes).expect("a name is ASCII")
+}
+
+impl TryFrom<&[u8]> for Name {
+    type Error = Error;
+
+    fn try_from(bytes: &[u8]) -> Result<Name, Error> {
+        let mut name = ffi::Name::default();
+        // SAFETY: the pointer and the count are those of one slice, and `name` is whole and apart from it.
+        ffi::done(unsafe { ffi::lot_name_new(bytes.as_ptr(), bytes.len(), &mut name) })?;
+        Ok(Name::of(name))
+    }
+}
+
+impl TryFrom<&str> for Name {
+    type Error = Error;
+
+    fn try_from(text: &str) -> Result<Name, Error> {
+        Name::new(text)
+    }
+}
+
+impl FromStr for Name {
+    type Err = Error;
+
+    fn from_str(text: &str) -> Result<Name, Error> {
+        Name::new(text)
+    }
+}
+
+impl AsRef<str> for Name {
+    fn as_ref(&self) -> &str {
+        self.as_str()
+    }
+}
+
+/// So that a map whose keys are names can be asked by text.
+impl Borrow<str> for Name {
+    fn borrow(&self) -> &str {
+        self.as_str()
+    }
+}
+
+impl Hash for Name {
+    fn hash<H: Hasher>(&self, state: &mut H) {
+        self.as_str().hash(state);
+    }
+}
+
+impl PartialEq<str> for Name {
+    fn eq(&self, text: &str) -> bool {
+        self.as_str() == text
+    }
+}
+
+impl PartialEq<&str> for Name {
+    fn eq(&self, text: &&str) -> bool {
+        self.as_str() == *text
+    }
+}
+
 impl fmt::Display for Name {
     fn fmt(&self, f: &mut fmt::Formatter<'_>) -> fmt::Result {
-        f.write_str(self.as_str())
+        f.pad(self.as_str())
     }
 }
 
 impl fmt::Debug for Name {
     fn fmt(&self, f: &mut fmt::Formatter<'_>) -> fmt::Result {
-        write!(f, "{:?}", self.as_str())
+        fmt::Debug::fmt(self.as_str(), f)
     }
 }

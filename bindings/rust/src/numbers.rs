@@ -1,15 +1,19 @@
-//! The numbers that the archive has for kinds, outcomes, refusals and statuses. `bindings/numbers` compares them with the
-//! table that the proofs have, `crates/lot_c/specs/Numbers.antt`.
+//! The numbers that the archive has for kinds, outcomes, refusals and statuses: all that this crate has stand here.
+//! `bindings/numbers` compares them with the table of the proofs, `crates/lot_c/specs/Numbers.antt`. It reads each
+//! line `Variant = number,` of an enum.
 
 use crate::ffi;
 
 /// An enum whose variants have these numbers, and the variant of a number.
 macro_rules! numbered {
-    ($(#[$outer:meta])* $visibility:vis enum $name:ident { $($variant:ident = $number:literal,)+ }) => {
+    (
+        $(#[$outer:meta])*
+        $visibility:vis enum $name:ident { $($(#[$inner:meta])* $variant:ident = $number:literal,)+ }
+    ) => {
         $(#[$outer])*
-        #[derive(Clone, Copy, Debug, PartialEq, Eq)]
+        #[derive(Clone, Copy, Debug, PartialEq, Eq, Hash)]
         $visibility enum $name {
-            $($variant = $number,)+
+            $($(#[$inner])* $variant = $number,)+
         }
 
         impl $name {
@@ -116,42 +120,87 @@ numbered! {
 }
 
 numbered! {
-    /// Why an event is refused. A refused event changes nothing. The numbers are those of docs/FORMATS.md.
-    #[allow(missing_docs)]
-    pub enum Refusal {
+    /// Why the kernel refuses an event, which then has changed nothing.
+    ///
+    /// The numbers are those of docs/FORMATS.md and of outputs. Each event has its checks in an order, which
+    /// [`Command`](crate::Command) and [`Event`](crate::Event) say, and the first that fails is the refusal.
+    pub enum EventRefusal {
+        /// The name isn't a good one. A [`Name`](crate::Name) always is, so the kernel never refuses one of this
+        /// crate.
         BadName = 1,
+        /// A currency or a thread has the name already. A thread that has ended keeps its name.
         NameTaken = 2,
+        /// No currency has the name.
         NoCurrency = 3,
+        /// No ticket has the number, or the one that had it is removed.
         NoTicket = 4,
+        /// Neither a currency nor a thread has the name.
         NoTarget = 5,
+        /// The amount is 0 or above 4294967295.
         BadAmount = 6,
+        /// A ticket is issued in the currency, or funds it.
         InUse = 7,
+        /// The ticket funds something already.
         Funding = 8,
+        /// The ticket funds nothing.
         NotFunding = 9,
+        /// The funding would close a cycle of currencies.
         Cycle = 10,
+        /// Base is to be removed or funded.
         BaseFixed = 11,
+        /// The thread to be funded has ended.
         DeadThread = 12,
+        /// As many were made as [`Sizes`](crate::Sizes) allows, removed ones and ended threads included.
         Full = 13,
+        /// The script's number is 0 or above the number of scripts.
         NoScript = 14,
+        /// The processor's number is 0 or above the number of processors.
         BadProcessor = 20,
+        /// A thread runs on the processor already, so it can't draw.
         Busy = 21,
+        /// No thread runs on the processor.
         NotRunning = 22,
+        /// The ticks of work and the trap's own are more than what the quantum has left.
         BadTicks = 23,
     }
 }
 
 numbered! {
-    /// Why a trap is refused. It costs its ticks all the same. The numbers are those of docs/FORMATS.md.
-    #[allow(missing_docs)]
+    /// Why the kernel refuses a trap. The thread has run the trap's ticks all the same, and goes on unless its quantum
+    /// is used up.
+    ///
+    /// The numbers are those of docs/FORMATS.md and of outputs. Each trap has its checks in an order, which
+    /// [`Action`](crate::Action) says, and the first that fails is the refusal.
     pub enum TrapRefusal {
+        /// The port's number is 0 or above the number of ports.
         NoPort = 30,
+        /// The thread serves no client.
         NothingToReply = 32,
+        /// The mutex's number is 0 or above the number of mutexes.
         NoMutex = 33,
+        /// The thread doesn't own the mutex.
         NotOwner = 34,
+        /// The thread owns the mutex already.
         AlreadyOwner = 35,
+        /// The owner waits for the thread already, perhaps through others, so the wait would close a cycle.
         LockCycle = 36,
     }
 }
+
+/// The number of a refusal, which is that of its variant.
+macro_rules! number {
+    ($($name:ident),+) => {
+        $(impl $name {
+            /// The number that docs/FORMATS.md and outputs have for it.
+            #[must_use]
+            pub const fn number(self) -> u32 {
+                self as u32
+            }
+        })+
+    };
+}
+
+number!(EventRefusal, TrapRefusal);
 
 numbered! {
     /// What a thread is doing.

@@ -1,58 +1,62 @@
 //! What a kernel answers.
 
-use crate::numbers::{OutcomeKind, Refusal, ReplyKind, TrapRefusal};
-use crate::{ffi, Listing};
+use crate::numbers::{EventRefusal, OutcomeKind, ReplyKind, TrapRefusal};
+use crate::{ffi, Listing, Refusal};
 
-/// What a trap comes to.
-#[derive(Clone, Copy, Debug, PartialEq, Eq)]
+/// What a trap comes to. Where it doesn't say that the thread runs no more, the thread goes on, unless the reply says
+/// that its quantum `ends`.
+#[derive(Clone, Copy, Debug, PartialEq, Eq, Hash)]
 pub enum Outcome {
-    /// The thread gave up the rest of its quantum.
+    /// The thread gave up the rest of its quantum. It runs no more.
     Yielded,
-    /// The thread with this number serves the call.
+    /// The thread with this number serves the call. The caller runs no more.
     ServedBy(u32),
-    /// The call waits for a server.
+    /// The call waits for a server. The caller runs no more.
     Queued,
-    /// The thread waits, for a call or for a mutex.
+    /// The thread waits for a call or for a mutex. It runs no more.
     Waits,
     /// A call was taken.
     Received {
-        /// Who called.
+        /// The number of the thread that called.
         client: u32,
-        /// What was sent.
+        /// What it sent.
         number: u32,
     },
     /// The client with this number is answered.
     Replied(u32),
     /// A client is answered, and then a call was taken.
     RepliedThenReceived {
-        /// Who is answered.
+        /// The number of the client that is answered.
         to: u32,
-        /// Who called.
+        /// The number of the thread that called.
         client: u32,
-        /// What was sent.
+        /// What it sent.
         number: u32,
     },
-    /// The client with this number is answered, and the thread waits for a call.
+    /// The client with this number is answered, and the thread waits for a call. It runs no more.
     RepliedThenWaits(u32),
     /// The thread owns the mutex.
     Locked,
     /// Nobody owns the mutex.
     Freed,
-    /// The mutex was passed on.
+    /// The mutex was passed on. The thread that unlocked it runs no more.
     Passed {
-        /// The new owner.
+        /// The number of the thread that owns it now.
         to: u32,
-        /// The number and the total of the lottery, if one was held.
+        /// The number and the total of the lottery. `None` if the waiters were worth nothing, and the one that had
+        /// waited longest got it.
         draw: Option<(u64, u64)>,
     },
     /// The thread has ended.
     Exited,
-    /// The trap is refused.
+    /// The trap is refused. It has cost its ticks all the same.
     Refused(TrapRefusal),
 }
 
 /// The answer to an event.
-#[derive(Clone, Copy, Debug, PartialEq, Eq)]
+///
+/// A refusal is an answer too. [`ok`](Reply::ok) makes an error of it.
+#[derive(Clone, Copy, Debug, PartialEq, Eq, Hash)]
 pub enum Reply {
     /// The ticket with this number was made.
     Ticket(u32),
@@ -67,43 +71,43 @@ pub enum Reply {
         /// The thread's number.
         thread: u32,
     },
-    /// It is done.
+    /// The command is done.
     Done,
     /// A listing is asked for.
     List(Listing),
-    /// A thread has won the draw, and runs.
+    /// A thread has won the draw, and runs on the processor from now on.
     Winner {
-        /// Its number.
+        /// The thread's number.
         thread: u32,
         /// The number that was drawn, below the total.
         number: u128,
-        /// The sum of the weights.
+        /// The sum of the weights, in units of base.
         total: u128,
-        /// What was sent to it and it hadn't got yet.
+        /// What was sent to the thread while it waited, by a call or a reply.
         delivered: Option<u32>,
     },
     /// No thread weighs anything, and nothing has changed.
     Idle,
-    /// A thread's quantum is over.
+    /// A thread's quantum is over, and it runs no more.
     Expired {
-        /// Its number.
+        /// The thread's number.
         thread: u32,
-        /// What it ran since it won its draw, in ticks.
+        /// The ticks that it ran for this: what was left of its quantum.
         ticks: u32,
     },
     /// A thread has made a trap.
     Trapped {
-        /// Its number.
+        /// The thread's number.
         thread: u32,
-        /// What it ran for this, in ticks.
+        /// The ticks that it ran for this, the trap's own included.
         ticks: u32,
         /// What came of it.
         outcome: Outcome,
-        /// Whether its quantum is used up, though it would go on.
+        /// Whether its quantum is used up, so that it runs no more though the outcome would have it go on.
         ends: bool,
     },
-    /// The event is refused.
-    Refused(Refusal),
+    /// The event is refused, and has changed nothing.
+    Refused(EventRefusal),
 }
 
 impl Outcome {
@@ -132,6 +136,40 @@ impl Outcome {
 }
 
 impl Reply {
+    /// This reply, or why the event or its trap is refused.
+    ///
+    /// ```
+    /// use lot::{Event, Kernel, Name, Sizes};
+    ///
+    /// let mut kernel = Kernel::new(Sizes::default())?;
+    /// kernel.event(&Event::make_currency("alice".parse()?)).ok()?;
+    /// let again = kernel.event(&Event::make_currency("alice".parse()?)).ok();
+    /// let why = again.unwrap_err().to_string();
+    /// assert_eq!(why, "a currency or a thread, perhaps a dead one, has the name already");
+    /// # Ok::<(), Box<dyn std::error::Error>>(())
+    /// ```
+    ///
+    /// # Errors
+    ///
+    /// [`Refusal::Event`] for [`Reply::Refused`], [`Refusal::Trap`] for [`Outcome::Refused`]. What a refused trap's
+    /// thread ran, and whether its quantum ends, is in the reply alone. It is `Copy`, so keep it where that matters.
+    pub const fn ok(self) -> Result<Reply, Refusal> {
+        match self.refusal() {
+            Some(why) => Err(why),
+            None => Ok(self),
+        }
+    }
+
+    /// Why the event or its trap is refused. `None` if neither is.
+    #[must_use]
+    pub const fn refusal(&self) -> Option<Refusal> {
+        match *self {
+            Reply::Refused(why) => Some(Refusal::Event(why)),
+            Reply::Trapped { outcome: Outcome::Refused(why), .. } => Some(Refusal::Trap(why)),
+            _ => None,
+        }
+    }
+
     pub(crate) fn of(reply: &ffi::Reply) -> Reply {
         let (ticket, thread, ticks) = (reply.ticket, reply.thread, reply.ticks);
         match ReplyKind::of(reply.kind) {
@@ -152,7 +190,7 @@ impl Reply {
             ReplyKind::Idle => Reply::Idle,
             ReplyKind::Expired => Reply::Expired { thread, ticks },
             ReplyKind::Trapped => Reply::Trapped { thread, ticks, outcome: Outcome::of(reply), ends: reply.ends },
-            ReplyKind::Refused => Reply::Refused(Refusal::of(reply.reason)),
+            ReplyKind::Refused => Reply::Refused(EventRefusal::of(reply.reason)),
         }
     }
 }

@@ -4,22 +4,22 @@ use crate::numbers::StatusKind;
 use crate::{ffi, Name};
 
 /// A ticket as a listing shows it.
-#[derive(Clone, Copy, Debug, PartialEq, Eq)]
+#[derive(Clone, Copy, Debug, PartialEq, Eq, Hash)]
 pub struct TicketRow {
-    /// Its amount.
+    /// Its amount, 1 to 4294967295.
     pub amount: u32,
     /// The currency that issues it.
     pub issuer: Name,
-    /// The currency or thread that it funds.
+    /// The currency or thread that it funds. `None` if it funds nothing.
     pub target: Option<Name>,
     /// Whether it leads to a thread that competes or runs.
     pub is_active: bool,
-    /// In units of base.
+    /// What it is worth, in units of base. 0 if it is inactive.
     pub value: u64,
 }
 
 /// A currency as a listing shows it.
-#[derive(Clone, Copy, Debug, PartialEq, Eq)]
+#[derive(Clone, Copy, Debug, PartialEq, Eq, Hash)]
 pub struct CurrencyRow {
     /// Its name.
     pub name: Name,
@@ -29,42 +29,42 @@ pub struct CurrencyRow {
     pub issued: u32,
     /// The sum of the amounts of its active issued tickets.
     pub active_amount: u64,
-    /// In units of base.
+    /// What it is worth, in units of base.
     pub value: u64,
 }
 
 /// What a thread is doing.
-#[derive(Clone, Copy, Debug, PartialEq, Eq)]
+#[derive(Clone, Copy, Debug, PartialEq, Eq, Hash)]
 pub enum Status {
     /// It competes in draws.
     Ready,
     /// It runs.
     Running {
-        /// Where.
+        /// The processor's number, from 1.
         processor: u32,
         /// The ticks of its quantum that it has used, below the quantum.
         used: u32,
     },
-    /// It waits for a call at this port.
+    /// It waits for a call at the port with this number.
     Receiving(u32),
-    /// Its call waits at this port.
+    /// Its call waits at the port with this number.
     Queued(u32),
-    /// This thread serves it.
+    /// The thread with this number serves it.
     Served(u32),
-    /// It waits for this mutex.
+    /// It waits for the mutex with this number.
     Waiting(u32),
     /// It has ended.
     Dead,
 }
 
 /// A thread as a listing shows it.
-#[derive(Clone, Copy, Debug, PartialEq, Eq)]
+#[derive(Clone, Copy, Debug, PartialEq, Eq, Hash)]
 pub struct ThreadRow {
     /// Its name.
     pub name: Name,
     /// What it is doing.
     pub status: Status,
-    /// In units of base.
+    /// What it is worth with what others lend it, in units of base.
     pub value: u64,
     /// What it weighs in a draw, in units of base.
     pub weight: u128,

@@ -1,8 +1,8 @@
 //! Rows of worked kernels, and what no call takes.
 
 use lot::{
-    weight, winner, Action, Command, Error, Event, Kernel, Listing, Name, Outcome, ParkMiller, Refusal, Reply, Runner, Sizes, Status,
-    TrapRefusal,
+    weight, winner, Action, Command, Error, Event, EventRefusal, Kernel, Listing, Name, Outcome, ParkMiller, Reply,
+    Runner, Sizes, Status, TrapRefusal,
 };
 use std::num::NonZeroU32;
 
@@ -29,13 +29,14 @@ fn trap(kernel: &mut Kernel, ticks: u32, action: Action) -> Reply {
 #[test]
 fn list_lottery() {
     let mut kernel = Kernel::new(Sizes::SMALL).expect("small");
-    for (number, (amount, thread)) in [(10, "a"), (2, "b"), (5, "c"), (1, "d"), (2, "e")].into_iter().enumerate() {
-        let number = number as u32 + 1;
+    for (number, (amount, thread)) in (1..).zip([(10, "a"), (2, "b"), (5, "c"), (1, "d"), (2, "e")]) {
         assert_eq!(fund_thread(&mut kernel, amount, "base", thread), Reply::Funded { ticket: number, thread: number });
     }
-    for (d, thread, number) in [(15, 3, 15), (9, 1, 9), (10, 2, 10), (17, 4, 17), (18, 5, 18), (35, 3, 15), (36090892629924, 1, 4)] {
+    for (d, thread, number) in
+        [(15, 3, 15), (9, 1, 9), (10, 2, 10), (17, 4, 17), (18, 5, 18), (35, 3, 15), (36_090_892_629_924, 1, 4)]
+    {
         assert_eq!(draw(&mut kernel, d), Reply::Winner { thread, number, total: 20, delivered: None });
-        assert_eq!(draw(&mut kernel, d), Reply::Refused(Refusal::Busy));
+        assert_eq!(draw(&mut kernel, d), Reply::Refused(EventRefusal::Busy));
         assert_eq!(kernel.runner(1), Some(Runner { thread, used: 0 }));
         assert_eq!(kernel.event(&Event::Expire { processor: 1 }), Reply::Expired { thread, ticks: 100 });
         assert_eq!(kernel.runner(1), None);
@@ -45,15 +46,28 @@ fn list_lottery() {
 #[test]
 fn currency_graph() {
     let mut kernel = Kernel::new(Sizes::SMALL).expect("small");
-    for (number, text) in ["alice", "bob", "task1", "task2", "task3"].into_iter().enumerate() {
-        assert_eq!(command(&mut kernel, Command::MakeCurrency { name: name(text) }), Reply::Currency(number as u32 + 1));
+    for (number, text) in (1..).zip(["alice", "bob", "task1", "task2", "task3"]) {
+        assert_eq!(command(&mut kernel, Command::MakeCurrency { name: name(text) }), Reply::Currency(number));
     }
-    let tickets = [(1000, "base", "alice"), (2000, "base", "bob"), (100, "alice", "task1"), (200, "alice", "task2"), (100, "bob", "task3")];
+    let tickets = [
+        (1000, "base", "alice"),
+        (2000, "base", "bob"),
+        (100, "alice", "task1"),
+        (200, "alice", "task2"),
+        (100, "bob", "task3"),
+    ];
     for (number, (amount, currency, target)) in (1..).zip(tickets) {
-        assert_eq!(command(&mut kernel, Command::MakeTicket { amount, currency: name(currency) }), Reply::Ticket(number));
-        assert_eq!(command(&mut kernel, Command::Fund { ticket: u64::from(number), target: name(target) }), Reply::Done);
+        assert_eq!(
+            command(&mut kernel, Command::MakeTicket { amount, currency: name(currency) }),
+            Reply::Ticket(number)
+        );
+        assert_eq!(
+            command(&mut kernel, Command::Fund { ticket: u64::from(number), target: name(target) }),
+            Reply::Done
+        );
     }
-    for (amount, currency, thread) in [(200, "task2", "thread2"), (300, "task2", "thread3"), (100, "task3", "thread4")] {
+    for (amount, currency, thread) in [(200, "task2", "thread2"), (300, "task2", "thread3"), (100, "task3", "thread4")]
+    {
         fund_thread(&mut kernel, amount, currency, thread);
     }
     let values: Vec<u64> = (1..=3).map(|thread| kernel.thread_row(thread).expect("there").value).collect();
@@ -66,7 +80,7 @@ fn currency_graph() {
     let cycle = Command::MakeTicket { amount: 1, currency: name("task2") };
     assert_eq!(command(&mut kernel, cycle), Reply::Ticket(9));
     let cycle = Command::Fund { ticket: 9, target: name("alice") };
-    assert_eq!(command(&mut kernel, cycle), Reply::Refused(Refusal::Cycle));
+    assert_eq!(command(&mut kernel, cycle), Reply::Refused(EventRefusal::Cycle));
     assert_eq!(command(&mut kernel, Command::List(Listing::Threads)), Reply::List(Listing::Threads));
     assert_eq!((kernel.ticket_count(), kernel.currency_count()), (9, 6));
     assert_eq!(kernel.sizes(), Sizes::SMALL);
@@ -134,7 +148,8 @@ fn servings() {
     assert_eq!(kernel.event(&serves), Reply::Winner { thread: 1, number: 0, total: 3030, delivered: Some(5) });
     draw(&mut kernel, 0);
     trap(&mut kernel, 0, Action::Call { port: 1, number: 6 });
-    let mut serve = |number| kernel.event(&Event::Trap { processor: 2, ticks: 0, action: Action::Serve { port: 1, number } });
+    let mut serve =
+        |number| kernel.event(&Event::Trap { processor: 2, ticks: 0, action: Action::Serve { port: 1, number } });
     let received = Outcome::RepliedThenReceived { to: 2, client: 3, number: 6 };
     assert_eq!(serve(8), Reply::Trapped { thread: 1, ticks: 1, outcome: received, ends: false });
     let waits = Outcome::RepliedThenWaits(3);
@@ -146,20 +161,20 @@ fn servings() {
 fn refusals() {
     let mut kernel = Kernel::new(Sizes::SMALL).expect("small");
     let none = Command::MakeTicket { amount: 0, currency: name("base") };
-    assert_eq!(command(&mut kernel, none), Reply::Refused(Refusal::BadAmount));
+    assert_eq!(command(&mut kernel, none), Reply::Refused(EventRefusal::BadAmount));
     for (ticket, amount, why) in [
-        (1, 0, Refusal::BadAmount),
-        (1, 1 << 32, Refusal::BadAmount),
-        (1, 1, Refusal::NoTicket),
-        (1 << 32, 1, Refusal::NoTicket),
+        (1, 0, EventRefusal::BadAmount),
+        (1, 1 << 32, EventRefusal::BadAmount),
+        (1, 1, EventRefusal::NoTicket),
+        (1 << 32, 1, EventRefusal::NoTicket),
     ] {
         assert_eq!(command(&mut kernel, Command::SetTicket { ticket, amount }), Reply::Refused(why));
     }
-    assert_eq!(kernel.event(&Event::Draw { processor: 3, number: 0 }), Reply::Refused(Refusal::BadProcessor));
-    assert_eq!(kernel.event(&Event::Expire { processor: 1 }), Reply::Refused(Refusal::NotRunning));
+    assert_eq!(kernel.event(&Event::Draw { processor: 3, number: 0 }), Reply::Refused(EventRefusal::BadProcessor));
+    assert_eq!(kernel.event(&Event::Expire { processor: 1 }), Reply::Refused(EventRefusal::NotRunning));
     fund_thread(&mut kernel, 1, "base", "a");
     draw(&mut kernel, 0);
-    assert_eq!(trap(&mut kernel, 100, Action::Exit), Reply::Refused(Refusal::BadTicks));
+    assert_eq!(trap(&mut kernel, 100, Action::Exit), Reply::Refused(EventRefusal::BadTicks));
     for (action, why) in [
         (Action::Call { port: 9, number: 0 }, TrapRefusal::NoPort),
         (Action::Reply { number: 0 }, TrapRefusal::NothingToReply),
@@ -190,11 +205,11 @@ fn the_lottery_alone() {
     assert_eq!(weight(400, None, 100), 400);
     let mut generator = ParkMiller::new(1).expect("a seed");
     let last = (0..10000).map(|_| generator.next_value()).last();
-    assert_eq!(last, Some(1043618065));
+    assert_eq!(last, Some(1_043_618_065));
     let drawn = winner(&[10, 2, 5, 1, 2], u128::MAX).expect("small").expect("a winner");
     assert_eq!((drawn.place, drawn.number), (2, 15));
-    assert_eq!(ParkMiller::new(1).expect("a seed").number(), 36090892629924);
-    assert_eq!(ParkMiller::new(1).expect("a seed").wide_number(), 166439864623969647858139600294153);
+    assert_eq!(ParkMiller::new(1).expect("a seed").number(), 36_090_892_629_924);
+    assert_eq!(ParkMiller::new(1).expect("a seed").wide_number(), 166_439_864_623_969_647_858_139_600_294_153);
     assert_eq!(ParkMiller::new(0), Err(Error::BadSeed));
 }
 

@@ -1,0 +1,131 @@
+//! Why the kernel refuses an event or a trap.
+
+use crate::numbers::{EventRefusal, TrapRefusal};
+use crate::Reply;
+use std::error::Error;
+use std::fmt;
+
+/// Why the kernel refuses what an event asks for.
+///
+/// ```
+/// use lot::{Event, Kernel, EventRefusal, Refusal, Sizes};
+///
+/// let mut kernel = Kernel::new(Sizes::default())?;
+/// let refusal = kernel.event(&Event::expire(1)).ok().unwrap_err();
+/// assert_eq!(refusal, Refusal::Event(EventRefusal::NotRunning));
+/// assert_eq!(refusal.number(), 22);
+/// assert_eq!(refusal.to_string(), "no thread runs on the processor");
+/// # Ok::<(), lot::Error>(())
+/// ```
+#[derive(Clone, Copy, Debug, PartialEq, Eq, Hash)]
+pub enum Refusal {
+    /// The event is refused, and has changed nothing.
+    Event(EventRefusal),
+    /// The trap is refused. Its thread has run its ticks all the same, and goes on unless its quantum is used up.
+    Trap(TrapRefusal),
+}
+
+impl Refusal {
+    /// The number that docs/FORMATS.md and outputs have for it. No two refusals share one.
+    #[must_use]
+    pub const fn number(self) -> u32 {
+        match self {
+            Refusal::Event(why) => why.number(),
+            Refusal::Trap(why) => why.number(),
+        }
+    }
+}
+
+impl From<EventRefusal> for Refusal {
+    fn from(why: EventRefusal) -> Refusal {
+        Refusal::Event(why)
+    }
+}
+
+impl From<TrapRefusal> for Refusal {
+    fn from(why: TrapRefusal) -> Refusal {
+        Refusal::Trap(why)
+    }
+}
+
+impl fmt::Display for Refusal {
+    fn fmt(&self, f: &mut fmt::Formatter<'_>) -> fmt::Result {
+        match self {
+            Refusal::Event(why) => why.fmt(f),
+            Refusal::Trap(why) => why.fmt(f),
+        }
+    }
+}
+
+impl fmt::Display for EventRefusal {
+    fn fmt(&self, f: &mut fmt::Formatter<'_>) -> fmt::Result {
+        f.write_str(match self {
+            EventRefusal::BadName => "the name isn't a good one",
+            EventRefusal::NameTaken => "a currency or a thread, perhaps a dead one, has the name already",
+            EventRefusal::NoCurrency => "no currency has the name",
+            EventRefusal::NoTicket => "no ticket has the number",
+            EventRefusal::NoTarget => "neither a currency nor a thread has the name",
+            EventRefusal::BadAmount => "the amount is 0 or above 4294967295",
+            EventRefusal::InUse => "a ticket is issued in the currency or funds it",
+            EventRefusal::Funding => "the ticket funds something already",
+            EventRefusal::NotFunding => "the ticket funds nothing",
+            EventRefusal::Cycle => "the funding would close a cycle of currencies",
+            EventRefusal::BaseFixed => "base can be neither removed nor funded",
+            EventRefusal::DeadThread => "the thread has ended",
+            EventRefusal::Full => "the kernel has room for no more of them",
+            EventRefusal::NoScript => "no script has the number",
+            EventRefusal::BadProcessor => "no processor has the number",
+            EventRefusal::Busy => "a thread runs on the processor already",
+            EventRefusal::NotRunning => "no thread runs on the processor",
+            EventRefusal::BadTicks => "the ticks and the trap's own are more than the quantum has left",
+        })
+    }
+}
+
+impl fmt::Display for TrapRefusal {
+    fn fmt(&self, f: &mut fmt::Formatter<'_>) -> fmt::Result {
+        f.write_str(match self {
+            TrapRefusal::NoPort => "no port has the number",
+            TrapRefusal::NothingToReply => "the thread serves no client",
+            TrapRefusal::NoMutex => "no mutex has the number",
+            TrapRefusal::NotOwner => "the thread doesn't own the mutex",
+            TrapRefusal::AlreadyOwner => "the thread owns the mutex already",
+            TrapRefusal::LockCycle => "the wait would close a cycle of threads that wait for each other",
+        })
+    }
+}
+
+impl Error for Refusal {}
+impl Error for EventRefusal {}
+impl Error for TrapRefusal {}
+
+/// Why [`Kernel::run`](crate::Kernel::run) stopped before the end: an event was refused.
+#[derive(Clone, Debug, PartialEq, Eq, Hash)]
+pub struct Stopped {
+    /// The replies to the events before the refused one, in order.
+    pub replies: Vec<Reply>,
+    /// The reply to the refused one. That of a refused trap says what its thread ran, and whether it goes on.
+    pub reply: Reply,
+    /// Why it is refused.
+    pub refusal: Refusal,
+}
+
+impl Stopped {
+    /// How many events were done before the refused one, which is also its index.
+    #[must_use]
+    pub fn done(&self) -> usize {
+        self.replies.len()
+    }
+}
+
+impl fmt::Display for Stopped {
+    fn fmt(&self, f: &mut fmt::Formatter<'_>) -> fmt::Result {
+        write!(f, "the event after {} that were done is refused: {}", self.done(), self.refusal)
+    }
+}
+
+impl Error for Stopped {
+    fn source(&self) -> Option<&(dyn Error + 'static)> {
+        Some(&self.refusal)
+    }
+}
