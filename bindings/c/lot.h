@@ -1,39 +1,81 @@
-// lot.h: a lottery-scheduled kernel, proved, as a static library.
+// lot.h: a lottery-scheduled kernel, proved, as a static library. For C11 and C++11, and later ones.
 //
-// A kernel holds tickets, currencies, threads, ports and lottery mutexes. It is given events, one at a time: commands that make and
-// fund things, draws, expiries and traps of the threads that run. It answers each event with a reply. It runs nothing itself: who is
-// to run is in the replies, and running it is yours. docs/MACHINE.md of the repository says what each event does.
+// A kernel holds tickets, currencies, threads, ports and lottery mutexes. It is given events, one at a time: commands
+// that make and fund things, draws, expiries and traps of the threads that run. It answers each event with a reply.
+// It runs nothing itself: who is to run is in the replies, and running it is yours. docs/MACHINE.md of the repository
+// says what each event does.
 //
-// examples/embed/first_draw.c draws among two threads in ten lines. It links the release, or the archive that dist/build makes:
+// examples/embed/first_draw.c draws among two threads. It links the release, or the archive that dist/build makes:
 //
 //     cc -Ibindings/c examples/embed/first_draw.c dist/x86_64-linux/liblot.a
 //
-// WHAT A CALL ANSWERS. Each call returns a status, but for lot_weight, which cannot fail. LOT_DONE says that it was done; any other
-// says that the call has changed nothing: neither the kernel nor what its pointers point to. (lot_kernel_run is the one exception: it
-// does the events before the one that is at fault.) That an event was *refused* by the kernel is a reply and not a status: the status
-// is LOT_DONE then, and the refused event has changed nothing but, for a trap, its thread's ticks.
+// WHAT A CALL ANSWERS. Each call of the library returns a status, except lot_weight, which cannot fail. LOT_DONE says
+// that it was done; any other says that the call has changed nothing: neither the kernel nor what its pointers point
+// to. (lot_kernel_run is the one exception: it does the events before the one that is at fault.)
 //
-// WHAT IS CHECKED. Structs that are handed in may have any bytes in any field: a kind that there isn't, a name that is too long or has
-// bytes that no name has, sizes out of their bounds, a seed out of its range, and a lot_kernel that holds no kernel each have a status.
-// Fields that a kind doesn't read may have any value.
+// A REFUSED EVENT has the status LOT_DONE, since the kernel has answered it. The reply's kind is LOT_REPLY_REFUSED,
+// its reason says why, and nothing has changed.
+//
+// A REFUSED TRAP is an event that the kernel has done. The reply's kind is LOT_REPLY_TRAPPED, its outcome is
+// LOT_OUTCOME_REFUSED, and its reason says why. The trap costs its ticks, and its thread goes on unless its quantum is
+// used up. Nothing else has changed. So there are three things to look at: the status, the kind and the outcome.
+//
+// WHAT IS CHECKED. Structs that are handed in may have any bytes in any field: a kind that there isn't, a name that is
+// too long or has bytes that no name has, sizes out of their bounds, a seed out of its range, and a lot_kernel that
+// holds no kernel each have a status. Fields that a kind doesn't read may have any value.
 //
 // WHAT IS YOUR DUTY, since nothing can check it:
-//   - A pointer points to a whole struct of its type, or to as many as the count beside it says, and is aligned for it. It isn't NULL,
-//     unless that count is 0. No two pointers of a call overlap.
-//   - A lot_kernel was LOT_KERNEL_NONE at first, and is changed by nothing but lot_kernel_new and lot_kernel_free. Where it is copied,
-//     only one of the copies may be used from there on.
+//   - A pointer points to a whole struct of its type, or to as many as the count beside it says. It isn't NULL, unless
+//     that count is 0. No two pointers of a call overlap.
+//   - A pointer is aligned as the compiler aligns its type: to 4 bytes for a lot_sizes, lot_name, lot_runner,
+//     lot_generator or uint32_t, to 8 for any other struct and uint64_t. The library asks for no more.
+//   - A lot_kernel was LOT_KERNEL_NONE at first, and is changed by nothing except lot_kernel_new and lot_kernel_free.
+//     Where it is copied, only one of the copies may be used from there on.
 //   - No two calls of one kernel overlap, in time or from a signal handler. Different kernels have nothing in common.
-//   - Any thread may call, and a kernel may go from one thread to another, if a lock, a thread's start or end or the like puts the
-//     calls in order.
-//   - What malloc gives is aligned as C says. lot_kernel_new, lot_kernel_free and lot_winner call malloc and free, so they are not for
-//     signal handlers, nor for the forked child of a process with threads.
+//   - Any thread may call, and a kernel may go from one thread to another, if a lock, a thread's start or end or the
+//     like puts the calls in order.
+//   - What malloc returns is aligned as C says.
 //
-// MEMORY. lot_kernel_new takes all the memory that a kernel will ever use: 13 kilobytes for some dozen threads, 6 megabytes at the
-// largest sizes. No event, row or count takes any. lot_kernel_free gives it back. lot_winner takes memory for a copy of the weights,
-// and gives it back before it returns. No other call takes memory.
+// SIGNAL HANDLERS. lot_kernel_new, lot_kernel_free and lot_winner call malloc and free, so they are not for signal
+// handlers, nor for the forked child of a process with threads. The other calls take no memory and no lock, and keep
+// nothing between them, so a handler may make them. It must not use a kernel that the interrupted code may just be
+// calling: block the signal around the calls of that kernel, or set a flag in the handler and give the event later.
 //
-// NUMBERS. Tickets, threads, processors, ports, mutexes and scripts are numbered from 1. Currencies are numbered from 0, which is base.
-// Numbers are given in order of making and never used again.
+// MEMORY. lot_kernel_new takes all the memory that a kernel will ever use: 13 kilobytes for some dozen threads, 6
+// megabytes at the largest sizes. No event, row or count takes any. lot_kernel_free gives it back. lot_winner takes
+// memory for a copy of the weights, and gives it back before it returns. No other call takes memory.
+//
+// STACK. Measured on x86-64 by bindings/c/stack_tests.c: an event takes at most 2.3 kilobytes of stack at any size of
+// the kernel, a row 1.4, lot_kernel_new 10.5, lot_kernel_free 4.4, lot_winner 3.4. The last three are those of glibc's
+// malloc too, and of the dynamic linker, which runs at its first call. Without the linker they are 7.9, 4.0 and 0.6.
+//
+// WHAT THE ARCHIVE NEEDS. Its member lot_c.o calls memcpy and memset, __udivti3 and __umodti3 (divisions of 128 bits,
+// which the compiler's own library has), and the three functions at the end of this header. Its member heap.o defines
+// these three, and calls malloc, realloc and free. The archive needs no other symbol. Its code for x86-64 needs a
+// processor of level x86-64-v2, and uses SSE4.1. Its code for aarch64 needs NEON.
+//
+// NUMBERS. Tickets, threads, processors, ports, mutexes and scripts are numbered from 1. Currencies are numbered from
+// 0, which is base. Numbers are given in order of making and never used again.
+//
+// NAMES. Currencies and threads share one set of names. A dead thread keeps its name: to make another thing of that
+// name is refused, LOT_REFUSAL_NAME_TAKEN. It keeps its number and its row as well, and counts for the limit on
+// threads. A currency that is removed gives its name back.
+//
+// SLEEP AND WAKE have no events of their own. To take a thread out of the draws, have it yield (LOT_YIELD) and take
+// its tickets from it (LOT_UNFUND, one for each). It is ready then and weighs nothing, so no draw picks it. LOT_FUND
+// with the same ticket and the thread's name brings it back, with the compensation that it got for its yield. If it
+// owns a mutex that others wait for, or serves clients, it still weighs what they lend it, and draws pick it.
+//
+// A SERVER WITHOUT TICKETS never reaches its first LOT_RECEIVE: nobody lends it anything yet, so it weighs nothing,
+// and no draw picks it. Give it a ticket. Once it waits at its port it needs none, since its clients lend it theirs.
+// It then replies and takes the next call in one trap, LOT_SERVE.
+//
+// ENUMS. Fields and returns are uint32_t, which has the same size for every compiler, and each has an enum of its
+// values. Switch over the enum and write no default: then the compiler names a case that is missing (-Wswitch, part
+// of -Wall).
+//
+//     switch ((lot_refusal)reply.reason) {               // C
+//     switch (static_cast<lot_refusal>(reply.reason)) {  // C++
 
 #ifndef LOT_H
 #define LOT_H
@@ -42,13 +84,20 @@
 #include <stddef.h>
 #include <stdint.h>
 
+// Both are for this header alone, which undefines them at its end. In C++ each enum has uint32_t below it, so that any
+// number may be cast to it.
 #ifdef __cplusplus
+#define LOT_CAST(type, value) static_cast<type>(value)
+#define LOT_OF_UINT32 : uint32_t
 extern "C" {
+#else
+#define LOT_CAST(type, value) ((type)(value))
+#define LOT_OF_UINT32
 #endif
 
 // ---- what a call answers
 
-enum {
+typedef enum lot_status LOT_OF_UINT32 {
     LOT_DONE = 0,
     LOT_NO_KERNEL = 1,     // the lot_kernel holds no kernel
     LOT_KERNEL_THERE = 2,  // the lot_kernel holds a kernel already
@@ -62,12 +111,32 @@ enum {
     LOT_BAD_SEED = 10,     // a seed or a generator's value that is 0 or above 2147483646
     LOT_NO_WINNER = 11,    // the weights sum to 0
     LOT_TOO_LARGE = 12     // the weights sum to 2 ^ 128 or more
-};
+} lot_status;
+
+// The status in words, to be printed: a string that stays, and "unknown status" for any other number.
+static inline const char *lot_status_text(uint32_t status) {
+    switch (LOT_CAST(lot_status, status)) {
+    case LOT_DONE: return "done";
+    case LOT_NO_KERNEL: return "the handle holds no kernel";
+    case LOT_KERNEL_THERE: return "the handle holds a kernel already";
+    case LOT_BAD_LIMITS: return "a size is out of its bounds";
+    case LOT_NO_MEMORY: return "out of memory";
+    case LOT_BAD_KIND: return "no such kind of event";
+    case LOT_LONG_NAME: return "a name has more than 16 bytes";
+    case LOT_BAD_NAME: return "a name has bytes that no name has";
+    case LOT_NOT_THERE: return "nothing has this number";
+    case LOT_COUNTS_DIFFER: return "not as many replies as events";
+    case LOT_BAD_SEED: return "a seed is out of its range";
+    case LOT_NO_WINNER: return "the weights sum to 0";
+    case LOT_TOO_LARGE: return "the weights sum to 2 ^ 128 or more";
+    }
+    return "unknown status";
+}
 
 // ---- names and wide numbers
 
-// A name of a currency or a thread: the first `length` of the bytes, at most 16, with no 0 at its end. A name that is handed out has 0
-// in the bytes after it.
+// A name of a currency or a thread: the first `length` of the bytes, at most 16, with no 0 at its end. A name that is
+// handed out has 0 in the bytes after it.
 typedef struct lot_name {
     uint32_t length;
     uint8_t bytes[16];
@@ -81,7 +150,7 @@ static inline lot_name lot_name_of(const char *text) {
     lot_name name = {0, {0}};
     while (name.length <= sizeof name.bytes && text[name.length] != 0) {
         if (name.length < sizeof name.bytes) {
-            name.bytes[name.length] = (uint8_t)text[name.length];
+            name.bytes[name.length] = LOT_CAST(uint8_t, text[name.length]);
         }
         name.length++;
     }
@@ -94,6 +163,12 @@ typedef struct lot_wide {
     uint64_t high;
 } lot_wide;
 
+// The wide number that is this one.
+static inline lot_wide lot_wide_of(uint64_t low) {
+    lot_wide wide = {low, 0};
+    return wide;
+}
+
 // ---- a kernel
 
 // What holds a kernel, or none. What it points to is the library's.
@@ -101,7 +176,18 @@ typedef struct lot_kernel {
     void *at;
 } lot_kernel;
 
+// Initialises a lot_kernel that holds none.
+#ifdef __cplusplus
+#define LOT_KERNEL_NONE {nullptr}
+#else
 #define LOT_KERNEL_NONE {NULL}
+#endif
+
+// The same as an expression, to be assigned.
+static inline lot_kernel lot_kernel_none(void) {
+    lot_kernel kernel = LOT_KERNEL_NONE;
+    return kernel;
+}
 
 // How large a kernel is. It never grows.
 typedef struct lot_sizes {
@@ -116,6 +202,13 @@ typedef struct lot_sizes {
     uint32_t unit;       // how much one of base is worth: 1, or 256 for finer shares
 } lot_sizes;
 
+// Sizes to begin with, for 16 threads: 64 tickets, 16 currencies, 2 ports, mutexes and processors, 1 script, a
+// quantum of 100 ticks and a unit of 1. Change what you want otherwise.
+static inline lot_sizes lot_sizes_small(void) {
+    lot_sizes sizes = {64, 16, 16, 2, 2, 2, 1, 100, 1};
+    return sizes;
+}
+
 // Makes a kernel with base alone, for a lot_kernel that holds none. LOT_KERNEL_THERE, LOT_BAD_LIMITS, LOT_NO_MEMORY.
 uint32_t lot_kernel_new(const lot_sizes *sizes, lot_kernel *kernel);
 
@@ -124,8 +217,8 @@ uint32_t lot_kernel_free(lot_kernel *kernel);
 
 // ---- events
 
-// The kinds of events, with the fields that each reads.
-enum {
+// The kinds of events, with the fields that each reads. Each has a function below that makes such an event.
+typedef enum lot_event_kind LOT_OF_UINT32 {
     LOT_MAKE_TICKET = 1,     // amount (1 to 4294967295), currency
     LOT_REMOVE_TICKET = 2,   // ticket
     LOT_MAKE_CURRENCY = 3,   // name
@@ -138,22 +231,21 @@ enum {
     LOT_LIST_CURRENCIES = 10,
     LOT_LIST_THREADS = 11,
     LOT_DRAW = 12,    // processor, number: a drawn number, any 128 bits
-    LOT_EXPIRE = 13,  // processor: the running thread's quantum is over
-    LOT_YIELD = 14,   // processor, ticks. From here to LOT_SERVE: traps of the running thread, after `ticks` ticks of work;
-    LOT_CALL = 15,    // processor, ticks, object: a port, sent         the trap itself costs one tick more
+    LOT_EXPIRE = 13,  // processor: the running thread's quantum is over, and what is left of it counts as used
+    LOT_YIELD = 14,   // processor, ticks. From here to LOT_SERVE: traps of the running thread, after `ticks` ticks of
+    LOT_CALL = 15,    // processor, ticks, object: a port, sent         work; the trap itself costs one tick more
     LOT_RECEIVE = 16, // processor, ticks, object: a port
     LOT_REPLY = 17,   // processor, ticks, sent
     LOT_LOCK = 18,    // processor, ticks, object: a mutex
     LOT_UNLOCK = 19,  // processor, ticks, object: a mutex, number: a drawn number
     LOT_EXIT = 20,    // processor, ticks
     LOT_SERVE = 21,   // processor, ticks, object: a port, sent: a reply, and then a receipt at the port
-    // Inflation and deflation (3.2): the ticket gets another amount, which counts at once, and goes on funding what it funds.
-    LOT_SET_TICKET = 22 // ticket, amount (1 to 4294967295). Refused: LOT_REFUSAL_BAD_AMOUNT, else LOT_REFUSAL_NO_TICKET
-};
+    LOT_SET_TICKET = 22 // ticket, amount (1 to 4294967295): inflation and deflation (3.2)
+} lot_event_kind;
 
 // An event. A struct that is all 0 has no kind.
 typedef struct lot_event {
-    uint32_t kind;
+    uint32_t kind; // lot_event_kind
     uint32_t processor;
     uint32_t ticks;
     uint32_t object;
@@ -166,8 +258,140 @@ typedef struct lot_event {
     lot_name name;
 } lot_event;
 
+// ---- events, made by functions
+
+// The event with these fields, in the order of lot_event. For this header alone. An expression is built in place,
+// where gcc would copy a variable that a function returns, and so make a draw slower.
+#ifdef __cplusplus
+#define LOT_EVENT(...) lot_event{__VA_ARGS__}
+#else
+#define LOT_EVENT(...) ((lot_event){__VA_ARGS__})
+#endif
+
+// An event of this kind whose other fields are 0.
+static inline lot_event lot_event_of(uint32_t kind) {
+    return LOT_EVENT(kind, 0, 0, 0, 0, 0, {0, 0}, 0, 0, {0, {0}}, {0, {0}});
+}
+
+// Makes a ticket of this amount, 1 to 4294967295, that the currency issues. It funds nothing yet.
+static inline lot_event lot_make_ticket(uint64_t amount, lot_name currency) {
+    return LOT_EVENT(LOT_MAKE_TICKET, 0, 0, 0, 0, 0, {0, 0}, amount, 0, currency, {0, {0}});
+}
+
+// Removes a ticket that funds nothing.
+static inline lot_event lot_remove_ticket(uint64_t ticket) {
+    return LOT_EVENT(LOT_REMOVE_TICKET, 0, 0, 0, 0, 0, {0, 0}, 0, ticket, {0, {0}}, {0, {0}});
+}
+
+// Gives a ticket another amount, 1 to 4294967295, which counts at once. The ticket goes on funding what it funds.
+static inline lot_event lot_set_ticket(uint64_t ticket, uint64_t amount) {
+    return LOT_EVENT(LOT_SET_TICKET, 0, 0, 0, 0, 0, {0, 0}, amount, ticket, {0, {0}}, {0, {0}});
+}
+
+// Makes a currency with this name.
+static inline lot_event lot_make_currency(lot_name name) {
+    return LOT_EVENT(LOT_MAKE_CURRENCY, 0, 0, 0, 0, 0, {0, 0}, 0, 0, {0, {0}}, name);
+}
+
+// Removes a currency that issues no ticket and that no ticket funds.
+static inline lot_event lot_remove_currency(lot_name currency) {
+    return LOT_EVENT(LOT_REMOVE_CURRENCY, 0, 0, 0, 0, 0, {0, 0}, 0, 0, currency, {0, {0}});
+}
+
+// Has a ticket that funds nothing fund the currency or thread of this name.
+static inline lot_event lot_fund(uint64_t ticket, lot_name target) {
+    return LOT_EVENT(LOT_FUND, 0, 0, 0, 0, 0, {0, 0}, 0, ticket, {0, {0}}, target);
+}
+
+// Has a ticket fund nothing any more.
+static inline lot_event lot_unfund(uint64_t ticket) {
+    return LOT_EVENT(LOT_UNFUND, 0, 0, 0, 0, 0, {0, 0}, 0, ticket, {0, {0}}, {0, {0}});
+}
+
+// Makes a thread with this name and script, 1 to `scripts`. Nothing funds it yet.
+static inline lot_event lot_make_thread(lot_name name, uint32_t script) {
+    return LOT_EVENT(LOT_MAKE_THREAD, 0, 0, 0, 0, script, {0, 0}, 0, 0, {0, {0}}, name);
+}
+
+// Makes a thread with this name and script, 1 to `scripts`, and a ticket of this amount, 1 to 4294967295, that the
+// currency issues and that funds the thread.
+static inline lot_event lot_make_funded(uint64_t amount, lot_name currency, lot_name name, uint32_t script) {
+    return LOT_EVENT(LOT_MAKE_FUNDED, 0, 0, 0, 0, script, {0, 0}, amount, 0, currency, name);
+}
+
+// Asks for the tickets. The reply has none of them: lot_kernel_ticket_row reads each.
+static inline lot_event lot_list_tickets(void) {
+    return LOT_EVENT(LOT_LIST_TICKETS, 0, 0, 0, 0, 0, {0, 0}, 0, 0, {0, {0}}, {0, {0}});
+}
+
+// Asks for the currencies. The reply has none of them: lot_kernel_currency_row reads each.
+static inline lot_event lot_list_currencies(void) {
+    return LOT_EVENT(LOT_LIST_CURRENCIES, 0, 0, 0, 0, 0, {0, 0}, 0, 0, {0, {0}}, {0, {0}});
+}
+
+// Asks for the threads. The reply has none of them: lot_kernel_thread_row reads each.
+static inline lot_event lot_list_threads(void) {
+    return LOT_EVENT(LOT_LIST_THREADS, 0, 0, 0, 0, 0, {0, 0}, 0, 0, {0, {0}}, {0, {0}});
+}
+
+// Holds a lottery over the ready threads with this number, any 128 bits. The winner runs on the processor, which must
+// be idle.
+static inline lot_event lot_draw(uint32_t processor, lot_wide number) {
+    return LOT_EVENT(LOT_DRAW, processor, 0, 0, 0, 0, number, 0, 0, {0, {0}}, {0, {0}});
+}
+
+// Ends the quantum of the thread that runs on the processor. What is left of the quantum counts as used.
+static inline lot_event lot_expire(uint32_t processor) {
+    return LOT_EVENT(LOT_EXPIRE, processor, 0, 0, 0, 0, {0, 0}, 0, 0, {0, {0}}, {0, {0}});
+}
+
+// From here on: traps of the thread that runs on the processor, after `ticks` ticks of work. The trap itself costs one
+// tick more, and all of these must fit in what is left of the quantum.
+
+// The thread gives up its processor, and is compensated for what is left of its quantum.
+static inline lot_event lot_yield(uint32_t processor, uint32_t ticks) {
+    return LOT_EVENT(LOT_YIELD, processor, ticks, 0, 0, 0, {0, 0}, 0, 0, {0, {0}}, {0, {0}});
+}
+
+// The thread sends a number to a port, and waits for a reply.
+static inline lot_event lot_call(uint32_t processor, uint32_t ticks, uint32_t port, uint32_t sent) {
+    return LOT_EVENT(LOT_CALL, processor, ticks, port, sent, 0, {0, 0}, 0, 0, {0, {0}}, {0, {0}});
+}
+
+// The thread takes the call that has waited longest at a port. If there is none, it waits for one.
+static inline lot_event lot_receive(uint32_t processor, uint32_t ticks, uint32_t port) {
+    return LOT_EVENT(LOT_RECEIVE, processor, ticks, port, 0, 0, {0, 0}, 0, 0, {0, {0}}, {0, {0}});
+}
+
+// The thread replies with a number to the client that it took first: LOT_REPLY. (The struct has the name lot_reply.)
+static inline lot_event lot_reply_with(uint32_t processor, uint32_t ticks, uint32_t sent) {
+    return LOT_EVENT(LOT_REPLY, processor, ticks, 0, sent, 0, {0, 0}, 0, 0, {0, {0}}, {0, {0}});
+}
+
+// The thread replies with a number to the client that it took first, and then receives at a port.
+static inline lot_event lot_serve(uint32_t processor, uint32_t ticks, uint32_t port, uint32_t sent) {
+    return LOT_EVENT(LOT_SERVE, processor, ticks, port, sent, 0, {0, 0}, 0, 0, {0, {0}}, {0, {0}});
+}
+
+// The thread takes a mutex. If another thread owns it, it waits.
+static inline lot_event lot_lock(uint32_t processor, uint32_t ticks, uint32_t mutex) {
+    return LOT_EVENT(LOT_LOCK, processor, ticks, mutex, 0, 0, {0, 0}, 0, 0, {0, {0}}, {0, {0}});
+}
+
+// The thread gives up a mutex. If others wait for it, a lottery with this number, any 128 bits, picks the new owner.
+static inline lot_event lot_unlock(uint32_t processor, uint32_t ticks, uint32_t mutex, lot_wide number) {
+    return LOT_EVENT(LOT_UNLOCK, processor, ticks, mutex, 0, 0, number, 0, 0, {0, {0}}, {0, {0}});
+}
+
+// The thread ends. Its mutexes, its clients and the tickets that fund it stay as they are.
+static inline lot_event lot_exit(uint32_t processor, uint32_t ticks) {
+    return LOT_EVENT(LOT_EXIT, processor, ticks, 0, 0, 0, {0, 0}, 0, 0, {0, {0}}, {0, {0}});
+}
+
+// ---- replies
+
 // The kinds of replies, with the fields that each writes. The others are 0.
-enum {
+typedef enum lot_reply_kind LOT_OF_UINT32 {
     LOT_REPLY_TICKET = 1,   // ticket: made
     LOT_REPLY_CURRENCY = 2, // currency: made
     LOT_REPLY_THREAD = 3,   // thread: made
@@ -176,15 +400,15 @@ enum {
     LOT_REPLY_LIST_TICKETS = 6,
     LOT_REPLY_LIST_CURRENCIES = 7,
     LOT_REPLY_LIST_THREADS = 8,
-    LOT_REPLY_WINNER = 9,   // thread: runs now; number, total, has_draw; sent and has_sent: what was delivered to it, if something was
+    LOT_REPLY_WINNER = 9,   // thread: runs now; number, total, has_draw; sent, has_sent: a number delivered to it
     LOT_REPLY_IDLE = 10,    // no thread has any weight, and nothing has changed
     LOT_REPLY_EXPIRED = 11, // thread, ticks: what it ran
     LOT_REPLY_TRAPPED = 12, // thread, ticks: what it ran; outcome; ends: its quantum is used up, and it runs no more
-    LOT_REPLY_REFUSED = 13  // reason: LOT_REFUSAL_..
-};
+    LOT_REPLY_REFUSED = 13  // reason; nothing has changed
+} lot_reply_kind;
 
-// What a trap comes to, with the fields that it writes.
-enum {
+// What a trap comes to, with the fields that it writes. lot_goes_on says whether its thread still runs.
+typedef enum lot_outcome LOT_OF_UINT32 {
     LOT_OUTCOME_YIELDED = 1,   // it runs no more
     LOT_OUTCOME_SERVED_BY = 2, // other: the thread that serves it; it runs no more
     LOT_OUTCOME_QUEUED = 3,    // it waits for a server, and runs no more
@@ -193,55 +417,123 @@ enum {
     LOT_OUTCOME_REPLIED = 6,   // other: the client
     LOT_OUTCOME_LOCKED = 7,
     LOT_OUTCOME_FREED = 8,
-    LOT_OUTCOME_PASSED = 9,    // other: the mutex's new owner; number, total and has_draw if a lottery was held; it runs no more
-    LOT_OUTCOME_EXITED = 10,   // it runs no more
-    LOT_OUTCOME_REFUSED = 11,  // reason: LOT_TRAP_REFUSAL_..
+    LOT_OUTCOME_PASSED = 9,   // other: the new owner; number, total, has_draw if a lottery was held; it runs no more
+    LOT_OUTCOME_EXITED = 10,  // it runs no more
+    LOT_OUTCOME_REFUSED = 11, // reason; nothing has changed except its ticks
     LOT_OUTCOME_REPLIED_THEN_RECEIVED = 12, // replied_to; other: the client whose call was taken then; sent, has_sent
     LOT_OUTCOME_REPLIED_THEN_WAITS = 13     // replied_to; it waits for a call, and runs no more
-};
+} lot_outcome;
 
-// Why an event is refused. The numbers are those of docs/FORMATS.md, as in the program's output.
-enum {
-    LOT_REFUSAL_BAD_NAME = 1, // never answered here: such a name has a status
-    LOT_REFUSAL_NAME_TAKEN = 2,
-    LOT_REFUSAL_NO_CURRENCY = 3,
-    LOT_REFUSAL_NO_TICKET = 4,
-    LOT_REFUSAL_NO_TARGET = 5,
-    LOT_REFUSAL_BAD_AMOUNT = 6,
-    LOT_REFUSAL_IN_USE = 7,
-    LOT_REFUSAL_FUNDING = 8,
-    LOT_REFUSAL_NOT_FUNDING = 9,
-    LOT_REFUSAL_CYCLE = 10,
-    LOT_REFUSAL_BASE_FIXED = 11,
+// The outcome in words, to be printed: a string that stays, and "unknown outcome" for any other number.
+static inline const char *lot_outcome_text(uint32_t outcome) {
+    switch (LOT_CAST(lot_outcome, outcome)) {
+    case LOT_OUTCOME_YIELDED: return "yielded";
+    case LOT_OUTCOME_SERVED_BY: return "served by a thread";
+    case LOT_OUTCOME_QUEUED: return "queued at a port";
+    case LOT_OUTCOME_WAITS: return "waits";
+    case LOT_OUTCOME_RECEIVED: return "received a call";
+    case LOT_OUTCOME_REPLIED: return "replied";
+    case LOT_OUTCOME_LOCKED: return "locked a mutex";
+    case LOT_OUTCOME_FREED: return "freed a mutex";
+    case LOT_OUTCOME_PASSED: return "passed a mutex on";
+    case LOT_OUTCOME_EXITED: return "exited";
+    case LOT_OUTCOME_REFUSED: return "refused";
+    case LOT_OUTCOME_REPLIED_THEN_RECEIVED: return "replied, then received a call";
+    case LOT_OUTCOME_REPLIED_THEN_WAITS: return "replied, then waits";
+    }
+    return "unknown outcome";
+}
+
+// Why an event or a trap is refused. The numbers are those of docs/FORMATS.md, as in the program's output. The kernel
+// checks in this order, and the first check that fails is the reason:
+//
+//     LOT_MAKE_TICKET        BAD_AMOUNT, NO_CURRENCY, FULL
+//     LOT_REMOVE_TICKET      NO_TICKET, FUNDING
+//     LOT_SET_TICKET         BAD_AMOUNT, NO_TICKET
+//     LOT_MAKE_CURRENCY      NAME_TAKEN, FULL
+//     LOT_REMOVE_CURRENCY    NO_CURRENCY, BASE_FIXED, IN_USE
+//     LOT_FUND               NO_TICKET, NO_TARGET, BASE_FIXED, DEAD_THREAD, FUNDING, CYCLE
+//     LOT_UNFUND             NO_TICKET, NOT_FUNDING
+//     LOT_MAKE_THREAD        NAME_TAKEN, NO_SCRIPT, FULL
+//     LOT_MAKE_FUNDED        BAD_AMOUNT, NO_CURRENCY, NAME_TAKEN, NO_SCRIPT, FULL
+//     the three listings     never refused
+//     LOT_DRAW               BAD_PROCESSOR, BUSY
+//     LOT_EXPIRE             BAD_PROCESSOR, NOT_RUNNING
+//     each trap              BAD_PROCESSOR, NOT_RUNNING, BAD_TICKS; and then, as a refused trap (LOT_OUTCOME_REFUSED):
+//     LOT_CALL, LOT_RECEIVE  NO_PORT
+//     LOT_REPLY              NOTHING_TO_REPLY
+//     LOT_SERVE              NO_PORT, NOTHING_TO_REPLY
+//     LOT_LOCK               NO_MUTEX, ALREADY_OWNER, LOCK_CYCLE
+//     LOT_UNLOCK             NO_MUTEX, NOT_OWNER
+//     LOT_YIELD, LOT_EXIT    no more
+typedef enum lot_refusal LOT_OF_UINT32 {
+    LOT_REFUSAL_BAD_NAME = 1,    // never in a reply: such a name has a status
+    LOT_REFUSAL_NAME_TAKEN = 2,  // a currency or a thread, dead ones too, has the name
+    LOT_REFUSAL_NO_CURRENCY = 3, // no currency has the name
+    LOT_REFUSAL_NO_TICKET = 4,   // no ticket has the number now
+    LOT_REFUSAL_NO_TARGET = 5,   // neither a currency nor a thread has the name
+    LOT_REFUSAL_BAD_AMOUNT = 6,  // 0 or above 4294967295
+    LOT_REFUSAL_IN_USE = 7,      // the currency issues a ticket, or a ticket funds it
+    LOT_REFUSAL_FUNDING = 8,     // the ticket funds something
+    LOT_REFUSAL_NOT_FUNDING = 9, // the ticket funds nothing
+    LOT_REFUSAL_CYCLE = 10,      // currencies would fund each other in a cycle
+    LOT_REFUSAL_BASE_FIXED = 11, // base can't be removed or funded
     LOT_REFUSAL_DEAD_THREAD = 12,
-    LOT_REFUSAL_FULL = 13,
-    LOT_REFUSAL_NO_SCRIPT = 14,
-    LOT_REFUSAL_BAD_PROCESSOR = 20,
-    LOT_REFUSAL_BUSY = 21,
-    LOT_REFUSAL_NOT_RUNNING = 22,
-    LOT_REFUSAL_BAD_TICKS = 23
-};
+    LOT_REFUSAL_FULL = 13,          // as many were made as lot_sizes allows
+    LOT_REFUSAL_NO_SCRIPT = 14,     // 0 or above the number of scripts
+    LOT_REFUSAL_BAD_PROCESSOR = 20, // 0 or above the number of processors
+    LOT_REFUSAL_BUSY = 21,          // a thread runs on the processor
+    LOT_REFUSAL_NOT_RUNNING = 22,   // no thread runs on the processor
+    LOT_REFUSAL_BAD_TICKS = 23,     // the ticks of work and the trap's own are more than what is left of the quantum
+    LOT_TRAP_REFUSAL_NO_PORT = 30,  // from here on of traps: 0 or above the number of ports
+    LOT_TRAP_REFUSAL_NOTHING_TO_REPLY = 32, // the thread serves no client
+    LOT_TRAP_REFUSAL_NO_MUTEX = 33,         // 0 or above the number of mutexes
+    LOT_TRAP_REFUSAL_NOT_OWNER = 34,        // the thread doesn't own the mutex
+    LOT_TRAP_REFUSAL_ALREADY_OWNER = 35,    // the thread owns the mutex
+    LOT_TRAP_REFUSAL_LOCK_CYCLE = 36        // the wait would close a cycle: a deadlock
+} lot_refusal;
 
-// Why a trap is refused. It costs its ticks all the same. The numbers are those of docs/FORMATS.md too.
-enum {
-    LOT_TRAP_REFUSAL_NO_PORT = 30,
-    LOT_TRAP_REFUSAL_NOTHING_TO_REPLY = 32,
-    LOT_TRAP_REFUSAL_NO_MUTEX = 33,
-    LOT_TRAP_REFUSAL_NOT_OWNER = 34,
-    LOT_TRAP_REFUSAL_ALREADY_OWNER = 35,
-    LOT_TRAP_REFUSAL_LOCK_CYCLE = 36
-};
+// The reason in words, to be printed: a string that stays, and "unknown refusal" for any other number.
+static inline const char *lot_refusal_text(uint32_t reason) {
+    switch (LOT_CAST(lot_refusal, reason)) {
+    case LOT_REFUSAL_BAD_NAME: return "bad name";
+    case LOT_REFUSAL_NAME_TAKEN: return "the name is taken";
+    case LOT_REFUSAL_NO_CURRENCY: return "no such currency";
+    case LOT_REFUSAL_NO_TICKET: return "no such ticket";
+    case LOT_REFUSAL_NO_TARGET: return "no currency or thread has the name";
+    case LOT_REFUSAL_BAD_AMOUNT: return "the amount is out of its range";
+    case LOT_REFUSAL_IN_USE: return "the currency is in use";
+    case LOT_REFUSAL_FUNDING: return "the ticket funds something";
+    case LOT_REFUSAL_NOT_FUNDING: return "the ticket funds nothing";
+    case LOT_REFUSAL_CYCLE: return "currencies would fund each other in a cycle";
+    case LOT_REFUSAL_BASE_FIXED: return "base can't be removed or funded";
+    case LOT_REFUSAL_DEAD_THREAD: return "the thread is dead";
+    case LOT_REFUSAL_FULL: return "the limit is used up";
+    case LOT_REFUSAL_NO_SCRIPT: return "no such script";
+    case LOT_REFUSAL_BAD_PROCESSOR: return "no such processor";
+    case LOT_REFUSAL_BUSY: return "a thread runs on the processor";
+    case LOT_REFUSAL_NOT_RUNNING: return "no thread runs on the processor";
+    case LOT_REFUSAL_BAD_TICKS: return "more ticks than the quantum has left";
+    case LOT_TRAP_REFUSAL_NO_PORT: return "no such port";
+    case LOT_TRAP_REFUSAL_NOTHING_TO_REPLY: return "the thread serves no client";
+    case LOT_TRAP_REFUSAL_NO_MUTEX: return "no such mutex";
+    case LOT_TRAP_REFUSAL_NOT_OWNER: return "the thread doesn't own the mutex";
+    case LOT_TRAP_REFUSAL_ALREADY_OWNER: return "the thread owns the mutex already";
+    case LOT_TRAP_REFUSAL_LOCK_CYCLE: return "the wait would close a cycle";
+    }
+    return "unknown refusal";
+}
 
 typedef struct lot_reply {
     lot_wide number; // what was drawn in a lottery, below the total
     lot_wide total;  // the sum of the weights in a lottery
-    uint32_t kind;
-    uint32_t reason;
+    uint32_t kind;   // lot_reply_kind
+    uint32_t reason; // lot_refusal
     uint32_t ticket;
     uint32_t currency;
     uint32_t thread;
     uint32_t ticks;
-    uint32_t outcome;
+    uint32_t outcome; // lot_outcome
     uint32_t other;
     uint32_t replied_to;
     uint32_t sent;
@@ -250,13 +542,41 @@ typedef struct lot_reply {
     bool ends;
 } lot_reply;
 
+// Whether the thread that made a trap still runs on its processor, by the reply to the trap. If it doesn't, draw
+// there. A trap that is refused with LOT_REFUSAL_BAD_TICKS has changed nothing, so its thread still runs. It is false
+// for the reply to any other event.
+static inline bool lot_goes_on(const lot_reply *reply) {
+    if (reply->kind != LOT_REPLY_TRAPPED) {
+        return reply->kind == LOT_REPLY_REFUSED && reply->reason == LOT_REFUSAL_BAD_TICKS;
+    }
+    switch (LOT_CAST(lot_outcome, reply->outcome)) {
+    case LOT_OUTCOME_RECEIVED:
+    case LOT_OUTCOME_REPLIED:
+    case LOT_OUTCOME_LOCKED:
+    case LOT_OUTCOME_FREED:
+    case LOT_OUTCOME_REFUSED:
+    case LOT_OUTCOME_REPLIED_THEN_RECEIVED:
+        return !reply->ends;
+    case LOT_OUTCOME_YIELDED:
+    case LOT_OUTCOME_SERVED_BY:
+    case LOT_OUTCOME_QUEUED:
+    case LOT_OUTCOME_WAITS:
+    case LOT_OUTCOME_PASSED:
+    case LOT_OUTCOME_EXITED:
+    case LOT_OUTCOME_REPLIED_THEN_WAITS:
+        return false;
+    }
+    return false;
+}
+
 // One event, and its reply. LOT_NO_KERNEL, LOT_BAD_KIND, LOT_LONG_NAME, LOT_BAD_NAME.
 uint32_t lot_kernel_event(lot_kernel *kernel, const lot_event *event, lot_reply *reply);
 
-// Events in order, and the reply to each in its place, up to the first event that has a status of its own: that is answered, and `done`
-// says how many were done before it. If all were done, LOT_DONE. LOT_COUNTS_DIFFER and LOT_NO_KERNEL leave all as it was, `done` too.
-uint32_t lot_kernel_run(lot_kernel *kernel, const lot_event *events, size_t event_count, lot_reply *replies, size_t reply_count,
-                        size_t *done);
+// Events in order, and the reply to each in its place, up to the first event that has a status of its own: the call
+// returns that status, and `done` says how many were done before it. If all were done, LOT_DONE. LOT_COUNTS_DIFFER
+// and LOT_NO_KERNEL leave all as it was, `done` too.
+uint32_t lot_kernel_run(lot_kernel *kernel, const lot_event *events, size_t event_count, lot_reply *replies,
+                        size_t reply_count, size_t *done);
 
 // ---- rows: what is there
 
@@ -278,7 +598,7 @@ typedef struct lot_currency_row {
 } lot_currency_row;
 
 // What a thread is doing.
-enum {
+typedef enum lot_thread_status_kind LOT_OF_UINT32 {
     LOT_STATUS_READY = 1,
     LOT_STATUS_RUNNING = 2,   // processor, used: the ticks of its quantum, below the quantum
     LOT_STATUS_RECEIVING = 3, // other: the port at which it waits for a call
@@ -286,10 +606,10 @@ enum {
     LOT_STATUS_SERVED = 5,    // other: the thread that serves it
     LOT_STATUS_WAITING = 6,   // other: the mutex that it waits for
     LOT_STATUS_DEAD = 7
-};
+} lot_thread_status_kind;
 
 typedef struct lot_thread_status {
-    uint32_t kind;
+    uint32_t kind; // lot_thread_status_kind
     uint32_t processor;
     uint32_t used;
     uint32_t other;
@@ -304,8 +624,8 @@ typedef struct lot_thread_row {
     lot_name name;
 } lot_thread_row;
 
-// The row of the ticket, currency or thread with this number. LOT_NO_KERNEL, LOT_NOT_THERE. They compute values that are out of date,
-// and count that; the kernel's answers stay the same.
+// The row of the ticket, currency or thread with this number. LOT_NO_KERNEL, LOT_NOT_THERE. They compute values that
+// are out of date, and count that, so the kernel isn't const; its replies stay the same.
 uint32_t lot_kernel_ticket_row(lot_kernel *kernel, uint32_t ticket, lot_ticket_row *row);
 uint32_t lot_kernel_currency_row(lot_kernel *kernel, uint32_t currency, lot_currency_row *row);
 uint32_t lot_kernel_thread_row(lot_kernel *kernel, uint32_t thread, lot_thread_row *row);
@@ -321,8 +641,8 @@ uint32_t lot_kernel_runner(lot_kernel *kernel, uint32_t processor, lot_runner *r
 // The script that the thread was made with. LOT_NO_KERNEL, LOT_NOT_THERE.
 uint32_t lot_kernel_script_of(lot_kernel *kernel, uint32_t thread, uint32_t *script);
 
-// How many tickets or currencies were made, removed ones too: their numbers are 1 to the count, and 0 to below the count. Threads have
-// the numbers from 1 up to the first that has no row. LOT_NO_KERNEL.
+// How many tickets or currencies were made, removed ones too: their numbers are 1 to the count, and 0 to below the
+// count. Threads have the numbers from 1 up to the first that has no row. LOT_NO_KERNEL.
 uint32_t lot_kernel_ticket_count(lot_kernel *kernel, uint32_t *count);
 uint32_t lot_kernel_currency_count(lot_kernel *kernel, uint32_t *count);
 
@@ -339,7 +659,8 @@ uint32_t lot_kernel_meter(lot_kernel *kernel, lot_meter *meter);
 
 // ---- the lottery alone
 
-// The generator of Park and Miller, whose values are 1 to 2147483646: each is 16807 times the one before, modulo 2147483647.
+// The generator of Park and Miller, whose values are 1 to 2147483646: each is 16807 times the one before, modulo
+// 2147483647.
 typedef struct lot_generator {
     uint32_t value;
 } lot_generator;
@@ -350,27 +671,56 @@ uint32_t lot_generator_new(uint32_t seed, lot_generator *generator);
 // Goes on to the next value, and writes it. LOT_BAD_SEED: the generator's value is out of its range.
 uint32_t lot_generator_next(lot_generator *generator, uint32_t *value);
 
-// Writes the number that is drawn from the next two values, 0 to 4611686009837453315, and goes on to the second. LOT_BAD_SEED.
+// Writes the number that is drawn from the next two values, 0 to 4611686009837453315, and goes on to the second.
+// LOT_BAD_SEED.
 uint32_t lot_generator_number(lot_generator *generator, uint64_t *number);
 
-// Writes the wide number that is drawn from the next four values, below 2 ^ 124, and goes on to the fourth. LOT_BAD_SEED.
+// Writes the wide number that is drawn from the next four values, below 2 ^ 124, and goes on to the fourth.
+// LOT_BAD_SEED.
 uint32_t lot_generator_wide_number(lot_generator *generator, lot_wide *number);
 
-// Writes what a thread of this value weighs in a draw. `compensation` is how many ticks of its quantum it had used when it yielded or
-// blocked before the quantum's end, 0 for none: then the weight is value * quantum / compensation, rounded down, else it is the value.
+// Writes what a thread of this value weighs in a draw. `compensation` is how many ticks of its quantum it had used
+// when it yielded or blocked before the quantum's end, 0 for none. With a compensation the weight is value * quantum
+// / compensation, rounded down; otherwise it is the value.
 void lot_weight(uint64_t value, uint32_t compensation, uint32_t quantum, lot_wide *weight);
 
 typedef struct lot_drawn {
     lot_wide number; // the number modulo the total
     lot_wide total;  // the sum of the weights
-    uint64_t place;  // the winner's place among the weights, from 0: the first whose running sum is greater than the number
+    uint64_t place;  // the winner's, from 0: the first weight whose running sum is greater than the number
 } lot_drawn;
 
 // Holds a lottery over the weights with this number, any 128 bits. LOT_NO_WINNER, LOT_TOO_LARGE, LOT_NO_MEMORY.
 uint32_t lot_winner(const lot_wide *weights, size_t count, const lot_wide *number, lot_drawn *drawn);
 
+// ---- the heap, for a host without malloc
+
+// A block of memory, or that there is none.
+typedef struct lot_block {
+    bool ok;  // whether there was memory
+    void *at; // the block; not NULL, even if there was no memory
+} lot_block;
+
+// The library takes memory by these three functions; they are not for you to call. The archive's heap.o defines them
+// by malloc, realloc and free. A program that defines all three itself links its own, and then needs no malloc.
+//
+//   - rattle_alloc returns a block of `size` bytes, or of at least one byte if `size` is 0.
+//   - rattle_realloc returns a block of `size` bytes that begins with the first `kept` bytes of the block `at`. It
+//     gives up that block, unless there was no memory.
+//   - rattle_dealloc gives up a block.
+//
+// `align` is a power of two, at most 16. A block is aligned to every power of two up to 16 that divides its size, and
+// to `align`. It stays where it is until it is given up.
+lot_block rattle_alloc(size_t size, size_t align);
+lot_block rattle_realloc(void *at, size_t kept, size_t size, size_t align);
+void rattle_dealloc(void *at);
+
 #ifdef __cplusplus
 }
 #endif
+
+#undef LOT_CAST
+#undef LOT_EVENT
+#undef LOT_OF_UINT32
 
 #endif

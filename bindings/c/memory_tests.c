@@ -1,39 +1,29 @@
-// Tests of what takes memory: each allocation is refused in turn, and none is made after the start. The three functions of heap.c are
-// defined here, so that they can count and refuse.
+// Tests of what takes memory: each allocation is refused in turn, and none is made after the start. The three
+// functions of the heap are defined here, so that they can count and refuse.
 
 #include "lot.h"
 
 #include <stdio.h>
 #include <stdlib.h>
 
-struct tried {
-    bool ok;
-    void *at;
-};
-
 static unsigned long asked, refused_at, held;
 static char nowhere[16];
 
-static struct tried tried_at(void *at) {
-    struct tried answer = {at != NULL, at != NULL ? at : (void *)nowhere};
-    return answer;
+static lot_block block_at(void *at) {
+    return (lot_block){.ok = at != NULL, .at = at != NULL ? at : (void *)nowhere};
 }
 
-struct tried rattle_alloc(size_t size, size_t align);
-struct tried rattle_realloc(void *at, size_t kept, size_t size, size_t align);
-void rattle_dealloc(void *at);
-
-struct tried rattle_alloc(size_t size, size_t align) {
+lot_block rattle_alloc(size_t size, size_t align) {
     if (++asked == refused_at) {
-        return tried_at(NULL);
+        return block_at(NULL);
     }
     held++;
-    return tried_at(malloc(size != 0 ? size : align));
+    return block_at(malloc(size != 0 ? size : align));
 }
 
-struct tried rattle_realloc(void *at, size_t kept, size_t size, size_t align) {
+lot_block rattle_realloc(void *at, size_t kept, size_t size, size_t align) {
     (void)kept;
-    return tried_at(++asked == refused_at ? NULL : realloc(at, size != 0 ? size : align));
+    return block_at(++asked == refused_at ? NULL : realloc(at, size != 0 ? size : align));
 }
 
 void rattle_dealloc(void *at) {
@@ -50,8 +40,8 @@ static void check(bool holds, int line) {
 
 #define CHECK(holds) check((holds), __LINE__)
 
-static const lot_sizes SIZES = {.tickets = 8, .currencies = 2, .threads = 8, .ports = 1, .mutexes = 1, .processors = 1, .scripts = 1,
-                                .quantum = 100, .unit = 1};
+static const lot_sizes SIZES = {.tickets = 8, .currencies = 2, .threads = 8, .ports = 1, .mutexes = 1,
+                                .processors = 1, .scripts = 1, .quantum = 100, .unit = 1};
 
 // Refuses each allocation of a new kernel in turn: no kernel is there then, and all memory is given back.
 static void new_kernels(void) {
@@ -72,7 +62,7 @@ static void new_kernels(void) {
 // No event and no row takes memory, though all is refused.
 static void no_more(void) {
     lot_kernel kernel = LOT_KERNEL_NONE;
-    lot_event event = {.kind = LOT_MAKE_FUNDED, .amount = 3, .currency = lot_name_of("base"), .name = lot_name_of("a"), .script = 1};
+    lot_event event = lot_make_funded(3, lot_name_of("base"), lot_name_of("a"), 1);
     lot_reply reply;
     lot_thread_row row;
     size_t done;
@@ -80,9 +70,9 @@ static void no_more(void) {
     CHECK(lot_kernel_new(&SIZES, &kernel) == LOT_DONE);
     unsigned long before = asked;
     CHECK(lot_kernel_event(&kernel, &event, &reply) == LOT_DONE && reply.kind == LOT_REPLY_FUNDED);
-    event = (lot_event){.kind = LOT_DRAW, .processor = 1, .number = {.low = 1}};
+    event = lot_draw(1, lot_wide_of(1));
     CHECK(lot_kernel_run(&kernel, &event, 1, &reply, 1, &done) == LOT_DONE && reply.kind == LOT_REPLY_WINNER);
-    event = (lot_event){.kind = LOT_LOCK, .processor = 1, .object = 1};
+    event = lot_lock(1, 0, 1);
     CHECK(lot_kernel_event(&kernel, &event, &reply) == LOT_DONE && reply.outcome == LOT_OUTCOME_LOCKED);
     CHECK(lot_kernel_thread_row(&kernel, 1, &row) == LOT_DONE && row.value == 3);
     CHECK(asked == before);
@@ -93,10 +83,10 @@ static void no_more(void) {
 // A lottery takes memory for the weights and gives it back, or says that there is none.
 static void winners(void) {
     lot_wide weights[40];
-    const lot_wide number = {.low = 39, .high = 0};
+    const lot_wide number = lot_wide_of(39);
     lot_drawn drawn = {.place = 77};
     for (size_t i = 0; i < 40; i++) {
-        weights[i] = (lot_wide){.low = 1, .high = 0};
+        weights[i] = lot_wide_of(1);
     }
     asked = 0;
     refused_at = 1;

@@ -20,8 +20,8 @@ static void check(bool holds, const char *text, int line) {
     }
 }
 
-static const lot_sizes SMALL = {.tickets = 64, .currencies = 16, .threads = 16, .ports = 2, .mutexes = 2, .processors = 2,
-                                .scripts = 1, .quantum = 100, .unit = 1};
+static const lot_sizes SMALL = {.tickets = 64, .currencies = 16, .threads = 16, .ports = 2, .mutexes = 2,
+                                .processors = 2, .scripts = 1, .quantum = 100, .unit = 1};
 
 static lot_kernel made(const lot_sizes *sizes) {
     lot_kernel kernel = LOT_KERNEL_NONE;
@@ -37,26 +37,11 @@ static lot_reply answer(lot_kernel *kernel, lot_event event) {
 }
 
 static lot_reply funded(lot_kernel *kernel, uint64_t amount, const char *currency, const char *name) {
-    lot_event event = {.kind = LOT_MAKE_FUNDED, .amount = amount, .currency = lot_name_of(currency), .name = lot_name_of(name),
-                       .script = 1};
-    return answer(kernel, event);
-}
-
-static lot_reply named(lot_kernel *kernel, uint32_t kind, uint64_t ticket, uint64_t amount, const char *currency,
-                       const char *name) {
-    lot_event event = {.kind = kind, .ticket = ticket, .amount = amount, .currency = lot_name_of(currency),
-                       .name = lot_name_of(name), .script = 1};
-    return answer(kernel, event);
+    return answer(kernel, lot_make_funded(amount, lot_name_of(currency), lot_name_of(name), 1));
 }
 
 static lot_reply drawn(lot_kernel *kernel, uint32_t processor, uint64_t number) {
-    lot_event event = {.kind = LOT_DRAW, .processor = processor, .number = {.low = number}};
-    return answer(kernel, event);
-}
-
-static lot_reply trapped(lot_kernel *kernel, uint32_t kind, uint32_t ticks, uint32_t object, uint32_t sent) {
-    lot_event event = {.kind = kind, .processor = 1, .ticks = ticks, .object = object, .sent = sent};
-    return answer(kernel, event);
+    return answer(kernel, lot_draw(processor, lot_wide_of(number)));
 }
 
 static bool is_refused(lot_reply reply, uint32_t reason) {
@@ -64,12 +49,13 @@ static bool is_refused(lot_reply reply, uint32_t reason) {
 }
 
 static bool has_won(lot_reply reply, uint32_t thread, uint64_t number, uint64_t total) {
-    return reply.kind == LOT_REPLY_WINNER && reply.thread == thread && reply.number.low == number && reply.number.high == 0 &&
-           reply.total.low == total && reply.total.high == 0 && reply.has_draw;
+    return reply.kind == LOT_REPLY_WINNER && reply.thread == thread && reply.has_draw && reply.number.low == number &&
+           reply.number.high == 0 && reply.total.low == total && reply.total.high == 0;
 }
 
 static bool came_to(lot_reply reply, uint32_t thread, uint32_t outcome, uint32_t other) {
-    return reply.kind == LOT_REPLY_TRAPPED && reply.thread == thread && reply.outcome == outcome && reply.other == other;
+    return reply.kind == LOT_REPLY_TRAPPED && reply.thread == thread && reply.outcome == outcome &&
+           reply.other == other;
 }
 
 static bool is_name(lot_name name, const char *text) {
@@ -93,7 +79,7 @@ static void list_lottery(void) {
     for (size_t i = 0; i < 11; i++) {
         CHECK(has_won(drawn(&kernel, 1, draws[i][0]), (uint32_t)draws[i][1], draws[i][2], 20));
         CHECK(is_refused(drawn(&kernel, 1, 0), LOT_REFUSAL_BUSY));
-        lot_reply reply = answer(&kernel, (lot_event){.kind = LOT_EXPIRE, .processor = 1});
+        lot_reply reply = answer(&kernel, lot_expire(1));
         CHECK(reply.kind == LOT_REPLY_EXPIRED && reply.thread == draws[i][1] && reply.ticks == 100);
     }
     CHECK(lot_kernel_free(&kernel) == LOT_DONE);
@@ -106,15 +92,19 @@ static void make_graph(lot_kernel *kernel) {
     static const struct {
         uint64_t amount;
         const char *currency, *target;
-    } tickets[5] = {{1000, "base", "alice"}, {2000, "base", "bob"}, {100, "alice", "task1"}, {200, "alice", "task2"}, {100, "bob", "task3"}};
+    } tickets[5] = {{1000, "base", "alice"},
+                    {2000, "base", "bob"},
+                    {100, "alice", "task1"},
+                    {200, "alice", "task2"},
+                    {100, "bob", "task3"}};
     for (uint32_t i = 0; i < 5; i++) {
-        lot_reply reply = named(kernel, LOT_MAKE_CURRENCY, 0, 0, "", currencies[i]);
+        lot_reply reply = answer(kernel, lot_make_currency(lot_name_of(currencies[i])));
         CHECK(reply.kind == LOT_REPLY_CURRENCY && reply.currency == i + 1);
     }
     for (uint32_t i = 0; i < 5; i++) {
-        lot_reply reply = named(kernel, LOT_MAKE_TICKET, 0, tickets[i].amount, tickets[i].currency, "");
+        lot_reply reply = answer(kernel, lot_make_ticket(tickets[i].amount, lot_name_of(tickets[i].currency)));
         CHECK(reply.kind == LOT_REPLY_TICKET && reply.ticket == i + 1);
-        CHECK(named(kernel, LOT_FUND, i + 1, 0, "", tickets[i].target).kind == LOT_REPLY_DONE);
+        CHECK(answer(kernel, lot_fund(i + 1, lot_name_of(tickets[i].target))).kind == LOT_REPLY_DONE);
     }
     CHECK(funded(kernel, 200, "task2", "thread2").thread == 1);
     CHECK(funded(kernel, 300, "task2", "thread3").thread == 2);
@@ -132,15 +122,15 @@ static void currency_graph(void) {
     }
     lot_currency_row currency;
     CHECK(lot_kernel_currency_row(&kernel, 4, &currency) == LOT_DONE);
-    CHECK(is_name(currency.name, "task2") && currency.backing == 1 && currency.issued == 2 && currency.active_amount == 500 &&
-          currency.value == 1000);
+    CHECK(is_name(currency.name, "task2") && currency.backing == 1 && currency.issued == 2);
+    CHECK(currency.active_amount == 500 && currency.value == 1000);
     lot_ticket_row ticket;
     CHECK(lot_kernel_ticket_row(&kernel, 3, &ticket) == LOT_DONE);
-    CHECK(is_name(ticket.issuer, "alice") && ticket.has_target && is_name(ticket.target, "task1") && !ticket.is_active &&
-          ticket.value == 0 && ticket.amount == 100);
-    CHECK(named(&kernel, LOT_UNFUND, 3, 0, "", "").kind == LOT_REPLY_DONE);
+    CHECK(is_name(ticket.issuer, "alice") && ticket.has_target && is_name(ticket.target, "task1"));
+    CHECK(!ticket.is_active && ticket.value == 0 && ticket.amount == 100);
+    CHECK(answer(&kernel, lot_unfund(3)).kind == LOT_REPLY_DONE);
     CHECK(lot_kernel_ticket_row(&kernel, 3, &ticket) == LOT_DONE && !ticket.has_target && ticket.target.length == 0);
-    CHECK(named(&kernel, LOT_REMOVE_TICKET, 3, 0, "", "").kind == LOT_REPLY_DONE);
+    CHECK(answer(&kernel, lot_remove_ticket(3)).kind == LOT_REPLY_DONE);
     CHECK(lot_kernel_ticket_row(&kernel, 3, &ticket) == LOT_NOT_THERE);
     uint32_t count = 0;
     CHECK(lot_kernel_ticket_count(&kernel, &count) == LOT_DONE && count == 8);
@@ -156,26 +146,27 @@ static bool is_worth(lot_kernel *kernel, uint32_t thread, uint64_t value) {
 
 // Inflation and deflation (3.2): 100 of base back alice, whose threads a and b have 10 of it each; c has 100 of base.
 static void inflation(void) {
-    lot_event expiry = {.kind = LOT_EXPIRE, .processor = 1};
+    const lot_event expiry = lot_expire(1);
     lot_kernel kernel = made(&SMALL);
-    CHECK(named(&kernel, LOT_MAKE_CURRENCY, 0, 0, "", "alice").currency == 1);
-    CHECK(named(&kernel, LOT_MAKE_TICKET, 0, 100, "base", "").ticket == 1);
-    CHECK(named(&kernel, LOT_FUND, 1, 0, "", "alice").kind == LOT_REPLY_DONE);
+    CHECK(answer(&kernel, lot_make_currency(lot_name_of("alice"))).currency == 1);
+    CHECK(answer(&kernel, lot_make_ticket(100, lot_name_of("base"))).ticket == 1);
+    CHECK(answer(&kernel, lot_fund(1, lot_name_of("alice"))).kind == LOT_REPLY_DONE);
     CHECK(funded(&kernel, 10, "alice", "a").ticket == 2 && funded(&kernel, 10, "alice", "b").ticket == 3);
     CHECK(funded(&kernel, 100, "base", "c").ticket == 4);
     CHECK(has_won(drawn(&kernel, 1, 50), 2, 50, 200) && answer(&kernel, expiry).thread == 2);
     // More of alice's tickets for a: it takes a share of b's, and none of c's.
-    CHECK(named(&kernel, LOT_SET_TICKET, 2, 30, "", "").kind == LOT_REPLY_DONE);
+    CHECK(answer(&kernel, lot_set_ticket(2, 30)).kind == LOT_REPLY_DONE);
     lot_ticket_row ticket;
-    CHECK(lot_kernel_ticket_row(&kernel, 2, &ticket) == LOT_DONE && ticket.amount == 30 && ticket.value == 75 && ticket.is_active);
+    CHECK(lot_kernel_ticket_row(&kernel, 2, &ticket) == LOT_DONE && ticket.amount == 30 && ticket.value == 75);
+    CHECK(ticket.is_active);
     CHECK(is_name(ticket.issuer, "alice") && ticket.has_target && is_name(ticket.target, "a"));
     CHECK(is_worth(&kernel, 1, 75) && is_worth(&kernel, 2, 25) && is_worth(&kernel, 3, 100));
     CHECK(has_won(drawn(&kernel, 1, 50), 1, 50, 200) && answer(&kernel, expiry).thread == 1);
     // Fewer of base's for alice: 20 for a and b, whose shares of them stay 3 to 1.
-    CHECK(named(&kernel, LOT_SET_TICKET, 1, 20, "", "").kind == LOT_REPLY_DONE);
+    CHECK(answer(&kernel, lot_set_ticket(1, 20)).kind == LOT_REPLY_DONE);
     CHECK(has_won(drawn(&kernel, 1, 15), 2, 15, 120) && answer(&kernel, expiry).thread == 2);
     CHECK(is_worth(&kernel, 1, 15) && is_worth(&kernel, 2, 5) && is_worth(&kernel, 3, 100));
-    CHECK(named(&kernel, LOT_SET_TICKET, 1, UINT32_MAX, "", "").kind == LOT_REPLY_DONE);
+    CHECK(answer(&kernel, lot_set_ticket(1, UINT32_MAX)).kind == LOT_REPLY_DONE);
     CHECK(has_won(drawn(&kernel, 1, 0), 1, 0, UINT64_C(4294967394)));
     CHECK(lot_kernel_free(&kernel) == LOT_DONE);
     puts("ok: inflation");
@@ -188,18 +179,17 @@ static void servings(void) {
     funded(&kernel, 20, "base", "c");
     funded(&kernel, 30, "base", "d");
     CHECK(has_won(drawn(&kernel, 1, 0), 1, 0, 60));
-    CHECK(trapped(&kernel, LOT_SERVE, 0, 1, 7).reason == LOT_TRAP_REFUSAL_NOTHING_TO_REPLY);
-    CHECK(came_to(trapped(&kernel, LOT_RECEIVE, 0, 1, 0), 1, LOT_OUTCOME_WAITS, 0));
+    CHECK(answer(&kernel, lot_serve(1, 0, 1, 7)).reason == LOT_TRAP_REFUSAL_NOTHING_TO_REPLY);
+    CHECK(came_to(answer(&kernel, lot_receive(1, 0, 1)), 1, LOT_OUTCOME_WAITS, 0));
     CHECK(has_won(drawn(&kernel, 1, 0), 2, 0, 50));
-    CHECK(came_to(trapped(&kernel, LOT_CALL, 0, 1, 5), 2, LOT_OUTCOME_SERVED_BY, 1));
+    CHECK(came_to(answer(&kernel, lot_call(1, 0, 1, 5)), 2, LOT_OUTCOME_SERVED_BY, 1));
     CHECK(has_won(drawn(&kernel, 2, 0), 1, 0, 1530));
     CHECK(has_won(drawn(&kernel, 1, 0), 3, 0, 30));
-    CHECK(came_to(trapped(&kernel, LOT_CALL, 0, 1, 6), 3, LOT_OUTCOME_QUEUED, 0));
-    lot_event event = {.kind = LOT_SERVE, .processor = 2, .object = 1, .sent = 8};
-    lot_reply reply = answer(&kernel, event);
-    CHECK(came_to(reply, 1, LOT_OUTCOME_REPLIED_THEN_RECEIVED, 3) && reply.replied_to == 2 && reply.has_sent && reply.sent == 6);
-    event.sent = 9;
-    reply = answer(&kernel, event);
+    CHECK(came_to(answer(&kernel, lot_call(1, 0, 1, 6)), 3, LOT_OUTCOME_QUEUED, 0));
+    lot_reply reply = answer(&kernel, lot_serve(2, 0, 1, 8));
+    CHECK(came_to(reply, 1, LOT_OUTCOME_REPLIED_THEN_RECEIVED, 3) && reply.replied_to == 2);
+    CHECK(reply.has_sent && reply.sent == 6);
+    reply = answer(&kernel, lot_serve(2, 0, 1, 9));
     CHECK(came_to(reply, 1, LOT_OUTCOME_REPLIED_THEN_WAITS, 0) && reply.replied_to == 3 && !reply.has_sent);
     lot_thread_row row;
     CHECK(lot_kernel_thread_row(&kernel, 1, &row) == LOT_DONE && row.status.kind == LOT_STATUS_RECEIVING);
@@ -213,21 +203,22 @@ static void call_and_reply(void) {
     funded(&kernel, 5, "base", "s");
     funded(&kernel, 5, "base", "c");
     CHECK(has_won(drawn(&kernel, 1, 4), 1, 4, 10));
-    CHECK(came_to(trapped(&kernel, LOT_RECEIVE, 0, 1, 0), 1, LOT_OUTCOME_WAITS, 0));
+    CHECK(came_to(answer(&kernel, lot_receive(1, 0, 1)), 1, LOT_OUTCOME_WAITS, 0));
     CHECK(has_won(drawn(&kernel, 1, 4), 2, 4, 5));
-    CHECK(came_to(trapped(&kernel, LOT_CALL, 1, 1, 41), 2, LOT_OUTCOME_SERVED_BY, 1));
+    CHECK(came_to(answer(&kernel, lot_call(1, 1, 1, 41)), 2, LOT_OUTCOME_SERVED_BY, 1));
     lot_reply reply = drawn(&kernel, 1, 5);
-    CHECK(reply.kind == LOT_REPLY_WINNER && reply.thread == 1 && reply.has_sent && reply.sent == 41 && reply.total.low == 1000);
+    CHECK(reply.kind == LOT_REPLY_WINNER && reply.thread == 1 && reply.total.low == 1000);
+    CHECK(reply.has_sent && reply.sent == 41);
     lot_runner runner;
     CHECK(lot_kernel_runner(&kernel, 1, &runner) == LOT_DONE && runner.thread == 1 && runner.used == 0);
     CHECK(lot_kernel_runner(&kernel, 2, &runner) == LOT_NOT_THERE);
-    reply = trapped(&kernel, LOT_REPLY, 1, 0, 42);
+    reply = answer(&kernel, lot_reply_with(1, 1, 42));
     CHECK(came_to(reply, 1, LOT_OUTCOME_REPLIED, 2) && reply.ticks == 2 && !reply.ends);
-    CHECK(came_to(trapped(&kernel, LOT_LOCK, 0, 1, 0), 1, LOT_OUTCOME_LOCKED, 0));
-    reply = trapped(&kernel, LOT_LOCK, 0, 1, 0);
+    CHECK(came_to(answer(&kernel, lot_lock(1, 0, 1)), 1, LOT_OUTCOME_LOCKED, 0));
+    reply = answer(&kernel, lot_lock(1, 0, 1));
     CHECK(came_to(reply, 1, LOT_OUTCOME_REFUSED, 0) && reply.reason == LOT_TRAP_REFUSAL_ALREADY_OWNER);
-    CHECK(came_to(trapped(&kernel, LOT_UNLOCK, 0, 1, 0), 1, LOT_OUTCOME_FREED, 0));
-    CHECK(came_to(trapped(&kernel, LOT_YIELD, 0, 0, 0), 1, LOT_OUTCOME_YIELDED, 0));
+    CHECK(came_to(answer(&kernel, lot_unlock(1, 0, 1, lot_wide_of(0))), 1, LOT_OUTCOME_FREED, 0));
+    CHECK(came_to(answer(&kernel, lot_yield(1, 0)), 1, LOT_OUTCOME_YIELDED, 0));
     uint32_t script = 0;
     CHECK(lot_kernel_script_of(&kernel, 2, &script) == LOT_DONE && script == 1);
     CHECK(lot_kernel_script_of(&kernel, 3, &script) == LOT_NOT_THERE);
@@ -241,39 +232,39 @@ static void call_and_reply(void) {
 
 // Each reason for which a command is refused.
 static void refused_commands(lot_kernel *kernel) {
-    CHECK(named(kernel, LOT_MAKE_CURRENCY, 0, 0, "", "x").currency == 1);
-    CHECK(named(kernel, LOT_MAKE_CURRENCY, 0, 0, "", "y").currency == 2);
-    CHECK(named(kernel, LOT_MAKE_TICKET, 0, 1, "x", "").ticket == 1 && named(kernel, LOT_MAKE_TICKET, 0, 1, "y", "").ticket == 2);
-    CHECK(named(kernel, LOT_FUND, 1, 0, "", "y").kind == LOT_REPLY_DONE);
+    CHECK(answer(kernel, lot_make_currency(lot_name_of("x"))).currency == 1);
+    CHECK(answer(kernel, lot_make_currency(lot_name_of("y"))).currency == 2);
+    CHECK(answer(kernel, lot_make_ticket(1, lot_name_of("x"))).ticket == 1);
+    CHECK(answer(kernel, lot_make_ticket(1, lot_name_of("y"))).ticket == 2);
+    CHECK(answer(kernel, lot_fund(1, lot_name_of("y"))).kind == LOT_REPLY_DONE);
     CHECK(funded(kernel, 7, "base", "t").thread == 1);
-    static const struct {
-        uint32_t kind;
-        uint64_t ticket, amount;
-        const char *currency, *name;
+    const lot_name base = lot_name_of("base"), x = lot_name_of("x"), nothing = lot_name_of("nothing");
+    const uint64_t above = UINT64_C(1) << 32;
+    const struct {
+        lot_event event;
         uint32_t reason;
     } rows[] = {
-        {LOT_MAKE_CURRENCY, 0, 0, "", "x", LOT_REFUSAL_NAME_TAKEN},
-        {LOT_MAKE_TICKET, 0, 1, "nothing", "", LOT_REFUSAL_NO_CURRENCY},
-        {LOT_REMOVE_TICKET, 99, 0, "", "", LOT_REFUSAL_NO_TICKET},
-        {LOT_FUND, 2, 0, "", "nothing", LOT_REFUSAL_NO_TARGET},
-        {LOT_MAKE_TICKET, 0, 0, "base", "", LOT_REFUSAL_BAD_AMOUNT},
-        {LOT_MAKE_TICKET, 0, UINT64_C(1) << 32, "base", "", LOT_REFUSAL_BAD_AMOUNT},
-        {LOT_REMOVE_CURRENCY, 0, 0, "x", "", LOT_REFUSAL_IN_USE},
-        {LOT_REMOVE_TICKET, 1, 0, "", "", LOT_REFUSAL_FUNDING},
-        {LOT_UNFUND, 2, 0, "", "", LOT_REFUSAL_NOT_FUNDING},
-        {LOT_SET_TICKET, 1, 0, "", "", LOT_REFUSAL_BAD_AMOUNT},
-        {LOT_SET_TICKET, 99, UINT64_C(1) << 32, "", "", LOT_REFUSAL_BAD_AMOUNT},
-        {LOT_SET_TICKET, 99, 1, "", "", LOT_REFUSAL_NO_TICKET},
-        {LOT_SET_TICKET, (UINT64_C(1) << 32) + 1, 1, "", "", LOT_REFUSAL_NO_TICKET},
-        {LOT_FUND, 2, 0, "", "x", LOT_REFUSAL_CYCLE},
-        {LOT_REMOVE_CURRENCY, 0, 0, "base", "", LOT_REFUSAL_BASE_FIXED},
-        {LOT_MAKE_CURRENCY, 0, 0, "", "z", LOT_REFUSAL_FULL},
+        {lot_make_currency(x), LOT_REFUSAL_NAME_TAKEN},
+        {lot_make_ticket(1, nothing), LOT_REFUSAL_NO_CURRENCY},
+        {lot_remove_ticket(99), LOT_REFUSAL_NO_TICKET},
+        {lot_fund(2, nothing), LOT_REFUSAL_NO_TARGET},
+        {lot_make_ticket(0, base), LOT_REFUSAL_BAD_AMOUNT},
+        {lot_make_ticket(above, base), LOT_REFUSAL_BAD_AMOUNT},
+        {lot_remove_currency(x), LOT_REFUSAL_IN_USE},
+        {lot_remove_ticket(1), LOT_REFUSAL_FUNDING},
+        {lot_unfund(2), LOT_REFUSAL_NOT_FUNDING},
+        {lot_set_ticket(1, 0), LOT_REFUSAL_BAD_AMOUNT},
+        {lot_set_ticket(99, above), LOT_REFUSAL_BAD_AMOUNT},
+        {lot_set_ticket(99, 1), LOT_REFUSAL_NO_TICKET},
+        {lot_set_ticket(above + 1, 1), LOT_REFUSAL_NO_TICKET},
+        {lot_fund(2, x), LOT_REFUSAL_CYCLE},
+        {lot_remove_currency(base), LOT_REFUSAL_BASE_FIXED},
+        {lot_make_currency(lot_name_of("z")), LOT_REFUSAL_FULL},
+        {lot_make_thread(lot_name_of("u"), 2), LOT_REFUSAL_NO_SCRIPT},
     };
     for (size_t i = 0; i < sizeof rows / sizeof rows[0]; i++) {
-        CHECK(is_refused(named(kernel, rows[i].kind, rows[i].ticket, rows[i].amount, rows[i].currency, rows[i].name), rows[i].reason));
+        CHECK(is_refused(answer(kernel, rows[i].event), rows[i].reason));
     }
-    lot_event thread = {.kind = LOT_MAKE_THREAD, .name = lot_name_of("u"), .script = 2};
-    CHECK(is_refused(answer(kernel, thread), LOT_REFUSAL_NO_SCRIPT));
 }
 
 // Each reason for which a draw, an expiry or a trap is refused, and what listings are answered.
@@ -283,15 +274,17 @@ static void refusals(void) {
     lot_kernel kernel = made(&sizes);
     refused_commands(&kernel);
     CHECK(is_refused(drawn(&kernel, 3, 0), LOT_REFUSAL_BAD_PROCESSOR));
-    CHECK(is_refused(answer(&kernel, (lot_event){.kind = LOT_EXPIRE, .processor = 1}), LOT_REFUSAL_NOT_RUNNING));
+    CHECK(is_refused(answer(&kernel, lot_expire(1)), LOT_REFUSAL_NOT_RUNNING));
     CHECK(has_won(drawn(&kernel, 1, 0), 1, 0, 7) && is_refused(drawn(&kernel, 1, 0), LOT_REFUSAL_BUSY));
     CHECK(drawn(&kernel, 2, 0).kind == LOT_REPLY_IDLE);
-    CHECK(is_refused(trapped(&kernel, LOT_EXIT, 100, 0, 0), LOT_REFUSAL_BAD_TICKS));
-    CHECK(came_to(trapped(&kernel, LOT_EXIT, 99, 0, 0), 1, LOT_OUTCOME_EXITED, 0));
-    CHECK(is_refused(named(&kernel, LOT_FUND, 2, 0, "", "t"), LOT_REFUSAL_DEAD_THREAD));
-    static const uint32_t lists[3][2] = {{LOT_LIST_TICKETS, LOT_REPLY_LIST_TICKETS}, {LOT_LIST_CURRENCIES, LOT_REPLY_LIST_CURRENCIES}, {LOT_LIST_THREADS, LOT_REPLY_LIST_THREADS}};
+    CHECK(is_refused(answer(&kernel, lot_exit(1, 100)), LOT_REFUSAL_BAD_TICKS));
+    CHECK(came_to(answer(&kernel, lot_exit(1, 99)), 1, LOT_OUTCOME_EXITED, 0));
+    CHECK(is_refused(answer(&kernel, lot_fund(2, lot_name_of("t"))), LOT_REFUSAL_DEAD_THREAD));
+    static const uint32_t lists[3][2] = {{LOT_LIST_TICKETS, LOT_REPLY_LIST_TICKETS},
+                                         {LOT_LIST_CURRENCIES, LOT_REPLY_LIST_CURRENCIES},
+                                         {LOT_LIST_THREADS, LOT_REPLY_LIST_THREADS}};
     for (size_t i = 0; i < 3; i++) {
-        CHECK(answer(&kernel, (lot_event){.kind = lists[i][0]}).kind == lists[i][1]);
+        CHECK(answer(&kernel, lot_event_of(lists[i][0])).kind == lists[i][1]);
     }
     CHECK(lot_kernel_free(&kernel) == LOT_DONE);
     puts("ok: refusals");
@@ -307,55 +300,54 @@ static void trap_refusals(void) {
     funded(&kernel, 1, "base", "a");
     funded(&kernel, 1, "base", "b");
     CHECK(drawn(&kernel, 1, 0).thread == 1);
-    CHECK(is_trap_refused(trapped(&kernel, LOT_CALL, 0, 9, 0), LOT_TRAP_REFUSAL_NO_PORT));
-    CHECK(is_trap_refused(trapped(&kernel, LOT_REPLY, 0, 0, 0), LOT_TRAP_REFUSAL_NOTHING_TO_REPLY));
-    CHECK(is_trap_refused(trapped(&kernel, LOT_LOCK, 0, 9, 0), LOT_TRAP_REFUSAL_NO_MUTEX));
-    CHECK(is_trap_refused(trapped(&kernel, LOT_UNLOCK, 0, 1, 0), LOT_TRAP_REFUSAL_NOT_OWNER));
-    CHECK(came_to(trapped(&kernel, LOT_LOCK, 0, 1, 0), 1, LOT_OUTCOME_LOCKED, 0));
-    CHECK(is_trap_refused(trapped(&kernel, LOT_LOCK, 0, 1, 0), LOT_TRAP_REFUSAL_ALREADY_OWNER));
-    CHECK(answer(&kernel, (lot_event){.kind = LOT_EXPIRE, .processor = 1}).thread == 1);
+    CHECK(is_trap_refused(answer(&kernel, lot_call(1, 0, 9, 0)), LOT_TRAP_REFUSAL_NO_PORT));
+    CHECK(is_trap_refused(answer(&kernel, lot_reply_with(1, 0, 0)), LOT_TRAP_REFUSAL_NOTHING_TO_REPLY));
+    CHECK(is_trap_refused(answer(&kernel, lot_lock(1, 0, 9)), LOT_TRAP_REFUSAL_NO_MUTEX));
+    CHECK(is_trap_refused(answer(&kernel, lot_unlock(1, 0, 1, lot_wide_of(0))), LOT_TRAP_REFUSAL_NOT_OWNER));
+    CHECK(came_to(answer(&kernel, lot_lock(1, 0, 1)), 1, LOT_OUTCOME_LOCKED, 0));
+    CHECK(is_trap_refused(answer(&kernel, lot_lock(1, 0, 1)), LOT_TRAP_REFUSAL_ALREADY_OWNER));
+    CHECK(answer(&kernel, lot_expire(1)).thread == 1);
     CHECK(drawn(&kernel, 1, 1).thread == 2);
-    CHECK(came_to(trapped(&kernel, LOT_LOCK, 0, 2, 0), 2, LOT_OUTCOME_LOCKED, 0));
-    CHECK(came_to(trapped(&kernel, LOT_LOCK, 0, 1, 0), 2, LOT_OUTCOME_WAITS, 0));
+    CHECK(came_to(answer(&kernel, lot_lock(1, 0, 2)), 2, LOT_OUTCOME_LOCKED, 0));
+    CHECK(came_to(answer(&kernel, lot_lock(1, 0, 1)), 2, LOT_OUTCOME_WAITS, 0));
     lot_thread_row row;
-    CHECK(lot_kernel_thread_row(&kernel, 2, &row) == LOT_DONE && row.status.kind == LOT_STATUS_WAITING && row.status.other == 1);
+    CHECK(lot_kernel_thread_row(&kernel, 2, &row) == LOT_DONE);
+    CHECK(row.status.kind == LOT_STATUS_WAITING && row.status.other == 1);
     CHECK(drawn(&kernel, 1, 0).thread == 1);
-    CHECK(is_trap_refused(trapped(&kernel, LOT_LOCK, 0, 2, 0), LOT_TRAP_REFUSAL_LOCK_CYCLE));
-    lot_reply reply = trapped(&kernel, LOT_UNLOCK, 0, 1, 0);
+    CHECK(is_trap_refused(answer(&kernel, lot_lock(1, 0, 2)), LOT_TRAP_REFUSAL_LOCK_CYCLE));
+    lot_reply reply = answer(&kernel, lot_unlock(1, 0, 1, lot_wide_of(0)));
     CHECK(came_to(reply, 1, LOT_OUTCOME_PASSED, 2) && reply.has_draw && reply.number.low == 0 && reply.total.low == 1);
     CHECK(lot_kernel_free(&kernel) == LOT_DONE);
     puts("ok: trap refusals");
 }
 
-static lot_wide narrow(uint64_t low) {
-    return (lot_wide){.low = low, .high = 0};
-}
-
 // Holds a lottery with a number of 64 bits.
 static uint32_t held(const lot_wide *weights, size_t count, uint64_t low, lot_drawn *won) {
-    lot_wide number = narrow(low);
+    lot_wide number = lot_wide_of(low);
     return lot_winner(weights, count, &number, won);
 }
 
 // The lottery alone: the list lottery, weights, and the check that Park and Miller give for their generator.
 static void lottery_alone(void) {
-    const lot_wide weights[5] = {narrow(10), narrow(2), narrow(5), narrow(1), narrow(2)};
+    const lot_wide weights[5] = {lot_wide_of(10), lot_wide_of(2), lot_wide_of(5), lot_wide_of(1), lot_wide_of(2)};
     static const uint64_t draws[5][3] = {{9, 0, 9}, {10, 1, 10}, {15, 2, 15}, {17, 3, 17}, {35, 2, 15}};
     lot_drawn won;
     for (size_t i = 0; i < 5; i++) {
         CHECK(held(weights, 5, draws[i][0], &won) == LOT_DONE);
         CHECK(won.place == draws[i][1] && won.number.low == draws[i][2] && won.total.low == 20);
     }
-    const lot_wide zeros[2] = {narrow(0), narrow(0)};
+    const lot_wide zeros[2] = {lot_wide_of(0), lot_wide_of(0)};
     const lot_wide large[2] = {{.low = 0, .high = UINT64_C(1) << 63}, {.low = 0, .high = UINT64_C(1) << 63}};
     const lot_wide largest[1] = {{.low = UINT64_MAX, .high = UINT64_MAX}};
     lot_drawn before = won;
     CHECK(held(zeros, 2, 7, &won) == LOT_NO_WINNER && held(weights, 0, 7, &won) == LOT_NO_WINNER);
     CHECK(held(large, 2, 7, &won) == LOT_TOO_LARGE && memcmp(&won, &before, sizeof won) == 0);
-    CHECK(held(largest, 1, 7, &won) == LOT_DONE && won.place == 0 && won.number.low == 7 && won.total.high == UINT64_MAX);
+    CHECK(held(largest, 1, 7, &won) == LOT_DONE && won.place == 0 && won.number.low == 7);
+    CHECK(won.total.high == UINT64_MAX);
     // 2 ^ 128 - 1 modulo 20 is 15.
     CHECK(lot_winner(weights, 5, &largest[0], &won) == LOT_DONE && won.place == 2 && won.number.low == 15);
-    static const uint64_t weighed[5][3] = {{400, 0, 400}, {400, 20, 2000}, {7, 3, 233}, {400, 99, 404}, {400, 1, 40000}};
+    static const uint64_t weighed[5][3] = {
+        {400, 0, 400}, {400, 20, 2000}, {7, 3, 233}, {400, 99, 404}, {400, 1, 40000}};
     for (size_t i = 0; i < 5; i++) {
         lot_wide weight;
         lot_weight(weighed[i][0], (uint32_t)weighed[i][1], 100, &weight);
@@ -364,15 +356,18 @@ static void lottery_alone(void) {
     lot_generator generator = {0};
     uint32_t value = 0;
     uint64_t number = 0;
-    CHECK(lot_generator_next(&generator, &value) == LOT_BAD_SEED && lot_generator_number(&generator, &number) == LOT_BAD_SEED);
-    CHECK(lot_generator_new(0, &generator) == LOT_BAD_SEED && lot_generator_new(2147483647, &generator) == LOT_BAD_SEED);
+    CHECK(lot_generator_next(&generator, &value) == LOT_BAD_SEED);
+    CHECK(lot_generator_number(&generator, &number) == LOT_BAD_SEED);
+    CHECK(lot_generator_new(0, &generator) == LOT_BAD_SEED);
+    CHECK(lot_generator_new(2147483647, &generator) == LOT_BAD_SEED);
     CHECK(generator.value == 0 && value == 0 && number == 0);
     CHECK(lot_generator_new(1, &generator) == LOT_DONE);
     CHECK(lot_generator_number(&generator, &number) == LOT_DONE && number == 36090892629924);
     // 166439864623969647858139600294153, worked out from the generator's first four values.
     lot_wide wide = {0};
     CHECK(lot_generator_new(1, &generator) == LOT_DONE);
-    CHECK(lot_generator_wide_number(&generator, &wide) == LOT_DONE && wide.low == UINT64_C(1058603678058713353) && wide.high == UINT64_C(9022723140675));
+    CHECK(lot_generator_wide_number(&generator, &wide) == LOT_DONE);
+    CHECK(wide.low == UINT64_C(1058603678058713353) && wide.high == UINT64_C(9022723140675));
     CHECK(generator.value == 984943658);
     CHECK(lot_generator_new(1, &generator) == LOT_DONE);
     for (int i = 0; i < 10000; i++) {
@@ -380,6 +375,152 @@ static void lottery_alone(void) {
     }
     CHECK(value == 1043618065);
     puts("ok: lottery alone");
+}
+
+// ---- what the header's own functions say
+
+static bool is_event(lot_event event, lot_event meant) {
+    return memcmp(&event, &meant, sizeof event) == 0;
+}
+
+// Each kind of event by its function, beside its fields.
+static void made_events(void) {
+    const lot_name a = lot_name_of("a"), b = lot_name_of("b");
+    const lot_wide wide = {.low = 7, .high = 8};
+    CHECK(is_event(lot_make_ticket(5, a), (lot_event){.kind = 1, .amount = 5, .currency = a}));
+    CHECK(is_event(lot_remove_ticket(5), (lot_event){.kind = 2, .ticket = 5}));
+    CHECK(is_event(lot_make_currency(a), (lot_event){.kind = 3, .name = a}));
+    CHECK(is_event(lot_remove_currency(a), (lot_event){.kind = 4, .currency = a}));
+    CHECK(is_event(lot_fund(5, a), (lot_event){.kind = 5, .ticket = 5, .name = a}));
+    CHECK(is_event(lot_unfund(5), (lot_event){.kind = 6, .ticket = 5}));
+    CHECK(is_event(lot_make_thread(a, 2), (lot_event){.kind = 7, .name = a, .script = 2}));
+    CHECK(is_event(lot_make_funded(5, a, b, 2),
+                   (lot_event){.kind = 8, .amount = 5, .currency = a, .name = b, .script = 2}));
+    CHECK(is_event(lot_list_tickets(), (lot_event){.kind = 9}));
+    CHECK(is_event(lot_list_currencies(), (lot_event){.kind = 10}));
+    CHECK(is_event(lot_list_threads(), (lot_event){.kind = 11}));
+    CHECK(is_event(lot_draw(1, wide), (lot_event){.kind = 12, .processor = 1, .number = wide}));
+    CHECK(is_event(lot_expire(1), (lot_event){.kind = 13, .processor = 1}));
+    CHECK(is_event(lot_yield(1, 2), (lot_event){.kind = 14, .processor = 1, .ticks = 2}));
+    CHECK(is_event(lot_call(1, 2, 3, 4), (lot_event){.kind = 15, .processor = 1, .ticks = 2, .object = 3, .sent = 4}));
+    CHECK(is_event(lot_receive(1, 2, 3), (lot_event){.kind = 16, .processor = 1, .ticks = 2, .object = 3}));
+    CHECK(is_event(lot_reply_with(1, 2, 4), (lot_event){.kind = 17, .processor = 1, .ticks = 2, .sent = 4}));
+    CHECK(is_event(lot_lock(1, 2, 3), (lot_event){.kind = 18, .processor = 1, .ticks = 2, .object = 3}));
+    CHECK(is_event(lot_unlock(1, 2, 3, wide),
+                   (lot_event){.kind = 19, .processor = 1, .ticks = 2, .object = 3, .number = wide}));
+    CHECK(is_event(lot_exit(1, 2), (lot_event){.kind = 20, .processor = 1, .ticks = 2}));
+    CHECK(is_event(lot_serve(1, 2, 3, 4),
+                   (lot_event){.kind = 21, .processor = 1, .ticks = 2, .object = 3, .sent = 4}));
+    CHECK(is_event(lot_set_ticket(5, 6), (lot_event){.kind = 22, .ticket = 5, .amount = 6}));
+    const lot_sizes sizes = lot_sizes_small();
+    CHECK(memcmp(&sizes, &SMALL, sizeof sizes) == 0);
+    lot_kernel kernel = {&kernel};
+    kernel = lot_kernel_none();
+    CHECK(kernel.at == NULL);
+    puts("ok: made events");
+}
+
+static bool is_unknown(const char *text) {
+    return strncmp(text, "unknown ", 8) == 0;
+}
+
+// Each number has a text if and only if it has a name.
+static void texts(void) {
+    for (uint32_t i = 0; i < 100; i++) {
+        bool is_refusal = (i >= 1 && i <= 14) || (i >= 20 && i <= 23) || i == 30 || (i >= 32 && i <= 36);
+        CHECK(is_unknown(lot_status_text(i)) == (i > LOT_TOO_LARGE));
+        CHECK(is_unknown(lot_outcome_text(i)) == (i < 1 || i > 13));
+        CHECK(is_unknown(lot_refusal_text(i)) == !is_refusal);
+    }
+    CHECK(strcmp(lot_status_text(LOT_NO_MEMORY), "out of memory") == 0);
+    CHECK(strcmp(lot_status_text(UINT32_MAX), "unknown status") == 0);
+    CHECK(strcmp(lot_outcome_text(LOT_OUTCOME_WAITS), "waits") == 0);
+    CHECK(strcmp(lot_outcome_text(UINT32_MAX), "unknown outcome") == 0);
+    CHECK(strcmp(lot_refusal_text(LOT_REFUSAL_DEAD_THREAD), "the thread is dead") == 0);
+    CHECK(strcmp(lot_refusal_text(UINT32_MAX), "unknown refusal") == 0);
+    puts("ok: texts");
+}
+
+// Which outcomes leave the thread on its processor. One whose quantum is used up never stays there.
+static void going_on(void) {
+    static const bool stays[15] = {[LOT_OUTCOME_RECEIVED] = true, [LOT_OUTCOME_REPLIED] = true,
+                                   [LOT_OUTCOME_LOCKED] = true,   [LOT_OUTCOME_FREED] = true,
+                                   [LOT_OUTCOME_REFUSED] = true,  [LOT_OUTCOME_REPLIED_THEN_RECEIVED] = true};
+    for (uint32_t outcome = 0; outcome < 15; outcome++) {
+        lot_reply reply = {.kind = LOT_REPLY_TRAPPED, .outcome = outcome};
+        CHECK(lot_goes_on(&reply) == stays[outcome]);
+        reply.ends = true;
+        CHECK(!lot_goes_on(&reply));
+    }
+    for (uint32_t reason = 0; reason < 40; reason++) {
+        lot_reply reply = {.kind = LOT_REPLY_REFUSED, .reason = reason};
+        CHECK(lot_goes_on(&reply) == (reason == LOT_REFUSAL_BAD_TICKS));
+    }
+    puts("ok: going on");
+}
+
+// ---- what the header says of hosts
+
+// The first thread yields after 20 of 100 ticks and loses its ticket: it isn't drawn. With its ticket it is, and
+// weighs 10 * 100 / 20. It dies, and keeps its name and its row.
+static void sleep_and_wake(void) {
+    lot_kernel kernel = made(&SMALL);
+    funded(&kernel, 10, "base", "a");
+    funded(&kernel, 5, "base", "b");
+    CHECK(has_won(drawn(&kernel, 1, 0), 1, 0, 15));
+    CHECK(came_to(answer(&kernel, lot_yield(1, 19)), 1, LOT_OUTCOME_YIELDED, 0));
+    CHECK(answer(&kernel, lot_unfund(1)).kind == LOT_REPLY_DONE);
+    CHECK(has_won(drawn(&kernel, 1, 0), 2, 0, 5) && answer(&kernel, lot_expire(1)).thread == 2);
+    CHECK(answer(&kernel, lot_fund(1, lot_name_of("a"))).kind == LOT_REPLY_DONE);
+    CHECK(has_won(drawn(&kernel, 1, 49), 1, 49, 55));
+    CHECK(came_to(answer(&kernel, lot_exit(1, 0)), 1, LOT_OUTCOME_EXITED, 0));
+    CHECK(is_refused(answer(&kernel, lot_make_thread(lot_name_of("a"), 1)), LOT_REFUSAL_NAME_TAKEN));
+    CHECK(is_refused(answer(&kernel, lot_make_currency(lot_name_of("a"))), LOT_REFUSAL_NAME_TAKEN));
+    lot_thread_row row;
+    CHECK(lot_kernel_thread_row(&kernel, 1, &row) == LOT_DONE && row.status.kind == LOT_STATUS_DEAD);
+    CHECK(is_name(row.name, "a") && row.ticks == 21 && row.quanta == 2);
+    // A removed currency gives its name back, and not its number.
+    CHECK(answer(&kernel, lot_make_currency(lot_name_of("x"))).currency == 1);
+    CHECK(answer(&kernel, lot_remove_currency(lot_name_of("x"))).kind == LOT_REPLY_DONE);
+    CHECK(answer(&kernel, lot_make_currency(lot_name_of("x"))).currency == 2);
+    CHECK(lot_kernel_free(&kernel) == LOT_DONE);
+    puts("ok: sleep and wake");
+}
+
+// A thread without tickets owns a mutex and yielded after 10 of 100 ticks: it is drawn by what the waiter lends it.
+static void sleep_with_a_mutex(void) {
+    lot_kernel kernel = made(&SMALL);
+    funded(&kernel, 10, "base", "a");
+    funded(&kernel, 5, "base", "b");
+    CHECK(has_won(drawn(&kernel, 1, 0), 1, 0, 15));
+    CHECK(came_to(answer(&kernel, lot_lock(1, 8, 1)), 1, LOT_OUTCOME_LOCKED, 0));
+    CHECK(came_to(answer(&kernel, lot_yield(1, 0)), 1, LOT_OUTCOME_YIELDED, 0));
+    CHECK(answer(&kernel, lot_unfund(1)).kind == LOT_REPLY_DONE);
+    CHECK(has_won(drawn(&kernel, 1, 0), 2, 0, 5));
+    CHECK(came_to(answer(&kernel, lot_lock(1, 0, 1)), 2, LOT_OUTCOME_WAITS, 0));
+    CHECK(has_won(drawn(&kernel, 1, 0), 1, 0, 50));
+    CHECK(lot_kernel_free(&kernel) == LOT_DONE);
+    puts("ok: sleep with a mutex");
+}
+
+// A server without a ticket is never drawn. With one it reaches its first receipt, and needs none after that: it
+// weighs its client's 4 tickets, times 100 / 1 since it blocked after one tick.
+static void server_without_tickets(void) {
+    lot_kernel kernel = made(&SMALL);
+    CHECK(answer(&kernel, lot_make_thread(lot_name_of("server"), 1)).thread == 1);
+    CHECK(drawn(&kernel, 1, 0).kind == LOT_REPLY_IDLE);
+    CHECK(answer(&kernel, lot_make_ticket(1, lot_name_of("base"))).ticket == 1);
+    CHECK(answer(&kernel, lot_fund(1, lot_name_of("server"))).kind == LOT_REPLY_DONE);
+    CHECK(has_won(drawn(&kernel, 1, 0), 1, 0, 1));
+    CHECK(came_to(answer(&kernel, lot_receive(1, 0, 1)), 1, LOT_OUTCOME_WAITS, 0));
+    CHECK(answer(&kernel, lot_unfund(1)).kind == LOT_REPLY_DONE);
+    funded(&kernel, 4, "base", "client");
+    CHECK(has_won(drawn(&kernel, 1, 0), 2, 0, 4));
+    CHECK(came_to(answer(&kernel, lot_call(1, 0, 1, 7)), 2, LOT_OUTCOME_SERVED_BY, 1));
+    CHECK(has_won(drawn(&kernel, 1, 0), 1, 0, 400));
+    CHECK(came_to(answer(&kernel, lot_serve(1, 0, 1, 8)), 1, LOT_OUTCOME_REPLIED_THEN_WAITS, 0));
+    CHECK(lot_kernel_free(&kernel) == LOT_DONE);
+    puts("ok: server without tickets");
 }
 
 // ---- what no call takes
@@ -390,7 +531,7 @@ static void no_kernel(void) {
     unsigned char room[128], before[128];
     memset(room, 0xa5, sizeof room);
     memcpy(before, room, sizeof room);
-    lot_event event = {.kind = LOT_DRAW, .processor = 1};
+    lot_event event = lot_draw(1, lot_wide_of(0));
     lot_reply reply;
     memset(&reply, 0xa5, sizeof reply);
     lot_reply as_before = reply;
@@ -462,14 +603,15 @@ static void kinds_and_names(void) {
     memset(&reply, 0x5a, sizeof reply);
     lot_reply before = reply;
     for (size_t i = 0; i < 6; i++) {
-        lot_event event = {.kind = kinds[i], .processor = 1};
+        lot_event event = lot_event_of(kinds[i]);
         CHECK(lot_kernel_event(&kernel, &event, &reply) == LOT_BAD_KIND);
         CHECK(memcmp(&reply, &before, sizeof reply) == 0);
     }
     for (size_t k = 0; k < 7; k++) {
         for (size_t i = 0; i < 9; i++) {
-            lot_event event = {.kind = naming[k], .amount = 1, .ticket = 1, .script = 1, .currency = lot_name_of("base"),
-                               .name = lot_name_of("fresh")};
+            lot_event event = lot_make_funded(1, lot_name_of("base"), lot_name_of("fresh"), 1);
+            event.kind = naming[k];
+            event.ticket = 1;
             lot_name *name = k < 3 ? &event.currency : &event.name;
             *name = lot_name_of(names[i].text);
             name->length = names[i].length;
@@ -489,7 +631,8 @@ static void names(void) {
     lot_name name = lot_name_of("kept");
     CHECK(lot_name_new((const uint8_t *)"a-very-long-name-", 17, &name) == LOT_LONG_NAME);
     CHECK(lot_name_new((const uint8_t *)"A", 1, &name) == LOT_BAD_NAME && is_name(name, "kept"));
-    CHECK(lot_name_new((const uint8_t *)"sixteen-bytes-ok", 16, &name) == LOT_DONE && is_name(name, "sixteen-bytes-ok"));
+    CHECK(lot_name_new((const uint8_t *)"sixteen-bytes-ok", 16, &name) == LOT_DONE);
+    CHECK(is_name(name, "sixteen-bytes-ok"));
     CHECK(lot_name_of("a-very-long-name-indeed").length == 17);
     puts("ok: names");
 }
@@ -497,10 +640,8 @@ static void names(void) {
 // Many events: up to the first with a status of its own, and none if there are not as many replies.
 static void runs(void) {
     lot_kernel kernel = made(&SMALL);
-    lot_event events[4] = {{.kind = LOT_MAKE_CURRENCY, .name = lot_name_of("x")},
-                           {.kind = LOT_MAKE_CURRENCY, .name = lot_name_of("y")},
-                           {.kind = LOT_SET_TICKET + 1},
-                           {.kind = LOT_MAKE_CURRENCY, .name = lot_name_of("z")}};
+    lot_event events[4] = {lot_make_currency(lot_name_of("x")), lot_make_currency(lot_name_of("y")),
+                           lot_event_of(LOT_SET_TICKET + 1), lot_make_currency(lot_name_of("z"))};
     lot_reply replies[4], before;
     memset(replies, 0x5a, sizeof replies);
     before = replies[2];
@@ -509,7 +650,8 @@ static void runs(void) {
     CHECK(lot_kernel_run(&kernel, events, 4, replies, 4, &done) == LOT_BAD_KIND && done == 2);
     CHECK(replies[0].currency == 1 && replies[1].currency == 2);
     CHECK(memcmp(&replies[2], &before, sizeof before) == 0 && memcmp(&replies[3], &before, sizeof before) == 0);
-    CHECK(lot_kernel_run(&kernel, events + 3, 1, replies, 1, &done) == LOT_DONE && done == 1 && replies[0].currency == 3);
+    CHECK(lot_kernel_run(&kernel, events + 3, 1, replies, 1, &done) == LOT_DONE && done == 1);
+    CHECK(replies[0].currency == 3);
     CHECK(lot_kernel_run(&kernel, events, 0, replies, 0, &done) == LOT_DONE && done == 0);
     CHECK(lot_kernel_free(&kernel) == LOT_DONE);
     puts("ok: runs");
@@ -578,7 +720,8 @@ static bool same_tickets(lot_kernel *first, lot_kernel *second) {
         lot_ticket_row a, b;
         memset(&a, 0, sizeof a);
         memset(&b, 0, sizeof b);
-        if (lot_kernel_ticket_row(first, ticket, &a) != lot_kernel_ticket_row(second, ticket, &b) || !SAME(a, b, is_active)) {
+        uint32_t status = lot_kernel_ticket_row(first, ticket, &a);
+        if (status != lot_kernel_ticket_row(second, ticket, &b) || !SAME(a, b, is_active)) {
             return false;
         }
     }
@@ -587,19 +730,31 @@ static bool same_tickets(lot_kernel *first, lot_kernel *second) {
 
 static bool same_currencies(lot_kernel *first, lot_kernel *second) {
     uint32_t count = 0, other = 0;
-    CHECK(lot_kernel_currency_count(first, &count) == LOT_DONE && lot_kernel_currency_count(second, &other) == LOT_DONE);
+    CHECK(lot_kernel_currency_count(first, &count) == LOT_DONE);
+    CHECK(lot_kernel_currency_count(second, &other) == LOT_DONE);
     for (uint32_t currency = 0; currency < count; currency++) {
         lot_currency_row a, b;
         memset(&a, 0, sizeof a);
         memset(&b, 0, sizeof b);
-        if (lot_kernel_currency_row(first, currency, &a) != lot_kernel_currency_row(second, currency, &b) || !SAME(a, b, name)) {
+        uint32_t status = lot_kernel_currency_row(first, currency, &a);
+        if (status != lot_kernel_currency_row(second, currency, &b) || !SAME(a, b, name)) {
             return false;
         }
     }
     return count == other;
 }
 
-// A kernel that got events of any bytes lists what one lists that got only those that were not refused.
+static bool is_trap(uint32_t kind) {
+    return kind >= LOT_YIELD && kind <= LOT_SERVE;
+}
+
+static bool somebody_runs(lot_kernel *kernel, uint32_t processor) {
+    lot_runner runner;
+    return lot_kernel_runner(kernel, processor, &runner) == LOT_DONE;
+}
+
+// A kernel that got events of any bytes lists what one lists that got only those that were not refused. After each
+// trap a thread runs on its processor if and only if lot_goes_on says so.
 static void any_bytes(unsigned long count) {
     lot_kernel all = made(&SMALL), some = made(&SMALL);
     unsigned long answered = 0, refused = 0, kept = 0;
@@ -614,6 +769,7 @@ static void any_bytes(unsigned long count) {
             continue;
         }
         answered++;
+        CHECK(!is_trap(event.kind) || lot_goes_on(&reply) == somebody_runs(&all, event.processor));
         if (reply.kind == LOT_REPLY_REFUSED) {
             refused++;
             continue;
@@ -636,6 +792,12 @@ int main(int argc, char **argv) {
     refusals();
     trap_refusals();
     lottery_alone();
+    made_events();
+    texts();
+    going_on();
+    sleep_and_wake();
+    sleep_with_a_mutex();
+    server_without_tickets();
     no_kernel();
     limits();
     kinds_and_names();

@@ -1,10 +1,14 @@
 #include "lot.h"
 #include <stdio.h>
 int main(void) {
-    lot_kernel kernel = LOT_KERNEL_NONE; lot_reply reply;
-    lot_kernel_new(&(lot_sizes){.tickets = 2, .currencies = 1, .threads = 2, .processors = 1, .scripts = 1, .quantum = 100, .unit = 1}, &kernel);
-    lot_kernel_event(&kernel, &(lot_event){.kind = LOT_MAKE_FUNDED, .amount = 10, .currency = lot_name_of("base"), .name = lot_name_of("first"), .script = 1}, &reply);
-    lot_kernel_event(&kernel, &(lot_event){.kind = LOT_MAKE_FUNDED, .amount = 5, .currency = lot_name_of("base"), .name = lot_name_of("second"), .script = 1}, &reply);
-    lot_kernel_event(&kernel, &(lot_event){.kind = LOT_DRAW, .processor = 1, .number = {.low = 9}}, &reply);
-    return printf("thread %u\n", reply.thread) < 0 || lot_kernel_free(&kernel) != LOT_DONE;
+    lot_sizes sizes = lot_sizes_small();
+    lot_event events[3] = {lot_make_funded(10, lot_name_of("base"), lot_name_of("first"), 1),
+                           lot_make_funded(5, lot_name_of("base"), lot_name_of("second"), 1),
+                           lot_draw(1, lot_wide_of(9))};
+    lot_reply replies[3];
+    size_t done = 0;
+    lot_kernel kernel = LOT_KERNEL_NONE;
+    lot_kernel_new(&sizes, &kernel);
+    lot_kernel_run(&kernel, events, 3, replies, 3, &done);
+    return done != 3 || printf("thread %u\n", replies[2].thread) < 0 || lot_kernel_free(&kernel) != LOT_DONE;
 }

@@ -1,6 +1,6 @@
-// Green threads with quanta by lottery: three threads of one process hold 3, 2 and 1 tickets, and each draw of the kernel says which of
-// them goes on. A thread counts, and gives the processor back when its quantum is over; one of them yields at half of it, and is
-// compensated for that.
+// Green threads with quanta by lottery: three threads of one process hold 3, 2 and 1 tickets, and each draw of the
+// kernel says which of them goes on. A thread counts, and gives the processor back when its quantum is over; one of
+// them yields at half of it, and is compensated for that.
 //
 //     green_threads [DRAWS]
 
@@ -34,7 +34,7 @@ static void count(int me) {
 
 static void must(uint32_t status) {
     if (status != LOT_DONE) {
-        fprintf(stderr, "status %u\n", status);
+        fprintf(stderr, "%s\n", lot_status_text(status));
         exit(1);
     }
 }
@@ -55,13 +55,13 @@ static lot_reply answer(lot_kernel *kernel, lot_event event) {
 
 // Runs the winner of a draw until it gives the processor back, and tells the kernel how it did.
 static void run_one(lot_kernel *kernel, uint64_t number) {
-    lot_reply winner = answer(kernel, (lot_event){.kind = LOT_DRAW, .processor = 1, .number = {.low = number}});
+    lot_reply winner = answer(kernel, lot_draw(1, lot_wide_of(number)));
     int me = (int)winner.thread - 1;
     swapcontext(&scheduler, &contexts[me]);
     if (runs_for[me] == QUANTUM) {
-        answer(kernel, (lot_event){.kind = LOT_EXPIRE, .processor = 1});
+        answer(kernel, lot_expire(1));
     } else {
-        answer(kernel, (lot_event){.kind = LOT_YIELD, .processor = 1, .ticks = runs_for[me] - 1});
+        answer(kernel, lot_yield(1, runs_for[me] - 1));
     }
 }
 
@@ -71,10 +71,13 @@ int main(int argc, char **argv) {
     lot_kernel kernel = LOT_KERNEL_NONE;
     lot_generator generator;
     must(lot_generator_new(1, &generator));
-    must(lot_kernel_new(&(lot_sizes){.tickets = 8, .currencies = 1, .threads = 8, .processors = 1, .scripts = 1, .quantum = QUANTUM, .unit = 256}, &kernel));
+    lot_sizes sizes = lot_sizes_small();
+    sizes.quantum = QUANTUM;
+    sizes.unit = 256;
+    must(lot_kernel_new(&sizes, &kernel));
     for (int me = 0; me < THREADS; me++) {
         start(me, stacks[me]);
-        answer(&kernel, (lot_event){.kind = LOT_MAKE_FUNDED, .amount = tickets[me], .currency = lot_name_of("base"), .name = lot_name_of(names[me]), .script = 1});
+        answer(&kernel, lot_make_funded(tickets[me], lot_name_of("base"), lot_name_of(names[me]), 1));
     }
     for (long i = 0; i < draws; i++) {
         uint64_t number;
@@ -85,8 +88,9 @@ int main(int argc, char **argv) {
     for (int me = 0; me < THREADS; me++) {
         lot_thread_row row;
         must(lot_kernel_thread_row(&kernel, (uint32_t)me + 1, &row));
-        printf("%-6s %llu of 6 tickets: %5.2f%% of the ticks, %llu quanta\n", names[me], (unsigned long long)tickets[me],
-               100.0 * (double)counted[me] / (double)all, (unsigned long long)row.quanta);
+        printf("%-6s %llu of 6 tickets: %5.2f%% of the ticks, %llu quanta\n", names[me],
+               (unsigned long long)tickets[me], 100.0 * (double)counted[me] / (double)all,
+               (unsigned long long)row.quanta);
         if (row.ticks != counted[me]) {
             return 1;
         }

@@ -1,5 +1,5 @@
-// A million events of a kernel, as a caller in C makes them: `bindings/check` compares what it prints, and the time that it takes, with
-// callers in Rust and Rattle that make the same events.
+// A million events of a kernel, as a caller in C makes them: `bindings/check` compares what it prints, and the time
+// that it takes, with callers in Rust and Rattle that make the same events.
 
 #include "lot.h"
 
@@ -8,9 +8,9 @@
 
 enum { ROUNDS = 500000 };
 
-static lot_reply answer(lot_kernel *kernel, const lot_event *event) {
+static lot_reply answer(lot_kernel *kernel, lot_event event) {
     lot_reply reply;
-    if (lot_kernel_event(kernel, event, &reply) != LOT_DONE) {
+    if (lot_kernel_event(kernel, &event, &reply) != LOT_DONE) {
         exit(1);
     }
     return reply;
@@ -18,26 +18,25 @@ static lot_reply answer(lot_kernel *kernel, const lot_event *event) {
 
 // A user's currency, funded by the ticket with this number.
 static void make_user(lot_kernel *kernel, uint64_t ticket, const char *user, uint64_t amount) {
-    answer(kernel, &(lot_event){.kind = LOT_MAKE_CURRENCY, .name = lot_name_of(user)});
-    answer(kernel, &(lot_event){.kind = LOT_MAKE_TICKET, .amount = amount, .currency = lot_name_of("base")});
-    answer(kernel, &(lot_event){.kind = LOT_FUND, .ticket = ticket, .name = lot_name_of(user)});
+    answer(kernel, lot_make_currency(lot_name_of(user)));
+    answer(kernel, lot_make_ticket(amount, lot_name_of("base")));
+    answer(kernel, lot_fund(ticket, lot_name_of(user)));
 }
 
 static void make_thread(lot_kernel *kernel, uint64_t amount, const char *currency, const char *name) {
-    answer(kernel, &(lot_event){.kind = LOT_MAKE_FUNDED, .amount = amount, .currency = lot_name_of(currency),
-                                .name = lot_name_of(name), .script = 1});
+    answer(kernel, lot_make_funded(amount, lot_name_of(currency), lot_name_of(name), 1));
 }
 
 // A draw, and then the winner's expiry, or its yield if its number is even. The winner, 0 if there is none.
 static uint32_t play_round(lot_kernel *kernel, uint64_t number) {
-    lot_reply reply = answer(kernel, &(lot_event){.kind = LOT_DRAW, .processor = 1, .number = {.low = number}});
+    lot_reply reply = answer(kernel, lot_draw(1, lot_wide_of(number)));
     if (reply.kind != LOT_REPLY_WINNER) {
         return 0;
     }
     if (reply.thread % 2 == 0) {
-        answer(kernel, &(lot_event){.kind = LOT_YIELD, .processor = 1, .ticks = 19});
+        answer(kernel, lot_yield(1, 19));
     } else {
-        answer(kernel, &(lot_event){.kind = LOT_EXPIRE, .processor = 1});
+        answer(kernel, lot_expire(1));
     }
     return reply.thread;
 }
@@ -46,7 +45,8 @@ int main(void) {
     static const char *const firsts[4] = {"a", "b", "c", "d"}, *const seconds[4] = {"e", "f", "g", "h"};
     lot_kernel kernel = LOT_KERNEL_NONE;
     lot_generator generator;
-    lot_sizes sizes = {.tickets = 16, .currencies = 2, .threads = 8, .processors = 1, .scripts = 1, .quantum = 100, .unit = 1};
+    lot_sizes sizes = {.tickets = 16, .currencies = 2, .threads = 8, .processors = 1, .scripts = 1, .quantum = 100,
+                       .unit = 1};
     if (lot_generator_new(1, &generator) != LOT_DONE || lot_kernel_new(&sizes, &kernel) != LOT_DONE) {
         return 1;
     }

@@ -1,12 +1,14 @@
-// Real processes share one processor by lottery. Two users, alice and bob, hold 2000 and 1000 tickets of base, and hand on what they
-// have in currencies of their own: alice's tickets go to her children, bob's to his. Each child spins. All are pinned to one processor
-// and stopped; the winner of each draw goes on for a quantum (SIGCONT), and is then stopped again (SIGSTOP). In the middle alice starts
-// a third child: her other children get less, and bob's share stays.
+// Real processes share one processor by lottery. Two users, alice and bob, hold 2000 and 1000 tickets of base, and
+// hand on what they have in currencies of their own: alice's tickets go to her children, bob's to his. Each child
+// spins. All are pinned to one processor and stopped; the winner of each draw goes on for a quantum (SIGCONT), and is
+// then stopped again (SIGSTOP). In the middle alice starts a third child: her other children get less, and bob's
+// share stays.
 //
 //     share_processes [SECONDS [QUANTUM_IN_MILLISECONDS]]
 //
-// What is printed beside each child's tickets is its share of the processor time that the operating system has measured for all of them,
-// in the first half and in the second. The draws are the same in each run; the measured times are not. Linux alone has what this needs.
+// What is printed beside each child's tickets is its share of the processor time that the operating system has
+// measured for all of them, in the first half and in the second. The draws are the same in each run; the measured
+// times are not. Linux alone has what this needs.
 
 #define _GNU_SOURCE
 
@@ -57,7 +59,7 @@ static void give_up(const char *what) {
 
 static void must(uint32_t status) {
     if (status != LOT_DONE) {
-        fprintf(stderr, "status %u\n", status);
+        fprintf(stderr, "%s\n", lot_status_text(status));
         stop_all();
         exit(2);
     }
@@ -70,13 +72,13 @@ static lot_reply answer(lot_kernel *kernel, lot_event event) {
 }
 
 // The last of the processors that this process may use.
-static int last_processor(void) {
+static size_t last_processor(void) {
     cpu_set_t set;
     if (sched_getaffinity(0, sizeof set, &set) != 0) {
         give_up("sched_getaffinity");
     }
-    int last = 0;
-    for (int i = 0; i < CPU_SETSIZE; i++) {
+    size_t last = 0;
+    for (size_t i = 0; i < CPU_SETSIZE; i++) {
         if (CPU_ISSET(i, &set)) {
             last = i;
         }
@@ -84,7 +86,7 @@ static int last_processor(void) {
     return last;
 }
 
-static void spin(int processor) {
+static void spin(size_t processor) {
     cpu_set_t set;
     CPU_ZERO(&set);
     CPU_SET(processor, &set);
@@ -111,7 +113,7 @@ static void wait_until_stopped(pid_t pid) {
 }
 
 // Starts a child, stopped, and a thread of the kernel for it.
-static void start(lot_kernel *kernel, int i, int processor) {
+static void start(lot_kernel *kernel, int i, size_t processor) {
     children[i].pid = fork();
     if (children[i].pid < 0) {
         give_up("fork");
@@ -123,8 +125,8 @@ static void start(lot_kernel *kernel, int i, int processor) {
     if (clock_getcpuclockid(children[i].pid, &children[i].clock) != 0) {
         give_up("clock_getcpuclockid");
     }
-    answer(kernel, (lot_event){.kind = LOT_MAKE_FUNDED, .amount = children[i].tickets, .currency = lot_name_of(children[i].user),
-                               .name = lot_name_of(children[i].name), .script = 1});
+    lot_name user = lot_name_of(children[i].user), name = lot_name_of(children[i].name);
+    answer(kernel, lot_make_funded(children[i].tickets, user, name, 1));
 }
 
 static double used(int i) {
@@ -140,7 +142,7 @@ static double used(int i) {
 
 // Lets the winner of a draw run for a quantum.
 static void run_one(lot_kernel *kernel, uint64_t number, long milliseconds) {
-    lot_reply winner = answer(kernel, (lot_event){.kind = LOT_DRAW, .processor = 1, .number = {.low = number}});
+    lot_reply winner = answer(kernel, lot_draw(1, lot_wide_of(number)));
     pid_t pid = children[winner.thread - 1].pid;
     struct timespec quantum = {milliseconds / 1000, milliseconds % 1000 * 1000000};
     kill(pid, SIGCONT);
@@ -148,7 +150,7 @@ static void run_one(lot_kernel *kernel, uint64_t number, long milliseconds) {
     }
     kill(pid, SIGSTOP);
     wait_until_stopped(pid);
-    answer(kernel, (lot_event){.kind = LOT_EXPIRE, .processor = 1});
+    answer(kernel, lot_expire(1));
 }
 
 static void run_half(lot_kernel *kernel, lot_generator *generator, int half, long draws, long milliseconds) {
@@ -167,9 +169,9 @@ static void run_half(lot_kernel *kernel, lot_generator *generator, int half, lon
 }
 
 static void make_user(lot_kernel *kernel, uint64_t ticket, const char *user, uint64_t tickets) {
-    answer(kernel, (lot_event){.kind = LOT_MAKE_CURRENCY, .name = lot_name_of(user)});
-    answer(kernel, (lot_event){.kind = LOT_MAKE_TICKET, .amount = tickets, .currency = lot_name_of("base")});
-    answer(kernel, (lot_event){.kind = LOT_FUND, .ticket = ticket, .name = lot_name_of(user)});
+    answer(kernel, lot_make_currency(lot_name_of(user)));
+    answer(kernel, lot_make_ticket(tickets, lot_name_of("base")));
+    answer(kernel, lot_fund(ticket, lot_name_of(user)));
 }
 
 // Prints each child's measured share of the half beside what is due to it. The largest difference, as a share of all.
@@ -182,8 +184,8 @@ static double print_half(const char *title, int half) {
     for (int i = 0; i < CHILDREN - 1 + half; i++) {
         double share = all > 0 ? children[i].seconds[half] / all : 0;
         double off = share < children[i].due[half] ? children[i].due[half] - share : share - children[i].due[half];
-        printf("  %-6s %3llu of %-5s  due %5.1f%%  measured %5.1f%%\n", children[i].name, (unsigned long long)children[i].tickets,
-               children[i].user, 100 * children[i].due[half], 100 * share);
+        printf("  %-6s %3llu of %-5s  due %5.1f%%  measured %5.1f%%\n", children[i].name,
+               (unsigned long long)children[i].tickets, children[i].user, 100 * children[i].due[half], 100 * share);
         worst = off > worst ? off : worst;
     }
     return worst;
@@ -197,13 +199,14 @@ int main(int argc, char **argv) {
         fprintf(stderr, "share_processes [SECONDS [QUANTUM_IN_MILLISECONDS]]\n");
         return 2;
     }
-    int processor = last_processor();
+    size_t processor = last_processor();
     lot_kernel kernel = LOT_KERNEL_NONE;
     lot_generator generator;
     must(lot_generator_new(1, &generator));
-    must(lot_kernel_new(&(lot_sizes){.tickets = 8, .currencies = 2, .threads = 4, .processors = 1, .scripts = 1, .quantum = QUANTUM,
-                                     .unit = 256},
-                        &kernel));
+    lot_sizes sizes = lot_sizes_small();
+    sizes.quantum = QUANTUM;
+    sizes.unit = 256;
+    must(lot_kernel_new(&sizes, &kernel));
     make_user(&kernel, 1, "alice", 2000);
     make_user(&kernel, 2, "bob", 1000);
     for (int i = 0; i < LATE; i++) {
@@ -216,6 +219,7 @@ int main(int argc, char **argv) {
     double first = print_half("before alice's third child", 0), second = print_half("after it", 1);
     stop_all();
     must(lot_kernel_free(&kernel));
-    // Chance alone moves a share by a few hundredths in so few draws; more than 15 hundredths says that something is wrong.
+    // Chance alone moves a share by a few hundredths in so few draws; more than 15 hundredths says that something is
+    // wrong.
     return first > 0.15 || second > 0.15;
 }
