@@ -1,152 +1,544 @@
-"""Rows of worked kernels through the module `lot`, and what no call takes."""
+"""Rows of worked kernels through the package `lot`, what it refuses to take, and the examples in its pages."""
 
+import copy
+import dataclasses
+import doctest
+import inspect
+import itertools
+import os
+import pickle
+import platform
+import threading
 import unittest
+from concurrent.futures import ThreadPoolExecutor
+from pathlib import Path
+from unittest import mock
 
 import lot
+from lot import EventKind, Outcome, Refusal, Refused, Reply, ReplyKind, Status, ThreadState, ThreadStatus
+
+NARROW, WIDE, WIDEST = 1 << 32, 1 << 64, 1 << 128
 
 
-def status_of(call):
-    try:
-        call()
-    except lot.Error as error:
-        return lot.STATUSES[error.status]
-    return "done"
+def load_tests(_loader, tests, _pattern):
+    """Adds the examples of all modules of the package."""
+    for file in sorted(Path(lot.__file__).parent.glob("*.py")):
+        name = "lot" if file.stem == "__init__" else f"lot.{file.stem}"
+        tests.addTests(doctest.DocTestSuite(name))
+    return tests
+
+
+def trapped(thread, ticks, outcome, *, ends=False, **fields):
+    """The reply to a trap."""
+    return Reply(ReplyKind.TRAPPED, thread=thread, ticks=ticks, outcome=outcome, ends=ends, **fields)
+
+
+def refused_for(refusal):
+    """The reply to an event that is refused."""
+    return Reply(ReplyKind.REFUSED, refusal=refusal)
+
+
+def funded(kernel, *threads):
+    """Makes threads of these names and amounts of base."""
+    for name, amount in threads:
+        kernel.make_funded(name, amount)
+    return kernel
 
 
 class Worked(unittest.TestCase):
     def test_list_lottery(self):
         with lot.Kernel() as kernel:
             for thread, (amount, name) in enumerate([(10, "a"), (2, "b"), (5, "c"), (1, "d"), (2, "e")], 1):
-                self.assertEqual(kernel.event(lot.MAKE_FUNDED, amount=amount, currency="base", name=name, script=1).thread, thread)
-            for number, thread, reduced in [(15, 3, 15), (9, 1, 9), (10, 2, 10), (17, 4, 17), (35, 3, 15), (36090892629924, 1, 4)]:
-                reply = kernel.event(lot.DRAW, processor=1, number=number)
-                self.assertEqual((reply.kind, reply.thread, int(reply.number), int(reply.total)), (lot.REPLY_WINNER, thread, reduced, 20))
-                self.assertEqual(kernel.runner(1).thread, thread)
-                self.assertEqual(kernel.event(lot.DRAW, processor=1).reason, lot.REFUSAL_BUSY)
-                self.assertEqual(kernel.event(lot.EXPIRE, processor=1).ticks, 100)
+                made = Reply(ReplyKind.FUNDED, ticket=thread, thread=thread)
+                self.assertEqual(kernel.make_funded(name, amount), made)
+            for number, thread, reduced in [
+                (15, 3, 15), (9, 1, 9), (10, 2, 10), (17, 4, 17), (35, 3, 15), (36090892629924, 1, 4),
+            ]:
+                reply = kernel.draw(processor=1, number=number)
+                self.assertEqual(reply, Reply(ReplyKind.WINNER, thread=thread, number=reduced, total=20))
+                self.assertEqual(kernel.runner(1), lot.Runner(thread, 0))
+                self.assertEqual(kernel.draw(1, 0, check=False), Reply(ReplyKind.REFUSED, refusal=Refusal.BUSY))
+                self.assertEqual(kernel.expire(processor=1), Reply(ReplyKind.EXPIRED, thread=thread, ticks=100))
 
     def test_currency_graph(self):
         with lot.Kernel() as kernel:
-            for name in ["alice", "bob", "task1", "task2", "task3"]:
-                kernel.event(lot.MAKE_CURRENCY, name=name)
-            tickets = [(1000, "base", "alice"), (2000, "base", "bob"), (100, "alice", "task1"), (200, "alice", "task2"), (100, "bob", "task3")]
+            for currency, name in enumerate(["alice", "bob", "task1", "task2", "task3"], 1):
+                self.assertEqual(kernel.make_currency(name), Reply(ReplyKind.CURRENCY, currency=currency))
+            tickets = [
+                (1000, "base", "alice"), (2000, "base", "bob"),
+                (100, "alice", "task1"), (200, "alice", "task2"), (100, "bob", "task3"),
+            ]
             for ticket, (amount, currency, target) in enumerate(tickets, 1):
-                kernel.event(lot.MAKE_TICKET, amount=amount, currency=currency)
-                self.assertEqual(kernel.event(lot.FUND, ticket=ticket, name=target).kind, lot.REPLY_DONE)
-            for amount, currency, name in [(200, "task2", "thread2"), (300, "task2", "thread3"), (100, "task3", "thread4")]:
-                kernel.event(lot.MAKE_FUNDED, amount=amount, currency=currency, name=name, script=1)
+                self.assertEqual(kernel.make_ticket(amount, currency), Reply(ReplyKind.TICKET, ticket=ticket))
+                self.assertEqual(kernel.fund(ticket, target), Reply(ReplyKind.DONE))
+            threads = [(200, "task2", "thread2"), (300, "task2", "thread3"), (100, "task3", "thread4")]
+            for amount, currency, name in threads:
+                kernel.make_funded(name, amount, currency)
             self.assertEqual([kernel.thread_row(thread).value for thread in (1, 2, 3)], [400, 600, 2000])
             self.assertIsNone(kernel.thread_row(4))
-            row = kernel.currency_row(4)
-            self.assertEqual((str(row.name), row.backing, row.issued, row.active_amount, row.value), ("task2", 1, 2, 500, 1000))
-            row = kernel.ticket_row(3)
-            self.assertEqual((str(row.issuer), row.has_target, str(row.target), row.is_active), ("alice", True, "task1", False))
-            self.assertEqual((kernel.ticket_count(), kernel.currency_count(), kernel.sizes().threads, kernel.script_of(1)), (8, 6, 16, 1))
+            row = lot.CurrencyRow("task2", value=1000, active_amount=500, backing=1, issued=2)
+            self.assertEqual(kernel.currency_row(4), row)
+            self.assertEqual(kernel.currency_row(0).name, "base")
+            row = lot.TicketRow(0, 100, issuer="alice", target="task1", is_active=False)
+            self.assertEqual(kernel.ticket_row(3), row)
+            self.assertEqual((kernel.ticket_count(), kernel.currency_count(), kernel.script_of(1)), (8, 6, 1))
+            self.assertEqual(kernel.sizes(), lot.Sizes(64, 16, 16, 2, 2, 2, 1, 100, 1))
             self.assertGreater(kernel.meter().ticket_reads, 0)
+            self.assertEqual(
+                [kernel.list_tickets().kind, kernel.list_currencies().kind, kernel.list_threads().kind],
+                [ReplyKind.LIST_TICKETS, ReplyKind.LIST_CURRENCIES, ReplyKind.LIST_THREADS],
+            )
+
+    def test_unmaking(self):
+        with lot.Kernel() as kernel:
+            kernel.make_currency("alice")
+            self.assertEqual(kernel.make_thread("a"), Reply(ReplyKind.THREAD, thread=1))
+            kernel.make_ticket(7, "alice")
+            kernel.fund(1, "a")
+            self.assertEqual(kernel.draw(1, 3), Reply(ReplyKind.IDLE))
+            for call in [kernel.unfund, kernel.remove_ticket]:
+                self.assertEqual(call(1), Reply(ReplyKind.DONE))
+            self.assertEqual(kernel.remove_currency("alice"), Reply(ReplyKind.DONE))
+            self.assertIsNone(kernel.ticket_row(1))
+            self.assertIsNone(kernel.currency_row(1))
 
     def test_inflation(self):
-        """Inflation and deflation (3.2): 100 of base back alice, whose threads a and b have 10 of it each; c has 100 of base."""
+        """Inflation and deflation (3.2): 100 of base back alice, whose a and b have 10 each; c has 100 of base."""
         with lot.Kernel() as kernel:
-            kernel.event(lot.MAKE_CURRENCY, name="alice")
-            kernel.event(lot.MAKE_TICKET, amount=100, currency="base")
-            kernel.event(lot.FUND, ticket=1, name="alice")
+            kernel.make_currency("alice")
+            kernel.make_ticket(100)
+            kernel.fund(1, "alice")
             for amount, currency, name in [(10, "alice", "a"), (10, "alice", "b"), (100, "base", "c")]:
-                kernel.event(lot.MAKE_FUNDED, amount=amount, currency=currency, name=name, script=1)
+                kernel.make_funded(name, amount, currency)
 
             def drawn(number):
-                reply = kernel.event(lot.DRAW, processor=1, number=number)
-                kernel.event(lot.EXPIRE, processor=1)
-                return reply.kind, reply.thread, int(reply.total)
+                reply = kernel.draw(1, number)
+                kernel.expire(1)
+                return reply.kind, reply.thread, reply.total
 
-            self.assertEqual(drawn(50), (lot.REPLY_WINNER, 2, 200))
+            self.assertEqual(drawn(50), (ReplyKind.WINNER, 2, 200))
             # More of alice's tickets for a: it takes a share of b's, and none of c's.
-            self.assertEqual(kernel.event(lot.SET_TICKET, ticket=2, amount=30).kind, lot.REPLY_DONE)
-            row = kernel.ticket_row(2)
-            self.assertEqual((row.amount, row.value, str(row.issuer), row.has_target, str(row.target)), (30, 75, "alice", True, "a"))
-            self.assertEqual(drawn(50), (lot.REPLY_WINNER, 1, 200))
+            self.assertEqual(kernel.set_ticket(2, 30), Reply(ReplyKind.DONE))
+            self.assertEqual(kernel.ticket_row(2), lot.TicketRow(75, 30, issuer="alice", target="a", is_active=True))
+            self.assertEqual(drawn(50), (ReplyKind.WINNER, 1, 200))
             # Fewer of base's for alice: 20 for a and b, whose shares of them stay 3 to 1.
-            self.assertEqual(kernel.event(lot.SET_TICKET, ticket=1, amount=20).kind, lot.REPLY_DONE)
-            self.assertEqual(drawn(15), (lot.REPLY_WINNER, 2, 120))
+            self.assertEqual(kernel.set_ticket(1, 20), Reply(ReplyKind.DONE))
+            self.assertEqual(drawn(15), (ReplyKind.WINNER, 2, 120))
             self.assertEqual([kernel.thread_row(thread).value for thread in (1, 2, 3)], [15, 5, 100])
-            for ticket, amount, reason in [
-                (1, 0, lot.REFUSAL_BAD_AMOUNT), (99, 1 << 32, lot.REFUSAL_BAD_AMOUNT),
-                (99, 1, lot.REFUSAL_NO_TICKET), ((1 << 32) + 1, 1, lot.REFUSAL_NO_TICKET),
+            for ticket, amount, refusal in [
+                (1, 0, Refusal.BAD_AMOUNT), (99, NARROW, Refusal.BAD_AMOUNT),
+                (99, 1, Refusal.NO_TICKET), (NARROW + 1, 1, Refusal.NO_TICKET),
             ]:
-                reply = kernel.event(lot.SET_TICKET, ticket=ticket, amount=amount)
-                self.assertEqual((reply.kind, reply.reason), (lot.REPLY_REFUSED, reason))
+                self.assertEqual(kernel.set_ticket(ticket, amount, check=False), refused_for(refusal))
 
     def test_servings(self):
-        with lot.Kernel() as kernel:
-            for amount, name in [(10, "v"), (20, "c"), (30, "d")]:
-                kernel.event(lot.MAKE_FUNDED, amount=amount, currency="base", name=name, script=1)
-            self.assertEqual(kernel.event(lot.DRAW, processor=1).thread, 1)
-            kernel.event(lot.RECEIVE, processor=1, object=1)
-            self.assertEqual(kernel.event(lot.DRAW, processor=1).thread, 2)
-            kernel.event(lot.CALL, processor=1, object=1, sent=5)
-            self.assertEqual([kernel.event(lot.DRAW, processor=processor).thread for processor in (2, 1)], [1, 3])
-            kernel.event(lot.CALL, processor=1, object=1, sent=6)
-            reply = kernel.event(lot.SERVE, processor=2, object=1, sent=8)
-            self.assertEqual((reply.outcome, reply.replied_to, reply.other, reply.sent), (lot.OUTCOME_REPLIED_THEN_RECEIVED, 2, 3, 6))
-            reply = kernel.event(lot.SERVE, processor=2, object=1, sent=9)
-            self.assertEqual((reply.outcome, reply.replied_to, reply.has_sent), (lot.OUTCOME_REPLIED_THEN_WAITS, 3, False))
+        with funded(lot.Kernel(), ("v", 10), ("c", 20), ("d", 30)) as kernel:
+            self.assertEqual(kernel.draw(1, 0).thread, 1)
+            self.assertEqual(kernel.receive(1, port=1).outcome, Outcome.WAITS)
+            self.assertEqual(kernel.draw(1, 0).thread, 2)
+            self.assertEqual(kernel.call(1, port=1, sent=5), trapped(2, 1, Outcome.SERVED_BY, other=1))
+            # What was called with is delivered to the server when it is drawn.
+            replies = [kernel.draw(2, 0), kernel.draw(1, 0)]
+            self.assertEqual([(reply.thread, reply.sent) for reply in replies], [(1, 5), (3, None)])
+            self.assertEqual(kernel.thread_row(1).status, ThreadStatus(ThreadState.RUNNING, processor=2, used=0))
+            self.assertEqual(kernel.call(1, port=1, sent=6).outcome, Outcome.QUEUED)
+            self.assertEqual(kernel.thread_row(3).status, ThreadStatus(ThreadState.QUEUED, other=1))
+            wanted = trapped(1, 1, Outcome.REPLIED_THEN_RECEIVED, replied_to=2, other=3, sent=6)
+            self.assertEqual(kernel.serve(2, port=1, sent=8), wanted)
+            wanted = trapped(1, 1, Outcome.REPLIED_THEN_WAITS, replied_to=3)
+            self.assertEqual(kernel.serve(2, port=1, sent=9), wanted)
+
+    def test_reply(self):
+        with funded(lot.Kernel(), ("v", 10), ("c", 20)) as kernel:
+            self.assertEqual(kernel.draw(1, 29).thread, 2)
+            kernel.call(1, port=2, sent=0)
+            self.assertEqual(kernel.draw(1, 0).thread, 1)
+            # A number 0 that was sent isn't the same as none.
+            reply = kernel.receive(1, port=2, ticks=3)
+            self.assertEqual(reply, trapped(1, 4, Outcome.RECEIVED, other=2, sent=0))
+            reply = kernel.reply(1, sent=7, ticks=95)
+            self.assertEqual(reply, trapped(1, 96, Outcome.REPLIED, other=2, ends=True))
+            self.assertEqual(kernel.yield_(1, 4, check=False).refusal, Refusal.NOT_RUNNING)
+
+    def test_mutex(self):
+        """Thread a holds the mutex, for which b and c wait; c wins it by 25 of 50."""
+        with funded(lot.Kernel(), ("a", 10), ("b", 20), ("c", 30)) as kernel:
+            self.assertEqual(kernel.draw(1, 5).thread, 1)
+            self.assertEqual(kernel.lock(1, mutex=1, ticks=4), trapped(1, 5, Outcome.LOCKED))
+            for thread in (2, 3):
+                self.assertEqual(kernel.draw(2, 0).thread, thread)
+                self.assertEqual(kernel.lock(2, mutex=1).outcome, Outcome.WAITS)
+            wanted = trapped(1, 1, Outcome.PASSED, other=3, number=25, total=50)
+            self.assertEqual(kernel.unlock(1, mutex=1, number=25), wanted)
+            # a used 6 of 100 ticks and weighs 10 * 100 / 6; c, with what b lends, used 1 and weighs 50 * 100.
+            self.assertEqual(kernel.draw(1, 166), Reply(ReplyKind.WINNER, thread=3, number=166, total=5166))
+            self.assertEqual(kernel.exit(1, ticks=9).outcome, Outcome.EXITED)
+            row = lot.ThreadRow("c", ThreadStatus(ThreadState.DEAD), value=0, weight=0, quanta=2, ticks=11)
+            self.assertEqual(kernel.thread_row(3), row)
+            self.assertEqual(kernel.draw(1, 0).thread, 1)
+            self.assertEqual(kernel.lock(1, mutex=2).outcome, Outcome.LOCKED)
+            self.assertEqual(kernel.unlock(1, mutex=2, number=0).outcome, Outcome.FREED)
 
     def test_lottery_alone(self):
         self.assertEqual(lot.winner([10, 2, 5, 1, 2], 15), (2, 15, 20))
         self.assertIsNone(lot.winner([0, 0], 7))
-        self.assertEqual(status_of(lambda: lot.winner([1 << 127, 1 << 127], 7)), "too large")
+        self.assertIsNone(lot.winner([], 7))
+        with self.assertRaises(lot.LotError) as raised:
+            lot.winner([1 << 127, 1 << 127], 7)
+        self.assertEqual(raised.exception.status, Status.TOO_LARGE)
         self.assertEqual([lot.weight(400, 20, 100), lot.weight(7, 3, 100), lot.weight(400, 0, 100)], [2000, 233, 400])
-        self.assertEqual(lot.winner([10, 2, 5, 1, 2], (1 << 128) - 1), (2, 15, 20))
+        self.assertEqual(lot.winner([10, 2, 5, 1, 2], WIDEST - 1), (2, 15, 20))
+
+    def test_generator(self):
         self.assertEqual(lot.ParkMiller(1).number(), 36090892629924)
         self.assertEqual(lot.ParkMiller(1).wide_number(), 166439864623969647858139600294153)
         generator = lot.ParkMiller(1)
         self.assertEqual([generator.next_value() for _ in range(10000)][-1], 1043618065)
+        self.assertEqual(repr(generator), "ParkMiller(1043618065)")
+        numbers, again = lot.ParkMiller(1), lot.ParkMiller(1)
+        self.assertEqual(list(itertools.islice(numbers, 3)), [again.number(), again.number(), again.number()])
+
+
+class Refusals(unittest.TestCase):
+    def test_event(self):
+        with lot.Kernel() as kernel:
+            kernel.make_currency("alice")
+            with self.assertRaises(Refused) as raised:
+                kernel.make_currency("alice")
+            refused = raised.exception
+            self.assertEqual(refused.refusal, Refusal.NAME_TAKEN)
+            self.assertEqual(refused.reply, Reply(ReplyKind.REFUSED, refusal=Refusal.NAME_TAKEN))
+            self.assertEqual(refused.event, lot.events.make_currency("alice"))
+            self.assertEqual(str(refused), "NAME_TAKEN: Event(kind=EventKind.MAKE_CURRENCY, name='alice')")
+
+    def test_trap(self):
+        """A refused trap costs its ticks, which stand in its reply."""
+        with funded(lot.Kernel(), ("a", 1)) as kernel:
+            kernel.draw(1, 0)
+            with self.assertRaises(Refused) as raised:
+                kernel.unlock(1, mutex=1, number=0, ticks=9)
+            self.assertEqual(raised.exception.refusal, Refusal.NOT_OWNER)
+            wanted = trapped(1, 10, Outcome.REFUSED, refusal=Refusal.NOT_OWNER)
+            self.assertEqual(raised.exception.reply, wanted)
+            self.assertEqual(kernel.runner(1), lot.Runner(thread=1, used=10))
+
+    def test_unchecked(self):
+        refused = Reply(ReplyKind.REFUSED, refusal=Refusal.NOT_RUNNING)
+        with lot.Kernel() as kernel:
+            self.assertEqual(kernel.expire(1, check=False), refused)
+        with lot.Kernel(check=False) as kernel:
+            self.assertEqual(kernel.expire(1), refused)
+            self.assertRaises(Refused, kernel.expire, 1, check=True)
+
+    def test_each_refusal(self):
+        """Each refusal but BAD_NAME, which is a status here, and LOCK_CYCLE, by the events that lead to it."""
+        make = lot.events
+        start = [make.make_currency("u"), make.make_ticket(5, "u"), make.make_funded("a", 9)]
+        rows = {
+            Refusal.NAME_TAKEN: [make.make_thread("u")],
+            Refusal.NO_CURRENCY: [make.make_ticket(1, "v")],
+            Refusal.NO_TICKET: [make.unfund(9)],
+            Refusal.NO_TARGET: [make.fund(1, "v")],
+            Refusal.BAD_AMOUNT: [make.make_ticket(0)],
+            Refusal.IN_USE: [make.remove_currency("u")],
+            Refusal.FUNDING: [make.remove_ticket(2)],
+            Refusal.NOT_FUNDING: [make.unfund(1)],
+            Refusal.CYCLE: [make.fund(1, "u")],
+            Refusal.BASE_FIXED: [make.remove_currency("base")],
+            Refusal.DEAD_THREAD: [make.draw(1, 0), make.exit(1), make.fund(1, "a")],
+            Refusal.FULL: [make.make_currency("v"), make.make_currency("w")],
+            Refusal.NO_SCRIPT: [make.make_thread("b", script=2)],
+            Refusal.BAD_PROCESSOR: [make.draw(3, 0)],
+            Refusal.BUSY: [make.draw(1, 0), make.draw(1, 0)],
+            Refusal.NOT_RUNNING: [make.yield_(2)],
+            Refusal.BAD_TICKS: [make.draw(1, 0), make.yield_(1, 100)],
+            Refusal.NO_PORT: [make.draw(1, 0), make.call(1, 3, 0)],
+            Refusal.NOTHING_TO_REPLY: [make.draw(1, 0), make.reply(1, 0)],
+            Refusal.NO_MUTEX: [make.draw(1, 0), make.lock(1, 0)],
+            Refusal.NOT_OWNER: [make.draw(1, 0), make.unlock(1, 1, 0)],
+            Refusal.ALREADY_OWNER: [make.draw(1, 0), make.lock(1, 1), make.lock(1, 1)],
+        }
+        self.assertEqual(set(Refusal) - set(rows), {Refusal.BAD_NAME, Refusal.LOCK_CYCLE})
+        for refusal, row in rows.items():
+            with self.subTest(refusal=refusal), lot.Kernel(currencies=2) as kernel:
+                for event in start + row[:-1]:
+                    kernel.event(event)
+                with self.assertRaises(Refused) as raised:
+                    kernel.event(row[-1])
+                self.assertEqual(raised.exception.refusal, refusal)
+
+    def test_lock_cycle(self):
+        with funded(lot.Kernel(), ("a", 1), ("b", 1)) as kernel:
+            for processor in (1, 2):
+                kernel.draw(processor, 0)
+                kernel.lock(processor, mutex=processor)
+            kernel.lock(1, mutex=2)
+            with self.assertRaises(Refused) as raised:
+                kernel.lock(2, mutex=1)
+            self.assertEqual(raised.exception.refusal, Refusal.LOCK_CYCLE)
+
+
+class Taken(unittest.TestCase):
+    """What calls take, and what they don't."""
+
+    def status_of(self, call, *arguments, **fields):
+        with self.assertRaises(lot.LotError) as raised:
+            call(*arguments, **fields)
+        return raised.exception.status
 
     def test_unknown_fields(self):
-        with lot.Kernel() as kernel:
-            kernel.event(lot.MAKE_FUNDED, amount=5, currency="base", name="a", script=1)
+        with funded(lot.Kernel(), ("a", 5)) as kernel:
             for fields in [{"numbr": 7}, {"Processor": 1}, {"low": 1}]:
                 with self.assertRaises(TypeError, msg=fields):
-                    kernel.event(lot.DRAW, processor=1, **fields)
+                    kernel.draw(processor=1, **fields)
+            for call in [kernel.draw, kernel.expire, kernel.call, kernel.unlock]:
+                with self.assertRaises(TypeError):
+                    call()
             self.assertIsNone(kernel.runner(1))
+            self.assertRaises(TypeError, kernel.event, EventKind.DRAW, processor=1)
         for call in [lambda: lot.Event(numbr=7), lambda: lot.Sizes(thread=3), lambda: lot.Kernel(thread=3)]:
             self.assertRaises(TypeError, call)
+        # Without a field that the kind reads, with one that it doesn't, and with both.
+        self.assertRaises(TypeError, lot.Event, EventKind.DRAW, processor=1)
+        self.assertRaises(TypeError, lot.Event, EventKind.DRAW, processor=1, number=9, ticks=5)
+        self.assertRaises(TypeError, lot.Event, EventKind.DRAW, processor=1, ticks=5)
+        self.assertEqual(lot.Event(12, processor=1, number=9), lot.events.draw(1, 9))
+        self.assertRaises(ValueError, lot.Event, 23)
+
+    def test_one_method_for_each_event(self):
+        """It has the name of its kind, and the parameters of the function that makes the event."""
+        for kind in EventKind:
+            name = "yield_" if kind is EventKind.YIELD else kind.name.lower()
+            method, function = getattr(lot.Kernel, name), getattr(lot.events, name)
+            *fields, check = list(inspect.signature(method).parameters.values())[1:]
+            self.assertEqual(fields, list(inspect.signature(function).parameters.values()), name)
+            self.assertEqual((check.name, check.kind, check.default), ("check", inspect.Parameter.KEYWORD_ONLY, None))
+            self.assertTrue(method.__doc__ and function.__doc__)
+            wanted = lot.events.READS[kind]
+            self.assertEqual(sorted(field.name for field in fields), sorted(wanted), name)
 
     def test_numbers_out_of_range(self):
-        narrow, wide = 1 << 32, 1 << 64
-        ends = {"processor": narrow, "ticks": narrow, "object": narrow, "sent": narrow, "script": narrow}
-        ends |= {"amount": wide, "ticket": wide, "number": 1 << 128}
-        with lot.Kernel() as kernel:
-            for field, end in ends.items():
+        make = lot.events
+        for end, calls in {
+            NARROW: [
+                lambda it: make.expire(it), lambda it: make.yield_(1, it), lambda it: make.call(1, it, 0),
+                lambda it: make.call(1, 1, it), lambda it: make.lock(1, it), lambda it: make.make_thread("a", it),
+            ],
+            WIDE: [lambda it: make.make_ticket(it), lambda it: make.unfund(it), lambda it: make.set_ticket(1, it)],
+            WIDEST: [lambda it: make.draw(1, it), lambda it: make.unlock(1, 1, it)],
+        }.items():
+            for call in calls:
                 for number in [-1, end, end + 5]:
-                    with self.assertRaises(OverflowError, msg=(field, number)):
-                        kernel.event(lot.MAKE_TICKET, currency="base", **{field: number})
-            self.assertRaises(OverflowError, kernel.event, narrow + lot.LIST_TICKETS)
+                    self.assertRaises(OverflowError, call, number)
+                for number in [True, 1.0, "1", None, b"1", 1j]:
+                    self.assertRaises(TypeError, call, number)
+                call(0)
+                call(end - 1)
+        with lot.Kernel() as kernel:
+            self.assertRaises(OverflowError, kernel.draw, NARROW + 1, 0)
+            self.assertRaises(TypeError, kernel.draw, 1, 0.5)
             for row in [kernel.ticket_row, kernel.currency_row, kernel.thread_row, kernel.runner, kernel.script_of]:
-                self.assertRaises(OverflowError, row, narrow)
-                self.assertIsNone(row(narrow - 1))
+                self.assertRaises(OverflowError, row, NARROW)
+                self.assertRaises(TypeError, row, True)
+                self.assertIsNone(row(NARROW - 1))
             self.assertEqual(kernel.ticket_count(), 0)
-            reply = kernel.event(lot.MAKE_TICKET, amount=wide - 1, currency="base")
-            self.assertEqual(reply.reason, lot.REFUSAL_BAD_AMOUNT)
-            reply = kernel.event(lot.DRAW, processor=narrow - 1, number=(1 << 128) - 1)
-            self.assertEqual(reply.reason, lot.REFUSAL_BAD_PROCESSOR)
+            self.assertEqual(kernel.make_ticket(WIDE - 1, check=False).refusal, Refusal.BAD_AMOUNT)
+            self.assertEqual(kernel.draw(NARROW - 1, WIDEST - 1, check=False).refusal, Refusal.BAD_PROCESSOR)
         for call, arguments in [
-            (lot.ParkMiller, [narrow + 1]), (lot.weight, [wide, 0, 100]), (lot.weight, [1, narrow, 100]),
-            (lot.weight, [1, 0, narrow + 100]), (lot.winner, [[1 << 128], 0]), (lot.winner, [[1], -1]),
+            (lot.ParkMiller, [NARROW + 1]), (lot.weight, [WIDE, 0, 100]), (lot.weight, [1, NARROW, 100]),
+            (lot.weight, [1, 0, NARROW + 100]), (lot.winner, [[WIDEST], 0]), (lot.winner, [[1], -1]),
         ]:
             with self.assertRaises(OverflowError, msg=(call, arguments)):
                 call(*arguments)
-        with self.assertRaises(OverflowError):
-            lot.Kernel(threads=narrow + 1)
+        self.assertRaises(OverflowError, lot.Kernel, threads=NARROW + 1)
+        self.assertRaises(TypeError, lot.Kernel, threads=3.0)
+        self.assertRaises(TypeError, lot.ParkMiller, 1.0)
+
+    def test_other_integers(self):
+        class Seven:
+            def __index__(self):
+                return 7
+
+        self.assertEqual(lot.events.draw(Seven(), Seven()), lot.events.draw(7, 7))
+
+    def test_names(self):
+        with lot.Kernel() as kernel:
+            for name in [None, 5, b"a"]:
+                self.assertRaises(TypeError, kernel.make_currency, name)
+                self.assertRaises(TypeError, kernel.fund, 1, name)
+            for name in ["a-very-long-name-", "é" * 9, "x" * 5000]:
+                self.assertEqual(self.status_of(kernel.make_currency, name), Status.LONG_NAME)
+            for name in ["", "Base", "1a", "é", "a\0", "a\0b", "\udc80"]:
+                self.assertEqual(self.status_of(kernel.make_currency, name), Status.BAD_NAME)
+            kernel.make_currency("a-16-bytes-name_")
+            self.assertEqual(kernel.currency_row(1).name, "a-16-bytes-name_")
 
     def test_what_no_call_takes(self):
-        self.assertEqual(status_of(lambda: lot.Kernel(threads=4097)), "bad limits")
-        self.assertEqual(status_of(lambda: lot.ParkMiller(0)), "bad seed")
-        with lot.Kernel() as kernel:
-            self.assertEqual(status_of(lambda: kernel.event(lot.SET_TICKET + 1)), "bad kind")
-            self.assertEqual(status_of(lambda: kernel.event(lot.MAKE_CURRENCY, name="a-very-long-name-")), "long name")
-            self.assertEqual(status_of(lambda: kernel.event(lot.MAKE_CURRENCY, name="Base")), "bad name")
+        self.assertEqual(self.status_of(lot.Kernel, threads=4097), Status.BAD_LIMITS)
+        self.assertEqual(self.status_of(lot.ParkMiller, 0), Status.BAD_SEED)
+
+    def test_closed(self):
+        kernel = funded(lot.Kernel(), ("a", 1))
+        self.assertFalse(kernel.closed)
+        for _ in range(2):
             kernel.close()
-            self.assertEqual(status_of(lambda: kernel.event(lot.DRAW, processor=1)), "no kernel")
+            self.assertTrue(kernel.closed)
+            self.assertEqual(repr(kernel), "<lot.Kernel, closed>")
+        for call, arguments in [
+            (kernel.draw, (1, 0)), (kernel.list_tickets, ()),
+            (kernel.run, ([],)), (kernel.run, ([lot.events.draw(1, 0)],)),
+            (kernel.ticket_row, (1,)), (kernel.currency_row, (0,)), (kernel.thread_row, (1,)),
+            (kernel.runner, (1,)), (kernel.script_of, (1,)), (kernel.ticket_count, ()),
+            (kernel.currency_count, ()), (kernel.sizes, ()), (kernel.meter, ()),
+        ]:
+            self.assertEqual(self.status_of(call, *arguments), Status.NO_KERNEL, call)
+
+
+class Run(unittest.TestCase):
+    def test_same_as_one_by_one(self):
+        make = lot.events
+        run = [make.make_funded("a", 10), make.make_funded("b", 5)]
+        for number in itertools.islice(lot.ParkMiller(1), 50):
+            run += [make.draw(1, number), make.yield_(1, 19)]
+        with lot.Kernel() as one, lot.Kernel() as other:
+            self.assertEqual(one.run(iter(run)), [other.event(event) for event in run])
+            self.assertEqual(one.thread_row(1), other.thread_row(1))
+            self.assertEqual(one.run([]), [])
+
+    def test_faulty_event(self):
+        run = [lot.events.make_currency(name) for name in ("a", "b", "C", "d")]
+        with lot.Kernel() as kernel:
+            with self.assertRaises(lot.RunError) as raised:
+                kernel.run(run)
+            error = raised.exception
+            self.assertEqual((error.status, error.done), (Status.BAD_NAME, 2))
+            made = tuple(Reply(ReplyKind.CURRENCY, currency=currency) for currency in (1, 2))
+            self.assertEqual(error.replies, made)
+            self.assertEqual(str(error)[:30], "after 2 events of the run: a n")
+            self.assertEqual(kernel.currency_count(), 3)
+            with self.assertRaises(lot.RunError) as raised:
+                kernel.run([lot.events.make_currency("x" * 17)])
+            self.assertEqual((raised.exception.status, raised.exception.done), (Status.LONG_NAME, 0))
+
+    def test_refused_event(self):
+        run = [lot.events.make_currency(name) for name in ("a", "a", "b", "b")]
+        wanted = [
+            Reply(ReplyKind.CURRENCY, currency=1), refused_for(Refusal.NAME_TAKEN),
+            Reply(ReplyKind.CURRENCY, currency=2), refused_for(Refusal.NAME_TAKEN),
+        ]
+        with lot.Kernel() as kernel:
+            with self.assertRaises(Refused) as raised:
+                kernel.run(run)
+            self.assertEqual((raised.exception.event, raised.exception.replies), (run[1], tuple(wanted)))
+        with lot.Kernel() as kernel:
+            self.assertEqual(kernel.run(run, check=False), wanted)
+
+    def test_what_is_no_event(self):
+        with lot.Kernel() as kernel:
+            self.assertRaises(TypeError, kernel.run, [lot.events.make_currency("a"), EventKind.DRAW])
+            self.assertRaises(TypeError, kernel.event, "draw")
+            self.assertEqual(kernel.currency_count(), 1)
+
+
+class Threads(unittest.TestCase):
+    DRAWS = 2000
+
+    def test_one_kernel(self):
+        """Four threads of Python have a processor each; eight threads of the kernel are there for them."""
+        with funded(lot.Kernel(processors=4), *((name, 100) for name in "abcdefgh")) as kernel:
+            start = threading.Barrier(4)
+
+            def drive(processor):
+                start.wait()
+                for number in itertools.islice(lot.ParkMiller(processor), self.DRAWS):
+                    won = kernel.draw(processor, number)
+                    if kernel.expire(processor).thread != won.thread:
+                        return "another thread's reply"
+                return "done"
+
+            with ThreadPoolExecutor(4) as pool:
+                self.assertEqual(list(pool.map(drive, (1, 2, 3, 4))), ["done"] * 4)
+            rows = [kernel.thread_row(thread) for thread in range(1, 9)]
+            self.assertEqual(sum(row.quanta for row in rows), 4 * self.DRAWS)
+            self.assertEqual(sum(row.ticks for row in rows), 4 * self.DRAWS * 100)
+
+    def test_one_generator(self):
+        generator = lot.ParkMiller(7)
+        with ThreadPoolExecutor(4) as pool:
+            numbers = list(pool.map(lambda _: next(generator), range(self.DRAWS)))
+        self.assertEqual(sorted(numbers), sorted(itertools.islice(lot.ParkMiller(7), self.DRAWS)))
+
+    def test_closed_meanwhile(self):
+        kernel = lot.Kernel()
+
+        def count():
+            try:
+                while True:
+                    kernel.ticket_count()
+            except lot.LotError as error:
+                return error.status
+
+        with ThreadPoolExecutor(2) as pool:
+            counts = [pool.submit(count) for _ in range(2)]
+            kernel.close()
+            self.assertEqual([it.result() for it in counts], [Status.NO_KERNEL] * 2)
+
+
+class Values(unittest.TestCase):
+    def test_pickles(self):
+        reply = trapped(1, 10, Outcome.REFUSED, refusal=Refusal.NOT_OWNER)
+        event = lot.events.unlock(1, 1, WIDEST - 1, 9)
+        for again in [lambda it: pickle.loads(pickle.dumps(it)), copy.copy, copy.deepcopy]:
+            status = ThreadStatus(ThreadState.READY)
+            values = [reply, event, status, Refusal.CYCLE, lot.Runner(1, 2), lot.Drawn(1, 2, 3)]
+            for value in values:
+                self.assertEqual(again(value), value)
+                self.assertEqual(repr(again(value)), repr(value))
+            for error in [
+                lot.LotError(Status.BAD_SEED), lot.RunError(Status.BAD_NAME, [reply, reply]), Refused(event, reply),
+                Refused(event, reply, [reply]),
+            ]:
+                other = again(error)
+                self.assertIs(type(other), type(error))
+                self.assertEqual((vars(other), str(other)), (vars(error), str(error)))
+
+    def test_errors(self):
+        self.assertTrue(issubclass(Refused, lot.Error) and issubclass(lot.LotError, lot.Error))
+        self.assertFalse(issubclass(Refused, lot.LotError))
+        for status in Status:
+            self.assertTrue(str(lot.LotError(status)))
+
+    def test_frozen(self):
+        for value in [Reply(ReplyKind.DONE), lot.events.expire(1), lot.Runner(1, 2), ThreadStatus(ThreadState.READY)]:
+            with self.assertRaises(dataclasses.FrozenInstanceError):
+                value.kind = 5
+        self.assertRaises(TypeError, pickle.dumps, lot.Kernel())
+
+    def test_reprs(self):
+        for value, wanted in [
+            (Reply(ReplyKind.DONE), "Reply(kind=ReplyKind.DONE)"),
+            (lot.events.call(1, 2, 0), "Event(kind=EventKind.CALL, processor=1, ticks=0, port=2, sent=0)"),
+            (lot.Runner(1, 0), "Runner(thread=1, used=0)"),
+            (ThreadStatus(ThreadState.QUEUED, other=2), "ThreadStatus(state=ThreadState.QUEUED, other=2)"),
+        ]:
+            self.assertEqual(repr(value), wanted)
+            self.assertEqual(eval(wanted, vars(lot)), value)
+
+
+class Loading(unittest.TestCase):
+    def test_order(self):
+        package = Path(lot.__file__).resolve().parent
+        with mock.patch.dict(os.environ, LOT_SHARED="/there.so"):
+            self.assertEqual(lot.library.found(), Path("/there.so"))
+        with mock.patch.dict(os.environ):
+            os.environ.pop("LOT_SHARED", None)
+            with mock.patch.object(Path, "exists", return_value=True):
+                self.assertEqual(lot.library.found(), package / "liblot.so")
+            release = package.parents[2] / "dist" / f"{platform.machine()}-linux" / "liblot.so"
+            with mock.patch.object(Path, "exists", autospec=True, side_effect=lambda path: path == release):
+                self.assertEqual(lot.library.found(), release)
+            with mock.patch.object(Path, "exists", return_value=False):
+                self.assertRaises(ImportError, lot.library.found)
 
 
 if __name__ == "__main__":

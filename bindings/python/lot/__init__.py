@@ -1,0 +1,62 @@
+"""A lottery-scheduled kernel, proved, from Python.
+
+A `Kernel` holds tickets, currencies, threads, ports and lottery mutexes. It is given events and replies to each. It
+runs nothing itself: who is to run is in the replies. docs/MACHINE.md of the repository says what each event does.
+
+>>> import lot
+>>> with lot.Kernel() as kernel:
+...     first = kernel.make_funded("first", amount=10)
+...     second = kernel.make_funded("second", amount=5)
+...     print(kernel.draw(processor=1, number=9).thread)
+1
+
+What the kernel refuses raises `Refused`:
+
+>>> with lot.Kernel() as kernel:
+...     try:
+...         kernel.draw(processor=3, number=9)
+...     except lot.Refused as refused:
+...         print(refused)
+BAD_PROCESSOR: Event(kind=EventKind.DRAW, processor=3, number=9)
+
+This package is a layer over the shared object liblot.so, and is itself only tested. `lot.library` says where it is
+looked for.
+"""
+
+from . import events
+from .errors import Error, LotError, Refused, RunError
+from .events import Event
+from .kernel import Kernel
+from .lottery import ParkMiller, weight, winner
+from .numbers import EventKind, Outcome, Refusal, ReplyKind, Status, ThreadState
+from .records import CurrencyRow, Drawn, Meter, Reply, Runner, Sizes, ThreadRow, ThreadStatus, TicketRow
+
+__version__ = "0.1.0"
+
+__all__ = [
+    "CurrencyRow",
+    "Drawn",
+    "Error",
+    "Event",
+    "EventKind",
+    "Kernel",
+    "LotError",
+    "Meter",
+    "Outcome",
+    "ParkMiller",
+    "Refusal",
+    "Refused",
+    "Reply",
+    "ReplyKind",
+    "RunError",
+    "Runner",
+    "Sizes",
+    "Status",
+    "ThreadRow",
+    "ThreadState",
+    "ThreadStatus",
+    "TicketRow",
+    "events",
+    "weight",
+    "winner",
+]

@@ -1,0 +1,348 @@
+"""A kernel."""
+
+import threading
+from ctypes import Structure, byref, c_size_t, c_uint32
+from typing import Any, Iterable, List, Optional, Sequence, Union
+
+from . import events, library
+from .errors import Refused, RunError
+from .events import Event
+from .library import calls, must
+from .numbers import Status
+from .ranges import NARROW, checked
+from .records import CurrencyRow, Meter, Reply, Runner, Sizes, ThreadRow, TicketRow
+
+
+class Kernel:
+    """A kernel. It takes all its memory when it is made, and gives it back by `close` or at the end of a `with`.
+
+    Its sizes are those of `Sizes`. It begins with the currency base alone. Each event has a method, which returns the
+    kernel's reply; docs/MACHINE.md of the repository says what each event does.
+
+    Refusals: a refused event raises `Refused`, and so does a refused trap. With `check=False`, for the kernel or for
+    one event, the reply is returned instead.
+
+    Names have 1 to 16 bytes, a letter a to z, and then letters a to z, digits, '_' or '-'. Otherwise `LotError` is
+    raised, with `Status.LONG_NAME` or `Status.BAD_NAME`.
+
+    Numbers: `TypeError` for what is no integer, a bool too, and `OverflowError` for a number that is negative or too
+    large for its field: below 2 ** 32, but 2 ** 64 for amounts and tickets, and 2 ** 128 for drawn numbers. Whether
+    there is such a processor, ticket, port and so on is the kernel's to say. Tickets, threads, processors, ports,
+    mutexes and scripts are numbered from 1, currencies from 0, which is base.
+
+    Threads of Python may share a kernel: calls wait for each other. A signal handler must not call one, since the call
+    that it interrupts may hold the lock. Each call of a closed kernel raises `LotError` with `Status.NO_KERNEL`.
+
+    `LotError` with `Status.BAD_LIMITS` for sizes out of their bounds, and with `Status.NO_MEMORY`.
+
+    >>> with Kernel() as kernel:
+    ...     kernel.make_funded("first", 10)
+    ...     kernel.make_funded("second", 5)
+    ...     kernel.draw(processor=1, number=9)
+    Reply(kind=ReplyKind.FUNDED, ticket=1, thread=1)
+    Reply(kind=ReplyKind.FUNDED, ticket=2, thread=2)
+    Reply(kind=ReplyKind.WINNER, thread=1, number=9, total=15)
+    """
+
+    def __init__(
+        self,
+        *,
+        tickets: int = 64,
+        currencies: int = 16,
+        threads: int = 16,
+        ports: int = 2,
+        mutexes: int = 2,
+        processors: int = 2,
+        scripts: int = 1,
+        quantum: int = 100,
+        unit: int = 1,
+        check: bool = True,
+    ) -> None:
+        sizes = Sizes(tickets, currencies, threads, ports, mutexes, processors, scripts, quantum, unit)
+        self.check = check
+        self._lock = threading.Lock()
+        self._handle = library.Handle()
+        raw = library.RawSizes()
+        raw.set(sizes)
+        must(calls.lot_kernel_new(byref(raw), byref(self._handle)))
+
+    def close(self) -> None:
+        """Gives the memory back, once the calls of other threads have returned. A closed kernel stays closed."""
+        with self._lock:
+            calls.lot_kernel_free(byref(self._handle))
+
+    @property
+    def closed(self) -> bool:
+        """Whether the kernel is closed."""
+        with self._lock:
+            return self._handle.at is None
+
+    def __enter__(self) -> "Kernel":
+        return self
+
+    def __exit__(self, *_: object) -> None:
+        self.close()
+
+    def __del__(self) -> None:
+        # Without a handle the constructor has raised, and without calls the interpreter ends.
+        if hasattr(self, "_handle") and calls is not None:
+            self.close()
+
+    def __repr__(self) -> str:
+        return f"<lot.Kernel, {'closed' if self.closed else 'open'}>"
+
+    # ---- events
+
+    def event(self, event: Event, *, check: Optional[bool] = None) -> Reply:
+        """Makes an event of `lot.events`, and returns the reply."""
+        raw, answer = library.RawEvent(), library.RawReply()
+        raw.set(event)
+        with self._lock:
+            status = calls.lot_kernel_event(byref(self._handle), byref(raw), byref(answer))
+        must(status)
+        reply = answer.plain()
+        if reply.refusal is not None and self._checks(check):
+            raise Refused(event, reply)
+        return reply
+
+    def run(self, run: Iterable[Event], *, check: Optional[bool] = None) -> List[Reply]:
+        """Makes many events of `lot.events` in one call, in order, and returns their replies.
+
+        A run goes on after a refusal. At its end, unless `check` is false, it raises `Refused` for the first that was
+        refused, with the replies to all. It stops at an event with a faulty name, and raises `RunError`, which says
+        how many were made. On a closed kernel no event is made, and it raises `LotError`.
+
+        >>> with Kernel() as kernel:
+        ...     replies = kernel.run([events.make_funded("a", 3), events.draw(1, 2), events.expire(1)])
+        >>> [reply.kind for reply in replies]
+        [ReplyKind.FUNDED, ReplyKind.WINNER, ReplyKind.EXPIRED]
+        """
+        made = list(run)
+        raw, answers, done = (library.RawEvent * len(made))(), (library.RawReply * len(made))(), c_size_t()
+        for one, event in zip(raw, made):
+            one.set(event)
+        with self._lock:
+            status = calls.lot_kernel_run(byref(self._handle), raw, len(raw), answers, len(answers), byref(done))
+        if status in (Status.LONG_NAME, Status.BAD_NAME):
+            raise RunError(status, [answer.plain() for answer in answers[: done.value]])
+        must(status)
+        replies = [answer.plain() for answer in answers]
+        if self._checks(check):
+            _raise_first_refusal(made, replies)
+        return replies
+
+    def _checks(self, check: Optional[bool]) -> bool:
+        return self.check if check is None else check
+
+    def make_ticket(self, amount: int, currency: str = "base", *, check: Optional[bool] = None) -> Reply:
+        """Makes a ticket of 1 to 4294967295 of the currency, which funds nothing yet. Replies `TICKET`.
+
+        Refused: BAD_AMOUNT, NO_CURRENCY, FULL.
+        """
+        return self.event(events.make_ticket(amount, currency), check=check)
+
+    def remove_ticket(self, ticket: int, *, check: Optional[bool] = None) -> Reply:
+        """Removes a ticket that funds nothing. Replies `DONE`. Refused: NO_TICKET, FUNDING."""
+        return self.event(events.remove_ticket(ticket), check=check)
+
+    def set_ticket(self, ticket: int, amount: int, *, check: Optional[bool] = None) -> Reply:
+        """Inflation and deflation: the ticket gets another amount, 1 to 4294967295, and goes on funding what it funds.
+
+        The amount counts at once. Replies `DONE`. Refused: BAD_AMOUNT, NO_TICKET.
+        """
+        return self.event(events.set_ticket(ticket, amount), check=check)
+
+    def make_currency(self, name: str, *, check: Optional[bool] = None) -> Reply:
+        """Makes a currency, with a name that neither a currency nor a thread has. Replies `CURRENCY`.
+
+        Refused: NAME_TAKEN, FULL.
+        """
+        return self.event(events.make_currency(name), check=check)
+
+    def remove_currency(self, currency: str, *, check: Optional[bool] = None) -> Reply:
+        """Removes a currency that issues no ticket and is funded by none. Replies `DONE`.
+
+        Refused: NO_CURRENCY, BASE_FIXED, IN_USE.
+        """
+        return self.event(events.remove_currency(currency), check=check)
+
+    def fund(self, ticket: int, target: str, *, check: Optional[bool] = None) -> Reply:
+        """Has a ticket that funds nothing fund the currency or thread of this name. Replies `DONE`.
+
+        Refused: NO_TICKET, NO_TARGET, BASE_FIXED, DEAD_THREAD, FUNDING, CYCLE.
+        """
+        return self.event(events.fund(ticket, target), check=check)
+
+    def unfund(self, ticket: int, *, check: Optional[bool] = None) -> Reply:
+        """Has a ticket fund nothing. Replies `DONE`. Refused: NO_TICKET, NOT_FUNDING."""
+        return self.event(events.unfund(ticket), check=check)
+
+    def make_thread(self, name: str, script: int = 1, *, check: Optional[bool] = None) -> Reply:
+        """Makes a thread that nothing funds yet. Replies `THREAD`.
+
+        The script is a number that the kernel keeps for its caller. Refused: NAME_TAKEN, NO_SCRIPT, FULL.
+        """
+        return self.event(events.make_thread(name, script), check=check)
+
+    def make_funded(
+        self, name: str, amount: int, currency: str = "base", script: int = 1, *, check: Optional[bool] = None
+    ) -> Reply:
+        """Makes a thread, and a ticket of 1 to 4294967295 of the currency that funds it. Replies `FUNDED`.
+
+        Refused: BAD_AMOUNT, NO_CURRENCY, NAME_TAKEN, NO_SCRIPT, FULL.
+        """
+        return self.event(events.make_funded(name, amount, currency, script), check=check)
+
+    def list_tickets(self, *, check: Optional[bool] = None) -> Reply:
+        """Replies `LIST_TICKETS`, and is never refused. `ticket_row` reads the rows."""
+        return self.event(events.list_tickets(), check=check)
+
+    def list_currencies(self, *, check: Optional[bool] = None) -> Reply:
+        """Replies `LIST_CURRENCIES`, and is never refused. `currency_row` reads the rows."""
+        return self.event(events.list_currencies(), check=check)
+
+    def list_threads(self, *, check: Optional[bool] = None) -> Reply:
+        """Replies `LIST_THREADS`, and is never refused. `thread_row` reads the rows."""
+        return self.event(events.list_threads(), check=check)
+
+    def draw(self, processor: int, number: int, *, check: Optional[bool] = None) -> Reply:
+        """Draws the thread that runs on the processor next, by a number of 128 bits, such as `ParkMiller` draws.
+
+        Replies `WINNER`, or `IDLE` if no thread that is ready has any weight. Refused: BAD_PROCESSOR, BUSY.
+        """
+        return self.event(events.draw(processor, number), check=check)
+
+    def expire(self, processor: int, *, check: Optional[bool] = None) -> Reply:
+        """The running thread's quantum is over. Replies `EXPIRED`. Refused: BAD_PROCESSOR, NOT_RUNNING."""
+        return self.event(events.expire(processor), check=check)
+
+    # The traps of the running thread. Each comes after `ticks` ticks of work, and costs one tick more. All are refused
+    # as events with BAD_PROCESSOR, NOT_RUNNING, and BAD_TICKS if these ticks are more than the rest of the quantum.
+
+    def yield_(self, processor: int, ticks: int = 0, *, check: Optional[bool] = None) -> Reply:
+        """The running thread gives its processor back, after `ticks` ticks of work and one tick for the trap.
+
+        Replies `TRAPPED` with `YIELDED`. Refused: BAD_PROCESSOR, NOT_RUNNING, BAD_TICKS.
+        """
+        return self.event(events.yield_(processor, ticks), check=check)
+
+    def call(self, processor: int, port: int, sent: int, ticks: int = 0, *, check: Optional[bool] = None) -> Reply:
+        """The running thread calls the port with a number, and lends to whoever serves it until the reply.
+
+        Replies `TRAPPED` with `SERVED_BY` or `QUEUED`. Refused: BAD_PROCESSOR, NOT_RUNNING, BAD_TICKS; NO_PORT.
+        """
+        return self.event(events.call(processor, port, sent, ticks), check=check)
+
+    def receive(self, processor: int, port: int, ticks: int = 0, *, check: Optional[bool] = None) -> Reply:
+        """The running thread takes the call that has waited longest at the port, or waits for one.
+
+        Replies `TRAPPED` with `RECEIVED` or `WAITS`. Refused: BAD_PROCESSOR, NOT_RUNNING, BAD_TICKS; NO_PORT.
+        """
+        return self.event(events.receive(processor, port, ticks), check=check)
+
+    def reply(self, processor: int, sent: int, ticks: int = 0, *, check: Optional[bool] = None) -> Reply:
+        """The running thread replies with a number to the client that it took first.
+
+        Replies `TRAPPED` with `REPLIED`. Refused: BAD_PROCESSOR, NOT_RUNNING, BAD_TICKS; NOTHING_TO_REPLY.
+        """
+        return self.event(events.reply(processor, sent, ticks), check=check)
+
+    def serve(self, processor: int, port: int, sent: int, ticks: int = 0, *, check: Optional[bool] = None) -> Reply:
+        """The running thread replies, and then receives at the port, in one trap.
+
+        Replies `TRAPPED` with `REPLIED_THEN_RECEIVED` or `REPLIED_THEN_WAITS`. Refused: BAD_PROCESSOR, NOT_RUNNING,
+        BAD_TICKS; NO_PORT, NOTHING_TO_REPLY.
+        """
+        return self.event(events.serve(processor, port, sent, ticks), check=check)
+
+    def lock(self, processor: int, mutex: int, ticks: int = 0, *, check: Optional[bool] = None) -> Reply:
+        """The running thread takes the mutex, or waits for it and lends to its owner.
+
+        Replies `TRAPPED` with `LOCKED` or `WAITS`. Refused: BAD_PROCESSOR, NOT_RUNNING, BAD_TICKS; NO_MUTEX,
+        ALREADY_OWNER, LOCK_CYCLE.
+        """
+        return self.event(events.lock(processor, mutex, ticks), check=check)
+
+    def unlock(
+        self, processor: int, mutex: int, number: int, ticks: int = 0, *, check: Optional[bool] = None
+    ) -> Reply:
+        """The running thread frees the mutex, or passes it on to the waiter that is drawn by a number of 128 bits.
+
+        Replies `TRAPPED` with `FREED` or `PASSED`. Refused: BAD_PROCESSOR, NOT_RUNNING, BAD_TICKS; NO_MUTEX,
+        NOT_OWNER.
+        """
+        return self.event(events.unlock(processor, mutex, number, ticks), check=check)
+
+    def exit(self, processor: int, ticks: int = 0, *, check: Optional[bool] = None) -> Reply:
+        """The running thread ends, and is dead. Its tickets, mutexes and clients stay as they are.
+
+        Replies `TRAPPED` with `EXITED`. Refused: BAD_PROCESSOR, NOT_RUNNING, BAD_TICKS.
+        """
+        return self.event(events.exit(processor, ticks), check=check)
+
+    # ---- what is there
+
+    def _read(self, call: Any, row: Union[Structure, c_uint32], *numbers: int) -> bool:
+        """Has a call write a row. Whether there is one."""
+        given = [checked(number, NARROW, "number") for number in numbers]
+        with self._lock:
+            status = call(byref(self._handle), *given, byref(row))
+        if status == Status.NOT_THERE:
+            return False
+        must(status)
+        return True
+
+    def ticket_row(self, ticket: int) -> Optional[TicketRow]:
+        """The row of the ticket with this number, or `None`."""
+        row = library.RawTicketRow()
+        return row.plain() if self._read(calls.lot_kernel_ticket_row, row, ticket) else None
+
+    def currency_row(self, currency: int) -> Optional[CurrencyRow]:
+        """The row of the currency with this number, or `None`. Base has the number 0."""
+        row = library.RawCurrencyRow()
+        return row.plain() if self._read(calls.lot_kernel_currency_row, row, currency) else None
+
+    def thread_row(self, thread: int) -> Optional[ThreadRow]:
+        """The row of the thread with this number, or `None`. Threads are numbered up to the first without a row."""
+        row = library.RawThreadRow()
+        return row.plain() if self._read(calls.lot_kernel_thread_row, row, thread) else None
+
+    def runner(self, processor: int) -> Optional[Runner]:
+        """Who runs on the processor, or `None`."""
+        row = library.RawRunner()
+        return row.plain() if self._read(calls.lot_kernel_runner, row, processor) else None
+
+    def script_of(self, thread: int) -> Optional[int]:
+        """The number of the script that the thread was made with, or `None`."""
+        number = c_uint32()
+        return number.value if self._read(calls.lot_kernel_script_of, number, thread) else None
+
+    def ticket_count(self) -> int:
+        """How many tickets were made, removed ones too. They have the numbers 1 to the count."""
+        count = c_uint32()
+        self._read(calls.lot_kernel_ticket_count, count)
+        return count.value
+
+    def currency_count(self) -> int:
+        """How many currencies were made, removed ones and base too. They have the numbers 0 to below the count."""
+        count = c_uint32()
+        self._read(calls.lot_kernel_currency_count, count)
+        return count.value
+
+    def sizes(self) -> Sizes:
+        """The sizes that the kernel was made with."""
+        sizes = library.RawSizes()
+        self._read(calls.lot_kernel_limits, sizes)
+        return sizes.plain()
+
+    def meter(self) -> Meter:
+        """What the kernel has counted of its own work."""
+        meter = library.RawMeter()
+        self._read(calls.lot_kernel_meter, meter)
+        return meter.plain()
+
+
+def _raise_first_refusal(run: Sequence[Event], replies: Sequence[Reply]) -> None:
+    for event, reply in zip(run, replies):
+        if reply.refusal is not None:
+            raise Refused(event, reply, replies)

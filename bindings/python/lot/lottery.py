@@ -1,0 +1,98 @@
+"""The lottery alone, without a kernel."""
+
+import threading
+from ctypes import byref, c_uint32, c_uint64
+from typing import Iterator, Optional, Sequence
+
+from .library import Generator, RawDrawn, Wide, calls, must
+from .numbers import Status
+from .ranges import NARROW, WIDE, WIDEST, checked
+from .records import Drawn
+
+
+class ParkMiller:
+    """The generator of Park and Miller, and an iterator over its numbers, without an end.
+
+    Its values are 1 to 2147483646. Each is 16807 times the one before, modulo 2147483647. Threads may share a
+    generator.
+
+    `LotError` with `Status.BAD_SEED` for a seed that is 0 or above 2147483646.
+
+    >>> numbers = ParkMiller(1)
+    >>> next(numbers)
+    36090892629924
+    >>> ParkMiller(1).next_value()
+    16807
+    """
+
+    def __init__(self, seed: int) -> None:
+        self._lock = threading.Lock()
+        self._generator = Generator()
+        must(calls.lot_generator_new(checked(seed, NARROW, "seed"), byref(self._generator)))
+
+    def __iter__(self) -> Iterator[int]:
+        return self
+
+    def __next__(self) -> int:
+        return self.number()
+
+    def __repr__(self) -> str:
+        return f"ParkMiller({self._generator.value})"
+
+    def next_value(self) -> int:
+        """The next value, 1 to 2147483646."""
+        value = c_uint32()
+        with self._lock:
+            must(calls.lot_generator_next(byref(self._generator), byref(value)))
+        return value.value
+
+    def number(self) -> int:
+        """The number that is drawn from the next two values, 0 to 4611686009837453315."""
+        number = c_uint64()
+        with self._lock:
+            must(calls.lot_generator_number(byref(self._generator), byref(number)))
+        return number.value
+
+    def wide_number(self) -> int:
+        """The wide number that is drawn from the next four values, below 2 ** 124."""
+        number = Wide()
+        with self._lock:
+            must(calls.lot_generator_wide_number(byref(self._generator), byref(number)))
+        return number.plain()
+
+
+def weight(value: int, compensation: int, quantum: int) -> int:
+    """What a thread of this value, below 2 ** 64, weighs in a draw.
+
+    The compensation is how many ticks of its quantum the thread had used when it yielded or blocked before the
+    quantum's end, 0 for none: then the weight is value * quantum / compensation, rounded down, otherwise the value.
+
+    >>> weight(400, 20, 100), weight(400, 0, 100)
+    (2000, 400)
+    """
+    answer = Wide()
+    value = checked(value, WIDE, "value")
+    compensation, quantum = checked(compensation, NARROW, "compensation"), checked(quantum, NARROW, "quantum")
+    calls.lot_weight(value, compensation, quantum, byref(answer))
+    return answer.plain()
+
+
+def winner(weights: Sequence[int], number: int) -> Optional[Drawn]:
+    """Holds a lottery over the weights with this number, any 128 bits. `None` if the weights sum to 0.
+
+    The winner is the first whose running sum is greater than the number modulo the total. `LotError` with
+    `Status.TOO_LARGE` if the weights sum to 2 ** 128 or more, and with `Status.NO_MEMORY`.
+
+    >>> winner([10, 2, 5, 1, 2], 35)
+    Drawn(place=2, number=15, total=20)
+    """
+    number_given, drawn = Wide(), RawDrawn()
+    number_given.set(checked(number, WIDEST, "number"))
+    raw = (Wide * len(weights))()
+    for one, given in zip(raw, weights):
+        one.set(checked(given, WIDEST, "weight"))
+    status = calls.lot_winner(raw, len(raw), byref(number_given), byref(drawn))
+    if status == Status.NO_WINNER:
+        return None
+    must(status)
+    return drawn.plain()
