@@ -403,7 +403,7 @@ typedef enum lot_reply_kind LOT_OF_UINT32 {
     LOT_REPLY_WINNER = 9,   // thread: runs now; number, total, has_draw; sent, has_sent: a number delivered to it
     LOT_REPLY_IDLE = 10,    // no thread has any weight, and nothing has changed
     LOT_REPLY_EXPIRED = 11, // thread, ticks: what it ran
-    LOT_REPLY_TRAPPED = 12, // thread, ticks: what it ran; outcome; ends: its quantum is used up, and it runs no more
+    LOT_REPLY_TRAPPED = 12, // thread, ticks: what it ran; outcome; ends: it would go on, but its quantum is used up
     LOT_REPLY_REFUSED = 13  // reason; nothing has changed
 } lot_reply_kind;
 

@@ -1,0 +1,1302 @@
+// A fuzz test of the archive: whatever bytes may be handed in, between pages that nothing may touch.
+//
+//     fuzz [STEPS [SEED]]
+//
+// Each block that the library takes, and each struct that it is handed, stands right before a page without rights or
+// right behind one. A read or a write outside of it faults. That holds of the archive's code too, which no sanitizer
+// watches. What else is in the pages of a struct or a block is painted, and must stay so.
+//
+// A struct that is handed in has random bytes in each field that the call doesn't read. Some have them in all fields.
+// The others mean something more often than not, so that kernels get into deep states. After each step:
+//   - The status is one that the bytes deserve.
+//   - If it isn't LOT_DONE, nothing has changed: no byte of what the pointers point to, no row and no count. If the
+//     event was refused, no row and no count has changed.
+//   - A draw and an unlock have the reply that this file's own lottery comes to, over the rows that the kernel showed
+//     before.
+//
+// At the end of a kernel a fresh one gets all events that were done, with 0 in the fields that they don't read. It
+// gives the same replies and shows the same rows, though its blocks held other bytes at first and nobody read its rows
+// between.
+//
+// The steps depend on the seed alone. A kernel that begins after SECONDS isn't begun, so that a slow machine ends the
+// test early, and says so.
+
+#define _DEFAULT_SOURCE
+
+#include "lot.h"
+
+#include <signal.h>
+#include <stdio.h>
+#include <stdlib.h>
+#include <string.h>
+#include <sys/mman.h>
+#include <time.h>
+#include <unistd.h>
+
+__extension__ typedef unsigned __int128 wide;
+
+enum {
+    STEPS = 400000,         // if no argument says otherwise
+    STEPS_FOR_ALL = 200000, // from which on each outcome and each refusal comes up
+    SECONDS = 8,            // no kernel is begun after as many
+    STEPS_OF_KERNEL = 1500, // at most
+    EVENTS_OF_STEP = 8,     // at most, in one call
+    EVENTS_OF_REPLAY = 24,  // the same, where events are replayed
+    STILL = 100,            // after as many steps in which nothing could run, it is given up
+    WEIGHTS = 40,           // at most, in one lottery
+    BLOCKS = 512,           // at most, at a time
+    PAINT = 0xc3,
+    // At most, of a kernel:
+    TICKETS = 250,
+    CURRENCIES = 20,
+    THREADS = 24,
+    PORTS = 3,
+    MUTEXES = 3,
+    PROCESSORS = 4,
+    SCRIPTS = 2
+};
+
+// What is meant of structs that have bytes behind their last field.
+#define UP_TO(type, last) (offsetof(type, last) + sizeof(((type *)NULL)->last))
+
+static const size_t REPLY_BYTES = UP_TO(lot_reply, ends);
+
+// ---- what went wrong
+
+static uint64_t first_seed = 1, seed;
+static unsigned long steps;
+static lot_event given; // the last one that was handed in alone, or compared
+
+static void check(bool holds, const char *text, int line) {
+    if (holds) {
+        return;
+    }
+    printf("line %d: not so: %s\nseed %llu, step %lu, kind %u; the event's bytes:", line, text,
+           (unsigned long long)first_seed, steps, given.kind);
+    for (size_t i = 0; i < sizeof given; i++) {
+        printf(" %02x", ((const unsigned char *)&given)[i]);
+    }
+    puts("");
+    exit(1);
+}
+
+#define CHECK(holds) check((holds), #holds, __LINE__)
+
+// Ends the test at a fault. What was interrupted is a call of the library, so that printf may be called here.
+static void say_fault(int number) {
+    signal(number, SIG_DFL);
+    check(false, "a call reads and writes nothing outside", __LINE__);
+}
+
+// ---- random numbers
+
+static uint64_t random_bits(void) {
+    uint64_t z = (seed += UINT64_C(0x9e3779b97f4a7c15));
+    z = (z ^ (z >> 30)) * UINT64_C(0xbf58476d1ce4e5b9);
+    z = (z ^ (z >> 27)) * UINT64_C(0x94d049bb133111eb);
+    return z ^ (z >> 31);
+}
+
+static uint64_t below(uint64_t bound) {
+    return random_bits() % bound;
+}
+
+static uint32_t from_to(uint32_t least, uint32_t most) {
+    return least + (uint32_t)below((uint64_t)most - least + 1);
+}
+
+static bool one_in(uint64_t count) {
+    return below(count) == 0;
+}
+
+static void fill(void *at, size_t size) {
+    for (size_t i = 0; i < size; i++) {
+        ((unsigned char *)at)[i] = (unsigned char)random_bits();
+    }
+}
+
+// ---- pages
+
+// Pages between two without rights.
+struct room {
+    unsigned char *first;
+    size_t size; // a multiple of a page's
+};
+
+static size_t page;
+
+static struct room make_room(size_t least) {
+    size_t size = (least + page - 1) / page * page;
+    unsigned char *at = mmap(NULL, size + 2 * page, PROT_NONE, MAP_PRIVATE | MAP_ANONYMOUS, -1, 0);
+    CHECK(at != MAP_FAILED && mprotect(at + page, size, PROT_READ | PROT_WRITE) == 0);
+    memset(at + page, PAINT, size);
+    return (struct room){at + page, size};
+}
+
+static void free_room(struct room room) {
+    CHECK(munmap(room.first - page, room.size + 2 * page) == 0);
+}
+
+static bool is_painted(const unsigned char *from, const unsigned char *to) {
+    return from == to || (*from == PAINT && memcmp(from, from + 1, (size_t)(to - from) - 1) == 0);
+}
+
+// Whether all of the room is painted, except a block of it.
+static bool keeps_paint(struct room room, const unsigned char *at, size_t size) {
+    return is_painted(room.first, at) && is_painted(at + size, room.first + room.size);
+}
+
+// ---- the heap
+
+struct block {
+    struct room room;
+    unsigned char *at;
+    size_t size;
+};
+
+static struct block blocks[BLOCKS];
+static size_t block_count;
+static unsigned long asked;
+static int fresh = 0x5a; // what is in a block at first
+
+// A block that ends at a page without rights is aligned to what its size is a multiple of, which is the least that the
+// library is promised.
+lot_block rattle_alloc(size_t size, size_t align) {
+    size_t taken = size != 0 ? size : align;
+    CHECK(block_count < BLOCKS && taken % align == 0);
+    struct block block = {make_room(taken), NULL, taken};
+    block.at = block.room.first + (one_in(2) ? 0 : block.room.size - taken);
+    memset(block.at, fresh, taken);
+    blocks[block_count++] = block;
+    asked++;
+    return (lot_block){true, block.at};
+}
+
+void rattle_dealloc(void *at) {
+    size_t i = 0;
+    while (i < block_count && blocks[i].at != at) {
+        i++;
+    }
+    CHECK(i < block_count && keeps_paint(blocks[i].room, blocks[i].at, blocks[i].size));
+    free_room(blocks[i].room);
+    blocks[i] = blocks[--block_count];
+}
+
+lot_block rattle_realloc(void *at, size_t kept, size_t size, size_t align) {
+    lot_block block = rattle_alloc(size, align);
+    memcpy(block.at, at, kept);
+    rattle_dealloc(at);
+    return block;
+}
+
+// ---- structs that are handed in
+
+// Where the argument of a call is, and what it was before the call.
+struct place {
+    struct room room;
+    unsigned char *at;
+    size_t size;
+    unsigned char before[4096];
+};
+
+static struct place handle_place, input, second_input, output, second_output;
+
+// Puts a struct, or many, before a page without rights or behind one. Most structs are better aligned there than they
+// need to be. So one time in eight they stand in the midst, with the least alignment that the library asks for.
+static void *put(struct place *place, const void *bytes, size_t size, size_t align) {
+    uint64_t way = below(8);
+    struct room room = place->room;
+    CHECK(size <= sizeof place->before && size + 64 <= room.size);
+    memset(room.first, PAINT, room.size);
+    place->at = way < 4 ? room.first + room.size - size : way < 7 ? room.first : room.first + 16 + align;
+    place->size = size;
+    if (size != 0) {
+        memcpy(place->at, bytes, size);
+        memcpy(place->before, bytes, size);
+    }
+    return place->at;
+}
+
+#define PUT(place, value) put((place), &(value), sizeof(value), _Alignof(__typeof__(value)))
+
+static bool is_unchanged(const struct place *place) {
+    return memcmp(place->at, place->before, place->size) == 0;
+}
+
+static void check_paint(const struct place *place) {
+    CHECK(keeps_paint(place->room, place->at, place->size));
+}
+
+// An argument that is read, and not written.
+static void check_input(const struct place *place) {
+    CHECK(is_unchanged(place));
+    check_paint(place);
+}
+
+// An argument that is written if the call was done, and otherwise not.
+static void check_output(const struct place *place, uint32_t status) {
+    CHECK(status == LOT_DONE || is_unchanged(place));
+    check_paint(place);
+}
+
+// Puts random bytes where a call is to write.
+static void *put_output(struct place *place, size_t size, size_t align) {
+    unsigned char bytes[4096];
+    fill(bytes, size);
+    return put(place, bytes, size, align);
+}
+
+#define PUT_OUTPUT(place, type) put_output((place), sizeof(type), _Alignof(type))
+
+// ---- what a kernel shows
+
+// All that it shows, except how much it has worked. What isn't there is 0.
+struct view {
+    uint32_t ticket_count, currency_count, thread_count;
+    uint32_t scripts[THREADS];
+    lot_ticket_row tickets[TICKETS];
+    lot_currency_row currencies[CURRENCIES + 1];
+    lot_thread_row threads[THREADS];
+    lot_runner runners[PROCESSORS];
+    bool has_ticket[TICKETS], has_currency[CURRENCIES + 1];
+};
+
+static struct room row_room;
+
+// Where a row is to be written: at one end of the room and at the other in turn.
+static void *row_place(size_t size) {
+    static bool at_end;
+    at_end = !at_end;
+    return row_room.first + (at_end ? row_room.size - size : 0);
+}
+
+static bool is_there(uint32_t status) {
+    CHECK(status == LOT_DONE || status == LOT_NOT_THERE);
+    return status == LOT_DONE;
+}
+
+static void view_tickets(lot_kernel *kernel, struct view *view) {
+    CHECK(lot_kernel_ticket_count(kernel, &view->ticket_count) == LOT_DONE && view->ticket_count <= TICKETS);
+    for (uint32_t i = 0; i < view->ticket_count; i++) {
+        lot_ticket_row *row = row_place(sizeof *row);
+        view->has_ticket[i] = is_there(lot_kernel_ticket_row(kernel, i + 1, row));
+        if (view->has_ticket[i]) {
+            memcpy(&view->tickets[i], row, UP_TO(lot_ticket_row, is_active));
+        }
+    }
+}
+
+static void view_currencies(lot_kernel *kernel, struct view *view) {
+    CHECK(lot_kernel_currency_count(kernel, &view->currency_count) == LOT_DONE);
+    CHECK(view->currency_count <= CURRENCIES + 1);
+    for (uint32_t i = 0; i < view->currency_count; i++) {
+        lot_currency_row *row = row_place(sizeof *row);
+        view->has_currency[i] = is_there(lot_kernel_currency_row(kernel, i, row));
+        if (view->has_currency[i]) {
+            memcpy(&view->currencies[i], row, UP_TO(lot_currency_row, name));
+        }
+    }
+}
+
+static void view_threads(lot_kernel *kernel, struct view *view) {
+    lot_thread_row *row = row_place(sizeof *row);
+    uint32_t i = 0;
+    for (; is_there(lot_kernel_thread_row(kernel, i + 1, row)); i++) {
+        CHECK(i < THREADS);
+        memcpy(&view->threads[i], row, UP_TO(lot_thread_row, name));
+        CHECK(lot_kernel_script_of(kernel, i + 1, &view->scripts[i]) == LOT_DONE);
+        row = row_place(sizeof *row);
+    }
+    view->thread_count = i;
+}
+
+static void view_runners(lot_kernel *kernel, uint32_t processors, struct view *view) {
+    for (uint32_t i = 0; i < processors; i++) {
+        lot_runner *runner = row_place(sizeof *runner);
+        if (is_there(lot_kernel_runner(kernel, i + 1, runner))) {
+            view->runners[i] = *runner;
+        }
+    }
+}
+
+static void view_kernel(lot_kernel *kernel, const lot_sizes *sizes, struct view *view) {
+    memset(view, 0, sizeof *view);
+    view_tickets(kernel, view);
+    view_currencies(kernel, view);
+    view_threads(kernel, view);
+    view_runners(kernel, sizes->processors, view);
+}
+
+// ---- what rows don't tell
+
+// Who owns a mutex, and who waits for it in which order; which number a thread is given when it next wins a draw, and
+// which it sent with its call.
+static struct {
+    uint32_t owner[MUTEXES + 1];
+    uint32_t waiters[MUTEXES + 1][THREADS];
+    size_t waiter_count[MUTEXES + 1];
+    uint32_t delivered[THREADS + 1], sent[THREADS + 1];
+    bool has_delivered[THREADS + 1];
+} known;
+
+static void deliver(uint32_t thread, uint32_t sent) {
+    known.has_delivered[thread] = true;
+    known.delivered[thread] = sent;
+}
+
+static void remove_waiter(uint32_t mutex, uint32_t thread) {
+    uint32_t *waiters = known.waiters[mutex];
+    size_t kept = 0;
+    for (size_t i = 0; i < known.waiter_count[mutex]; i++) {
+        if (waiters[i] != thread) {
+            waiters[kept++] = waiters[i];
+        }
+    }
+    CHECK(kept + 1 == known.waiter_count[mutex]);
+    known.waiter_count[mutex] = kept;
+}
+
+static void learn_trap(const lot_event *event, const lot_reply *reply) {
+    uint32_t thread = reply->thread, object = event->object;
+    switch ((lot_outcome)reply->outcome) {
+    case LOT_OUTCOME_SERVED_BY: deliver(reply->other, event->sent); break;
+    case LOT_OUTCOME_QUEUED: known.sent[thread] = event->sent; break;
+    case LOT_OUTCOME_REPLIED: deliver(reply->other, event->sent); break;
+    case LOT_OUTCOME_REPLIED_THEN_WAITS: deliver(reply->replied_to, event->sent); break;
+    case LOT_OUTCOME_REPLIED_THEN_RECEIVED:
+        deliver(reply->replied_to, event->sent);
+        CHECK(reply->has_sent && reply->sent == known.sent[reply->other]);
+        break;
+    case LOT_OUTCOME_RECEIVED: CHECK(reply->has_sent && reply->sent == known.sent[reply->other]); break;
+    case LOT_OUTCOME_WAITS:
+        if (event->kind == LOT_LOCK) {
+            known.waiters[object][known.waiter_count[object]++] = thread;
+        }
+        break;
+    case LOT_OUTCOME_LOCKED: known.owner[object] = thread; break;
+    case LOT_OUTCOME_FREED: known.owner[object] = 0; break;
+    case LOT_OUTCOME_PASSED:
+        known.owner[object] = reply->other;
+        remove_waiter(object, reply->other);
+        break;
+    case LOT_OUTCOME_YIELDED:
+    case LOT_OUTCOME_EXITED:
+    case LOT_OUTCOME_REFUSED: break;
+    }
+}
+
+static void learn(const lot_event *event, const lot_reply *reply) {
+    if (reply->kind == LOT_REPLY_WINNER) {
+        known.has_delivered[reply->thread] = false;
+    } else if (reply->kind == LOT_REPLY_TRAPPED) {
+        learn_trap(event, reply);
+    }
+}
+
+// ---- a lottery of our own
+
+struct lottery {
+    wide number, total;
+    size_t place;
+    bool is_above; // the weights sum to more than a wide number
+};
+
+static wide wide_of(lot_wide number) {
+    return (wide)number.high << 64 | number.low;
+}
+
+static lot_wide lot_wide_from(wide number) {
+    return (lot_wide){(uint64_t)number, (uint64_t)(number >> 64)};
+}
+
+// The first whose running sum is above the number modulo the sum. If the sum is 0 there is no winner.
+static struct lottery hold(const wide *weights, size_t count, wide number) {
+    struct lottery held = {0, 0, 0, false};
+    wide sum = 0;
+    for (size_t i = 0; i < count; i++) {
+        held.total += weights[i];
+        held.is_above = held.is_above || held.total < weights[i];
+    }
+    if (held.total == 0 || held.is_above) {
+        return held;
+    }
+    held.number = number % held.total;
+    while ((sum += weights[held.place]) <= held.number) {
+        held.place++;
+    }
+    return held;
+}
+
+static unsigned long draws_held, unlocks_held;
+
+static lot_reply refused(uint32_t reason) {
+    return (lot_reply){.kind = LOT_REPLY_REFUSED, .reason = reason};
+}
+
+// The reply that a draw must have in the kernel of this view.
+static lot_reply reply_to_draw(const struct view *view, const lot_sizes *sizes, const lot_event *event) {
+    wide weights[THREADS];
+    uint32_t ready[THREADS];
+    size_t count = 0;
+    if (event->processor == 0 || event->processor > sizes->processors) {
+        return refused(LOT_REFUSAL_BAD_PROCESSOR);
+    }
+    if (view->runners[event->processor - 1].thread != 0) {
+        return refused(LOT_REFUSAL_BUSY);
+    }
+    for (uint32_t i = 0; i < view->thread_count; i++) {
+        if (view->threads[i].status.kind == LOT_STATUS_READY) {
+            weights[count] = wide_of(view->threads[i].weight);
+            ready[count++] = i + 1;
+        }
+    }
+    struct lottery held = hold(weights, count, wide_of(event->number));
+    if (held.total == 0) {
+        return (lot_reply){.kind = LOT_REPLY_IDLE};
+    }
+    draws_held++;
+    uint32_t thread = ready[held.place];
+    lot_reply reply = {.kind = LOT_REPLY_WINNER, .thread = thread, .has_draw = true};
+    reply.number = lot_wide_from(held.number);
+    reply.total = lot_wide_from(held.total);
+    reply.has_sent = known.has_delivered[thread];
+    reply.sent = reply.has_sent ? known.delivered[thread] : 0;
+    return reply;
+}
+
+// The lottery over what the waiters of a mutex are worth. If all are worth nothing, the first one gets the mutex.
+static void pass(const struct view *view, const lot_event *event, lot_reply *reply) {
+    const uint32_t *waiters = known.waiters[event->object];
+    size_t count = known.waiter_count[event->object];
+    wide values[THREADS];
+    for (size_t i = 0; i < count; i++) {
+        values[i] = view->threads[waiters[i] - 1].value;
+    }
+    struct lottery held = hold(values, count, wide_of(event->number));
+    reply->outcome = LOT_OUTCOME_PASSED;
+    // Its outcome says that the thread runs no more. `ends` is for those that would go on.
+    reply->ends = false;
+    reply->other = waiters[held.place];
+    reply->has_draw = held.total != 0;
+    reply->number = lot_wide_from(held.number);
+    reply->total = lot_wide_from(held.total);
+    unlocks_held++;
+}
+
+// The reply that an unlock must have in the kernel of this view.
+static lot_reply reply_to_unlock(const struct view *view, const lot_sizes *sizes, const lot_event *event) {
+    if (event->processor == 0 || event->processor > sizes->processors) {
+        return refused(LOT_REFUSAL_BAD_PROCESSOR);
+    }
+    lot_runner runner = view->runners[event->processor - 1];
+    uint64_t used = (uint64_t)runner.used + event->ticks + 1;
+    if (runner.thread == 0 || used > sizes->quantum) {
+        return refused(runner.thread == 0 ? LOT_REFUSAL_NOT_RUNNING : LOT_REFUSAL_BAD_TICKS);
+    }
+    lot_reply reply = {.kind = LOT_REPLY_TRAPPED, .thread = runner.thread, .ticks = event->ticks + 1};
+    reply.ends = used == sizes->quantum;
+    if (event->object == 0 || event->object > sizes->mutexes) {
+        reply.outcome = LOT_OUTCOME_REFUSED;
+        reply.reason = LOT_TRAP_REFUSAL_NO_MUTEX;
+    } else if (known.owner[event->object] != runner.thread) {
+        reply.outcome = LOT_OUTCOME_REFUSED;
+        reply.reason = LOT_TRAP_REFUSAL_NOT_OWNER;
+    } else if (known.waiter_count[event->object] == 0) {
+        reply.outcome = LOT_OUTCOME_FREED;
+    } else {
+        pass(view, event, &reply);
+    }
+    return reply;
+}
+
+// ---- the statuses that bytes deserve
+
+static bool is_letter(uint8_t byte) {
+    return byte >= 'a' && byte <= 'z';
+}
+
+static bool goes_on_name(uint8_t byte) {
+    return is_letter(byte) || (byte >= '0' && byte <= '9') || byte == '_' || byte == '-';
+}
+
+static uint32_t status_of_name(const uint8_t *bytes, size_t length) {
+    if (length > 16) {
+        return LOT_LONG_NAME;
+    }
+    bool is_name = length != 0 && is_letter(bytes[0]);
+    for (size_t i = 1; i < length; i++) {
+        is_name = is_name && goes_on_name(bytes[i]);
+    }
+    return is_name ? LOT_DONE : LOT_BAD_NAME;
+}
+
+// The event with 0 in each field that its kind doesn't read.
+static lot_event only_read(const lot_event *event) {
+    uint32_t processor = event->processor, ticks = event->ticks, object = event->object, sent = event->sent;
+    switch ((lot_event_kind)event->kind) {
+    case LOT_MAKE_TICKET: return lot_make_ticket(event->amount, event->currency);
+    case LOT_REMOVE_TICKET: return lot_remove_ticket(event->ticket);
+    case LOT_MAKE_CURRENCY: return lot_make_currency(event->name);
+    case LOT_REMOVE_CURRENCY: return lot_remove_currency(event->currency);
+    case LOT_FUND: return lot_fund(event->ticket, event->name);
+    case LOT_UNFUND: return lot_unfund(event->ticket);
+    case LOT_MAKE_THREAD: return lot_make_thread(event->name, event->script);
+    case LOT_MAKE_FUNDED: return lot_make_funded(event->amount, event->currency, event->name, event->script);
+    case LOT_LIST_TICKETS: return lot_list_tickets();
+    case LOT_LIST_CURRENCIES: return lot_list_currencies();
+    case LOT_LIST_THREADS: return lot_list_threads();
+    case LOT_DRAW: return lot_draw(processor, event->number);
+    case LOT_EXPIRE: return lot_expire(processor);
+    case LOT_YIELD: return lot_yield(processor, ticks);
+    case LOT_CALL: return lot_call(processor, ticks, object, sent);
+    case LOT_RECEIVE: return lot_receive(processor, ticks, object);
+    case LOT_REPLY: return lot_reply_with(processor, ticks, sent);
+    case LOT_LOCK: return lot_lock(processor, ticks, object);
+    case LOT_UNLOCK: return lot_unlock(processor, ticks, object, event->number);
+    case LOT_EXIT: return lot_exit(processor, ticks);
+    case LOT_SERVE: return lot_serve(processor, ticks, object, sent);
+    case LOT_SET_TICKET: return lot_set_ticket(event->ticket, event->amount);
+    }
+    return *event;
+}
+
+// The event with random bytes in each field that its kind doesn't read.
+static lot_event with_rest(lot_event event) {
+    lot_event ones, rest;
+    memset(&ones, 0xff, sizeof ones);
+    ones.kind = event.kind;
+    lot_event read = only_read(&ones);
+    fill(&rest, sizeof rest);
+    for (size_t i = sizeof event.kind; i < sizeof event; i++) {
+        if (((const unsigned char *)&read)[i] == 0) {
+            ((unsigned char *)&event)[i] = ((const unsigned char *)&rest)[i];
+        }
+    }
+    return event;
+}
+
+static bool reads_currency(uint32_t kind) {
+    return kind == LOT_MAKE_TICKET || kind == LOT_REMOVE_CURRENCY || kind == LOT_MAKE_FUNDED;
+}
+
+static bool reads_name(uint32_t kind) {
+    return kind == LOT_MAKE_CURRENCY || kind == LOT_FUND || kind == LOT_MAKE_THREAD || kind == LOT_MAKE_FUNDED;
+}
+
+// Whether an event may have this status. Where two names are wrong, it has that of either.
+static bool deserves(const lot_event *event, uint32_t status) {
+    uint32_t kind = event->kind, currency = LOT_DONE, name = LOT_DONE;
+    if (kind == 0 || kind > LOT_SET_TICKET) {
+        return status == LOT_BAD_KIND;
+    }
+    if (reads_currency(kind)) {
+        currency = status_of_name(event->currency.bytes, event->currency.length);
+    }
+    if (reads_name(kind)) {
+        name = status_of_name(event->name.bytes, event->name.length);
+    }
+    if (currency == LOT_DONE || name == LOT_DONE) {
+        return status == (currency != LOT_DONE ? currency : name);
+    }
+    return status == currency || status == name;
+}
+
+static bool within(uint32_t size, uint32_t least, uint32_t most) {
+    return size >= least && size <= most;
+}
+
+static bool are_sizes(const lot_sizes *sizes) {
+    return within(sizes->tickets, 1, 65535) && within(sizes->currencies, 1, 4096) &&
+           within(sizes->threads, 1, 4096) && sizes->ports <= 256 && sizes->mutexes <= 256 &&
+           within(sizes->processors, 1, 64) && sizes->scripts <= 256 && within(sizes->quantum, 1, 1000) &&
+           (sizes->unit == 1 || sizes->unit == 256);
+}
+
+// ---- events that mean something
+
+static lot_kernel kernel;
+static lot_sizes sizes;
+static struct view now, after;
+
+// A name that probably nothing has.
+static lot_name new_name(void) {
+    static const char bytes[] = "abcdefghijklmnopqrstuvwxyz0123456789-_";
+    lot_name name = {one_in(8) ? 16 : from_to(3, 15), {0}};
+    for (size_t i = 0; i < name.length; i++) {
+        name.bytes[i] = (uint8_t)bytes[below(i == 0 ? 26 : 38)];
+    }
+    return name;
+}
+
+static lot_name name_of_thread(void) {
+    return now.thread_count != 0 ? now.threads[below(now.thread_count)].name : new_name();
+}
+
+static lot_name name_of_currency(void) {
+    uint64_t i = below(now.currency_count);
+    return now.has_currency[i] ? now.currencies[i].name : new_name();
+}
+
+static lot_name some_name(void) {
+    return one_in(30) ? new_name() : one_in(2) ? name_of_thread() : name_of_currency();
+}
+
+static uint64_t some_amount(void) {
+    switch (below(16)) {
+    case 0: return UINT32_MAX;
+    case 1: return below(3) + UINT32_MAX;
+    case 2: return 0;
+    case 3: return random_bits();
+    default: return below(1000) + 1;
+    }
+}
+
+static lot_wide some_number(void) {
+    lot_wide number = {random_bits(), random_bits()};
+    switch (below(6)) {
+    case 0: return lot_wide_of(below(100000));
+    case 1: return lot_wide_of(number.low);
+    case 2: return lot_wide_of(0);
+    case 3: return (lot_wide){UINT64_MAX - below(4), UINT64_MAX};
+    default: return number;
+    }
+}
+
+static lot_event some_command(void) {
+    uint64_t ticket = below((uint64_t)now.ticket_count + 2);
+    lot_name currency = one_in(16) ? some_name() : one_in(2) ? lot_name_of("base") : name_of_currency();
+    lot_name name = one_in(16) ? some_name() : new_name();
+    uint32_t script = one_in(16) ? (uint32_t)random_bits() : 1;
+    switch (below(16)) {
+    case 0: return lot_remove_ticket(ticket);
+    case 1: return lot_set_ticket(ticket, some_amount());
+    case 2: return lot_unfund(ticket);
+    case 3: return lot_remove_currency(currency);
+    case 4: return lot_event_of(LOT_LIST_TICKETS + (uint32_t)below(3));
+    case 5: return lot_make_thread(name, script);
+    case 6: return lot_make_currency(name);
+    case 7:
+    case 8: return lot_make_ticket(some_amount(), currency);
+    case 9: return lot_fund(now.ticket_count, name_of_currency());
+    case 10:
+    case 11:
+    case 12: return lot_fund(ticket, some_name());
+    default: return lot_make_funded(some_amount(), currency, name, script);
+    }
+}
+
+static uint32_t some_ticks(lot_runner runner) {
+    switch (below(32)) {
+    case 0:
+    case 1: return (uint32_t)below(sizes.quantum);
+    case 2:
+    case 3: return sizes.quantum - runner.used - 1;
+    case 4: return sizes.quantum - runner.used;
+    case 5: return one_in(2) ? (uint32_t)random_bits() : UINT32_MAX;
+    case 6: return 1;
+    default: return 0;
+    }
+}
+
+// How many threads a draw may pick.
+static uint32_t drawable(void) {
+    uint32_t count = 0;
+    for (uint32_t i = 0; i < now.thread_count; i++) {
+        count += now.threads[i].status.kind == LOT_STATUS_READY && wide_of(now.threads[i].weight) != 0;
+    }
+    return count;
+}
+
+// A mutex for an unlock: one that the thread owns, if it owns any.
+static uint32_t some_owned(uint32_t thread, uint32_t otherwise) {
+    for (uint32_t mutex = 1; mutex <= MUTEXES; mutex++) {
+        if (known.owner[mutex] == thread && !one_in(8)) {
+            return mutex;
+        }
+    }
+    return otherwise;
+}
+
+// A trap that blocks nobody for long.
+static lot_event some_short_trap(uint32_t processor, uint32_t ticks, uint32_t mutex) {
+    switch (below(4)) {
+    case 0: return lot_yield(processor, ticks);
+    case 1: return lot_expire(processor);
+    case 2: return lot_reply_with(processor, ticks, (uint32_t)random_bits());
+    default: return lot_unlock(processor, ticks, mutex, some_number());
+    }
+}
+
+// Where few are left whom a draw may pick, a trap that blocks is rare, so that kernels seldom come to a standstill.
+static lot_event some_trap(uint32_t processor, lot_runner runner) {
+    uint32_t ticks = some_ticks(runner), sent = (uint32_t)random_bits();
+    uint32_t object = one_in(16) ? (uint32_t)below(6) : one_in(4) ? 2 : 1;
+    uint32_t count = drawable();
+    if (count < 3 && !one_in(20)) {
+        return some_short_trap(processor, ticks, some_owned(runner.thread, object));
+    }
+    if (count > 4 && one_in(40)) {
+        return lot_exit(processor, ticks);
+    }
+    switch (below(10)) {
+    case 0:
+    case 1: return lot_call(processor, ticks, object, sent);
+    case 2: return lot_receive(processor, ticks, object);
+    case 3:
+    case 4: return lot_serve(processor, ticks, object, sent);
+    case 5:
+    case 6: return lot_lock(processor, ticks, object);
+    default: return some_short_trap(processor, ticks, some_owned(runner.thread, object));
+    }
+}
+
+static lot_event some_meaning(void) {
+    uint32_t processor = from_to(1, sizes.processors);
+    lot_runner runner = now.runners[processor - 1];
+    if (below(16) < (drawable() < 4 ? 8u : 2u)) {
+        return some_command();
+    }
+    if (one_in(16)) {
+        return some_trap((uint32_t)below((uint64_t)sizes.processors + 2), runner);
+    }
+    return runner.thread == 0 ? lot_draw(processor, some_number()) : some_trap(processor, runner);
+}
+
+// One event in eight is bytes alone, and another one has up to three wrong bytes.
+static lot_event some_event(void) {
+    lot_event event;
+    uint64_t way = below(8);
+    if (way == 0) {
+        fill(&event, sizeof event);
+        event.kind = one_in(2) ? event.kind : (uint32_t)below(LOT_SET_TICKET + 2);
+        return event;
+    }
+    event = with_rest(some_meaning());
+    for (uint64_t wrong = way == 1 ? below(3) + 1 : 0; wrong != 0; wrong--) {
+        ((unsigned char *)&event)[below(sizeof event)] = (unsigned char)random_bits();
+    }
+    return event;
+}
+
+// ---- steps with a kernel
+
+static struct {
+    lot_event event;
+    lot_reply reply;
+} records[STEPS_OF_KERNEL * EVENTS_OF_STEP];
+static size_t record_count;
+static unsigned long failed, answered, kernels, replayed;
+static unsigned long outcomes[LOT_OUTCOME_REPLIED_THEN_WAITS + 1], kinds[LOT_REPLY_REFUSED + 1];
+static unsigned long reasons[LOT_TRAP_REFUSAL_LOCK_CYCLE + 1];
+
+static void record(const lot_event *event, const lot_reply *reply) {
+    CHECK(reply->kind <= LOT_REPLY_REFUSED && reply->outcome <= LOT_OUTCOME_REPLIED_THEN_WAITS);
+    CHECK(reply->reason <= LOT_TRAP_REFUSAL_LOCK_CYCLE);
+    learn(event, reply);
+    records[record_count].event = *event;
+    records[record_count++].reply = *reply;
+    answered++;
+    kinds[reply->kind]++;
+    outcomes[reply->outcome]++;
+    reasons[reply->reason]++;
+}
+
+static lot_meter meter_of(lot_kernel *handle) {
+    lot_meter meter;
+    CHECK(lot_kernel_meter(handle, &meter) == LOT_DONE);
+    return meter;
+}
+
+// Looks at the kernel after a step. Where the step was to change nothing, it still shows the same.
+static void look(lot_kernel *handle, bool stays) {
+    view_kernel(handle, &sizes, &after);
+    CHECK(!stays || memcmp(&now, &after, sizeof now) == 0);
+    memcpy(&now, &after, sizeof now);
+}
+
+static bool is_trap(uint32_t kind) {
+    return kind >= LOT_YIELD && kind <= LOT_SERVE;
+}
+
+static bool changes_nothing(const lot_reply *reply) {
+    return reply->kind == LOT_REPLY_REFUSED || reply->kind == LOT_REPLY_IDLE ||
+           (reply->kind >= LOT_REPLY_LIST_TICKETS && reply->kind <= LOT_REPLY_LIST_THREADS);
+}
+
+// Compares the reply to an event with what the kernel showed before.
+static void compare(const lot_event *event, const lot_reply *reply) {
+    if (event->kind == LOT_DRAW) {
+        lot_reply expected = reply_to_draw(&now, &sizes, event);
+        CHECK(memcmp(reply, &expected, REPLY_BYTES) == 0);
+    } else if (event->kind == LOT_UNLOCK) {
+        lot_reply expected = reply_to_unlock(&now, &sizes, event);
+        CHECK(memcmp(reply, &expected, REPLY_BYTES) == 0);
+    }
+}
+
+// Who runs after a draw and after a trap.
+static void check_runner(const lot_event *event, const lot_reply *reply) {
+    if (event->processor == 0 || event->processor > sizes.processors) {
+        return;
+    }
+    lot_runner runner = now.runners[event->processor - 1];
+    CHECK(reply->kind != LOT_REPLY_WINNER || (runner.thread == reply->thread && runner.used == 0));
+    CHECK(!is_trap(event->kind) || lot_goes_on(reply) == (runner.thread != 0));
+    CHECK(reply->kind != LOT_REPLY_EXPIRED || runner.thread == 0);
+}
+
+static void step_event(void) {
+    given = some_event();
+    lot_kernel *handle = PUT(&handle_place, kernel);
+    const lot_event *event = PUT(&input, given);
+    lot_reply *reply = PUT_OUTPUT(&output, lot_reply);
+    lot_meter before = meter_of(handle);
+    unsigned long asked_before = asked;
+    uint32_t status = lot_kernel_event(handle, event, reply);
+    lot_meter behind = meter_of(handle);
+    CHECK(deserves(&given, status) && asked == asked_before);
+    check_input(&handle_place);
+    check_input(&input);
+    check_output(&output, status);
+    bool stays = status != LOT_DONE || reply->kind == LOT_REPLY_REFUSED;
+    CHECK(!stays || memcmp(&before, &behind, sizeof before) == 0);
+    if (status == LOT_DONE) {
+        compare(&given, reply);
+        record(&given, reply);
+        look(handle, changes_nothing(reply));
+        check_runner(&given, reply);
+    } else {
+        failed++;
+        look(handle, true);
+    }
+}
+
+// Many events in one call, with as many replies or with more or fewer. Those before the first that is at fault are
+// done, and no reply to a later one is written.
+static void step_run(void) {
+    lot_event events[EVENTS_OF_STEP];
+    size_t count = below(EVENTS_OF_STEP + 1), reply_count = count, first = 0, done = 77;
+    for (size_t i = 0; i < count; i++) {
+        events[i] = some_event();
+    }
+    if (one_in(8)) {
+        reply_count = below(EVENTS_OF_STEP + 1);
+    }
+    while (first < count && deserves(&events[first], LOT_DONE)) {
+        first++;
+    }
+    lot_kernel *handle = PUT(&handle_place, kernel);
+    const lot_event *given_events = put(&input, events, count * sizeof *events, _Alignof(lot_event));
+    lot_reply *replies = put_output(&output, reply_count * sizeof *replies, _Alignof(lot_reply));
+    size_t *given_done = PUT(&second_output, done);
+    uint32_t status = lot_kernel_run(handle, count == 0 ? NULL : given_events, count,
+                                     reply_count == 0 ? NULL : replies, reply_count, given_done);
+    check_input(&handle_place);
+    check_input(&input);
+    check_paint(&output);
+    check_paint(&second_output);
+    if (reply_count != count) {
+        CHECK(status == LOT_COUNTS_DIFFER && is_unchanged(&output) && is_unchanged(&second_output));
+        look(handle, true);
+        return;
+    }
+    CHECK(first == count ? status == LOT_DONE : deserves(&events[first], status));
+    CHECK(*given_done == first);
+    size_t written = first * sizeof *replies;
+    CHECK(memcmp(output.at + written, output.before + written, output.size - written) == 0);
+    for (size_t i = 0; i < first; i++) {
+        record(&events[i], &replies[i]);
+    }
+    look(handle, first == 0);
+}
+
+// Whether a row is there, in what the kernel showed, and that it is written only then.
+static void check_row(uint32_t status, bool is_shown, const void *row, const void *shown, size_t size) {
+    CHECK(status == (is_shown ? LOT_DONE : LOT_NOT_THERE));
+    check_input(&handle_place);
+    check_output(&output, status);
+    CHECK(!is_shown || memcmp(row, shown, size) == 0);
+}
+
+// A row of any number, there or not.
+static void step_row(void) {
+    uint32_t number = one_in(4) ? (uint32_t)random_bits() : (uint32_t)below(TICKETS + 2) % (one_in(2) ? 8 : TICKETS);
+    uint32_t i = number - 1;
+    lot_kernel *handle = PUT(&handle_place, kernel);
+    switch (below(5)) {
+    case 0: {
+        lot_ticket_row *row = PUT_OUTPUT(&output, lot_ticket_row);
+        bool is_shown = number != 0 && number <= now.ticket_count && now.has_ticket[i];
+        uint32_t status = lot_kernel_ticket_row(handle, number, row);
+        check_row(status, is_shown, row, &now.tickets[is_shown ? i : 0], UP_TO(lot_ticket_row, is_active));
+        break;
+    }
+    case 1: {
+        lot_currency_row *row = PUT_OUTPUT(&output, lot_currency_row);
+        bool is_shown = number < now.currency_count && now.has_currency[number];
+        uint32_t status = lot_kernel_currency_row(handle, number, row);
+        check_row(status, is_shown, row, &now.currencies[is_shown ? number : 0], UP_TO(lot_currency_row, name));
+        break;
+    }
+    case 2: {
+        lot_thread_row *row = PUT_OUTPUT(&output, lot_thread_row);
+        bool is_shown = number != 0 && number <= now.thread_count;
+        uint32_t status = lot_kernel_thread_row(handle, number, row);
+        check_row(status, is_shown, row, &now.threads[is_shown ? i : 0], UP_TO(lot_thread_row, name));
+        break;
+    }
+    case 3: {
+        lot_runner *runner = PUT_OUTPUT(&output, lot_runner);
+        bool is_shown = number != 0 && number <= sizes.processors && now.runners[i].thread != 0;
+        uint32_t status = lot_kernel_runner(handle, number, runner);
+        check_row(status, is_shown, runner, &now.runners[is_shown ? i : 0], sizeof *runner);
+        break;
+    }
+    default: {
+        uint32_t *script = PUT_OUTPUT(&output, uint32_t);
+        bool is_shown = number != 0 && number <= now.thread_count;
+        uint32_t status = lot_kernel_script_of(handle, number, script);
+        check_row(status, is_shown, script, &now.scripts[is_shown ? i : 0], sizeof *script);
+        break;
+    }
+    }
+    look(handle, true);
+}
+
+// What a kernel counts and what it was made with, and that no second one is made in its place.
+static void step_counts(void) {
+    lot_kernel *handle = PUT(&handle_place, kernel);
+    uint32_t *count = PUT_OUTPUT(&output, uint32_t);
+    CHECK(lot_kernel_ticket_count(handle, count) == LOT_DONE && *count == now.ticket_count);
+    check_paint(&output);
+    count = PUT_OUTPUT(&output, uint32_t);
+    CHECK(lot_kernel_currency_count(handle, count) == LOT_DONE && *count == now.currency_count);
+    check_paint(&output);
+    lot_sizes *limits = PUT_OUTPUT(&output, lot_sizes);
+    CHECK(lot_kernel_limits(handle, limits) == LOT_DONE && memcmp(limits, &sizes, sizeof sizes) == 0);
+    check_paint(&output);
+    lot_meter *meter = PUT_OUTPUT(&output, lot_meter);
+    CHECK(lot_kernel_meter(handle, meter) == LOT_DONE);
+    check_paint(&output);
+    lot_sizes other = sizes;
+    unsigned long asked_before = asked;
+    CHECK(lot_kernel_new(PUT(&input, other), handle) == LOT_KERNEL_THERE && asked == asked_before);
+    check_input(&input);
+    check_input(&handle_place);
+    look(handle, true);
+}
+
+// ---- steps without one
+
+// A handle that holds no kernel: each call says so, and writes nothing.
+static void step_none(void) {
+    lot_kernel none = LOT_KERNEL_NONE;
+    size_t count = below(4);
+    lot_event event = some_event();
+    uint32_t number = (uint32_t)random_bits(), status = LOT_NO_KERNEL;
+    lot_kernel *handle = PUT(&handle_place, none);
+    const lot_event *given_event = PUT(&input, event);
+    // As large as any of what is written below, so that one place does for all.
+    lot_reply *reply = PUT_OUTPUT(&output, lot_reply);
+    void *row = reply;
+    size_t *done = PUT(&second_output, count);
+    switch (below(12)) {
+    case 0: status = lot_kernel_event(handle, given_event, reply); break;
+    case 1: status = lot_kernel_run(handle, given_event, 1, reply, 1, done); break;
+    case 2: status = lot_kernel_ticket_row(handle, number, row); break;
+    case 3: status = lot_kernel_currency_row(handle, number, row); break;
+    case 4: status = lot_kernel_thread_row(handle, number, row); break;
+    case 5: status = lot_kernel_runner(handle, number, row); break;
+    case 6: status = lot_kernel_script_of(handle, number, row); break;
+    case 7: status = lot_kernel_ticket_count(handle, row); break;
+    case 8: status = lot_kernel_currency_count(handle, row); break;
+    case 9: status = lot_kernel_limits(handle, row); break;
+    case 10: status = lot_kernel_meter(handle, row); break;
+    default: status = lot_kernel_free(handle); break;
+    }
+    CHECK(status == LOT_NO_KERNEL && is_unchanged(&second_output));
+    check_input(&handle_place);
+    check_input(&input);
+    check_output(&output, status);
+}
+
+static lot_sizes some_sizes(void) {
+    static const uint32_t quanta[8] = {1, 2, 10, 100, 100, 100, 1000, 1000};
+    return (lot_sizes){.tickets = one_in(16) ? from_to(1, 8) : from_to(80, TICKETS),
+                       .currencies = from_to(1, CURRENCIES),
+                       .threads = one_in(16) ? from_to(1, 4) : from_to(8, THREADS),
+                       .ports = one_in(8) ? 0 : from_to(1, PORTS),
+                       .mutexes = one_in(8) ? 0 : from_to(1, MUTEXES),
+                       .processors = from_to(1, PROCESSORS),
+                       .scripts = one_in(16) ? 0 : from_to(1, SCRIPTS),
+                       .quantum = quanta[below(8)],
+                       .unit = one_in(2) ? 1 : 256};
+}
+
+// Sizes of any bytes, up to the largest, or such as above with one byte changed.
+static lot_sizes any_sizes(void) {
+    lot_sizes any = some_sizes();
+    if (one_in(40)) {
+        return (lot_sizes){from_to(1, 65535), from_to(1, 4096), from_to(1, 4096), from_to(0, 256), from_to(0, 256),
+                           from_to(1, 64),    from_to(0, 256),  from_to(1, 1000), one_in(2) ? 1 : 256};
+    }
+    if (one_in(2)) {
+        fill(&any, sizeof any);
+    } else {
+        ((unsigned char *)&any)[below(sizeof any)] = (unsigned char)below(one_in(2) ? 256 : 4);
+    }
+    return any;
+}
+
+// A new kernel if the sizes are within their bounds, and none otherwise.
+static void step_new(void) {
+    lot_kernel none = LOT_KERNEL_NONE;
+    lot_sizes any = any_sizes();
+    size_t held = block_count;
+    lot_kernel *handle = PUT(&handle_place, none);
+    uint32_t status = lot_kernel_new(PUT(&input, any), handle);
+    CHECK(status == (are_sizes(&any) ? LOT_DONE : LOT_BAD_LIMITS));
+    CHECK((handle->at != NULL) == (status == LOT_DONE));
+    check_input(&input);
+    check_output(&handle_place, status);
+    CHECK(status != LOT_DONE || lot_kernel_free(handle) == LOT_DONE);
+    CHECK(handle->at == NULL && block_count == held);
+}
+
+// Weights of any size: their lottery, that they sum to 0, or that they sum to too much.
+static void step_winner(void) {
+    lot_wide weights[WEIGHTS], number = some_number();
+    wide same[WEIGHTS] = {0};
+    size_t count = below(WEIGHTS), held_before = block_count;
+    uint64_t way = below(4);
+    for (size_t i = 0; i < count; i++) {
+        weights[i] = way == 0 ? lot_wide_of(0) : way == 1 ? lot_wide_of(below(100)) : some_number();
+        weights[i].high >>= way == 2 ? 6 : 0;
+        same[i] = wide_of(weights[i]);
+    }
+    struct lottery held = hold(same, count, wide_of(number));
+    const lot_wide *given_weights = put(&input, weights, count * sizeof *weights, _Alignof(lot_wide));
+    lot_drawn *drawn = PUT_OUTPUT(&output, lot_drawn);
+    uint32_t status = lot_winner(count == 0 ? NULL : given_weights, count, PUT(&second_input, number), drawn);
+    CHECK(status == (held.is_above ? LOT_TOO_LARGE : held.total == 0 ? LOT_NO_WINNER : LOT_DONE));
+    CHECK(block_count == held_before);
+    check_input(&input);
+    check_input(&second_input);
+    check_output(&output, status);
+    if (status == LOT_DONE) {
+        CHECK(wide_of(drawn->number) == held.number && wide_of(drawn->total) == held.total);
+        CHECK(drawn->place == held.place);
+    }
+}
+
+static const uint32_t MODULUS = 2147483647;
+
+static uint32_t next_value(uint32_t *value) {
+    *value = (uint32_t)((uint64_t)*value * 16807 % MODULUS);
+    return *value;
+}
+
+static uint64_t next_number(uint32_t *value) {
+    uint64_t first = next_value(value);
+    return (first - 1) * (MODULUS - 1) + next_value(value) - 1;
+}
+
+// A generator of any value: the next value, or a number of two or of four values.
+static void step_generator(void) {
+    lot_generator any = {one_in(4) ? (uint32_t)random_bits() : one_in(4) ? MODULUS - (uint32_t)below(3)
+                                                                          : (uint32_t)below(MODULUS)};
+    bool is_good = any.value >= 1 && any.value < MODULUS;
+    uint32_t status, value = any.value;
+    lot_generator *generator = PUT(&second_output, any);
+    wide expected, got;
+    switch (below(4)) {
+    case 0: {
+        uint32_t *to = PUT_OUTPUT(&output, uint32_t);
+        status = lot_generator_next(generator, to);
+        expected = is_good ? next_value(&value) : 0;
+        got = *to;
+        break;
+    }
+    case 1: {
+        uint64_t *to = PUT_OUTPUT(&output, uint64_t);
+        status = lot_generator_number(generator, to);
+        expected = is_good ? next_number(&value) : 0;
+        got = *to;
+        break;
+    }
+    case 2: {
+        lot_wide *to = PUT_OUTPUT(&output, lot_wide);
+        status = lot_generator_wide_number(generator, to);
+        expected = is_good ? (wide)next_number(&value) * (MODULUS - 1) * (MODULUS - 1) : 0;
+        expected += is_good ? next_number(&value) : 0;
+        got = wide_of(*to);
+        break;
+    }
+    default:
+        PUT_OUTPUT(&output, lot_generator);
+        status = lot_generator_new(any.value, generator);
+        expected = got = 0;
+        break;
+    }
+    CHECK(status == (is_good ? LOT_DONE : LOT_BAD_SEED));
+    CHECK(generator->value == value && (!is_good || got == expected));
+    check_paint(&second_output);
+    check_output(&output, status);
+}
+
+// A name of any bytes, or one that is mostly a name.
+static void step_name(void) {
+    static const char often[] = "azb-_09";
+    uint8_t bytes[20];
+    size_t count = below(19);
+    fill(bytes, sizeof bytes);
+    for (size_t i = one_in(4) ? count : 0; i < count; i++) {
+        bytes[i] = one_in(20) ? bytes[i] : (uint8_t)often[below(i == 0 ? 3 : 7)];
+    }
+    const uint8_t *given_bytes = put(&input, bytes, count, 1);
+    lot_name *name = PUT_OUTPUT(&output, lot_name);
+    uint32_t status = lot_name_new(count == 0 ? NULL : given_bytes, count, name);
+    CHECK(status == status_of_name(bytes, count));
+    check_input(&input);
+    check_output(&output, status);
+    if (status == LOT_DONE) {
+        lot_name expected = {(uint32_t)count, {0}};
+        memcpy(expected.bytes, bytes, count);
+        CHECK(memcmp(name, &expected, sizeof expected) == 0);
+    }
+}
+
+static void step_weight(void) {
+    uint64_t value = one_in(2) ? random_bits() : below(1000);
+    uint32_t quantum = one_in(2) ? from_to(1, 1000) : (uint32_t)random_bits();
+    uint32_t compensation = one_in(4) ? 0 : one_in(2) ? (uint32_t)below(quantum + 1u) : (uint32_t)random_bits();
+    lot_wide *weight = PUT_OUTPUT(&output, lot_wide);
+    lot_weight(value, compensation, quantum, weight);
+    CHECK(wide_of(*weight) == (compensation == 0 ? value : (wide)value * quantum / compensation));
+    check_paint(&output);
+}
+
+// ---- a kernel from its start to its end
+
+static void step(void) {
+    uint64_t way = below(100);
+    steps++;
+    if (way < 80) {
+        step_event();
+    } else if (way < 84) {
+        step_run();
+    } else if (way < 88) {
+        step_row();
+    } else if (way < 89) {
+        step_counts();
+    } else if (way < 91) {
+        step_none();
+    } else if (way < 92) {
+        step_new();
+    } else if (way < 94) {
+        step_winner();
+    } else if (way < 96) {
+        step_generator();
+    } else if (way < 98) {
+        step_name();
+    } else {
+        step_weight();
+    }
+}
+
+// Gives the recorded events to a fresh kernel, many in a call, and compares replies and rows.
+static void replay(void) {
+    lot_kernel again = LOT_KERNEL_NONE;
+    CHECK(lot_kernel_new(&sizes, &again) == LOT_DONE);
+    for (size_t i = 0, count; i < record_count; i += count) {
+        lot_event events[EVENTS_OF_REPLAY];
+        size_t left = record_count - i, done = 0;
+        count = below(EVENTS_OF_REPLAY) + 1;
+        count = count < left ? count : left;
+        for (size_t k = 0; k < count; k++) {
+            events[k] = only_read(&records[i + k].event);
+        }
+        const lot_event *given_events = put(&input, events, count * sizeof *events, _Alignof(lot_event));
+        lot_reply *replies = put_output(&output, count * sizeof *replies, _Alignof(lot_reply));
+        CHECK(lot_kernel_run(&again, given_events, count, replies, count, &done) == LOT_DONE && done == count);
+        for (size_t k = 0; k < count; k++) {
+            given = records[i + k].event;
+            CHECK(memcmp(&replies[k], &records[i + k].reply, REPLY_BYTES) == 0);
+        }
+        check_input(&input);
+        check_paint(&output);
+        replayed += count;
+    }
+    view_kernel(&again, &sizes, &after);
+    CHECK(memcmp(&now, &after, sizeof now) == 0);
+    CHECK(lot_kernel_free(&again) == LOT_DONE && again.at == NULL);
+}
+
+static void fuzz_kernel(unsigned long count) {
+    sizes = some_sizes();
+    kernel = lot_kernel_none();
+    record_count = 0;
+    memset(&known, 0, sizeof known);
+    fresh = 0x5a;
+    CHECK(lot_kernel_new(&sizes, &kernel) == LOT_DONE && kernel.at != NULL);
+    view_kernel(&kernel, &sizes, &now);
+    for (unsigned still = 0; count != 0 && still < STILL; count--) {
+        step();
+        still = drawable() + now.runners[0].thread == 0 ? still + 1 : 0;
+    }
+    fresh = 0xa5;
+    replay();
+    CHECK(lot_kernel_free(&kernel) == LOT_DONE && kernel.at == NULL && block_count == 0);
+    CHECK(is_painted(row_room.first + sizeof(lot_thread_row), row_room.first + row_room.size - sizeof(lot_thread_row)));
+    kernels++;
+}
+
+static double seconds(void) {
+    struct timespec now_is;
+    CHECK(clock_gettime(CLOCK_MONOTONIC, &now_is) == 0);
+    return (double)now_is.tv_sec + (double)now_is.tv_nsec / 1e9;
+}
+
+// Each kind of reply, each outcome and each refusal came up: kernels got into the states that they need.
+static void check_all_seen(void) {
+    for (uint32_t kind = 1; kind <= LOT_REPLY_REFUSED; kind++) {
+        CHECK(kinds[kind] != 0);
+    }
+    for (uint32_t outcome = 1; outcome <= LOT_OUTCOME_REPLIED_THEN_WAITS; outcome++) {
+        CHECK(outcomes[outcome] != 0);
+    }
+    for (uint32_t reason = LOT_REFUSAL_NAME_TAKEN; reason <= LOT_TRAP_REFUSAL_LOCK_CYCLE; reason++) {
+        CHECK(reasons[reason] != 0 || strcmp(lot_refusal_text(reason), "unknown refusal") == 0);
+    }
+    CHECK(draws_held != 0 && unlocks_held != 0 && failed != 0);
+}
+
+int main(int argc, char **argv) {
+    unsigned long count = argc > 1 ? strtoul(argv[1], NULL, 10) : STEPS;
+    first_seed = argc > 2 ? strtoull(argv[2], NULL, 10) : first_seed;
+    seed = first_seed;
+    page = (size_t)sysconf(_SC_PAGESIZE);
+    struct place *places[5] = {&handle_place, &input, &second_input, &output, &second_output};
+    for (size_t i = 0; i < 5; i++) {
+        places[i]->room = make_room(page);
+        put(places[i], NULL, 0, 1);
+    }
+    row_room = make_room(page);
+    signal(SIGSEGV, say_fault);
+    signal(SIGBUS, say_fault);
+    double start = seconds();
+    while (steps < count && seconds() - start < SECONDS) {
+        unsigned long left = count - steps, some = from_to(100, STEPS_OF_KERNEL);
+        fuzz_kernel(some < left ? some : left);
+    }
+    if (steps < count) {
+        printf("the clock ended it after %d seconds\n", SECONDS);
+    } else if (count >= STEPS_FOR_ALL) {
+        check_all_seen();
+    }
+    printf("ok: fuzz: seed %llu, %lu steps in %lu kernels: %lu events answered, %lu with another status\n",
+           (unsigned long long)first_seed, steps, kernels, answered, failed);
+    printf("ok: fuzz: %lu draws and %lu unlocks as our own lottery has them, %lu events replayed\n", draws_held,
+           unlocks_held, replayed);
+    return 0;
+}
