@@ -55,7 +55,7 @@ class Reply:
     other: Optional[int] = None
     replied_to: Optional[int] = None
     sent: Optional[int] = None
-    ends: Optional[bool] = None  # of a trap: its thread's quantum is used up, and it runs no more
+    ends: Optional[bool] = None  # of a trap: its thread would go on, but its quantum is used up
     refusal: Optional[Refusal] = None  # of an event or a trap that was refused
 
     __repr__ = shown
