@@ -569,8 +569,8 @@ static inline bool lot_goes_on(const lot_reply *reply) {
     return false;
 }
 
-// One event, and its reply. LOT_NO_KERNEL, LOT_BAD_KIND, LOT_LONG_NAME, LOT_BAD_NAME. Of two names that are no names the
-// currency's status is answered.
+// One event, and its reply. LOT_NO_KERNEL, LOT_BAD_KIND, LOT_LONG_NAME, LOT_BAD_NAME. Of two bad names the currency's
+// is told.
 uint32_t lot_kernel_event(lot_kernel *kernel, const lot_event *event, lot_reply *reply);
 
 // Events in order, and the reply to each in its place, up to the first event that has a status of its own: the call
