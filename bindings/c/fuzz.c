@@ -59,7 +59,7 @@ enum {
 // What is meant of structs that have bytes behind their last field.
 #define UP_TO(type, last) (offsetof(type, last) + sizeof(((type *)NULL)->last))
 
-static const size_t REPLY_BYTES = UP_TO(lot_reply, ends);
+static const size_t REPLY_BYTES = UP_TO(lot_reply, goes_on);
 
 // ---- what went wrong
 
@@ -456,7 +456,7 @@ static lot_reply reply_to_draw(const struct view *view, const lot_sizes *sizes, 
     }
     draws_held++;
     uint32_t thread = ready[held.place];
-    lot_reply reply = {.kind = LOT_REPLY_WINNER, .thread = thread, .has_draw = true};
+    lot_reply reply = {.kind = LOT_REPLY_WINNER, .thread = thread, .has_draw = true, .goes_on = true};
     reply.number = lot_wide_from(held.number);
     reply.total = lot_wide_from(held.total);
     reply.has_sent = known.has_delivered[thread];
@@ -476,6 +476,7 @@ static void pass(const struct view *view, const lot_event *event, lot_reply *rep
     reply->outcome = LOT_OUTCOME_PASSED;
     // Its outcome says that the thread runs no more. `ends` is for those that would go on.
     reply->ends = false;
+    reply->goes_on = false;
     reply->other = waiters[held.place];
     reply->has_draw = held.total != 0;
     reply->number = lot_wide_from(held.number);
@@ -495,6 +496,7 @@ static lot_reply reply_to_unlock(const struct view *view, const lot_sizes *sizes
     }
     lot_reply reply = {.kind = LOT_REPLY_TRAPPED, .thread = runner.thread, .ticks = event->ticks + 1};
     reply.ends = used == sizes->quantum;
+    reply.goes_on = !reply.ends;
     if (event->object == 0 || event->object > sizes->mutexes) {
         reply.outcome = LOT_OUTCOME_REFUSED;
         reply.reason = LOT_TRAP_REFUSAL_NO_MUTEX;
@@ -842,6 +844,7 @@ static void check_runner(const lot_event *event, const lot_reply *reply) {
     lot_runner runner = now.runners[event->processor - 1];
     CHECK(reply->kind != LOT_REPLY_WINNER || (runner.thread == reply->thread && runner.used == 0));
     CHECK(!is_trap(event->kind) || lot_goes_on(reply) == (runner.thread != 0));
+    CHECK(!reply->goes_on || (runner.thread == reply->thread && runner.thread != 0));
     CHECK(reply->kind != LOT_REPLY_EXPIRED || runner.thread == 0);
 }
 
@@ -988,12 +991,12 @@ static void step_counts(void) {
 
 // ---- steps without one
 
-// A handle that holds no kernel: each call says so, and writes nothing.
+// A handle that holds no kernel: each call but lot_kernel_free says so, and all of them write nothing.
 static void step_none(void) {
     lot_kernel none = LOT_KERNEL_NONE;
     size_t count = below(4);
     lot_event event = some_event();
-    uint32_t number = (uint32_t)random_bits(), status = LOT_NO_KERNEL;
+    uint32_t number = (uint32_t)random_bits(), status = LOT_NO_KERNEL, wanted = LOT_NO_KERNEL;
     lot_kernel *handle = PUT(&handle_place, none);
     const lot_event *given_event = PUT(&input, event);
     // As large as any of what is written below, so that one place does for all.
@@ -1012,9 +1015,12 @@ static void step_none(void) {
     case 8: status = lot_kernel_currency_count(handle, row); break;
     case 9: status = lot_kernel_limits(handle, row); break;
     case 10: status = lot_kernel_meter(handle, row); break;
-    default: status = lot_kernel_free(handle); break;
+    default:
+        status = lot_kernel_free(handle);
+        wanted = LOT_DONE;
+        break;
     }
-    CHECK(status == LOT_NO_KERNEL && is_unchanged(&second_output));
+    CHECK(status == wanted && is_unchanged(&second_output));
     check_input(&handle_place);
     check_input(&input);
     check_output(&output, status);

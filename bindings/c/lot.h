@@ -9,9 +9,9 @@
 //
 //     cc -Ibindings/c examples/embed/first_draw.c dist/x86_64-linux/liblot.a
 //
-// WHAT A CALL ANSWERS. Each call of the library returns a status, except lot_weight, which cannot fail. LOT_DONE says
-// that it was done; any other says that the call has changed nothing: neither the kernel nor what its pointers point
-// to. (lot_kernel_run is the one exception: it does the events before the one that is at fault.)
+// WHAT A CALL ANSWERS. Each call of the library returns a status, except lot_weight and lot_version, which cannot
+// fail. LOT_DONE says that it was done; any other says that the call has changed nothing: neither the kernel nor what
+// its pointers point to. (lot_kernel_run is the one exception: it does the events before the one that is at fault.)
 //
 // A REFUSED EVENT has the status LOT_DONE, since the kernel has answered it. The reply's kind is LOT_REPLY_REFUSED,
 // its reason says why, and nothing has changed.
@@ -94,6 +94,14 @@ extern "C" {
 #define LOT_CAST(type, value) ((type)(value))
 #define LOT_OF_UINT32
 #endif
+
+// ---- the version
+
+// The version of this header, 0.1.0: major << 16 | minor << 8 | patch.
+#define LOT_VERSION 0x000100u
+
+// The version of the library, to be compared with LOT_VERSION.
+uint32_t lot_version(void);
 
 // ---- what a call answers
 
@@ -212,7 +220,7 @@ static inline lot_sizes lot_sizes_small(void) {
 // Makes a kernel with base alone, for a lot_kernel that holds none. LOT_KERNEL_THERE, LOT_BAD_LIMITS, LOT_NO_MEMORY.
 uint32_t lot_kernel_new(const lot_sizes *sizes, lot_kernel *kernel);
 
-// Frees the kernel, which is then LOT_KERNEL_NONE again. LOT_NO_KERNEL.
+// Frees the kernel, which is then LOT_KERNEL_NONE again. One that holds none stays so, and that is LOT_DONE too.
 uint32_t lot_kernel_free(lot_kernel *kernel);
 
 // ---- events
@@ -400,10 +408,10 @@ typedef enum lot_reply_kind LOT_OF_UINT32 {
     LOT_REPLY_LIST_TICKETS = 6,
     LOT_REPLY_LIST_CURRENCIES = 7,
     LOT_REPLY_LIST_THREADS = 8,
-    LOT_REPLY_WINNER = 9,   // thread: runs now; number, total, has_draw; sent, has_sent: a number delivered to it
+    LOT_REPLY_WINNER = 9,   // thread: runs now, goes_on; number, total, has_draw; sent, has_sent: delivered to it
     LOT_REPLY_IDLE = 10,    // no thread has any weight, and nothing has changed
     LOT_REPLY_EXPIRED = 11, // thread, ticks: what it ran
-    LOT_REPLY_TRAPPED = 12, // thread, ticks: what it ran; outcome; ends: it would go on, but its quantum is used up
+    LOT_REPLY_TRAPPED = 12, // thread, ticks: what it ran; outcome; goes_on; ends: it would, but its quantum is used up
     LOT_REPLY_REFUSED = 13  // reason; nothing has changed
 } lot_reply_kind;
 
@@ -540,33 +548,17 @@ typedef struct lot_reply {
     bool has_sent;
     bool has_draw;
     bool ends;
+    bool goes_on; // the thread runs on its processor now: it has won a draw, or its trap and its quantum leave it there
 } lot_reply;
 
 // Whether the thread that made a trap still runs on its processor, by the reply to the trap. If it doesn't, draw
 // there. A trap that is refused with LOT_REFUSAL_BAD_TICKS has changed nothing, so its thread still runs. It is false
 // for the reply to any other event.
 static inline bool lot_goes_on(const lot_reply *reply) {
-    if (reply->kind != LOT_REPLY_TRAPPED) {
-        return reply->kind == LOT_REPLY_REFUSED && reply->reason == LOT_REFUSAL_BAD_TICKS;
+    if (reply->kind == LOT_REPLY_REFUSED) {
+        return reply->reason == LOT_REFUSAL_BAD_TICKS;
     }
-    switch (LOT_CAST(lot_outcome, reply->outcome)) {
-    case LOT_OUTCOME_RECEIVED:
-    case LOT_OUTCOME_REPLIED:
-    case LOT_OUTCOME_LOCKED:
-    case LOT_OUTCOME_FREED:
-    case LOT_OUTCOME_REFUSED:
-    case LOT_OUTCOME_REPLIED_THEN_RECEIVED:
-        return !reply->ends;
-    case LOT_OUTCOME_YIELDED:
-    case LOT_OUTCOME_SERVED_BY:
-    case LOT_OUTCOME_QUEUED:
-    case LOT_OUTCOME_WAITS:
-    case LOT_OUTCOME_PASSED:
-    case LOT_OUTCOME_EXITED:
-    case LOT_OUTCOME_REPLIED_THEN_WAITS:
-        return false;
-    }
-    return false;
+    return reply->kind == LOT_REPLY_TRAPPED && reply->goes_on;
 }
 
 // One event, and its reply. LOT_NO_KERNEL, LOT_BAD_KIND, LOT_LONG_NAME, LOT_BAD_NAME. Of two bad names the currency's

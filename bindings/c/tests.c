@@ -424,7 +424,7 @@ static bool is_unknown(const char *text) {
     return strncmp(text, "unknown ", 8) == 0;
 }
 
-// Each number has a text if and only if it has a name.
+// Each number has a text if and only if it has a name. The archive has the header's version.
 static void texts(void) {
     for (uint32_t i = 0; i < 100; i++) {
         bool is_refusal = (i >= 1 && i <= 14) || (i >= 20 && i <= 23) || i == 30 || (i >= 32 && i <= 36);
@@ -433,6 +433,7 @@ static void texts(void) {
         CHECK(is_unknown(lot_refusal_text(i)) == !is_refusal);
     }
     CHECK(strcmp(lot_status_text(LOT_NO_MEMORY), "out of memory") == 0);
+    CHECK(lot_version() == LOT_VERSION);
     CHECK(strcmp(lot_status_text(UINT32_MAX), "unknown status") == 0);
     CHECK(strcmp(lot_outcome_text(LOT_OUTCOME_WAITS), "waits") == 0);
     CHECK(strcmp(lot_outcome_text(UINT32_MAX), "unknown outcome") == 0);
@@ -441,15 +442,12 @@ static void texts(void) {
     puts("ok: texts");
 }
 
-// Which outcomes leave the thread on its processor. One whose quantum is used up never stays there.
+// What lot_goes_on reads: of a trap the flag, of a refusal the reason, and of any other reply nothing.
 static void going_on(void) {
-    static const bool stays[15] = {[LOT_OUTCOME_RECEIVED] = true, [LOT_OUTCOME_REPLIED] = true,
-                                   [LOT_OUTCOME_LOCKED] = true,   [LOT_OUTCOME_FREED] = true,
-                                   [LOT_OUTCOME_REFUSED] = true,  [LOT_OUTCOME_REPLIED_THEN_RECEIVED] = true};
-    for (uint32_t outcome = 0; outcome < 15; outcome++) {
-        lot_reply reply = {.kind = LOT_REPLY_TRAPPED, .outcome = outcome};
-        CHECK(lot_goes_on(&reply) == stays[outcome]);
-        reply.ends = true;
+    for (uint32_t kind = 0; kind < 20; kind++) {
+        lot_reply reply = {.kind = kind, .goes_on = true};
+        CHECK(lot_goes_on(&reply) == (kind == LOT_REPLY_TRAPPED));
+        reply.goes_on = false;
         CHECK(!lot_goes_on(&reply));
     }
     for (uint32_t reason = 0; reason < 40; reason++) {
@@ -525,7 +523,7 @@ static void server_without_tickets(void) {
 
 // ---- what no call takes
 
-// A lot_kernel that holds none: each call says so, and writes nothing.
+// A lot_kernel that holds none: each call but lot_kernel_free says so, and all of them write nothing.
 static void no_kernel(void) {
     lot_kernel none = LOT_KERNEL_NONE;
     unsigned char room[128], before[128];
@@ -549,12 +547,12 @@ static void no_kernel(void) {
     CHECK(lot_kernel_limits(&none, (lot_sizes *)(void *)room) == LOT_NO_KERNEL);
     CHECK(lot_kernel_meter(&none, (lot_meter *)(void *)room) == LOT_NO_KERNEL);
     CHECK(memcmp(room, before, sizeof room) == 0);
-    CHECK(lot_kernel_free(&none) == LOT_NO_KERNEL && none.at == NULL);
+    CHECK(lot_kernel_free(&none) == LOT_DONE && none.at == NULL);
     lot_kernel kernel = made(&SMALL);
     void *at = kernel.at;
     CHECK(lot_kernel_new(&SMALL, &kernel) == LOT_KERNEL_THERE && kernel.at == at);
     CHECK(lot_kernel_free(&kernel) == LOT_DONE && kernel.at == NULL);
-    CHECK(lot_kernel_free(&kernel) == LOT_NO_KERNEL);
+    CHECK(lot_kernel_free(&kernel) == LOT_DONE && kernel.at == NULL);
     puts("ok: no kernel");
 }
 
@@ -770,13 +768,15 @@ static void any_bytes(unsigned long count) {
         }
         answered++;
         CHECK(!is_trap(event.kind) || lot_goes_on(&reply) == somebody_runs(&all, event.processor));
+        bool may_run = reply.kind == LOT_REPLY_WINNER || reply.kind == LOT_REPLY_TRAPPED;
+        CHECK(reply.goes_on == (may_run && somebody_runs(&all, event.processor)));
         if (reply.kind == LOT_REPLY_REFUSED) {
             refused++;
             continue;
         }
         kept++;
         CHECK(lot_kernel_event(&some, &event, &other) == LOT_DONE);
-        CHECK(SAME(reply, other, ends));
+        CHECK(SAME(reply, other, goes_on));
     }
     CHECK(same_tickets(&all, &some) && same_currencies(&all, &some) && same_threads(&all, &some));
     CHECK(lot_kernel_free(&all) == LOT_DONE && lot_kernel_free(&some) == LOT_DONE);

@@ -149,7 +149,7 @@ static void ownership() {
     CHECK(is_thrown);
     lot_kernel none = LOT_KERNEL_NONE;
     none = lot_kernel_none();
-    CHECK(none.at == nullptr && lot_kernel_free(&none) == LOT_NO_KERNEL);
+    CHECK(none.at == nullptr && lot_kernel_free(&none) == LOT_DONE && lot_version() == LOT_VERSION);
     std::puts("ok: ownership");
 }
 

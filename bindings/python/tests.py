@@ -28,9 +28,20 @@ def load_tests(_loader, tests, _pattern):
     return tests
 
 
+GOES_ON = {
+    Outcome.RECEIVED,
+    Outcome.REPLIED,
+    Outcome.REPLIED_THEN_RECEIVED,
+    Outcome.LOCKED,
+    Outcome.FREED,
+    Outcome.REFUSED,
+}
+
+
 def trapped(thread, ticks, outcome, *, ends=False, **fields):
     """The reply to a trap."""
-    return Reply(ReplyKind.TRAPPED, thread=thread, ticks=ticks, outcome=outcome, ends=ends, **fields)
+    flags = dict(ends=ends, goes_on=outcome in GOES_ON and not ends)
+    return Reply(ReplyKind.TRAPPED, thread=thread, ticks=ticks, outcome=outcome, **flags, **fields)
 
 
 def refused_for(refusal):
@@ -526,6 +537,9 @@ class Values(unittest.TestCase):
 
 
 class Loading(unittest.TestCase):
+    def test_version(self):
+        self.assertEqual(lot.library_version(), lot.__version__)
+
     def test_order(self):
         package = Path(lot.__file__).resolve().parent
         with mock.patch.dict(os.environ, LOT_SHARED="/there.so"):

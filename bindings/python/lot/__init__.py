@@ -27,6 +27,7 @@ from . import events
 from .errors import Error, LotError, Refused, RunError
 from .events import Event
 from .kernel import Kernel
+from .library import library_version
 from .lottery import ParkMiller, weight, winner
 from .numbers import EventKind, Outcome, Refusal, ReplyKind, Status, ThreadState
 from .records import CurrencyRow, Drawn, Meter, Reply, Runner, Sizes, ThreadRow, ThreadStatus, TicketRow
@@ -57,6 +58,7 @@ __all__ = [
     "ThreadStatus",
     "TicketRow",
     "events",
+    "library_version",
     "weight",
     "winner",
 ]

@@ -140,6 +140,7 @@ class RawReply(Structure):
         ("has_sent", c_bool),
         ("has_draw", c_bool),
         ("ends", c_bool),
+        ("goes_on", c_bool),
     ]
 
     def plain(self) -> records.Reply:
@@ -158,6 +159,7 @@ class RawReply(Structure):
             replied_to=self.replied_to or None,
             sent=self.sent if self.has_sent else None,
             ends=self.ends if kind is ReplyKind.TRAPPED else None,
+            goes_on=self.goes_on if kind is ReplyKind.TRAPPED else None,
             refusal=_REFUSALS[self.reason],
         )
 
@@ -319,6 +321,8 @@ def load(path: Path) -> ctypes.CDLL:
         call.restype = c_uint32
     shared.lot_weight.argtypes = [c_uint64, c_uint32, c_uint32, POINTER(Wide)]
     shared.lot_weight.restype = None
+    shared.lot_version.argtypes = []
+    shared.lot_version.restype = c_uint32
     return shared
 
 
@@ -329,3 +333,13 @@ def must(status: int) -> None:
 
 
 calls = load(found())
+
+
+def library_version() -> str:
+    """The version of the shared object.
+
+    >>> library_version()
+    '0.1.0'
+    """
+    version = calls.lot_version()
+    return f"{version >> 16}.{version >> 8 & 255}.{version & 255}"

@@ -77,7 +77,7 @@ class ReplyKind(Number):
     WINNER = 9  # thread: runs now; number, total; sent: what was delivered to it, if something was
     IDLE = 10  # no thread has any weight, and nothing has changed
     EXPIRED = 11  # thread, ticks: what it ran
-    TRAPPED = 12  # thread, ticks: what it ran; outcome, with its fields; ends
+    TRAPPED = 12  # thread, ticks: what it ran; outcome, with its fields; ends, goes_on
     REFUSED = 13  # refusal
 
 

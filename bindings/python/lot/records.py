@@ -56,6 +56,7 @@ class Reply:
     replied_to: Optional[int] = None
     sent: Optional[int] = None
     ends: Optional[bool] = None  # of a trap: its thread would go on, but its quantum is used up
+    goes_on: Optional[bool] = None  # of a trap: its thread runs on
     refusal: Optional[Refusal] = None  # of an event or a trap that was refused
 
     __repr__ = shown

@@ -74,6 +74,7 @@ pub struct Reply {
     pub has_sent: bool,
     pub has_draw: bool,
     pub ends: bool,
+    pub goes_on: bool,
 }
 
 #[repr(C)]
@@ -135,6 +136,7 @@ pub struct Drawn {
 const _: () = assert!(size_of::<Event>() == 96 && size_of::<Reply>() == 80);
 
 extern "C" {
+    pub fn lot_version() -> u32;
     pub fn lot_name_new(bytes: *const u8, count: usize, name: *mut Name) -> u32;
     pub fn lot_kernel_new(sizes: *const Sizes, kernel: *mut Handle) -> u32;
     pub fn lot_kernel_free(kernel: *mut Handle) -> u32;

@@ -24,3 +24,14 @@ pub use refusal::{Refusal, Stopped};
 pub use reply::{Outcome, Reply};
 pub use rows::{CurrencyRow, Status, ThreadRow, TicketRow};
 pub use sizes::Sizes;
+
+/// The version of the archive: the major number times 65536, the minor times 256, and the patch.
+///
+/// ```
+/// assert_eq!(lot::version(), 0x00_01_00); // 0.1.0
+/// ```
+#[must_use]
+pub fn version() -> u32 {
+    // SAFETY: the call takes nothing.
+    unsafe { ffi::lot_version() }
+}

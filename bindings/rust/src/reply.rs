@@ -4,7 +4,7 @@ use crate::numbers::{EventRefusal, OutcomeKind, ReplyKind, TrapRefusal};
 use crate::{ffi, Listing, Refusal};
 
 /// What a trap comes to. Where it doesn't say that the thread runs no more, the thread goes on, unless the reply says
-/// that its quantum `ends`.
+/// that its quantum `ends`. The reply's `goes_on` says both.
 #[derive(Clone, Copy, Debug, PartialEq, Eq, Hash)]
 pub enum Outcome {
     /// The thread gave up the rest of its quantum. It runs no more.
@@ -105,6 +105,8 @@ pub enum Reply {
         outcome: Outcome,
         /// Whether its quantum is used up, so that it runs no more though the outcome would have it go on.
         ends: bool,
+        /// Whether it runs on: its outcome leaves it on its processor, and its quantum isn't used up.
+        goes_on: bool,
     },
     /// The event is refused, and has changed nothing.
     Refused(EventRefusal),
@@ -189,7 +191,10 @@ impl Reply {
             },
             ReplyKind::Idle => Reply::Idle,
             ReplyKind::Expired => Reply::Expired { thread, ticks },
-            ReplyKind::Trapped => Reply::Trapped { thread, ticks, outcome: Outcome::of(reply), ends: reply.ends },
+            ReplyKind::Trapped => {
+                let (outcome, ends, goes_on) = (Outcome::of(reply), reply.ends, reply.goes_on);
+                Reply::Trapped { thread, ticks, outcome, ends, goes_on }
+            }
             ReplyKind::Refused => Reply::Refused(EventRefusal::of(reply.reason)),
         }
     }

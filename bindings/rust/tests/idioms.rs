@@ -21,6 +21,13 @@ fn kernel_of(amounts: &[u64]) -> Kernel {
 }
 
 #[test]
+fn the_archive_has_the_crate_s_version() {
+    let version = lot::version();
+    let text = format!("{}.{}.{}", version >> 16, version >> 8 & 255, version & 255);
+    assert_eq!(text, env!("CARGO_PKG_VERSION"));
+}
+
+#[test]
 fn the_default_sizes() {
     let sizes = Sizes::default();
     assert_eq!((sizes.tickets, sizes.currencies, sizes.threads), (64, 16, 16));
@@ -81,7 +88,7 @@ fn a_trap_s_refusal_is_an_error() {
     // 99 ticks of work and the trap's own are the whole quantum.
     let reply = kernel.event(&Event::trap(1, 99, Action::Unlock { mutex: 1, number: 0 }));
     let outcome = Outcome::Refused(TrapRefusal::NotOwner);
-    assert_eq!(reply, Reply::Trapped { thread: 1, ticks: 100, outcome, ends: true });
+    assert_eq!(reply, Reply::Trapped { thread: 1, ticks: 100, outcome, ends: true, goes_on: false });
     assert_eq!(reply.refusal(), Some(Refusal::Trap(TrapRefusal::NotOwner)));
     let refusal = reply.ok().expect_err("it owns no mutex");
     assert_eq!((refusal.number(), refusal.to_string().as_str()), (34, "the thread doesn't own the mutex"));
@@ -121,7 +128,7 @@ fn a_run_stops_at_a_refused_trap() {
     let stopped = kernel.run(&[Event::draw(1, 0), lock, Event::expire(1)]).expect_err("mutex 9 of 2");
     let outcome = Outcome::Refused(TrapRefusal::NoMutex);
     assert_eq!((stopped.done(), stopped.refusal), (1, Refusal::Trap(TrapRefusal::NoMutex)));
-    assert_eq!(stopped.reply, Reply::Trapped { thread: 1, ticks: 1, outcome, ends: false });
+    assert_eq!(stopped.reply, Reply::Trapped { thread: 1, ticks: 1, outcome, ends: false, goes_on: true });
     assert_eq!(kernel.runner(1).map(|runner| runner.used), Some(1));
 }
 

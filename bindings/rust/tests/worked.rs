@@ -118,17 +118,17 @@ fn call_and_reply() {
     fund_thread(&mut kernel, 5, "base", "s");
     fund_thread(&mut kernel, 5, "base", "c");
     draw(&mut kernel, 4);
-    let waits = Reply::Trapped { thread: 1, ticks: 1, outcome: Outcome::Waits, ends: false };
+    let waits = Reply::Trapped { thread: 1, ticks: 1, outcome: Outcome::Waits, ends: false, goes_on: false };
     assert_eq!(trap(&mut kernel, 0, Action::Receive { port: 1 }), waits);
     draw(&mut kernel, 4);
-    let served = Reply::Trapped { thread: 2, ticks: 2, outcome: Outcome::ServedBy(1), ends: false };
+    let served = Reply::Trapped { thread: 2, ticks: 2, outcome: Outcome::ServedBy(1), ends: false, goes_on: false };
     assert_eq!(trap(&mut kernel, 1, Action::Call { port: 1, number: 41 }), served);
     assert_eq!(kernel.thread_row(2).expect("there").status, Status::Served(1));
     // The server used 1 tick of its 100, and has what its client lends it: 10 are worth 1000.
     assert_eq!(draw(&mut kernel, 5), Reply::Winner { thread: 1, number: 5, total: 1000, delivered: Some(41) });
-    let replied = Reply::Trapped { thread: 1, ticks: 2, outcome: Outcome::Replied(2), ends: false };
+    let replied = Reply::Trapped { thread: 1, ticks: 2, outcome: Outcome::Replied(2), ends: false, goes_on: true };
     assert_eq!(trap(&mut kernel, 1, Action::Reply { number: 42 }), replied);
-    let locked = Reply::Trapped { thread: 1, ticks: 1, outcome: Outcome::Locked, ends: false };
+    let locked = Reply::Trapped { thread: 1, ticks: 1, outcome: Outcome::Locked, ends: false, goes_on: true };
     assert_eq!(trap(&mut kernel, 0, Action::Lock { mutex: 1 }), locked);
     assert_eq!(kernel.script_of(2), Some(1));
     assert!(kernel.meter().tree_visits > 0);
@@ -151,9 +151,9 @@ fn servings() {
     let mut serve =
         |number| kernel.event(&Event::Trap { processor: 2, ticks: 0, action: Action::Serve { port: 1, number } });
     let received = Outcome::RepliedThenReceived { to: 2, client: 3, number: 6 };
-    assert_eq!(serve(8), Reply::Trapped { thread: 1, ticks: 1, outcome: received, ends: false });
+    assert_eq!(serve(8), Reply::Trapped { thread: 1, ticks: 1, outcome: received, ends: false, goes_on: true });
     let waits = Outcome::RepliedThenWaits(3);
-    assert_eq!(serve(9), Reply::Trapped { thread: 1, ticks: 1, outcome: waits, ends: false });
+    assert_eq!(serve(9), Reply::Trapped { thread: 1, ticks: 1, outcome: waits, ends: false, goes_on: false });
     assert_eq!(kernel.thread_row(1).expect("there").status, Status::Receiving(1));
 }
 
@@ -181,7 +181,8 @@ fn refusals() {
         (Action::Lock { mutex: 9 }, TrapRefusal::NoMutex),
         (Action::Unlock { mutex: 1, number: 0 }, TrapRefusal::NotOwner),
     ] {
-        let refused = Reply::Trapped { thread: 1, ticks: 1, outcome: Outcome::Refused(why), ends: false };
+        let refused =
+            Reply::Trapped { thread: 1, ticks: 1, outcome: Outcome::Refused(why), ends: false, goes_on: true };
         assert_eq!(trap(&mut kernel, 0, action), refused);
     }
 }

@@ -1,5 +1,5 @@
 -- The numbers that C, Rust and Python see, in one table. `bindings/numbers` compares the files of all three with it.
-use Rattle.std.specs.Prelude.{ℕ}
+use Rattle.std.specs.Prelude.{ℕ, ◌+◌, ◌*◌, ◌^◌}
 use Rattle.lot_machine.specs.declared.command.Kind.TheVariants.{Tickets, Currencies, Threads}
 use Rattle.lot_machine.specs.declared.record.Status.{Status as ThreadStatus}
 use Rattle.lot_machine.specs.declared.record.Status.TheVariants as thread
@@ -14,6 +14,10 @@ use Rattle.lot_machine.specs.declared.reply.Reply.TheVariants as reply
 use Rattle.lot_c.specs.declared.status.Status.{Status}
 use Rattle.lot_c.specs.declared.status.Status.TheVariants as status
 use Rattle.lot_c.specs.Kinds.{EventKind}
+
+-- the version of the library, 0.1.0
+abbrev pub version : ℕ
+version = 0 * 2 ^ 16 + 1 * 2 ^ 8 + 0
 
 -- what a call answers
 abbrev pub code : Status → ℕ

@@ -1,5 +1,5 @@
 -- Replies in plain fields.
-use Rattle.std.specs.Prelude.{None, Some, true, false, is_some, unwrap_or}
+use Rattle.std.specs.Prelude.{Bool, None, Some, true, false, ◌&&◌, not, is_some, unwrap_or}
 use Rattle.lot_machine.specs.declared.reply.Outcome.{Outcome}
 use Rattle.lot_machine.specs.declared.reply.Outcome.TheVariants as outcome
 use Rattle.lot_machine.specs.declared.reply.Reply.{Reply}
@@ -30,6 +30,7 @@ blank_reply = record {
   has_sent = false;
   has_draw = false;
   ends = false;
+  goes_on = false;
 }
 
 -- the fields that an outcome writes besides its number
@@ -45,6 +46,16 @@ outcome_fields (outcome.Passed to (Some draw)) =
 outcome_fields (outcome.Refused why) = record blank_reply { reason = trap_refusal_number why }
 outcome_fields other = blank_reply
 
+-- whether the outcome of a trap leaves its thread on the processor, for as long as its quantum lasts
+abbrev pub runs_on : Outcome → Bool
+runs_on (outcome.Received client number) = true
+runs_on (outcome.Replied client) = true
+runs_on (outcome.RepliedThenReceived to client number) = true
+runs_on outcome.Locked = true
+runs_on outcome.Freed = true
+runs_on (outcome.Refused why) = true
+runs_on other = false
+
 -- the outcome of a trap
 abbrev pub plain_outcome : Outcome → PlainReply
 plain_outcome o = record (outcome_fields o) { outcome = outcome_number o }
@@ -56,9 +67,9 @@ reply_fields (reply.Currency currency) = record blank_reply { currency = currenc
 reply_fields (reply.Thread thread) = record blank_reply { thread = thread }
 reply_fields (reply.Funded ticket thread) = record blank_reply { ticket = ticket; thread = thread }
 reply_fields (reply.Winner thread number total delivered) =
-    record blank_reply { thread = thread; number = plain_wide number; total = plain_wide total; sent = unwrap_or delivered 0; has_sent = is_some delivered; has_draw = true }
+    record blank_reply { thread = thread; number = plain_wide number; total = plain_wide total; sent = unwrap_or delivered 0; has_sent = is_some delivered; has_draw = true; goes_on = true }
 reply_fields (reply.Expired thread ticks) = record blank_reply { thread = thread; ticks = ticks }
-reply_fields (reply.Trapped thread ticks outcome ends) = record (plain_outcome outcome) { thread = thread; ticks = ticks; ends = ends }
+reply_fields (reply.Trapped thread ticks outcome ends) = record (plain_outcome outcome) { thread = thread; ticks = ticks; ends = ends; goes_on = runs_on outcome && not ends }
 reply_fields (reply.Refused why) = record blank_reply { reason = refusal_number why }
 reply_fields other = blank_reply
 

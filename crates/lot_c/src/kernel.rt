@@ -1,5 +1,5 @@
 //! A kernel through a handle: making it, freeing it, and queries that change nothing.
-ghost use Rattle.std.specs.Prelude.{◌≡◌, ◌⊎◌, IfOk, IfSome, IfErr, MatchOption, None, Some, length};
+ghost use Rattle.std.specs.Prelude.{◌≡◌, ◌⊎◌, IfOk, IfSome, IfErr, None, Some, length};
 ghost use Rattle.lot_machine.specs.Bounds.{IsWithinBounds};
 ghost use Rattle.lot_machine.specs.Facts.{IsSound};
 ghost use Rattle.lot_kernel.specs.Snapshots.{starting};
@@ -51,16 +51,15 @@ fn make(alloc: Global, sizes: &PlainSizes) -> Result<Box<Kernel>, Status>
     Box::new(alloc, kernel).map_err(|_| Status::NoMemory)
 }
 
-/// Frees the kernel, and leaves the handle with none.
+/// Frees the kernel, if the handle holds one, and leaves the handle with none.
 #[unsafe(no_mangle)]
 pub extern "C" fn lot_kernel_free(alloc: Global, kernel: &mut Handle) -> u32
     ensures freed { kernel.new.kernel ≡ None }
-    ensures status { MatchOption kernel.old.kernel (result ≡ code NoKernel) (λ k. result ≡ code Done) }
+    ensures done { result ≡ code Done }
 {
-    let Some(held) = kernel.take(alloc) else {
-        return Status::NoKernel.code();
-    };
-    drop(held);
+    if let Some(held) = kernel.take(alloc) {
+        drop(held);
+    }
     Status::Done.code()
 }
 

@@ -17,4 +17,5 @@ mod reply;
 mod rows;
 mod sizes;
 mod status;
+mod version;
 mod wide;

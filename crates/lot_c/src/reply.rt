@@ -3,6 +3,7 @@ ghost use Rattle.std.specs.Prelude.{◌≡◌};
 ghost use Rattle.lot_machine.specs.declared.reply.Reply.TheVariants as reply;
 ghost use Rattle.lot_machine.specs.declared.reply.Outcome.TheVariants as outcome;
 ghost use Rattle.lot_c.specs.Numbers.{refusal_number, reply_number, trap_refusal_number};
+ghost use Rattle.lot_c.specs.Replies as replies;
 ghost use Rattle.lot_c.specs.Replies.{plain_reply, plain_outcome, blank_reply};
 
 use crate::wide::Wide;
@@ -91,6 +92,8 @@ pub struct PlainReply {
     pub has_draw: bool,
     /// Whether a trap has used the quantum up.
     pub ends: bool,
+    /// Whether the thread runs on its processor after a draw or a trap.
+    pub goes_on: bool,
 }
 
 impl PlainReply {
@@ -110,6 +113,7 @@ impl PlainReply {
         has_sent: false,
         has_draw: false,
         ends: false,
+        goes_on: false,
     };
 
     /// The reply in plain fields. As a call of its own, with copies of its result, it would cost an event a fifth more.
@@ -145,6 +149,7 @@ impl PlainReply {
                 thread,
                 ticks,
                 ends,
+                goes_on: runs_on(outcome) && !ends,
                 ..PlainReply::of_outcome(outcome)
             },
             Reply::Refused(refusal) => PlainReply {
@@ -164,6 +169,7 @@ impl PlainReply {
             sent: delivered.unwrap_or(0),
             has_sent: delivered.is_some(),
             has_draw: true,
+            goes_on: true,
             ..PlainReply::made(WINNER, 0, 0, thread)
         }
     }
@@ -247,6 +253,27 @@ impl PlainReply {
             other,
             ..PlainReply::BLANK
         }
+    }
+}
+
+/// Whether the outcome of a trap leaves its thread on the processor, for as long as its quantum lasts.
+fn runs_on(outcome: Outcome) -> bool
+    ensures { result ≡ replies.runs_on outcome }
+{
+    match outcome {
+        Outcome::Received { .. }
+        | Outcome::Replied(_)
+        | Outcome::RepliedThenReceived { .. }
+        | Outcome::Locked
+        | Outcome::Freed
+        | Outcome::Refused(_) => true,
+        Outcome::Yielded
+        | Outcome::ServedBy(_)
+        | Outcome::Queued
+        | Outcome::Waits
+        | Outcome::RepliedThenWaits(_)
+        | Outcome::Passed { .. }
+        | Outcome::Exited => false,
     }
 }
 
