@@ -1,9 +1,13 @@
 //! The meanings of the plain fields: laws of the boundary, with nothing to run.
-ghost use Rattle.std.specs.Prelude.{◌≡◌, ◌≤◌, ℕ, List, Ok, true, length};
+ghost use Rattle.std.specs.Prelude.{◌≡◌, ◌≤◌, ◌↔◌, ℕ, List, Ok, Some, true, length};
 ghost use Rattle.lot_machine.specs.Commands as names;
 ghost use Rattle.lot_machine.specs.declared.event.Event.{Event};
 ghost use Rattle.lot_machine.specs.declared.record.Status.{Status};
 ghost use Rattle.lot_machine.specs.declared.reply.Reply.{Reply};
+ghost use Rattle.lot_machine.specs.Named.{processor_of, thread_in};
+ghost use Rattle.lot_machine.specs.Order.{IsInOrder};
+ghost use Rattle.lot_machine.specs.State.{State, thread_on};
+ghost use Rattle.lot_machine.specs.Step.{step};
 ghost use Rattle.lot_c.specs.Events.{event_meant};
 ghost use Rattle.lot_c.specs.Names.{name_meant, plain_name};
 ghost use Rattle.lot_c.specs.Plain.{HasNames, plain_event};
@@ -30,6 +34,13 @@ pub fn each_event_can_be_meant()
 /// No two replies look the same.
 pub fn replies_differ()
     ensures { (one other : Reply) → plain_reply one ≡ plain_reply other → one ≡ other }
+{}
+
+/// After a draw, an expiry or a trap the reply's flag says whether the thread that it names runs on the processor.
+pub fn flags_say_who_runs()
+    ensures { (s : State) (e : Event) (p t : ℕ) → IsInOrder s → processor_of e ≡ Some p
+        → thread_in (step s e).reply ≡ Some t
+        → ((plain_reply (step s e).reply).goes_on ≡ true) ↔ (thread_on (step s e).state.records p ≡ Some t) }
 {}
 
 /// No two statuses of threads look the same.
