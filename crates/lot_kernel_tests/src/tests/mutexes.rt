@@ -49,7 +49,7 @@ fn make_lock(
     lock(threads, queues, thread, MutexNumber { number: mutex })
 }
 
-/// Whether the threads in the mutex's queue wait for it. They are listed in `waiters`, which needs room for all threads.
+/// Whether the threads in the mutex's queue wait for it. `waiters`, which needs room for all threads, lists them.
 fn are_queued(
     threads: &Threads,
     queues: &Queues,
