@@ -12,7 +12,9 @@
 //   - If it isn't LOT_DONE, nothing has changed: no byte of what the pointers point to, no row and no count. If the
 //     event was refused, no row and no count has changed.
 //   - A draw and an unlock have the reply that this file's own lottery comes to, over the rows that the kernel showed
-//     before.
+//     before. A thread is removed if these rows say so, and is gone then.
+//   - A sleep, a wake, a preemption and an overrun have the reply that these rows lead to, and the thread's row
+//     follows. Each thread weighs what its value makes with the compensation that this file has kept for it.
 //
 // At the end of a kernel a fresh one gets all events that were done, with 0 in the fields that they don't read. It
 // gives the same replies and shows the same rows, though its blocks held other bytes at first and nobody read its rows
@@ -252,13 +254,14 @@ static void *put_output(struct place *place, size_t size, size_t align) {
 
 // All that it shows, except how much it has worked. What isn't there is 0.
 struct view {
-    uint32_t ticket_count, currency_count, thread_count;
+    uint32_t ticket_count, currency_count;
+    uint32_t thread_count; // the greatest number of a thread that has a row
     uint32_t scripts[THREADS];
     lot_ticket_row tickets[TICKETS];
     lot_currency_row currencies[CURRENCIES + 1];
     lot_thread_row threads[THREADS];
     lot_runner runners[PROCESSORS];
-    bool has_ticket[TICKETS], has_currency[CURRENCIES + 1];
+    bool has_ticket[TICKETS], has_currency[CURRENCIES + 1], has_thread[THREADS];
 };
 
 static struct room row_room;
@@ -298,16 +301,17 @@ static void view_currencies(lot_kernel *kernel, struct view *view) {
     }
 }
 
-static void view_threads(lot_kernel *kernel, struct view *view) {
-    lot_thread_row *row = row_place(sizeof *row);
-    uint32_t i = 0;
-    for (; is_there(lot_kernel_thread_row(kernel, i + 1, row)); i++) {
-        CHECK(i < THREADS);
-        memcpy(&view->threads[i], row, UP_TO(lot_thread_row, name));
-        CHECK(lot_kernel_script_of(kernel, i + 1, &view->scripts[i]) == LOT_DONE);
-        row = row_place(sizeof *row);
+// A thread that was removed has no row, and those behind it have one.
+static void view_threads(lot_kernel *kernel, uint32_t most, struct view *view) {
+    for (uint32_t i = 0; i < most; i++) {
+        lot_thread_row *row = row_place(sizeof *row);
+        view->has_thread[i] = is_there(lot_kernel_thread_row(kernel, i + 1, row));
+        CHECK(is_there(lot_kernel_script_of(kernel, i + 1, &view->scripts[i])) == view->has_thread[i]);
+        if (view->has_thread[i]) {
+            memcpy(&view->threads[i], row, UP_TO(lot_thread_row, name));
+            view->thread_count = i + 1;
+        }
     }
-    view->thread_count = i;
 }
 
 static void view_runners(lot_kernel *kernel, uint32_t processors, struct view *view) {
@@ -323,20 +327,21 @@ static void view_kernel(lot_kernel *kernel, const lot_sizes *sizes, struct view 
     memset(view, 0, sizeof *view);
     view_tickets(kernel, view);
     view_currencies(kernel, view);
-    view_threads(kernel, view);
+    view_threads(kernel, sizes->threads, view);
     view_runners(kernel, sizes->processors, view);
 }
 
 // ---- what rows don't tell
 
 // Who owns a mutex, and who waits for it in which order; which number a thread is given when it next wins a draw, and
-// which it sent with its call.
+// which it sent with its call; how many ticks it has used since it won, and its compensation, 0 for none.
 static struct {
     uint32_t owner[MUTEXES + 1];
     uint32_t waiters[MUTEXES + 1][THREADS];
     size_t waiter_count[MUTEXES + 1];
     uint32_t delivered[THREADS + 1], sent[THREADS + 1];
     bool has_delivered[THREADS + 1];
+    uint32_t used[THREADS + 1], compensation[THREADS + 1];
 } known;
 
 static void deliver(uint32_t thread, uint32_t sent) {
@@ -380,12 +385,50 @@ static void learn_trap(const lot_event *event, const lot_reply *reply) {
         remove_waiter(object, reply->other);
         break;
     case LOT_OUTCOME_YIELDED:
+    case LOT_OUTCOME_SLEPT:
     case LOT_OUTCOME_EXITED:
     case LOT_OUTCOME_REFUSED: break;
     }
 }
 
-static void learn(const lot_event *event, const lot_reply *reply) {
+// Whether a thread yields or blocks by this outcome, so that it is compensated for what is left of its quantum.
+static bool is_compensated(uint32_t outcome) {
+    switch ((lot_outcome)outcome) {
+    case LOT_OUTCOME_YIELDED:
+    case LOT_OUTCOME_SERVED_BY:
+    case LOT_OUTCOME_QUEUED:
+    case LOT_OUTCOME_WAITS:
+    case LOT_OUTCOME_PASSED:
+    case LOT_OUTCOME_REPLIED_THEN_WAITS:
+    case LOT_OUTCOME_SLEPT: return true;
+    case LOT_OUTCOME_RECEIVED:
+    case LOT_OUTCOME_REPLIED:
+    case LOT_OUTCOME_LOCKED:
+    case LOT_OUTCOME_FREED:
+    case LOT_OUTCOME_EXITED:
+    case LOT_OUTCOME_REFUSED:
+    case LOT_OUTCOME_REPLIED_THEN_RECEIVED: break;
+    }
+    return false;
+}
+
+// What a thread has used, and its compensation. After an overrun it counts as one that used more than its quantum.
+static void learn_compensation(const lot_event *event, const lot_reply *reply, uint32_t quantum) {
+    uint32_t thread = reply->thread;
+    if (reply->kind == LOT_REPLY_WINNER) {
+        known.used[thread] = 0;
+        known.compensation[thread] = 0;
+    } else if (reply->kind == LOT_REPLY_TRAPPED) {
+        known.used[thread] += reply->ticks;
+        bool is_early = known.used[thread] < quantum;
+        known.compensation[thread] = is_early && is_compensated(reply->outcome) ? known.used[thread] : 0;
+    } else if (reply->kind == LOT_REPLY_EXPIRED) {
+        known.compensation[thread] = event->kind == LOT_OVERRUN ? quantum + event->ticks : 0;
+    }
+}
+
+static void learn(const lot_event *event, const lot_reply *reply, uint32_t quantum) {
+    learn_compensation(event, reply, quantum);
     if (reply->kind == LOT_REPLY_WINNER) {
         known.has_delivered[reply->thread] = false;
     } else if (reply->kind == LOT_REPLY_TRAPPED) {
@@ -427,10 +470,25 @@ static struct lottery hold(const wide *weights, size_t count, wide number) {
     return held;
 }
 
+// What a value weighs with a compensation, which is more than the quantum if the quantum ended late. What is worth
+// something weighs something.
+static wide weight_of(uint64_t value, uint32_t compensation, uint32_t quantum) {
+    wide weight = compensation == 0 ? value : (wide)value * quantum / compensation;
+    return value != 0 && weight == 0 ? 1 : weight;
+}
+
 static unsigned long draws_held, unlocks_held;
 
 static lot_reply refused(uint32_t reason) {
     return (lot_reply){.kind = LOT_REPLY_REFUSED, .reason = reason};
+}
+
+// Each row's weight is what our own lottery makes of its value.
+static void check_weights(const struct view *view, const lot_sizes *sizes) {
+    for (uint32_t i = 0; i < view->thread_count; i++) {
+        wide weight = weight_of(view->threads[i].value, known.compensation[i + 1], sizes->quantum);
+        CHECK(!view->has_thread[i] || wide_of(view->threads[i].weight) == weight);
+    }
 }
 
 // The reply that a draw must have in the kernel of this view.
@@ -446,7 +504,7 @@ static lot_reply reply_to_draw(const struct view *view, const lot_sizes *sizes, 
     }
     for (uint32_t i = 0; i < view->thread_count; i++) {
         if (view->threads[i].status.kind == LOT_STATUS_READY) {
-            weights[count] = wide_of(view->threads[i].weight);
+            weights[count] = weight_of(view->threads[i].value, known.compensation[i + 1], sizes->quantum);
             ready[count++] = i + 1;
         }
     }
@@ -511,6 +569,110 @@ static lot_reply reply_to_unlock(const struct view *view, const lot_sizes *sizes
     return reply;
 }
 
+// Which thread has this name, or 0. Bytes behind a name say nothing.
+static uint32_t thread_named(const struct view *view, const lot_name *name) {
+    for (uint32_t i = 0; i < view->thread_count; i++) {
+        const lot_name *other = &view->threads[i].name;
+        if (view->has_thread[i] && name->length == other->length &&
+            memcmp(name->bytes, other->bytes, other->length) == 0) {
+            return i + 1;
+        }
+    }
+    return 0;
+}
+
+// The place of a ticket that funds what has this name, or how many tickets were made.
+static uint32_t ticket_funding(const struct view *view, const lot_name *target) {
+    uint32_t i = 0;
+    while (i < view->ticket_count && !(view->has_ticket[i] && view->tickets[i].has_target &&
+                                       memcmp(&view->tickets[i].target, target, sizeof *target) == 0)) {
+        i++;
+    }
+    return i;
+}
+
+// Whether a ticket funds the thread, or it has a client or owns a mutex.
+static bool is_in_use(const struct view *view, uint32_t thread) {
+    bool is_used = ticket_funding(view, &view->threads[thread - 1].name) < view->ticket_count;
+    for (uint32_t i = 0; i < view->thread_count; i++) {
+        lot_thread_status status = view->threads[i].status;
+        is_used = is_used || (status.kind == LOT_STATUS_SERVED && status.other == thread);
+    }
+    for (uint32_t mutex = 1; mutex <= MUTEXES; mutex++) {
+        is_used = is_used || known.owner[mutex] == thread;
+    }
+    return is_used;
+}
+
+static unsigned long removals, sleeps, wakes, preemptions, overruns;
+
+// The reply that a sleep must have in the kernel of this view.
+static lot_reply reply_to_sleep(const struct view *view, const lot_sizes *sizes, const lot_event *event) {
+    if (event->processor == 0 || event->processor > sizes->processors) {
+        return refused(LOT_REFUSAL_BAD_PROCESSOR);
+    }
+    lot_runner runner = view->runners[event->processor - 1];
+    if (runner.thread == 0) {
+        return refused(LOT_REFUSAL_NOT_RUNNING);
+    }
+    if ((uint64_t)runner.used + event->ticks + 1 > sizes->quantum) {
+        return refused(LOT_REFUSAL_BAD_TICKS);
+    }
+    sleeps++;
+    return (lot_reply){.kind = LOT_REPLY_TRAPPED,
+                       .thread = runner.thread,
+                       .ticks = event->ticks + 1,
+                       .outcome = LOT_OUTCOME_SLEPT};
+}
+
+// The reply that a preemption or an overrun must have in the kernel of this view.
+static lot_reply reply_to_stop(const struct view *view, const lot_sizes *sizes, const lot_event *event) {
+    bool is_late = event->kind == LOT_OVERRUN;
+    if (event->processor == 0 || event->processor > sizes->processors) {
+        return refused(LOT_REFUSAL_BAD_PROCESSOR);
+    }
+    lot_runner runner = view->runners[event->processor - 1];
+    if (runner.thread == 0) {
+        return refused(LOT_REFUSAL_NOT_RUNNING);
+    }
+    uint64_t used = (is_late ? (uint64_t)sizes->quantum : runner.used) + event->ticks;
+    if (used > (is_late ? UINT32_MAX : sizes->quantum)) {
+        return refused(LOT_REFUSAL_BAD_TICKS);
+    }
+    preemptions += !is_late;
+    overruns += is_late;
+    return (lot_reply){.kind = LOT_REPLY_EXPIRED, .thread = runner.thread, .ticks = (uint32_t)used - runner.used};
+}
+
+// The reply that a wake must have in the kernel of this view.
+static lot_reply reply_to_wake(const struct view *view, const lot_event *event) {
+    uint32_t thread = event->object;
+    if (thread == 0 || thread > view->thread_count || !view->has_thread[thread - 1]) {
+        return refused(LOT_REFUSAL_NO_THREAD);
+    }
+    if (view->threads[thread - 1].status.kind != LOT_STATUS_ASLEEP) {
+        return refused(LOT_REFUSAL_NOT_ASLEEP);
+    }
+    wakes++;
+    return (lot_reply){.kind = LOT_REPLY_DONE};
+}
+
+// The reply that a removal must have in the kernel of this view.
+static lot_reply reply_to_removal(const struct view *view, const lot_event *event) {
+    uint32_t thread = thread_named(view, &event->name);
+    if (thread == 0) {
+        return refused(LOT_REFUSAL_NO_THREAD);
+    }
+    if (view->threads[thread - 1].status.kind != LOT_STATUS_DEAD) {
+        return refused(LOT_REFUSAL_ALIVE);
+    }
+    if (is_in_use(view, thread)) {
+        return refused(LOT_REFUSAL_IN_USE);
+    }
+    removals++;
+    return (lot_reply){.kind = LOT_REPLY_DONE};
+}
+
 // ---- the statuses that bytes deserve
 
 static bool is_letter(uint8_t byte) {
@@ -558,6 +720,11 @@ static lot_event only_read(const lot_event *event) {
     case LOT_EXIT: return lot_exit(processor, ticks);
     case LOT_SERVE: return lot_serve(processor, ticks, object, sent);
     case LOT_SET_TICKET: return lot_set_ticket(event->ticket, event->amount);
+    case LOT_REMOVE_THREAD: return lot_remove_thread(event->name);
+    case LOT_SLEEP: return lot_sleep(processor, ticks);
+    case LOT_PREEMPT: return lot_preempt(processor, ticks);
+    case LOT_OVERRUN: return lot_overrun(processor, ticks);
+    case LOT_WAKE: return lot_wake(object);
     }
     return *event;
 }
@@ -582,13 +749,14 @@ static bool reads_currency(uint32_t kind) {
 }
 
 static bool reads_name(uint32_t kind) {
-    return kind == LOT_MAKE_CURRENCY || kind == LOT_FUND || kind == LOT_MAKE_THREAD || kind == LOT_MAKE_FUNDED;
+    return kind == LOT_MAKE_CURRENCY || kind == LOT_FUND || kind == LOT_MAKE_THREAD || kind == LOT_MAKE_FUNDED ||
+           kind == LOT_REMOVE_THREAD;
 }
 
 // Whether an event may have this status. Where two names are wrong, it has that of either.
 static bool deserves(const lot_event *event, uint32_t status) {
     uint32_t kind = event->kind, currency = LOT_DONE, name = LOT_DONE;
-    if (kind == 0 || kind > LOT_SET_TICKET) {
+    if (kind == 0 || kind > LOT_WAKE) {
         return status == LOT_BAD_KIND;
     }
     if (reads_currency(kind)) {
@@ -631,7 +799,8 @@ static lot_name new_name(void) {
 }
 
 static lot_name name_of_thread(void) {
-    return now.thread_count != 0 ? now.threads[below(now.thread_count)].name : new_name();
+    uint64_t i = now.thread_count != 0 ? below(now.thread_count) : 0;
+    return now.has_thread[i] ? now.threads[i].name : new_name();
 }
 
 static lot_name name_of_currency(void) {
@@ -664,12 +833,24 @@ static lot_wide some_number(void) {
     }
 }
 
+// A removal, most often of a dead thread. A ticket that still funds it is taken from it first.
+static lot_event some_removal(void) {
+    for (uint32_t i = 0; i < now.thread_count; i++) {
+        const lot_thread_row *row = &now.threads[i];
+        if (now.has_thread[i] && row->status.kind == LOT_STATUS_DEAD && !one_in(4)) {
+            uint32_t place = ticket_funding(&now, &row->name);
+            return place < now.ticket_count && !one_in(4) ? lot_unfund(place + 1) : lot_remove_thread(row->name);
+        }
+    }
+    return lot_remove_thread(some_name());
+}
+
 static lot_event some_command(void) {
     uint64_t ticket = below((uint64_t)now.ticket_count + 2);
     lot_name currency = one_in(16) ? some_name() : one_in(2) ? lot_name_of("base") : name_of_currency();
     lot_name name = one_in(16) ? some_name() : new_name();
     uint32_t script = one_in(16) ? (uint32_t)random_bits() : 1;
-    switch (below(16)) {
+    switch (below(17)) {
     case 0: return lot_remove_ticket(ticket);
     case 1: return lot_set_ticket(ticket, some_amount());
     case 2: return lot_unfund(ticket);
@@ -680,9 +861,10 @@ static lot_event some_command(void) {
     case 7:
     case 8: return lot_make_ticket(some_amount(), currency);
     case 9: return lot_fund(now.ticket_count, name_of_currency());
-    case 10:
+    case 10: return some_removal();
     case 11:
-    case 12: return lot_fund(ticket, some_name());
+    case 12:
+    case 13: return lot_fund(ticket, some_name());
     default: return lot_make_funded(some_amount(), currency, name, script);
     }
 }
@@ -719,12 +901,38 @@ static uint32_t some_owned(uint32_t thread, uint32_t otherwise) {
     return otherwise;
 }
 
-// A trap that blocks nobody for long.
+// How many ticks late a quantum ends: few, as many as it has, or as many as there may be, and one more.
+static uint32_t some_late(void) {
+    switch (below(8)) {
+    case 0: return 0;
+    case 1: return UINT32_MAX - sizes.quantum;
+    case 2: return UINT32_MAX - sizes.quantum + 1;
+    case 3: return (uint32_t)random_bits();
+    case 4: return sizes.quantum;
+    default: return (uint32_t)below(2000);
+    }
+}
+
+// A wake, most often of a thread that sleeps.
+static lot_event some_wake(void) {
+    uint32_t first = now.thread_count != 0 ? (uint32_t)below(now.thread_count) : 0;
+    for (uint32_t i = 0; i < now.thread_count && !one_in(16); i++) {
+        uint32_t at = (first + i) % now.thread_count;
+        if (now.threads[at].status.kind == LOT_STATUS_ASLEEP) {
+            return lot_wake(at + 1);
+        }
+    }
+    return lot_wake(one_in(4) ? (uint32_t)random_bits() : (uint32_t)below(THREADS + 2));
+}
+
+// A trap that blocks nobody for long, or another end of the thread's time on its processor.
 static lot_event some_short_trap(uint32_t processor, uint32_t ticks, uint32_t mutex) {
-    switch (below(4)) {
+    switch (below(6)) {
     case 0: return lot_yield(processor, ticks);
     case 1: return lot_expire(processor);
     case 2: return lot_reply_with(processor, ticks, (uint32_t)random_bits());
+    case 3: return lot_preempt(processor, one_in(4) ? ticks + 1 : ticks);
+    case 4: return lot_overrun(processor, some_late());
     default: return lot_unlock(processor, ticks, mutex, some_number());
     }
 }
@@ -737,10 +945,10 @@ static lot_event some_trap(uint32_t processor, lot_runner runner) {
     if (count < 3 && !one_in(20)) {
         return some_short_trap(processor, ticks, some_owned(runner.thread, object));
     }
-    if (count > 4 && one_in(40)) {
+    if (count > 4 && one_in(24)) {
         return lot_exit(processor, ticks);
     }
-    switch (below(10)) {
+    switch (below(11)) {
     case 0:
     case 1: return lot_call(processor, ticks, object, sent);
     case 2: return lot_receive(processor, ticks, object);
@@ -748,6 +956,7 @@ static lot_event some_trap(uint32_t processor, lot_runner runner) {
     case 4: return lot_serve(processor, ticks, object, sent);
     case 5:
     case 6: return lot_lock(processor, ticks, object);
+    case 7: return lot_sleep(processor, ticks);
     default: return some_short_trap(processor, ticks, some_owned(runner.thread, object));
     }
 }
@@ -755,6 +964,9 @@ static lot_event some_trap(uint32_t processor, lot_runner runner) {
 static lot_event some_meaning(void) {
     uint32_t processor = from_to(1, sizes.processors);
     lot_runner runner = now.runners[processor - 1];
+    if (one_in(drawable() < 4 ? 6 : 24)) {
+        return some_wake();
+    }
     if (below(16) < (drawable() < 4 ? 8u : 2u)) {
         return some_command();
     }
@@ -770,7 +982,7 @@ static lot_event some_event(void) {
     uint64_t way = below(8);
     if (way == 0) {
         fill(&event, sizeof event);
-        event.kind = one_in(2) ? event.kind : (uint32_t)below(LOT_SET_TICKET + 2);
+        event.kind = one_in(2) ? event.kind : (uint32_t)below(LOT_WAKE + 2);
         return event;
     }
     event = with_rest(some_meaning());
@@ -788,13 +1000,13 @@ static struct {
 } records[STEPS_OF_KERNEL * EVENTS_OF_STEP];
 static size_t record_count;
 static unsigned long failed, answered, kernels, replayed;
-static unsigned long outcomes[LOT_OUTCOME_REPLIED_THEN_WAITS + 1], kinds[LOT_REPLY_REFUSED + 1];
+static unsigned long outcomes[LOT_OUTCOME_SLEPT + 1], kinds[LOT_REPLY_REFUSED + 1];
 static unsigned long reasons[LOT_TRAP_REFUSAL_LOCK_CYCLE + 1];
 
 static void record(const lot_event *event, const lot_reply *reply) {
-    CHECK(reply->kind <= LOT_REPLY_REFUSED && reply->outcome <= LOT_OUTCOME_REPLIED_THEN_WAITS);
+    CHECK(reply->kind <= LOT_REPLY_REFUSED && reply->outcome <= LOT_OUTCOME_SLEPT);
     CHECK(reply->reason <= LOT_TRAP_REFUSAL_LOCK_CYCLE);
-    learn(event, reply);
+    learn(event, reply, sizes.quantum);
     records[record_count].event = *event;
     records[record_count++].reply = *reply;
     answered++;
@@ -814,10 +1026,11 @@ static void look(lot_kernel *handle, bool stays) {
     view_kernel(handle, &sizes, &after);
     CHECK(!stays || memcmp(&now, &after, sizeof now) == 0);
     memcpy(&now, &after, sizeof now);
+    check_weights(&now, &sizes);
 }
 
 static bool is_trap(uint32_t kind) {
-    return kind >= LOT_YIELD && kind <= LOT_SERVE;
+    return (kind >= LOT_YIELD && kind <= LOT_SERVE) || kind == LOT_SLEEP;
 }
 
 static bool changes_nothing(const lot_reply *reply) {
@@ -825,14 +1038,38 @@ static bool changes_nothing(const lot_reply *reply) {
            (reply->kind >= LOT_REPLY_LIST_TICKETS && reply->kind <= LOT_REPLY_LIST_THREADS);
 }
 
-// Compares the reply to an event with what the kernel showed before.
+// Compares the reply to an event with what the kernel showed before, where these rows and our own lottery say it all.
 static void compare(const lot_event *event, const lot_reply *reply) {
-    if (event->kind == LOT_DRAW) {
-        lot_reply expected = reply_to_draw(&now, &sizes, event);
-        CHECK(memcmp(reply, &expected, REPLY_BYTES) == 0);
-    } else if (event->kind == LOT_UNLOCK) {
-        lot_reply expected = reply_to_unlock(&now, &sizes, event);
-        CHECK(memcmp(reply, &expected, REPLY_BYTES) == 0);
+    lot_reply expected = *reply;
+    switch ((lot_event_kind)event->kind) {
+    case LOT_DRAW: expected = reply_to_draw(&now, &sizes, event); break;
+    case LOT_UNLOCK: expected = reply_to_unlock(&now, &sizes, event); break;
+    case LOT_REMOVE_THREAD: expected = reply_to_removal(&now, event); break;
+    case LOT_SLEEP: expected = reply_to_sleep(&now, &sizes, event); break;
+    case LOT_PREEMPT:
+    case LOT_OVERRUN: expected = reply_to_stop(&now, &sizes, event); break;
+    case LOT_WAKE: expected = reply_to_wake(&now, event); break;
+    default: break;
+    }
+    CHECK(memcmp(reply, &expected, REPLY_BYTES) == 0);
+}
+
+// What a thread ran, before an event.
+static uint64_t ticks_before(uint32_t thread) {
+    return thread != 0 && thread <= THREADS ? now.threads[thread - 1].ticks : 0;
+}
+
+// The row of a thread that lost its processor, slept or was woken. It was charged the ticks of the reply.
+static void check_row_follows(const lot_event *event, const lot_reply *reply, uint64_t before) {
+    if (reply->kind == LOT_REPLY_EXPIRED || reply->kind == LOT_REPLY_TRAPPED) {
+        const lot_thread_row *row = &now.threads[reply->thread - 1];
+        bool slept = reply->kind == LOT_REPLY_TRAPPED && reply->outcome == LOT_OUTCOME_SLEPT;
+        CHECK(row->ticks == before + reply->ticks);
+        CHECK(reply->kind != LOT_REPLY_EXPIRED || row->status.kind == LOT_STATUS_READY);
+        CHECK((row->status.kind == LOT_STATUS_ASLEEP) == slept);
+    }
+    if (event->kind == LOT_WAKE && reply->kind == LOT_REPLY_DONE) {
+        CHECK(now.threads[event->object - 1].status.kind == LOT_STATUS_READY);
     }
 }
 
@@ -865,9 +1102,13 @@ static void step_event(void) {
     CHECK(!stays || memcmp(&before, &behind, sizeof before) == 0);
     if (status == LOT_DONE) {
         compare(&given, reply);
+        uint64_t ticks = ticks_before(reply->thread);
         record(&given, reply);
         look(handle, changes_nothing(reply));
         check_runner(&given, reply);
+        check_row_follows(&given, reply, ticks);
+        bool is_removal = given.kind == LOT_REMOVE_THREAD && reply->kind == LOT_REPLY_DONE;
+        CHECK(!is_removal || thread_named(&now, &given.name) == 0);
     } else {
         failed++;
         look(handle, true);
@@ -943,7 +1184,7 @@ static void step_row(void) {
     }
     case 2: {
         lot_thread_row *row = PUT_OUTPUT(&output, lot_thread_row);
-        bool is_shown = number != 0 && number <= now.thread_count;
+        bool is_shown = number != 0 && number <= now.thread_count && now.has_thread[i];
         uint32_t status = lot_kernel_thread_row(handle, number, row);
         check_row(status, is_shown, row, &now.threads[is_shown ? i : 0], UP_TO(lot_thread_row, name));
         break;
@@ -957,7 +1198,7 @@ static void step_row(void) {
     }
     default: {
         uint32_t *script = PUT_OUTPUT(&output, uint32_t);
-        bool is_shown = number != 0 && number <= now.thread_count;
+        bool is_shown = number != 0 && number <= now.thread_count && now.has_thread[i];
         uint32_t status = lot_kernel_script_of(handle, number, script);
         check_row(status, is_shown, script, &now.scripts[is_shown ? i : 0], sizeof *script);
         break;
@@ -1054,14 +1295,16 @@ static lot_sizes any_sizes(void) {
     return any;
 }
 
-// A new kernel if the sizes are within their bounds, and none otherwise.
+// A new kernel, and how many bytes it takes, if the sizes are within their bounds, and neither otherwise.
 static void step_new(void) {
     lot_kernel none = LOT_KERNEL_NONE;
     lot_sizes any = any_sizes();
     size_t held = block_count;
+    uint64_t bytes = 77;
     lot_kernel *handle = PUT(&handle_place, none);
     uint32_t status = lot_kernel_new(PUT(&input, any), handle);
     CHECK(status == (are_sizes(&any) ? LOT_DONE : LOT_BAD_LIMITS));
+    CHECK(lot_kernel_bytes(&any, &bytes) == status && (bytes == 77) == (status != LOT_DONE));
     CHECK((handle->at != NULL) == (status == LOT_DONE));
     check_input(&input);
     check_output(&handle_place, status);
@@ -1178,7 +1421,7 @@ static void step_weight(void) {
     uint32_t compensation = one_in(4) ? 0 : one_in(2) ? (uint32_t)below(quantum + 1u) : (uint32_t)random_bits();
     lot_wide *weight = PUT_OUTPUT(&output, lot_wide);
     lot_weight(value, compensation, quantum, weight);
-    CHECK(wide_of(*weight) == (compensation == 0 ? value : (wide)value * quantum / compensation));
+    CHECK(wide_of(*weight) == weight_of(value, compensation, quantum));
     check_paint(&output);
 }
 
@@ -1268,13 +1511,14 @@ static void check_all_seen(void) {
     for (uint32_t kind = 1; kind <= LOT_REPLY_REFUSED; kind++) {
         CHECK(kinds[kind] != 0);
     }
-    for (uint32_t outcome = 1; outcome <= LOT_OUTCOME_REPLIED_THEN_WAITS; outcome++) {
+    for (uint32_t outcome = 1; outcome <= LOT_OUTCOME_SLEPT; outcome++) {
         CHECK(outcomes[outcome] != 0);
     }
     for (uint32_t reason = LOT_REFUSAL_NAME_TAKEN; reason <= LOT_TRAP_REFUSAL_LOCK_CYCLE; reason++) {
         CHECK(reasons[reason] != 0 || strcmp(lot_refusal_text(reason), "unknown refusal") == 0);
     }
-    CHECK(draws_held != 0 && unlocks_held != 0 && failed != 0);
+    CHECK(draws_held != 0 && unlocks_held != 0 && removals != 0 && failed != 0);
+    CHECK(sleeps != 0 && wakes != 0 && preemptions != 0 && overruns != 0);
 }
 
 int main(int argc, char **argv) {
@@ -1302,7 +1546,8 @@ int main(int argc, char **argv) {
     }
     printf("ok: fuzz: seed %llu, %lu steps in %lu kernels: %lu events answered, %lu with another status\n",
            (unsigned long long)first_seed, steps, kernels, answered, failed);
-    printf("ok: fuzz: %lu draws and %lu unlocks as our own lottery has them, %lu events replayed\n", draws_held,
-           unlocks_held, replayed);
+    printf("ok: fuzz: %lu draws and %lu unlocks as our own lottery has them, %lu removals, %lu events replayed\n",
+           draws_held, unlocks_held, removals, replayed);
+    printf("ok: fuzz: %lu sleeps, %lu wakes, %lu preemptions, %lu overruns\n", sleeps, wakes, preemptions, overruns);
     return 0;
 }

@@ -1,7 +1,7 @@
 // The heap of the archive: the three functions that its compiled code calls for memory, over the program's malloc.
 //
-// A program that wants the kernel's memory elsewhere defines these three itself. Each block must be aligned to every power of two
-// up to 16 that divides its size, and must stay where it is until it is given back.
+// A program that wants the kernel's memory elsewhere defines these three itself. Each block must be aligned to every
+// power of two up to 16 that divides its size, and must stay where it is until it is given back.
 
 #include <stdbool.h>
 #include <stddef.h>

@@ -1,9 +1,9 @@
 // lot.h: a lottery-scheduled kernel, proved, as a static library. For C11 and C++11, and later ones.
 //
 // A kernel holds tickets, currencies, threads, ports and lottery mutexes. It is given events, one at a time: commands
-// that make and fund things, draws, expiries and traps of the threads that run. It answers each event with a reply.
-// It runs nothing itself: who is to run is in the replies, and running it is yours. docs/MACHINE.md of the repository
-// says what each event does.
+// that make and fund things, draws, ends of quanta, traps of the threads that run, and wakes of those that sleep. It
+// answers each event with a reply. It runs nothing itself: who is to run is in the replies, and running it is yours.
+// docs/MACHINE.md of the repository says what each event does.
 //
 // examples/embed/first_draw.c draws among two threads. It links the release, or the archive that dist/build makes:
 //
@@ -20,7 +20,7 @@
 // LOT_OUTCOME_REFUSED, and its reason says why. The trap costs its ticks, and its thread goes on unless its quantum is
 // used up. Nothing else has changed. So there are three things to look at: the status, the kind and the outcome.
 //
-// WHAT IS CHECKED. Structs that are handed in may have any bytes in any field: a kind that there isn't, a name that is
+// WHAT IS CHECKED. Structs that are handed in may have any bytes in any field: an unknown kind, a name that is
 // too long or has bytes that no name has, sizes out of their bounds, a seed out of its range, and a lot_kernel that
 // holds no kernel each have a status. Fields that a kind doesn't read may have any value.
 //
@@ -41,9 +41,10 @@
 // nothing between them, so a handler may make them. It must not use a kernel that the interrupted code may just be
 // calling: block the signal around the calls of that kernel, or set a flag in the handler and give the event later.
 //
-// MEMORY. lot_kernel_new takes all the memory that a kernel will ever use: 13 kilobytes for some dozen threads, 6
-// megabytes at the largest sizes. No event, row or count takes any. lot_kernel_free gives it back. lot_winner takes
-// memory for a copy of the weights, and gives it back before it returns. No other call takes memory.
+// MEMORY. lot_kernel_new takes all the memory that a kernel will ever use: 12 kilobytes for 16 threads, 5.4 megabytes
+// at the largest sizes. lot_kernel_bytes says how many bytes for any sizes. No event, row or count takes any.
+// lot_kernel_free gives it back. lot_winner takes memory for a copy of the weights, and gives it back before it
+// returns. No other call takes memory.
 //
 // STACK. Measured on x86-64 by bindings/c/stack_tests.c: an event takes at most 2.3 kilobytes of stack at any size of
 // the kernel, a row 1.4, lot_kernel_new 10.5, lot_kernel_free 4.4, lot_winner 3.4. The last three are those of glibc's
@@ -55,16 +56,27 @@
 // processor of level x86-64-v2, and uses SSE4.1. Its code for aarch64 needs NEON.
 //
 // NUMBERS. Tickets, threads, processors, ports, mutexes and scripts are numbered from 1. Currencies are numbered from
-// 0, which is base. Numbers are given in order of making and never used again.
+// 0, which is base. Numbers are given in order of making. The number of what was removed has no row, and is never given
+// again.
 //
-// NAMES. Currencies and threads share one set of names. A dead thread keeps its name: to make another thing of that
-// name is refused, LOT_REFUSAL_NAME_TAKEN. It keeps its number and its row as well, and counts for the limit on
-// threads. A currency that is removed gives its name back.
+// NAMES. Currencies and threads share one set of names. A dead thread keeps its name and its row until it is removed:
+// to make another thing of that name is refused, LOT_REFUSAL_NAME_TAKEN. LOT_REMOVE_THREAD frees the name of a thread,
+// and LOT_REMOVE_CURRENCY that of a currency. What was removed goes on counting for the limits of lot_sizes, which say
+// how many may be made in all.
 //
-// SLEEP AND WAKE have no events of their own. To take a thread out of the draws, have it yield (LOT_YIELD) and take
-// its tickets from it (LOT_UNFUND, one for each). It is ready then and weighs nothing, so no draw picks it. LOT_FUND
-// with the same ticket and the thread's name brings it back, with the compensation that it got for its yield. If it
-// owns a mutex that others wait for, or serves clients, it still weighs what they lend it, and draws pick it.
+// SLEEP AND WAKE. A thread that runs goes to sleep by a trap, LOT_SLEEP, and no draw picks it until LOT_WAKE names its
+// number. It is ready then, with the compensation of a thread that blocks: if it used 20 of 100 ticks it weighs 5 times
+// its value until it next wins. What it waits for, a clock or a device, is yours to know. A thread that isn't asleep
+// can't be woken (LOT_REFUSAL_NOT_ASLEEP), and the kernel keeps no wake for later: give LOT_SLEEP before whatever may
+// wake the thread. While it sleeps its tickets are inactive, so that others with tickets of its currencies are worth
+// more. It keeps its mutexes and its clients, and those who wait for them wait on.
+//
+// HOW A QUANTUM ENDS. LOT_EXPIRE ends it in time: what is left of it counts as used. LOT_PREEMPT ends it before its
+// time, since the processor is wanted for something else: the thread is charged the ticks that it ran, and gets no
+// compensation. LOT_OVERRUN ends it late, since the host's clock was: the thread is charged the late ticks too, and
+// weighs value * quantum / (quantum + late) until it next wins, rounded down, but at least 1 if its value is. So a
+// thread that keeps its processor for twice the quantum wins half as often. With 0 ticks late it is as after
+// LOT_EXPIRE. In all three the thread is ready, and the reply is LOT_REPLY_EXPIRED with the ticks that it is charged.
 //
 // A SERVER WITHOUT TICKETS never reaches its first LOT_RECEIVE: nobody lends it anything yet, so it weighs nothing,
 // and no draw picks it. Give it a ticket. Once it waits at its port it needs none, since its clients lend it theirs.
@@ -111,7 +123,7 @@ typedef enum lot_status LOT_OF_UINT32 {
     LOT_KERNEL_THERE = 2,  // the lot_kernel holds a kernel already
     LOT_BAD_LIMITS = 3,    // a size is out of its bounds
     LOT_NO_MEMORY = 4,     // malloc had no memory
-    LOT_BAD_KIND = 5,      // an event of a kind that there isn't
+    LOT_BAD_KIND = 5,      // an event of an unknown kind
     LOT_LONG_NAME = 6,     // a name of more than 16 bytes
     LOT_BAD_NAME = 7,      // a name that isn't a letter a to z, and then letters a to z, digits, '_' or '-'
     LOT_NOT_THERE = 8,     // nothing has this number
@@ -200,7 +212,7 @@ static inline lot_kernel lot_kernel_none(void) {
 // How large a kernel is. It never grows.
 typedef struct lot_sizes {
     uint32_t tickets;    // how many may be made in all, 1 to 65535
-    uint32_t currencies; // how many may be made in all besides base, 1 to 4096
+    uint32_t currencies; // how many may be made in all, without base, 1 to 4096
     uint32_t threads;    // how many may be made in all, 1 to 4096
     uint32_t ports;      // at most 256
     uint32_t mutexes;    // at most 256
@@ -219,6 +231,12 @@ static inline lot_sizes lot_sizes_small(void) {
 
 // Makes a kernel with base alone, for a lot_kernel that holds none. LOT_KERNEL_THERE, LOT_BAD_LIMITS, LOT_NO_MEMORY.
 uint32_t lot_kernel_new(const lot_sizes *sizes, lot_kernel *kernel);
+
+// Writes how many bytes lot_kernel_new asks of the heap in all for these sizes. It asks for them in at most
+// LOT_KERNEL_BLOCKS blocks, and gives none of them up until lot_kernel_free. So `*bytes + 16 * LOT_KERNEL_BLOCKS` bytes
+// are enough for a heap of your own that aligns each block to 16 bytes. LOT_BAD_LIMITS.
+uint32_t lot_kernel_bytes(const lot_sizes *sizes, uint64_t *bytes);
+#define LOT_KERNEL_BLOCKS 40
 
 // Frees the kernel, which is then LOT_KERNEL_NONE again. One that holds none stays so, and that is LOT_DONE too.
 uint32_t lot_kernel_free(lot_kernel *kernel);
@@ -240,15 +258,20 @@ typedef enum lot_event_kind LOT_OF_UINT32 {
     LOT_LIST_THREADS = 11,
     LOT_DRAW = 12,    // processor, number: a drawn number, any 128 bits
     LOT_EXPIRE = 13,  // processor: the running thread's quantum is over, and what is left of it counts as used
-    LOT_YIELD = 14,   // processor, ticks. From here to LOT_SERVE: traps of the running thread, after `ticks` ticks of
-    LOT_CALL = 15,    // processor, ticks, object: a port, sent         work; the trap itself costs one tick more
+    LOT_YIELD = 14,   // processor, ticks. From here to LOT_SERVE, and LOT_SLEEP: traps of the running thread, after
+    LOT_CALL = 15,    // processor, ticks, object: a port, sent     `ticks` ticks of work; the trap costs one tick more
     LOT_RECEIVE = 16, // processor, ticks, object: a port
     LOT_REPLY = 17,   // processor, ticks, sent
     LOT_LOCK = 18,    // processor, ticks, object: a mutex
     LOT_UNLOCK = 19,  // processor, ticks, object: a mutex, number: a drawn number
     LOT_EXIT = 20,    // processor, ticks
     LOT_SERVE = 21,   // processor, ticks, object: a port, sent: a reply, and then a receipt at the port
-    LOT_SET_TICKET = 22 // ticket, amount (1 to 4294967295): inflation and deflation (3.2)
+    LOT_SET_TICKET = 22,    // ticket, amount (1 to 4294967295): inflation and deflation (3.2)
+    LOT_REMOVE_THREAD = 23, // name: a dead thread that no ticket funds, and that has no client and owns no mutex
+    LOT_SLEEP = 24,         // processor, ticks: a trap, as LOT_YIELD is
+    LOT_PREEMPT = 25,       // processor, ticks: the running thread loses its processor after `ticks` ticks of work
+    LOT_OVERRUN = 26,       // processor, ticks: the running thread's quantum is over, and ended `ticks` ticks late
+    LOT_WAKE = 27           // object: a thread that sleeps, by its number
 } lot_event_kind;
 
 // An event. A struct that is all 0 has no kind.
@@ -294,6 +317,12 @@ static inline lot_event lot_remove_ticket(uint64_t ticket) {
 // Gives a ticket another amount, 1 to 4294967295, which counts at once. The ticket goes on funding what it funds.
 static inline lot_event lot_set_ticket(uint64_t ticket, uint64_t amount) {
     return LOT_EVENT(LOT_SET_TICKET, 0, 0, 0, 0, 0, {0, 0}, amount, ticket, {0, {0}}, {0, {0}});
+}
+
+// Removes the dead thread of this name, which no ticket funds, and which has no client and owns no mutex. Its name may
+// be given again, its number isn't.
+static inline lot_event lot_remove_thread(lot_name thread) {
+    return LOT_EVENT(LOT_REMOVE_THREAD, 0, 0, 0, 0, 0, {0, 0}, 0, 0, {0, {0}}, thread);
 }
 
 // Makes a currency with this name.
@@ -353,12 +382,35 @@ static inline lot_event lot_expire(uint32_t processor) {
     return LOT_EVENT(LOT_EXPIRE, processor, 0, 0, 0, 0, {0, 0}, 0, 0, {0, {0}}, {0, {0}});
 }
 
+// Takes the processor from the thread that runs on it, after `ticks` ticks of work, which must fit in what is left of
+// the quantum. The thread is ready, and isn't compensated.
+static inline lot_event lot_preempt(uint32_t processor, uint32_t ticks) {
+    return LOT_EVENT(LOT_PREEMPT, processor, ticks, 0, 0, 0, {0, 0}, 0, 0, {0, {0}}, {0, {0}});
+}
+
+// Ends the quantum of the thread that runs on the processor, `late` ticks after its time. The quantum and these ticks
+// are at most 4294967295. What was left of the quantum and the late ticks count as used, and the thread weighs the
+// less until it next wins a draw.
+static inline lot_event lot_overrun(uint32_t processor, uint32_t late) {
+    return LOT_EVENT(LOT_OVERRUN, processor, late, 0, 0, 0, {0, 0}, 0, 0, {0, {0}}, {0, {0}});
+}
+
+// Makes the sleeping thread with this number ready.
+static inline lot_event lot_wake(uint32_t thread) {
+    return LOT_EVENT(LOT_WAKE, 0, 0, thread, 0, 0, {0, 0}, 0, 0, {0, {0}}, {0, {0}});
+}
+
 // From here on: traps of the thread that runs on the processor, after `ticks` ticks of work. The trap itself costs one
 // tick more, and all of these must fit in what is left of the quantum.
 
 // The thread gives up its processor, and is compensated for what is left of its quantum.
 static inline lot_event lot_yield(uint32_t processor, uint32_t ticks) {
     return LOT_EVENT(LOT_YIELD, processor, ticks, 0, 0, 0, {0, 0}, 0, 0, {0, {0}}, {0, {0}});
+}
+
+// The thread sleeps until lot_wake, and is compensated for what is left of its quantum.
+static inline lot_event lot_sleep(uint32_t processor, uint32_t ticks) {
+    return LOT_EVENT(LOT_SLEEP, processor, ticks, 0, 0, 0, {0, 0}, 0, 0, {0, {0}}, {0, {0}});
 }
 
 // The thread sends a number to a port, and waits for a reply.
@@ -410,7 +462,7 @@ typedef enum lot_reply_kind LOT_OF_UINT32 {
     LOT_REPLY_LIST_THREADS = 8,
     LOT_REPLY_WINNER = 9,   // thread: runs now, goes_on; number, total, has_draw; sent, has_sent: delivered to it
     LOT_REPLY_IDLE = 10,    // no thread has any weight, and nothing has changed
-    LOT_REPLY_EXPIRED = 11, // thread, ticks: what it ran
+    LOT_REPLY_EXPIRED = 11, // thread, ticks: what it is charged. The answer to LOT_PREEMPT and LOT_OVERRUN too
     LOT_REPLY_TRAPPED = 12, // thread, ticks: what it ran; outcome; goes_on; ends: it would, but its quantum is used up
     LOT_REPLY_REFUSED = 13  // reason; nothing has changed
 } lot_reply_kind;
@@ -429,7 +481,8 @@ typedef enum lot_outcome LOT_OF_UINT32 {
     LOT_OUTCOME_EXITED = 10,  // it runs no more
     LOT_OUTCOME_REFUSED = 11, // reason; nothing has changed except its ticks
     LOT_OUTCOME_REPLIED_THEN_RECEIVED = 12, // replied_to; other: the client whose call was taken then; sent, has_sent
-    LOT_OUTCOME_REPLIED_THEN_WAITS = 13     // replied_to; it waits for a call, and runs no more
+    LOT_OUTCOME_REPLIED_THEN_WAITS = 13,    // replied_to; it waits for a call, and runs no more
+    LOT_OUTCOME_SLEPT = 14                  // it sleeps, and runs no more
 } lot_outcome;
 
 // The outcome in words, to be printed: a string that stays, and "unknown outcome" for any other number.
@@ -448,6 +501,7 @@ static inline const char *lot_outcome_text(uint32_t outcome) {
     case LOT_OUTCOME_REFUSED: return "refused";
     case LOT_OUTCOME_REPLIED_THEN_RECEIVED: return "replied, then received a call";
     case LOT_OUTCOME_REPLIED_THEN_WAITS: return "replied, then waits";
+    case LOT_OUTCOME_SLEPT: return "sleeps";
     }
     return "unknown outcome";
 }
@@ -458,6 +512,7 @@ static inline const char *lot_outcome_text(uint32_t outcome) {
 //     LOT_MAKE_TICKET        BAD_AMOUNT, NO_CURRENCY, FULL
 //     LOT_REMOVE_TICKET      NO_TICKET, FUNDING
 //     LOT_SET_TICKET         BAD_AMOUNT, NO_TICKET
+//     LOT_REMOVE_THREAD      NO_THREAD, ALIVE, IN_USE
 //     LOT_MAKE_CURRENCY      NAME_TAKEN, FULL
 //     LOT_REMOVE_CURRENCY    NO_CURRENCY, BASE_FIXED, IN_USE
 //     LOT_FUND               NO_TICKET, NO_TARGET, BASE_FIXED, DEAD_THREAD, FUNDING, CYCLE
@@ -467,21 +522,26 @@ static inline const char *lot_outcome_text(uint32_t outcome) {
 //     the three listings     never refused
 //     LOT_DRAW               BAD_PROCESSOR, BUSY
 //     LOT_EXPIRE             BAD_PROCESSOR, NOT_RUNNING
+//     LOT_PREEMPT            BAD_PROCESSOR, NOT_RUNNING, BAD_TICKS: more ticks than the quantum has left
+//     LOT_OVERRUN            BAD_PROCESSOR, NOT_RUNNING, BAD_TICKS: the quantum and these ticks are above 4294967295
+//     LOT_WAKE               NO_THREAD, NOT_ASLEEP
 //     each trap              BAD_PROCESSOR, NOT_RUNNING, BAD_TICKS; and then, as a refused trap (LOT_OUTCOME_REFUSED):
 //     LOT_CALL, LOT_RECEIVE  NO_PORT
 //     LOT_REPLY              NOTHING_TO_REPLY
 //     LOT_SERVE              NO_PORT, NOTHING_TO_REPLY
 //     LOT_LOCK               NO_MUTEX, ALREADY_OWNER, LOCK_CYCLE
 //     LOT_UNLOCK             NO_MUTEX, NOT_OWNER
-//     LOT_YIELD, LOT_EXIT    no more
+//     LOT_YIELD, LOT_SLEEP   no more
+//     LOT_EXIT               no more
 typedef enum lot_refusal LOT_OF_UINT32 {
     LOT_REFUSAL_BAD_NAME = 1,    // never in a reply: such a name has a status
-    LOT_REFUSAL_NAME_TAKEN = 2,  // a currency or a thread, dead ones too, has the name
+    LOT_REFUSAL_NAME_TAKEN = 2,  // a currency or a thread, dead ones too, has the name; removed ones don't
     LOT_REFUSAL_NO_CURRENCY = 3, // no currency has the name
     LOT_REFUSAL_NO_TICKET = 4,   // no ticket has the number now
     LOT_REFUSAL_NO_TARGET = 5,   // neither a currency nor a thread has the name
     LOT_REFUSAL_BAD_AMOUNT = 6,  // 0 or above 4294967295
-    LOT_REFUSAL_IN_USE = 7,      // the currency issues a ticket, or a ticket funds it
+    LOT_REFUSAL_IN_USE = 7,      // a ticket funds the currency or thread, or the currency issues one, or the thread has
+                                 // a client or owns a mutex
     LOT_REFUSAL_FUNDING = 8,     // the ticket funds something
     LOT_REFUSAL_NOT_FUNDING = 9, // the ticket funds nothing
     LOT_REFUSAL_CYCLE = 10,      // currencies would fund each other in a cycle
@@ -489,10 +549,14 @@ typedef enum lot_refusal LOT_OF_UINT32 {
     LOT_REFUSAL_DEAD_THREAD = 12,
     LOT_REFUSAL_FULL = 13,          // as many were made as lot_sizes allows
     LOT_REFUSAL_NO_SCRIPT = 14,     // 0 or above the number of scripts
+    LOT_REFUSAL_NO_THREAD = 15,     // no thread has the name or the number; a dead one has both until it is removed
+    LOT_REFUSAL_ALIVE = 16,         // the thread isn't dead, also if it waits for good
     LOT_REFUSAL_BAD_PROCESSOR = 20, // 0 or above the number of processors
     LOT_REFUSAL_BUSY = 21,          // a thread runs on the processor
     LOT_REFUSAL_NOT_RUNNING = 22,   // no thread runs on the processor
-    LOT_REFUSAL_BAD_TICKS = 23,     // the ticks of work and the trap's own are more than what is left of the quantum
+    LOT_REFUSAL_BAD_TICKS = 23,     // the ticks of work, with the trap's own, are more than the quantum has left; or a
+                                    // quantum with the ticks that it ended late is above 4294967295
+    LOT_REFUSAL_NOT_ASLEEP = 24,    // the thread doesn't sleep: it is ready, runs, waits or is dead
     LOT_TRAP_REFUSAL_NO_PORT = 30,  // from here on of traps: 0 or above the number of ports
     LOT_TRAP_REFUSAL_NOTHING_TO_REPLY = 32, // the thread serves no client
     LOT_TRAP_REFUSAL_NO_MUTEX = 33,         // 0 or above the number of mutexes
@@ -510,7 +574,7 @@ static inline const char *lot_refusal_text(uint32_t reason) {
     case LOT_REFUSAL_NO_TICKET: return "no such ticket";
     case LOT_REFUSAL_NO_TARGET: return "no currency or thread has the name";
     case LOT_REFUSAL_BAD_AMOUNT: return "the amount is out of its range";
-    case LOT_REFUSAL_IN_USE: return "the currency is in use";
+    case LOT_REFUSAL_IN_USE: return "the currency or thread is in use";
     case LOT_REFUSAL_FUNDING: return "the ticket funds something";
     case LOT_REFUSAL_NOT_FUNDING: return "the ticket funds nothing";
     case LOT_REFUSAL_CYCLE: return "currencies would fund each other in a cycle";
@@ -518,10 +582,13 @@ static inline const char *lot_refusal_text(uint32_t reason) {
     case LOT_REFUSAL_DEAD_THREAD: return "the thread is dead";
     case LOT_REFUSAL_FULL: return "the limit is used up";
     case LOT_REFUSAL_NO_SCRIPT: return "no such script";
+    case LOT_REFUSAL_NO_THREAD: return "no such thread";
+    case LOT_REFUSAL_ALIVE: return "the thread isn't dead";
     case LOT_REFUSAL_BAD_PROCESSOR: return "no such processor";
     case LOT_REFUSAL_BUSY: return "a thread runs on the processor";
     case LOT_REFUSAL_NOT_RUNNING: return "no thread runs on the processor";
-    case LOT_REFUSAL_BAD_TICKS: return "more ticks than the quantum has left";
+    case LOT_REFUSAL_BAD_TICKS: return "too many ticks";
+    case LOT_REFUSAL_NOT_ASLEEP: return "the thread isn't asleep";
     case LOT_TRAP_REFUSAL_NO_PORT: return "no such port";
     case LOT_TRAP_REFUSAL_NOTHING_TO_REPLY: return "the thread serves no client";
     case LOT_TRAP_REFUSAL_NO_MUTEX: return "no such mutex";
@@ -552,8 +619,8 @@ typedef struct lot_reply {
 } lot_reply;
 
 // Whether the thread that made a trap still runs on its processor, by the reply to the trap. If it doesn't, draw
-// there. A trap that is refused with LOT_REFUSAL_BAD_TICKS has changed nothing, so its thread still runs. It is false
-// for the reply to any other event.
+// there. A trap, a preemption or an overrun that is refused with LOT_REFUSAL_BAD_TICKS has changed nothing, so its
+// thread still runs. It is false for the reply to any other event.
 static inline bool lot_goes_on(const lot_reply *reply) {
     if (reply->kind == LOT_REPLY_REFUSED) {
         return reply->reason == LOT_REFUSAL_BAD_TICKS;
@@ -598,7 +665,8 @@ typedef enum lot_thread_status_kind LOT_OF_UINT32 {
     LOT_STATUS_QUEUED = 4,    // other: the port at which its call waits
     LOT_STATUS_SERVED = 5,    // other: the thread that serves it
     LOT_STATUS_WAITING = 6,   // other: the mutex that it waits for
-    LOT_STATUS_DEAD = 7
+    LOT_STATUS_DEAD = 7,
+    LOT_STATUS_ASLEEP = 8 // until LOT_WAKE
 } lot_thread_status_kind;
 
 typedef struct lot_thread_status {
@@ -635,7 +703,8 @@ uint32_t lot_kernel_runner(lot_kernel *kernel, uint32_t processor, lot_runner *r
 uint32_t lot_kernel_script_of(lot_kernel *kernel, uint32_t thread, uint32_t *script);
 
 // How many tickets or currencies were made, removed ones too: their numbers are 1 to the count, and 0 to below the
-// count. Threads have the numbers from 1 up to the first that has no row. LOT_NO_KERNEL.
+// count. Threads have the numbers 1 to the one of the last LOT_REPLY_THREAD or LOT_REPLY_FUNDED, which is at most
+// `threads` of lot_sizes. Among them those without a row were removed. LOT_NO_KERNEL.
 uint32_t lot_kernel_ticket_count(lot_kernel *kernel, uint32_t *count);
 uint32_t lot_kernel_currency_count(lot_kernel *kernel, uint32_t *count);
 
@@ -672,9 +741,10 @@ uint32_t lot_generator_number(lot_generator *generator, uint64_t *number);
 // LOT_BAD_SEED.
 uint32_t lot_generator_wide_number(lot_generator *generator, lot_wide *number);
 
-// Writes what a thread of this value weighs in a draw. `compensation` is how many ticks of its quantum it had used
-// when it yielded or blocked before the quantum's end, 0 for none. With a compensation the weight is value * quantum
-// / compensation, rounded down; otherwise it is the value.
+// Writes what a thread of this value weighs in a draw. `compensation` is 0 for none; or how many ticks of its quantum
+// it had used when it yielded, blocked or went to sleep before the quantum's end; or the quantum and the ticks that it
+// ended late. With a compensation the weight is value * quantum / compensation, rounded down, but at least 1 if the
+// value is; otherwise it is the value.
 void lot_weight(uint64_t value, uint32_t compensation, uint32_t quantum, lot_wide *weight);
 
 typedef struct lot_drawn {

@@ -7,6 +7,7 @@
 #include <stdlib.h>
 
 static unsigned long asked, refused_at, held;
+static uint64_t asked_bytes;
 static char nowhere[16];
 
 static lot_block block_at(void *at) {
@@ -18,11 +19,12 @@ lot_block rattle_alloc(size_t size, size_t align) {
         return block_at(NULL);
     }
     held++;
+    asked_bytes += size;
     return block_at(malloc(size != 0 ? size : align));
 }
 
 lot_block rattle_realloc(void *at, size_t kept, size_t size, size_t align) {
-    (void)kept;
+    asked_bytes += size - kept;
     return block_at(++asked == refused_at ? NULL : realloc(at, size != 0 ? size : align));
 }
 
@@ -57,6 +59,36 @@ static void new_kernels(void) {
     CHECK(status == LOT_DONE && kernel.at != NULL && asked + 1 == last);
     CHECK(lot_kernel_free(&kernel) == LOT_DONE && held == 0);
     printf("ok: a kernel takes %lu blocks, and is not made where one is refused\n", last - 1);
+}
+
+// A kernel with these sizes takes as many bytes as lot_kernel_bytes says, in no more blocks than the header says, and
+// gives up none of them before it is freed.
+static void takes_what_it_says(const lot_sizes *sizes) {
+    lot_kernel kernel = LOT_KERNEL_NONE;
+    uint64_t bytes = 0;
+    CHECK(lot_kernel_bytes(sizes, &bytes) == LOT_DONE);
+    refused_at = asked = 0;
+    asked_bytes = 0;
+    CHECK(lot_kernel_new(sizes, &kernel) == LOT_DONE);
+    CHECK(asked_bytes == bytes && asked <= LOT_KERNEL_BLOCKS && held == asked);
+    CHECK(lot_kernel_free(&kernel) == LOT_DONE && held == 0);
+}
+
+// The smallest sizes, those of lot_sizes_small, some between and the largest; none for sizes out of their bounds.
+static void bytes_of_kernels(void) {
+    const lot_sizes least = {1, 1, 1, 0, 0, 1, 0, 1, 1}, small = lot_sizes_small();
+    const lot_sizes between = {3001, 77, 1023, 5, 19, 7, 256, 1000, 256};
+    const lot_sizes largest = {65535, 4096, 4096, 256, 256, 64, 256, 1000, 256};
+    lot_sizes bad = small;
+    uint64_t bytes = 77;
+    bad.threads = 4097;
+    CHECK(lot_kernel_bytes(&bad, &bytes) == LOT_BAD_LIMITS && bytes == 77);
+    takes_what_it_says(&least);
+    takes_what_it_says(&SIZES);
+    takes_what_it_says(&small);
+    takes_what_it_says(&between);
+    takes_what_it_says(&largest);
+    puts("ok: a kernel takes as many bytes as it says");
 }
 
 // No event and no row takes memory, though all is refused.
@@ -101,6 +133,7 @@ static void winners(void) {
 
 int main(void) {
     new_kernels();
+    bytes_of_kernels();
     no_more();
     winners();
     return 0;

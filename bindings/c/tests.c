@@ -58,6 +58,16 @@ static bool came_to(lot_reply reply, uint32_t thread, uint32_t outcome, uint32_t
            reply.other == other;
 }
 
+static bool has_expired(lot_reply reply, uint32_t thread, uint32_t ticks) {
+    return reply.kind == LOT_REPLY_EXPIRED && reply.thread == thread && reply.ticks == ticks;
+}
+
+static lot_thread_row row_of(lot_kernel *kernel, uint32_t thread) {
+    lot_thread_row row;
+    CHECK(lot_kernel_thread_row(kernel, thread, &row) == LOT_DONE);
+    return row;
+}
+
 static bool is_name(lot_name name, const char *text) {
     lot_name meant = lot_name_of(text);
     return memcmp(&name, &meant, sizeof name) == 0;
@@ -172,6 +182,195 @@ static void inflation(void) {
     puts("ok: inflation");
 }
 
+static bool is_gone(lot_kernel *kernel, uint32_t thread) {
+    lot_thread_row row;
+    uint32_t script;
+    return lot_kernel_thread_row(kernel, thread, &row) == LOT_NOT_THERE &&
+           lot_kernel_script_of(kernel, thread, &script) == LOT_NOT_THERE;
+}
+
+// A thread is removed once it is dead and no ticket funds it. Its name is free then, and its number isn't.
+static void removal(void) {
+    const lot_name a = lot_name_of("a");
+    const lot_event removal = lot_remove_thread(a);
+    lot_kernel kernel = made(&SMALL);
+    CHECK(is_refused(answer(&kernel, removal), LOT_REFUSAL_NO_THREAD));
+    CHECK(is_refused(answer(&kernel, lot_remove_thread(lot_name_of("base"))), LOT_REFUSAL_NO_THREAD));
+    CHECK(funded(&kernel, 10, "base", "a").ticket == 1 && funded(&kernel, 5, "base", "b").thread == 2);
+    CHECK(is_refused(answer(&kernel, removal), LOT_REFUSAL_ALIVE));
+    CHECK(has_won(drawn(&kernel, 1, 9), 1, 9, 15) && is_refused(answer(&kernel, removal), LOT_REFUSAL_ALIVE));
+    CHECK(came_to(answer(&kernel, lot_exit(1, 4)), 1, LOT_OUTCOME_EXITED, 0));
+    CHECK(is_refused(answer(&kernel, removal), LOT_REFUSAL_IN_USE));
+    CHECK(answer(&kernel, lot_unfund(1)).kind == LOT_REPLY_DONE);
+    CHECK(answer(&kernel, removal).kind == LOT_REPLY_DONE && is_gone(&kernel, 1) && is_worth(&kernel, 2, 5));
+    CHECK(is_refused(answer(&kernel, removal), LOT_REFUSAL_NO_THREAD));
+    CHECK(is_refused(answer(&kernel, lot_fund(1, a)), LOT_REFUSAL_NO_TARGET));
+    CHECK(answer(&kernel, lot_make_thread(a, 1)).thread == 3);
+    CHECK(answer(&kernel, lot_fund(1, a)).kind == LOT_REPLY_DONE && is_worth(&kernel, 3, 10) && is_gone(&kernel, 1));
+    CHECK(has_won(drawn(&kernel, 1, 5), 3, 5, 15));
+    CHECK(lot_kernel_free(&kernel) == LOT_DONE);
+    puts("ok: removal");
+}
+
+// A dead thread with a client, or with a mutex, stays.
+static void removal_in_use(void) {
+    lot_kernel kernel = made(&SMALL);
+    CHECK(funded(&kernel, 1, "base", "owner").thread == 1);
+    CHECK(has_won(drawn(&kernel, 1, 0), 1, 0, 1));
+    CHECK(came_to(answer(&kernel, lot_lock(1, 0, 1)), 1, LOT_OUTCOME_LOCKED, 0));
+    CHECK(came_to(answer(&kernel, lot_exit(1, 0)), 1, LOT_OUTCOME_EXITED, 0));
+    CHECK(funded(&kernel, 1, "base", "client").thread == 2);
+    CHECK(has_won(drawn(&kernel, 1, 0), 2, 0, 1));
+    CHECK(came_to(answer(&kernel, lot_call(1, 99, 1, 7)), 2, LOT_OUTCOME_QUEUED, 0));
+    CHECK(funded(&kernel, 1, "base", "server").thread == 3);
+    CHECK(has_won(drawn(&kernel, 1, 0), 3, 0, 1));
+    CHECK(came_to(answer(&kernel, lot_receive(1, 0, 1)), 3, LOT_OUTCOME_RECEIVED, 2));
+    CHECK(came_to(answer(&kernel, lot_exit(1, 0)), 3, LOT_OUTCOME_EXITED, 0));
+    CHECK(answer(&kernel, lot_unfund(1)).kind == LOT_REPLY_DONE);
+    CHECK(answer(&kernel, lot_unfund(3)).kind == LOT_REPLY_DONE);
+    CHECK(is_refused(answer(&kernel, lot_remove_thread(lot_name_of("owner"))), LOT_REFUSAL_IN_USE));
+    CHECK(is_refused(answer(&kernel, lot_remove_thread(lot_name_of("server"))), LOT_REFUSAL_IN_USE));
+    CHECK(is_refused(answer(&kernel, lot_remove_thread(lot_name_of("client"))), LOT_REFUSAL_ALIVE));
+    CHECK(lot_kernel_free(&kernel) == LOT_DONE);
+    puts("ok: removal in use");
+}
+
+// A thread that sleeps competes in no draw. It used 20 of 100 ticks, so it is woken with 5 times its weight (4.4, 4.5).
+static void sleeping(void) {
+    lot_kernel kernel = made(&SMALL);
+    funded(&kernel, 400, "base", "a");
+    funded(&kernel, 100, "base", "b");
+    CHECK(has_won(drawn(&kernel, 1, 0), 1, 0, 500));
+    lot_reply reply = answer(&kernel, lot_sleep(1, 19));
+    CHECK(came_to(reply, 1, LOT_OUTCOME_SLEPT, 0) && reply.ticks == 20 && !reply.ends && !lot_goes_on(&reply));
+    lot_thread_row row = row_of(&kernel, 1);
+    CHECK(row.status.kind == LOT_STATUS_ASLEEP && row.status.processor == 0 && row.status.other == 0);
+    CHECK(row.value == 0 && row.weight.low == 0 && row.ticks == 20 && row.quanta == 1);
+    CHECK(has_won(drawn(&kernel, 1, 99), 2, 99, 100) && has_expired(answer(&kernel, lot_expire(1)), 2, 100));
+    CHECK(is_refused(answer(&kernel, lot_remove_thread(lot_name_of("a"))), LOT_REFUSAL_ALIVE));
+    CHECK(answer(&kernel, lot_wake(1)).kind == LOT_REPLY_DONE);
+    row = row_of(&kernel, 1);
+    CHECK(row.status.kind == LOT_STATUS_READY && row.value == 400 && row.weight.low == 2000 && row.ticks == 20);
+    CHECK(has_won(drawn(&kernel, 1, 1999), 1, 1999, 2100));
+    // One that has used its whole quantum gets no compensation.
+    CHECK(came_to(answer(&kernel, lot_sleep(1, 99)), 1, LOT_OUTCOME_SLEPT, 0));
+    CHECK(answer(&kernel, lot_wake(1)).kind == LOT_REPLY_DONE && row_of(&kernel, 1).weight.low == 400);
+    CHECK(lot_kernel_free(&kernel) == LOT_DONE);
+    puts("ok: sleeping");
+}
+
+// The tickets of a thread that sleeps are inactive: the currency's other thread has all of its 200 (4.4).
+static void sleepers_tickets(void) {
+    lot_kernel kernel = made(&SMALL);
+    CHECK(answer(&kernel, lot_make_currency(lot_name_of("g"))).currency == 1);
+    CHECK(answer(&kernel, lot_make_ticket(200, lot_name_of("base"))).ticket == 1);
+    CHECK(answer(&kernel, lot_fund(1, lot_name_of("g"))).kind == LOT_REPLY_DONE);
+    CHECK(funded(&kernel, 2, "g", "a").ticket == 2 && funded(&kernel, 1, "g", "b").ticket == 3);
+    CHECK(has_won(drawn(&kernel, 1, 0), 1, 0, 199));
+    CHECK(came_to(answer(&kernel, lot_sleep(1, 0)), 1, LOT_OUTCOME_SLEPT, 0));
+    CHECK(is_worth(&kernel, 1, 0) && is_worth(&kernel, 2, 200));
+    lot_ticket_row ticket;
+    CHECK(lot_kernel_ticket_row(&kernel, 2, &ticket) == LOT_DONE && !ticket.is_active && ticket.value == 0);
+    CHECK(ticket.has_target && is_name(ticket.target, "a"));
+    CHECK(answer(&kernel, lot_wake(1)).kind == LOT_REPLY_DONE);
+    CHECK(is_worth(&kernel, 1, 133) && is_worth(&kernel, 2, 66));
+    CHECK(lot_kernel_free(&kernel) == LOT_DONE);
+    puts("ok: sleepers' tickets");
+}
+
+// Why a thread can't go to sleep or be woken. A thread that was removed has no number any more.
+static void sleep_refusals(void) {
+    const lot_event wake = lot_wake(1);
+    lot_kernel kernel = made(&SMALL);
+    CHECK(is_refused(answer(&kernel, wake), LOT_REFUSAL_NO_THREAD));
+    funded(&kernel, 400, "base", "a");
+    CHECK(is_refused(answer(&kernel, wake), LOT_REFUSAL_NOT_ASLEEP));
+    CHECK(is_refused(answer(&kernel, lot_sleep(0, 0)), LOT_REFUSAL_BAD_PROCESSOR));
+    CHECK(is_refused(answer(&kernel, lot_sleep(3, 0)), LOT_REFUSAL_BAD_PROCESSOR));
+    CHECK(is_refused(answer(&kernel, lot_sleep(1, 0)), LOT_REFUSAL_NOT_RUNNING));
+    CHECK(has_won(drawn(&kernel, 1, 0), 1, 0, 400));
+    CHECK(is_refused(answer(&kernel, lot_sleep(1, 100)), LOT_REFUSAL_BAD_TICKS));
+    CHECK(is_refused(answer(&kernel, lot_sleep(1, UINT32_MAX)), LOT_REFUSAL_BAD_TICKS));
+    CHECK(is_refused(answer(&kernel, wake), LOT_REFUSAL_NOT_ASLEEP));
+    CHECK(is_refused(answer(&kernel, lot_wake(0)), LOT_REFUSAL_NO_THREAD));
+    CHECK(is_refused(answer(&kernel, lot_wake(2)), LOT_REFUSAL_NO_THREAD));
+    CHECK(is_refused(answer(&kernel, lot_wake(UINT32_MAX)), LOT_REFUSAL_NO_THREAD));
+    CHECK(came_to(answer(&kernel, lot_exit(1, 0)), 1, LOT_OUTCOME_EXITED, 0));
+    CHECK(is_refused(answer(&kernel, wake), LOT_REFUSAL_NOT_ASLEEP));
+    CHECK(answer(&kernel, lot_unfund(1)).kind == LOT_REPLY_DONE);
+    CHECK(answer(&kernel, lot_remove_thread(lot_name_of("a"))).kind == LOT_REPLY_DONE);
+    CHECK(is_refused(answer(&kernel, wake), LOT_REFUSAL_NO_THREAD));
+    CHECK(lot_kernel_free(&kernel) == LOT_DONE);
+    puts("ok: sleep refusals");
+}
+
+// A thread whose processor is taken from it is charged what it has run, and isn't compensated (4.2, 4.5).
+static void preemption(void) {
+    lot_kernel kernel = made(&SMALL);
+    funded(&kernel, 400, "base", "a");
+    CHECK(is_refused(answer(&kernel, lot_preempt(0, 0)), LOT_REFUSAL_BAD_PROCESSOR));
+    CHECK(is_refused(answer(&kernel, lot_preempt(3, 0)), LOT_REFUSAL_BAD_PROCESSOR));
+    CHECK(is_refused(answer(&kernel, lot_preempt(1, 0)), LOT_REFUSAL_NOT_RUNNING));
+    CHECK(has_won(drawn(&kernel, 1, 0), 1, 0, 400));
+    CHECK(has_expired(answer(&kernel, lot_preempt(1, 30)), 1, 30));
+    CHECK(row_of(&kernel, 1).status.kind == LOT_STATUS_READY);
+    CHECK(has_won(drawn(&kernel, 1, 399), 1, 399, 400));
+    CHECK(came_to(answer(&kernel, lot_lock(1, 19, 1)), 1, LOT_OUTCOME_LOCKED, 0));
+    lot_reply reply = answer(&kernel, lot_preempt(1, 81));
+    CHECK(is_refused(reply, LOT_REFUSAL_BAD_TICKS) && lot_goes_on(&reply));
+    CHECK(is_refused(answer(&kernel, lot_preempt(1, UINT32_MAX)), LOT_REFUSAL_BAD_TICKS));
+    lot_runner runner;
+    CHECK(lot_kernel_runner(&kernel, 1, &runner) == LOT_DONE && runner.thread == 1 && runner.used == 20);
+    reply = answer(&kernel, lot_preempt(1, 80));
+    CHECK(has_expired(reply, 1, 80) && !lot_goes_on(&reply));
+    CHECK(lot_kernel_runner(&kernel, 1, &runner) == LOT_NOT_THERE);
+    CHECK(has_won(drawn(&kernel, 1, 399), 1, 399, 400) && has_expired(answer(&kernel, lot_preempt(1, 0)), 1, 0));
+    CHECK(row_of(&kernel, 1).ticks == 130 && row_of(&kernel, 1).quanta == 3);
+    CHECK(lot_kernel_free(&kernel) == LOT_DONE);
+    puts("ok: preemption");
+}
+
+// A thread whose quantum ended late weighs less until it next wins, but at least 1 if it is worth something (3.4).
+static void overruns(void) {
+    lot_kernel kernel = made(&SMALL);
+    funded(&kernel, 400, "base", "a");
+    CHECK(has_won(drawn(&kernel, 1, 0), 1, 0, 400));
+    // It is charged 100 ticks and 100 more, and weighs half.
+    CHECK(has_expired(answer(&kernel, lot_overrun(1, 100)), 1, 200) && is_worth(&kernel, 1, 400));
+    CHECK(row_of(&kernel, 1).status.kind == LOT_STATUS_READY && row_of(&kernel, 1).weight.low == 200);
+    CHECK(has_won(drawn(&kernel, 1, 199), 1, 199, 200) && has_expired(answer(&kernel, lot_expire(1)), 1, 100));
+    CHECK(has_won(drawn(&kernel, 1, 399), 1, 399, 400) && has_expired(answer(&kernel, lot_overrun(1, 0)), 1, 100));
+    CHECK(has_won(drawn(&kernel, 1, 399), 1, 399, 400));
+    // 80 ticks of its quantum were left: it is charged these and 50, and weighs 400 * 100 / 150.
+    CHECK(came_to(answer(&kernel, lot_lock(1, 19, 1)), 1, LOT_OUTCOME_LOCKED, 0));
+    CHECK(has_expired(answer(&kernel, lot_overrun(1, 50)), 1, 130) && row_of(&kernel, 1).weight.low == 266);
+    // It keeps that while it has no ticket.
+    CHECK(answer(&kernel, lot_unfund(1)).kind == LOT_REPLY_DONE && drawn(&kernel, 1, 0).kind == LOT_REPLY_IDLE);
+    CHECK(answer(&kernel, lot_fund(1, lot_name_of("a"))).kind == LOT_REPLY_DONE);
+    CHECK(has_won(drawn(&kernel, 1, 265), 1, 265, 266));
+    // 100 and 4294967195 are 4294967295, the most that there may be; 40000 / 4294967295 is 0.
+    CHECK(has_expired(answer(&kernel, lot_overrun(1, 4294967195)), 1, 4294967295));
+    CHECK(row_of(&kernel, 1).weight.low == 1 && row_of(&kernel, 1).ticks == UINT64_C(4294967845));
+    CHECK(has_won(drawn(&kernel, 1, 7), 1, 0, 1));
+    CHECK(lot_kernel_free(&kernel) == LOT_DONE);
+    puts("ok: overruns");
+}
+
+static void overrun_refusals(void) {
+    lot_kernel kernel = made(&SMALL);
+    funded(&kernel, 400, "base", "a");
+    CHECK(is_refused(answer(&kernel, lot_overrun(0, 0)), LOT_REFUSAL_BAD_PROCESSOR));
+    CHECK(is_refused(answer(&kernel, lot_overrun(3, UINT32_MAX)), LOT_REFUSAL_BAD_PROCESSOR));
+    CHECK(is_refused(answer(&kernel, lot_overrun(1, UINT32_MAX)), LOT_REFUSAL_NOT_RUNNING));
+    CHECK(has_won(drawn(&kernel, 1, 0), 1, 0, 400));
+    CHECK(is_refused(answer(&kernel, lot_overrun(1, UINT32_MAX)), LOT_REFUSAL_BAD_TICKS));
+    lot_reply reply = answer(&kernel, lot_overrun(1, 4294967196));
+    CHECK(is_refused(reply, LOT_REFUSAL_BAD_TICKS) && lot_goes_on(&reply));
+    CHECK(has_expired(answer(&kernel, lot_overrun(1, 20)), 1, 120));
+    CHECK(lot_kernel_free(&kernel) == LOT_DONE);
+    puts("ok: overrun refusals");
+}
+
 // A server replies and receives in one trap: it takes a call that is queued, or waits (4.6).
 static void servings(void) {
     lot_kernel kernel = made(&SMALL);
@@ -261,6 +460,9 @@ static void refused_commands(lot_kernel *kernel) {
         {lot_remove_currency(base), LOT_REFUSAL_BASE_FIXED},
         {lot_make_currency(lot_name_of("z")), LOT_REFUSAL_FULL},
         {lot_make_thread(lot_name_of("u"), 2), LOT_REFUSAL_NO_SCRIPT},
+        {lot_remove_thread(nothing), LOT_REFUSAL_NO_THREAD},
+        {lot_remove_thread(x), LOT_REFUSAL_NO_THREAD},
+        {lot_remove_thread(lot_name_of("t")), LOT_REFUSAL_ALIVE},
     };
     for (size_t i = 0; i < sizeof rows / sizeof rows[0]; i++) {
         CHECK(is_refused(answer(kernel, rows[i].event), rows[i].reason));
@@ -280,6 +482,7 @@ static void refusals(void) {
     CHECK(is_refused(answer(&kernel, lot_exit(1, 100)), LOT_REFUSAL_BAD_TICKS));
     CHECK(came_to(answer(&kernel, lot_exit(1, 99)), 1, LOT_OUTCOME_EXITED, 0));
     CHECK(is_refused(answer(&kernel, lot_fund(2, lot_name_of("t"))), LOT_REFUSAL_DEAD_THREAD));
+    CHECK(is_refused(answer(&kernel, lot_remove_thread(lot_name_of("t"))), LOT_REFUSAL_IN_USE));
     static const uint32_t lists[3][2] = {{LOT_LIST_TICKETS, LOT_REPLY_LIST_TICKETS},
                                          {LOT_LIST_CURRENCIES, LOT_REPLY_LIST_CURRENCIES},
                                          {LOT_LIST_THREADS, LOT_REPLY_LIST_THREADS}};
@@ -346,9 +549,10 @@ static void lottery_alone(void) {
     CHECK(won.total.high == UINT64_MAX);
     // 2 ^ 128 - 1 modulo 20 is 15.
     CHECK(lot_winner(weights, 5, &largest[0], &won) == LOT_DONE && won.place == 2 && won.number.low == 15);
-    static const uint64_t weighed[5][3] = {
-        {400, 0, 400}, {400, 20, 2000}, {7, 3, 233}, {400, 99, 404}, {400, 1, 40000}};
-    for (size_t i = 0; i < 5; i++) {
+    static const uint64_t weighed[10][3] = {{400, 0, 400},     {400, 20, 2000}, {7, 3, 233},   {400, 99, 404},
+                                            {400, 1, 40000},   {400, 200, 200}, {400, 150, 266}, {1, 1000, 1},
+                                            {0, UINT32_MAX, 0}, {400, 100, 400}};
+    for (size_t i = 0; i < 10; i++) {
         lot_wide weight;
         lot_weight(weighed[i][0], (uint32_t)weighed[i][1], 100, &weight);
         CHECK(weight.low == weighed[i][2] && weight.high == 0);
@@ -412,6 +616,11 @@ static void made_events(void) {
     CHECK(is_event(lot_serve(1, 2, 3, 4),
                    (lot_event){.kind = 21, .processor = 1, .ticks = 2, .object = 3, .sent = 4}));
     CHECK(is_event(lot_set_ticket(5, 6), (lot_event){.kind = 22, .ticket = 5, .amount = 6}));
+    CHECK(is_event(lot_remove_thread(a), (lot_event){.kind = 23, .name = a}));
+    CHECK(is_event(lot_sleep(1, 2), (lot_event){.kind = 24, .processor = 1, .ticks = 2}));
+    CHECK(is_event(lot_preempt(1, 2), (lot_event){.kind = 25, .processor = 1, .ticks = 2}));
+    CHECK(is_event(lot_overrun(1, 2), (lot_event){.kind = 26, .processor = 1, .ticks = 2}));
+    CHECK(is_event(lot_wake(3), (lot_event){.kind = 27, .object = 3}));
     const lot_sizes sizes = lot_sizes_small();
     CHECK(memcmp(&sizes, &SMALL, sizeof sizes) == 0);
     lot_kernel kernel = {&kernel};
@@ -427,9 +636,9 @@ static bool is_unknown(const char *text) {
 // Each number has a text if and only if it has a name. The archive has the header's version.
 static void texts(void) {
     for (uint32_t i = 0; i < 100; i++) {
-        bool is_refusal = (i >= 1 && i <= 14) || (i >= 20 && i <= 23) || i == 30 || (i >= 32 && i <= 36);
+        bool is_refusal = (i >= 1 && i <= 16) || (i >= 20 && i <= 24) || i == 30 || (i >= 32 && i <= 36);
         CHECK(is_unknown(lot_status_text(i)) == (i > LOT_TOO_LARGE));
-        CHECK(is_unknown(lot_outcome_text(i)) == (i < 1 || i > 13));
+        CHECK(is_unknown(lot_outcome_text(i)) == (i < 1 || i > 14));
         CHECK(is_unknown(lot_refusal_text(i)) == !is_refusal);
     }
     CHECK(strcmp(lot_status_text(LOT_NO_MEMORY), "out of memory") == 0);
@@ -459,17 +668,16 @@ static void going_on(void) {
 
 // ---- what the header says of hosts
 
-// The first thread yields after 20 of 100 ticks and loses its ticket: it isn't drawn. With its ticket it is, and
-// weighs 10 * 100 / 20. It dies, and keeps its name and its row.
+// The first thread sleeps after 20 of 100 ticks: it isn't drawn. Once it is woken it is, and weighs 10 * 100 / 20. It
+// dies, and keeps its name and its row.
 static void sleep_and_wake(void) {
     lot_kernel kernel = made(&SMALL);
     funded(&kernel, 10, "base", "a");
     funded(&kernel, 5, "base", "b");
     CHECK(has_won(drawn(&kernel, 1, 0), 1, 0, 15));
-    CHECK(came_to(answer(&kernel, lot_yield(1, 19)), 1, LOT_OUTCOME_YIELDED, 0));
-    CHECK(answer(&kernel, lot_unfund(1)).kind == LOT_REPLY_DONE);
+    CHECK(came_to(answer(&kernel, lot_sleep(1, 19)), 1, LOT_OUTCOME_SLEPT, 0));
     CHECK(has_won(drawn(&kernel, 1, 0), 2, 0, 5) && answer(&kernel, lot_expire(1)).thread == 2);
-    CHECK(answer(&kernel, lot_fund(1, lot_name_of("a"))).kind == LOT_REPLY_DONE);
+    CHECK(answer(&kernel, lot_wake(1)).kind == LOT_REPLY_DONE);
     CHECK(has_won(drawn(&kernel, 1, 49), 1, 49, 55));
     CHECK(came_to(answer(&kernel, lot_exit(1, 0)), 1, LOT_OUTCOME_EXITED, 0));
     CHECK(is_refused(answer(&kernel, lot_make_thread(lot_name_of("a"), 1)), LOT_REFUSAL_NAME_TAKEN));
@@ -485,8 +693,46 @@ static void sleep_and_wake(void) {
     puts("ok: sleep and wake");
 }
 
-// A thread without tickets owns a mutex and yielded after 10 of 100 ticks: it is drawn by what the waiter lends it.
+// A thread that sleeps after 10 of 100 ticks keeps its mutex. Nobody is drawn until it is woken; it then has what the
+// waiter lends it too.
 static void sleep_with_a_mutex(void) {
+    lot_kernel kernel = made(&SMALL);
+    funded(&kernel, 10, "base", "a");
+    funded(&kernel, 5, "base", "b");
+    CHECK(has_won(drawn(&kernel, 1, 0), 1, 0, 15));
+    CHECK(came_to(answer(&kernel, lot_lock(1, 8, 1)), 1, LOT_OUTCOME_LOCKED, 0));
+    CHECK(came_to(answer(&kernel, lot_sleep(1, 0)), 1, LOT_OUTCOME_SLEPT, 0));
+    CHECK(has_won(drawn(&kernel, 1, 0), 2, 0, 5));
+    CHECK(came_to(answer(&kernel, lot_lock(1, 0, 1)), 2, LOT_OUTCOME_WAITS, 0));
+    CHECK(drawn(&kernel, 1, 0).kind == LOT_REPLY_IDLE);
+    CHECK(answer(&kernel, lot_wake(1)).kind == LOT_REPLY_DONE);
+    CHECK(has_won(drawn(&kernel, 1, 0), 1, 0, 150));
+    CHECK(came_to(answer(&kernel, lot_unlock(1, 0, 1, lot_wide_of(0))), 1, LOT_OUTCOME_PASSED, 2));
+    CHECK(lot_kernel_free(&kernel) == LOT_DONE);
+    puts("ok: sleep with a mutex");
+}
+
+// A server that sleeps keeps its client. It used 2 of 100 ticks, and with what the client lends it it is worth 10.
+static void sleep_with_a_client(void) {
+    lot_kernel kernel = made(&SMALL);
+    funded(&kernel, 5, "base", "server");
+    funded(&kernel, 5, "base", "client");
+    CHECK(has_won(drawn(&kernel, 1, 5), 2, 5, 10));
+    CHECK(came_to(answer(&kernel, lot_call(1, 0, 1, 7)), 2, LOT_OUTCOME_QUEUED, 0));
+    CHECK(has_won(drawn(&kernel, 1, 0), 1, 0, 5));
+    CHECK(came_to(answer(&kernel, lot_receive(1, 0, 1)), 1, LOT_OUTCOME_RECEIVED, 2));
+    CHECK(came_to(answer(&kernel, lot_sleep(1, 0)), 1, LOT_OUTCOME_SLEPT, 0));
+    CHECK(drawn(&kernel, 1, 0).kind == LOT_REPLY_IDLE);
+    CHECK(is_refused(answer(&kernel, lot_wake(2)), LOT_REFUSAL_NOT_ASLEEP));
+    CHECK(answer(&kernel, lot_wake(1)).kind == LOT_REPLY_DONE && is_worth(&kernel, 1, 10));
+    CHECK(has_won(drawn(&kernel, 1, 499), 1, 499, 500));
+    CHECK(came_to(answer(&kernel, lot_reply_with(1, 0, 8)), 1, LOT_OUTCOME_REPLIED, 2));
+    CHECK(lot_kernel_free(&kernel) == LOT_DONE);
+    puts("ok: sleep with a client");
+}
+
+// A thread without tickets owns a mutex and yielded after 10 of 100 ticks: it is drawn by what the waiter lends it.
+static void owner_without_tickets(void) {
     lot_kernel kernel = made(&SMALL);
     funded(&kernel, 10, "base", "a");
     funded(&kernel, 5, "base", "b");
@@ -498,7 +744,7 @@ static void sleep_with_a_mutex(void) {
     CHECK(came_to(answer(&kernel, lot_lock(1, 0, 1)), 2, LOT_OUTCOME_WAITS, 0));
     CHECK(has_won(drawn(&kernel, 1, 0), 1, 0, 50));
     CHECK(lot_kernel_free(&kernel) == LOT_DONE);
-    puts("ok: sleep with a mutex");
+    puts("ok: owner without tickets");
 }
 
 // A server without a ticket is never drawn. With one it reaches its first receipt, and needs none after that: it
@@ -587,7 +833,7 @@ static void limits(void) {
 
 // Each kind that there isn't, and each name that isn't one: a status of its own, no reply, and nothing changed.
 static void kinds_and_names(void) {
-    static const uint32_t kinds[6] = {0, LOT_SET_TICKET + 1, LOT_SET_TICKET + 2, 255, 1u << 31, UINT32_MAX};
+    static const uint32_t kinds[6] = {0, LOT_WAKE + 1, LOT_WAKE + 2, 255, 1u << 31, UINT32_MAX};
     static const struct {
         const char *text;
         uint32_t length, status;
@@ -639,7 +885,7 @@ static void names(void) {
 static void runs(void) {
     lot_kernel kernel = made(&SMALL);
     lot_event events[4] = {lot_make_currency(lot_name_of("x")), lot_make_currency(lot_name_of("y")),
-                           lot_event_of(LOT_SET_TICKET + 1), lot_make_currency(lot_name_of("z"))};
+                           lot_event_of(LOT_WAKE + 1), lot_make_currency(lot_name_of("z"))};
     lot_reply replies[4], before;
     memset(replies, 0x5a, sizeof replies);
     before = replies[2];
@@ -677,7 +923,7 @@ static lot_event random_event(void) {
     if (random_bits() % 2 == 0) {
         return event;
     }
-    event.kind = (uint32_t)(random_bits() % (LOT_SET_TICKET + 2));
+    event.kind = (uint32_t)(random_bits() % (LOT_WAKE + 2));
     event.processor = (uint32_t)(random_bits() % 4);
     event.ticks = (uint32_t)(random_bits() % 120);
     event.object = (uint32_t)(random_bits() % 4);
@@ -688,16 +934,20 @@ static lot_event random_event(void) {
         event.currency = lot_name_of(names[random_bits() % 8]);
         event.name = lot_name_of(names[random_bits() % 8]);
     }
-    // Ends are rare, so that there is somebody to run.
+    // Ends and sleeps are rare, so that there is somebody to run.
     if (event.kind == LOT_EXIT && random_bits() % 4096 != 0) {
         event.kind = LOT_DRAW;
+    } else if (event.kind == LOT_SLEEP && random_bits() % 8 != 0) {
+        event.kind = LOT_WAKE;
+    }
+    if (event.kind == LOT_WAKE) {
+        event.object = (uint32_t)(random_bits() % (SMALL.threads + 2));
     }
     return event;
 }
 
 static bool same_threads(lot_kernel *first, lot_kernel *second) {
-    uint32_t thread = 1;
-    for (;; thread++) {
+    for (uint32_t thread = 1; thread <= SMALL.threads; thread++) {
         lot_thread_row a, b;
         memset(&a, 0, sizeof a);
         memset(&b, 0, sizeof b);
@@ -705,10 +955,8 @@ static bool same_threads(lot_kernel *first, lot_kernel *second) {
         if (status != lot_kernel_thread_row(second, thread, &b) || !SAME(a, b, name)) {
             return false;
         }
-        if (status == LOT_NOT_THERE) {
-            return true;
-        }
     }
+    return true;
 }
 
 static bool same_tickets(lot_kernel *first, lot_kernel *second) {
@@ -743,7 +991,7 @@ static bool same_currencies(lot_kernel *first, lot_kernel *second) {
 }
 
 static bool is_trap(uint32_t kind) {
-    return kind >= LOT_YIELD && kind <= LOT_SERVE;
+    return (kind >= LOT_YIELD && kind <= LOT_SERVE) || kind == LOT_SLEEP;
 }
 
 static bool somebody_runs(lot_kernel *kernel, uint32_t processor) {
@@ -787,6 +1035,14 @@ int main(int argc, char **argv) {
     list_lottery();
     currency_graph();
     inflation();
+    removal();
+    removal_in_use();
+    sleeping();
+    sleepers_tickets();
+    sleep_refusals();
+    preemption();
+    overruns();
+    overrun_refusals();
     call_and_reply();
     servings();
     refusals();
@@ -797,6 +1053,8 @@ int main(int argc, char **argv) {
     going_on();
     sleep_and_wake();
     sleep_with_a_mutex();
+    sleep_with_a_client();
+    owner_without_tickets();
     server_without_tickets();
     no_kernel();
     limits();

@@ -94,6 +94,7 @@ static Next next_after(const lot_reply &reply) {
     case LOT_OUTCOME_LOCKED:
     case LOT_OUTCOME_FREED:
     case LOT_OUTCOME_YIELDED:
+    case LOT_OUTCOME_SLEPT:
     case LOT_OUTCOME_QUEUED:
     case LOT_OUTCOME_WAITS:
     case LOT_OUTCOME_EXITED:

@@ -142,6 +142,102 @@ class Worked(unittest.TestCase):
             ]:
                 self.assertEqual(kernel.set_ticket(ticket, amount, check=False), refused_for(refusal))
 
+    def test_removal(self):
+        """A thread is removed once it is dead and no ticket funds it. Its name is free then, and its number isn't."""
+        with lot.Kernel() as kernel:
+            refused = [kernel.remove_thread("a", check=False)]
+            funded(kernel, ("a", 10), ("b", 5))
+            refused.append(kernel.remove_thread("a", check=False))
+            self.assertEqual(kernel.draw(1, 9).thread, 1)
+            self.assertEqual(kernel.exit(1, ticks=4), trapped(1, 5, Outcome.EXITED))
+            refused.append(kernel.remove_thread("a", check=False))
+            self.assertEqual(refused, [refused_for(it) for it in (Refusal.NO_THREAD, Refusal.ALIVE, Refusal.IN_USE)])
+            kernel.unfund(1)
+            self.assertEqual(kernel.remove_thread("a"), Reply(ReplyKind.DONE))
+            self.assertEqual((kernel.thread_row(1), kernel.script_of(1)), (None, None))
+            self.assertEqual(kernel.make_thread("a"), Reply(ReplyKind.THREAD, thread=3))
+            self.assertEqual([kernel.thread_row(thread).name for thread in (2, 3)], ["b", "a"])
+
+    def test_sleeping(self):
+        """A thread that sleeps is in no draw. It used 20 of 100 ticks, so it is woken with 5 times its weight."""
+        with funded(lot.Kernel(), ("a", 400), ("b", 100)) as kernel:
+            kernel.draw(1, 0)
+            self.assertEqual(kernel.sleep(1, ticks=19), trapped(1, 20, Outcome.SLEPT))
+            row = lot.ThreadRow("a", ThreadStatus(ThreadState.ASLEEP), value=0, weight=0, quanta=1, ticks=20)
+            self.assertEqual(kernel.thread_row(1), row)
+            self.assertEqual(kernel.draw(1, 99), Reply(ReplyKind.WINNER, thread=2, number=99, total=100))
+            self.assertEqual(kernel.expire(1), Reply(ReplyKind.EXPIRED, thread=2, ticks=100))
+            self.assertEqual(kernel.wake(1), Reply(ReplyKind.DONE))
+            row = lot.ThreadRow("a", ThreadStatus(ThreadState.READY), value=400, weight=2000, quanta=1, ticks=20)
+            self.assertEqual(kernel.thread_row(1), row)
+            self.assertEqual(kernel.draw(1, 1999), Reply(ReplyKind.WINNER, thread=1, number=1999, total=2100))
+
+    def test_sleepers_tickets(self):
+        """The tickets of a thread that sleeps are inactive: the currency's other thread has all of its 200."""
+        with lot.Kernel() as kernel:
+            kernel.make_currency("g")
+            kernel.fund(kernel.make_ticket(200).ticket, "g")
+            kernel.make_funded("a", 2, "g")
+            kernel.make_funded("b", 1, "g")
+            self.assertEqual(kernel.draw(1, 0), Reply(ReplyKind.WINNER, thread=1, number=0, total=199))
+            kernel.sleep(1)
+            self.assertEqual([kernel.thread_row(thread).value for thread in (1, 2)], [0, 200])
+            self.assertEqual(kernel.ticket_row(2), lot.TicketRow(0, 2, issuer="g", target="a", is_active=False))
+            kernel.wake(1)
+            self.assertEqual([kernel.thread_row(thread).value for thread in (1, 2)], [133, 66])
+
+    def test_wake_refusals(self):
+        with funded(lot.Kernel(), ("a", 400)) as kernel:
+            kernel.draw(1, 0)
+            for thread, refusal in [
+                (1, Refusal.NOT_ASLEEP), (2, Refusal.NO_THREAD), (0, Refusal.NO_THREAD),
+                (NARROW - 1, Refusal.NO_THREAD),
+            ]:
+                self.assertEqual(kernel.wake(thread, check=False), refused_for(refusal))
+            kernel.exit(1)
+            self.assertEqual(kernel.wake(1, check=False), refused_for(Refusal.NOT_ASLEEP))
+            kernel.unfund(1)
+            kernel.remove_thread("a")
+            self.assertEqual(kernel.wake(1, check=False), refused_for(Refusal.NO_THREAD))
+
+    def test_preemption(self):
+        """A thread whose processor is taken from it is charged what it has run, and isn't compensated."""
+        with funded(lot.Kernel(), ("a", 400)) as kernel:
+            kernel.draw(1, 0)
+            self.assertEqual(kernel.preempt(1, ticks=30), Reply(ReplyKind.EXPIRED, thread=1, ticks=30))
+            self.assertEqual(kernel.draw(1, 0), Reply(ReplyKind.WINNER, thread=1, number=0, total=400))
+            self.assertEqual(kernel.lock(1, mutex=1, ticks=19), trapped(1, 20, Outcome.LOCKED))
+            self.assertEqual(kernel.preempt(1, 81, check=False), refused_for(Refusal.BAD_TICKS))
+            self.assertEqual(kernel.runner(1), lot.Runner(thread=1, used=20))
+            self.assertEqual(kernel.preempt(1, 80), Reply(ReplyKind.EXPIRED, thread=1, ticks=80))
+            self.assertEqual(kernel.preempt(1, check=False), refused_for(Refusal.NOT_RUNNING))
+            self.assertEqual(kernel.preempt(0, check=False), refused_for(Refusal.BAD_PROCESSOR))
+            kernel.draw(1, 0)
+            # It ran no tick, which isn't the same as no ticks in the reply.
+            self.assertEqual(kernel.preempt(1), Reply(ReplyKind.EXPIRED, thread=1, ticks=0))
+            self.assertEqual(kernel.thread_row(1).ticks, 130)
+
+    def test_overruns(self):
+        """A thread whose quantum ended late weighs less until it next wins, but at least 1."""
+        with funded(lot.Kernel(), ("a", 400)) as kernel:
+            self.assertEqual(kernel.overrun(1, 0, check=False), refused_for(Refusal.NOT_RUNNING))
+            self.assertEqual(kernel.overrun(3, 0, check=False), refused_for(Refusal.BAD_PROCESSOR))
+            kernel.draw(1, 0)
+            self.assertEqual(kernel.overrun(1, late=100), Reply(ReplyKind.EXPIRED, thread=1, ticks=200))
+            self.assertEqual(kernel.draw(1, 199), Reply(ReplyKind.WINNER, thread=1, number=199, total=200))
+            kernel.expire(1)
+            self.assertEqual(kernel.draw(1, 399), Reply(ReplyKind.WINNER, thread=1, number=399, total=400))
+            self.assertEqual(kernel.overrun(1, 0), Reply(ReplyKind.EXPIRED, thread=1, ticks=100))
+            self.assertEqual(kernel.draw(1, 399), Reply(ReplyKind.WINNER, thread=1, number=399, total=400))
+            kernel.lock(1, mutex=1, ticks=19)
+            self.assertEqual(kernel.overrun(1, 50), Reply(ReplyKind.EXPIRED, thread=1, ticks=130))
+            self.assertEqual(kernel.thread_row(1).weight, 266)
+            kernel.draw(1, 0)
+            self.assertEqual(kernel.overrun(1, 4294967196, check=False), refused_for(Refusal.BAD_TICKS))
+            most = Reply(ReplyKind.EXPIRED, thread=1, ticks=4294967295)
+            self.assertEqual(kernel.overrun(1, 4294967195), most)
+            self.assertEqual(kernel.thread_row(1).weight, 1)
+
     def test_servings(self):
         with funded(lot.Kernel(), ("v", 10), ("c", 20), ("d", 30)) as kernel:
             self.assertEqual(kernel.draw(1, 0).thread, 1)
@@ -198,6 +294,7 @@ class Worked(unittest.TestCase):
             lot.winner([1 << 127, 1 << 127], 7)
         self.assertEqual(raised.exception.status, Status.TOO_LARGE)
         self.assertEqual([lot.weight(400, 20, 100), lot.weight(7, 3, 100), lot.weight(400, 0, 100)], [2000, 233, 400])
+        self.assertEqual([lot.weight(400, 150, 100), lot.weight(1, 1000, 100), lot.weight(0, 1000, 100)], [266, 1, 0])
         self.assertEqual(lot.winner([10, 2, 5, 1, 2], WIDEST - 1), (2, 15, 20))
 
     def test_generator(self):
@@ -259,10 +356,13 @@ class Refusals(unittest.TestCase):
             Refusal.DEAD_THREAD: [make.draw(1, 0), make.exit(1), make.fund(1, "a")],
             Refusal.FULL: [make.make_currency("v"), make.make_currency("w")],
             Refusal.NO_SCRIPT: [make.make_thread("b", script=2)],
+            Refusal.NO_THREAD: [make.remove_thread("u")],
+            Refusal.ALIVE: [make.remove_thread("a")],
             Refusal.BAD_PROCESSOR: [make.draw(3, 0)],
             Refusal.BUSY: [make.draw(1, 0), make.draw(1, 0)],
             Refusal.NOT_RUNNING: [make.yield_(2)],
             Refusal.BAD_TICKS: [make.draw(1, 0), make.yield_(1, 100)],
+            Refusal.NOT_ASLEEP: [make.wake(1)],
             Refusal.NO_PORT: [make.draw(1, 0), make.call(1, 3, 0)],
             Refusal.NOTHING_TO_REPLY: [make.draw(1, 0), make.reply(1, 0)],
             Refusal.NO_MUTEX: [make.draw(1, 0), make.lock(1, 0)],
@@ -314,7 +414,7 @@ class Taken(unittest.TestCase):
         self.assertRaises(TypeError, lot.Event, EventKind.DRAW, processor=1, number=9, ticks=5)
         self.assertRaises(TypeError, lot.Event, EventKind.DRAW, processor=1, ticks=5)
         self.assertEqual(lot.Event(12, processor=1, number=9), lot.events.draw(1, 9))
-        self.assertRaises(ValueError, lot.Event, 23)
+        self.assertRaises(ValueError, lot.Event, len(EventKind) + 1)
 
     def test_one_method_for_each_event(self):
         """It has the name of its kind, and the parameters of the function that makes the event."""
@@ -334,6 +434,8 @@ class Taken(unittest.TestCase):
             NARROW: [
                 lambda it: make.expire(it), lambda it: make.yield_(1, it), lambda it: make.call(1, it, 0),
                 lambda it: make.call(1, 1, it), lambda it: make.lock(1, it), lambda it: make.make_thread("a", it),
+                lambda it: make.sleep(1, it), lambda it: make.preempt(1, it), lambda it: make.overrun(1, it),
+                lambda it: make.wake(it),
             ],
             WIDE: [lambda it: make.make_ticket(it), lambda it: make.unfund(it), lambda it: make.set_ticket(1, it)],
             WIDEST: [lambda it: make.draw(1, it), lambda it: make.unlock(1, 1, it)],
@@ -386,6 +488,8 @@ class Taken(unittest.TestCase):
 
     def test_what_no_call_takes(self):
         self.assertEqual(self.status_of(lot.Kernel, threads=4097), Status.BAD_LIMITS)
+        self.assertEqual(self.status_of(lot.Kernel.bytes_of, lot.Sizes(0, 1, 1, 0, 0, 1, 0, 1, 1)), Status.BAD_LIMITS)
+        self.assertLess(lot.Kernel.bytes_of(lot.Sizes(1, 1, 1, 0, 0, 1, 0, 1, 1)), 2048)
         self.assertEqual(self.status_of(lot.ParkMiller, 0), Status.BAD_SEED)
 
     def test_closed(self):

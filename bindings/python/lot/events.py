@@ -38,11 +38,18 @@ READS = {
     EventKind.EXIT: ("processor", "ticks"),
     EventKind.SERVE: ("processor", "ticks", "port", "sent"),
     EventKind.SET_TICKET: ("ticket", "amount"),
+    EventKind.REMOVE_THREAD: ("name",),
+    EventKind.SLEEP: ("processor", "ticks"),
+    EventKind.PREEMPT: ("processor", "ticks"),
+    EventKind.OVERRUN: ("processor", "late"),
+    EventKind.WAKE: ("thread",),
 }
 # What each field that is a number is below. The others are names.
 ENDS = {
     "processor": NARROW,
     "ticks": NARROW,
+    "late": NARROW,
+    "thread": NARROW,
     "port": NARROW,
     "mutex": NARROW,
     "sent": NARROW,
@@ -58,7 +65,7 @@ class Event:
     """An event: its kind, and the fields that this kind reads. The functions below make them.
 
     `TypeError` if one of these is missing or of another type, or if there is another field; `OverflowError` for a
-    number out of its field's range; `ValueError` for a kind that there isn't.
+    number out of its field's range; `ValueError` for an unknown kind.
     """
 
     kind: EventKind
@@ -74,6 +81,8 @@ class Event:
     currency: Optional[str] = None
     name: Optional[str] = None
     target: Optional[str] = None  # the currency or thread to be funded
+    thread: Optional[int] = None  # the thread to be woken, by its number
+    late: Optional[int] = None  # how many ticks late a quantum ended
 
     def __post_init__(self) -> None:
         fields = self.__dict__  # what is frozen is set there
@@ -105,6 +114,11 @@ def remove_ticket(ticket: int) -> Event:
 def set_ticket(ticket: int, amount: int) -> Event:
     """The event of `Kernel.set_ticket`."""
     return Event(EventKind.SET_TICKET, ticket=ticket, amount=amount)
+
+
+def remove_thread(name: str) -> Event:
+    """The event of `Kernel.remove_thread`."""
+    return Event(EventKind.REMOVE_THREAD, name=name)
 
 
 def make_currency(name: str) -> Event:
@@ -160,6 +174,30 @@ def draw(processor: int, number: int) -> Event:
 def expire(processor: int) -> Event:
     """The event of `Kernel.expire`."""
     return Event(EventKind.EXPIRE, processor=processor)
+
+
+def preempt(processor: int, ticks: int = 0) -> Event:
+    """The event of `Kernel.preempt`."""
+    return Event(EventKind.PREEMPT, processor=processor, ticks=ticks)
+
+
+def overrun(processor: int, late: int) -> Event:
+    """The event of `Kernel.overrun`.
+
+    >>> overrun(processor=1, late=20)
+    Event(kind=EventKind.OVERRUN, processor=1, late=20)
+    """
+    return Event(EventKind.OVERRUN, processor=processor, late=late)
+
+
+def wake(thread: int) -> Event:
+    """The event of `Kernel.wake`."""
+    return Event(EventKind.WAKE, thread=thread)
+
+
+def sleep(processor: int, ticks: int = 0) -> Event:
+    """The event of `Kernel.sleep`."""
+    return Event(EventKind.SLEEP, processor=processor, ticks=ticks)
 
 
 def yield_(processor: int, ticks: int = 0) -> Event:

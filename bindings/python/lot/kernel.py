@@ -1,7 +1,7 @@
 """A kernel."""
 
 import threading
-from ctypes import Structure, byref, c_size_t, c_uint32
+from ctypes import Structure, byref, c_size_t, c_uint32, c_uint64
 from typing import Any, Iterable, List, Optional, Sequence, Union
 
 from . import events, library
@@ -65,6 +65,17 @@ class Kernel:
         raw = library.RawSizes()
         raw.set(sizes)
         must(calls.lot_kernel_new(byref(raw), byref(self._handle)))
+
+    @staticmethod
+    def bytes_of(sizes: Sizes) -> int:
+        """How many bytes the library takes in all for a kernel with these sizes. Python's own objects are not counted.
+
+        `LotError` with `Status.BAD_LIMITS` for sizes out of their bounds.
+        """
+        raw, count = library.RawSizes(), c_uint64()
+        raw.set(sizes)
+        must(calls.lot_kernel_bytes(byref(raw), byref(count)))
+        return count.value
 
     def close(self) -> None:
         """Gives the memory back, once the calls of other threads have returned. A closed kernel stays closed."""
@@ -184,6 +195,21 @@ class Kernel:
         """
         return self.event(events.make_thread(name, script), check=check)
 
+    def remove_thread(self, name: str, *, check: Optional[bool] = None) -> Reply:
+        """Removes a dead thread that no ticket funds, and that has no client and owns no mutex.
+
+        Its name may be given again, its number isn't. Replies `DONE`. Refused: NO_THREAD, ALIVE, IN_USE.
+
+        >>> with Kernel() as kernel:
+        ...     replies = kernel.run([events.make_funded("job", 10), events.draw(1, 0), events.exit(1)])
+        ...     kernel.remove_thread("job", check=False).refusal
+        ...     replies = kernel.run([events.unfund(1), events.remove_thread("job")])
+        ...     print(kernel.thread_row(1), kernel.make_funded("job", 10).thread)
+        Refusal.IN_USE
+        None 2
+        """
+        return self.event(events.remove_thread(name), check=check)
+
     def make_funded(
         self, name: str, amount: int, currency: str = "base", script: int = 1, *, check: Optional[bool] = None
     ) -> Reply:
@@ -216,6 +242,44 @@ class Kernel:
         """The running thread's quantum is over. Replies `EXPIRED`. Refused: BAD_PROCESSOR, NOT_RUNNING."""
         return self.event(events.expire(processor), check=check)
 
+    def preempt(self, processor: int, ticks: int = 0, *, check: Optional[bool] = None) -> Reply:
+        """Takes the processor from the running thread, after `ticks` ticks of work, before its quantum is over.
+
+        The thread is ready, is charged these ticks, and isn't compensated. Replies `EXPIRED`. Refused: BAD_PROCESSOR,
+        NOT_RUNNING, BAD_TICKS if the ticks are more than the quantum has left.
+
+        >>> with Kernel() as kernel:
+        ...     replies = kernel.run([events.make_funded("job", 10), events.draw(1, 0)])
+        ...     kernel.preempt(processor=1, ticks=30)
+        ...     kernel.thread_row(1).weight
+        Reply(kind=ReplyKind.EXPIRED, thread=1, ticks=30)
+        10
+        """
+        return self.event(events.preempt(processor, ticks), check=check)
+
+    def overrun(self, processor: int, late: int, *, check: Optional[bool] = None) -> Reply:
+        """The running thread's quantum is over, and ended `late` ticks late, which count as used too.
+
+        Until it next wins it weighs value * quantum / (quantum + late), rounded down, but at least 1 if it is worth
+        something. Replies `EXPIRED`. Refused: BAD_PROCESSOR, NOT_RUNNING, BAD_TICKS if the quantum and the late ticks
+        are above 4294967295.
+
+        >>> with Kernel(quantum=100) as kernel:
+        ...     replies = kernel.run([events.make_funded("slow", 10), events.draw(1, 0)])
+        ...     kernel.overrun(processor=1, late=100)
+        ...     kernel.thread_row(1).weight
+        Reply(kind=ReplyKind.EXPIRED, thread=1, ticks=200)
+        5
+        """
+        return self.event(events.overrun(processor, late), check=check)
+
+    def wake(self, thread: int, *, check: Optional[bool] = None) -> Reply:
+        """The sleeping thread with this number is ready, with the compensation that it got when it went to sleep.
+
+        Replies `DONE`. Refused: NO_THREAD, NOT_ASLEEP.
+        """
+        return self.event(events.wake(thread), check=check)
+
     # The traps of the running thread. Each comes after `ticks` ticks of work, and costs one tick more. All are refused
     # as events with BAD_PROCESSOR, NOT_RUNNING, and BAD_TICKS if these ticks are more than the rest of the quantum.
 
@@ -225,6 +289,24 @@ class Kernel:
         Replies `TRAPPED` with `YIELDED`. Refused: BAD_PROCESSOR, NOT_RUNNING, BAD_TICKS.
         """
         return self.event(events.yield_(processor, ticks), check=check)
+
+    def sleep(self, processor: int, ticks: int = 0, *, check: Optional[bool] = None) -> Reply:
+        """The running thread sleeps until `wake`. What funds it is inactive meanwhile.
+
+        It keeps its mutexes and its clients, and is compensated for what is left of its quantum.
+
+        Replies `TRAPPED` with `SLEPT`. Refused: BAD_PROCESSOR, NOT_RUNNING, BAD_TICKS.
+
+        >>> with Kernel(quantum=100) as kernel:
+        ...     replies = kernel.run([events.make_funded("driver", 10), events.draw(1, 0), events.sleep(1, 49)])
+        ...     kernel.thread_row(1).status.state, kernel.draw(1, 0).kind
+        ...     kernel.wake(1)
+        ...     kernel.draw(1, 19)  # it used half of its quantum, and so weighs twice its value
+        (ThreadState.ASLEEP, ReplyKind.IDLE)
+        Reply(kind=ReplyKind.DONE)
+        Reply(kind=ReplyKind.WINNER, thread=1, number=19, total=20)
+        """
+        return self.event(events.sleep(processor, ticks), check=check)
 
     def call(self, processor: int, port: int, sent: int, ticks: int = 0, *, check: Optional[bool] = None) -> Reply:
         """The running thread calls the port with a number, and lends to whoever serves it until the reply.
@@ -303,7 +385,7 @@ class Kernel:
         return row.plain() if self._read(calls.lot_kernel_currency_row, row, currency) else None
 
     def thread_row(self, thread: int) -> Optional[ThreadRow]:
-        """The row of the thread with this number, or `None`. Threads are numbered up to the first without a row."""
+        """The row of the thread with this number, or `None`. Numbers go up to `threads` of `sizes` at most."""
         row = library.RawThreadRow()
         return row.plain() if self._read(calls.lot_kernel_thread_row, row, thread) else None
 

@@ -117,7 +117,7 @@ class RawEvent(Structure):
 
 
 # Of a field of `Event` the one of lot_event, if it has another name.
-_FIELD_OF = {"port": "object", "mutex": "object", "target": "name"}
+_FIELD_OF = {"port": "object", "mutex": "object", "thread": "object", "late": "ticks", "target": "name"}
 _STRUCTURES = {"number", "currency", "name"}
 
 
@@ -144,7 +144,9 @@ class RawReply(Structure):
     ]
 
     def plain(self) -> records.Reply:
-        """The reply. A field that isn't written is 0. One that may be written as 0 has a flag beside it."""
+        """The reply. A field that isn't written is 0. One that may be written as 0 has a flag beside it, or the kind
+        says that it is written.
+        """
         kind = _REPLY_KINDS[self.kind]
         return records.Reply(
             kind,
@@ -153,7 +155,7 @@ class RawReply(Structure):
             thread=self.thread or None,
             number=self.number.plain() if self.has_draw else None,
             total=self.total.plain() if self.has_draw else None,
-            ticks=self.ticks or None,
+            ticks=self.ticks if kind in _HAVE_TICKS else None,
             outcome=_OUTCOMES[self.outcome],
             other=self.other or None,
             replied_to=self.replied_to or None,
@@ -166,6 +168,7 @@ class RawReply(Structure):
 
 # A look into a table takes a tenth of the time of `ReplyKind(number)`.
 _REPLY_KINDS: Dict[int, ReplyKind] = {int(kind): kind for kind in ReplyKind}
+_HAVE_TICKS = (ReplyKind.EXPIRED, ReplyKind.TRAPPED)
 _OUTCOMES: Dict[int, Optional[Outcome]] = {0: None, **{int(outcome): outcome for outcome in Outcome}}
 _REFUSALS: Dict[int, Optional[Refusal]] = {0: None, **{int(refusal): refusal for refusal in Refusal}}
 
@@ -276,6 +279,7 @@ def _arguments() -> Dict[str, List[type]]:
     kernel = POINTER(Handle)
     return {
         "lot_kernel_new": [POINTER(RawSizes), kernel],
+        "lot_kernel_bytes": [POINTER(RawSizes), POINTER(c_uint64)],
         "lot_kernel_free": [kernel],
         "lot_kernel_event": [kernel, POINTER(RawEvent), POINTER(RawReply)],
         "lot_kernel_run": [kernel, POINTER(RawEvent), c_size_t, POINTER(RawReply), c_size_t, POINTER(c_size_t)],

@@ -64,11 +64,12 @@ class ParkMiller:
 def weight(value: int, compensation: int, quantum: int) -> int:
     """What a thread of this value, below 2 ** 64, weighs in a draw.
 
-    The compensation is how many ticks of its quantum the thread had used when it yielded or blocked before the
-    quantum's end, 0 for none: then the weight is value * quantum / compensation, rounded down, otherwise the value.
+    The compensation is how many ticks of its quantum the thread had used when it yielded, blocked or went to sleep
+    before the quantum's end, or the quantum and the ticks that it ended late, or 0 for none. With one the weight is
+    value * quantum / compensation, rounded down, but at least 1 if the value is; otherwise it is the value.
 
-    >>> weight(400, 20, 100), weight(400, 0, 100)
-    (2000, 400)
+    >>> weight(400, 20, 100), weight(400, 0, 100), weight(400, 160, 100), weight(1, 200, 100)
+    (2000, 400, 250, 1)
     """
     answer = Wide()
     value = checked(value, WIDE, "value")

@@ -61,6 +61,11 @@ class EventKind(Number):
     EXIT = 20
     SERVE = 21
     SET_TICKET = 22
+    REMOVE_THREAD = 23
+    SLEEP = 24
+    PREEMPT = 25
+    OVERRUN = 26
+    WAKE = 27
 
 
 class ReplyKind(Number):
@@ -76,7 +81,7 @@ class ReplyKind(Number):
     LIST_THREADS = 8
     WINNER = 9  # thread: runs now; number, total; sent: what was delivered to it, if something was
     IDLE = 10  # no thread has any weight, and nothing has changed
-    EXPIRED = 11  # thread, ticks: what it ran
+    EXPIRED = 11  # thread, ticks: what it is charged; the answer to a preemption and an overrun too
     TRAPPED = 12  # thread, ticks: what it ran; outcome, with its fields; ends, goes_on
     REFUSED = 13  # refusal
 
@@ -97,18 +102,19 @@ class Outcome(Number):
     REFUSED = 11  # refusal
     REPLIED_THEN_RECEIVED = 12  # replied_to; other: the client whose call was taken then; sent
     REPLIED_THEN_WAITS = 13  # replied_to; it waits for a call, and runs no more
+    SLEPT = 14  # it sleeps, and runs no more
 
 
 class Refusal(Number):
     """Why an event is refused, and from 30 on why a trap is."""
 
     BAD_NAME = 1  # never replied here: such a name raises `LotError`
-    NAME_TAKEN = 2  # a currency or a thread, dead ones too, has the name
+    NAME_TAKEN = 2  # a currency or a thread, dead ones too, has the name; removed ones don't
     NO_CURRENCY = 3  # no currency has the name
     NO_TICKET = 4  # no ticket has the number now
     NO_TARGET = 5  # neither a currency nor a thread has the name
     BAD_AMOUNT = 6  # 0 or above 4294967295
-    IN_USE = 7  # the currency has an issued or a backing ticket
+    IN_USE = 7  # a ticket funds it or, of a currency, is issued in it; or the thread has a client or owns a mutex
     FUNDING = 8  # the ticket has a target
     NOT_FUNDING = 9  # the ticket has no target
     CYCLE = 10  # funding would make a cycle
@@ -116,10 +122,13 @@ class Refusal(Number):
     DEAD_THREAD = 12  # the target is a dead thread
     FULL = 13  # the limit on what is to be made is used up
     NO_SCRIPT = 14  # the script's number is 0 or above the number of scripts
+    NO_THREAD = 15  # no thread has the name or the number; a dead one has both until it is removed
+    ALIVE = 16  # the thread isn't dead, also if it waits for good
     BAD_PROCESSOR = 20  # 0 or above the number of processors
     BUSY = 21  # a thread runs there
     NOT_RUNNING = 22  # no thread runs there
-    BAD_TICKS = 23  # the ticks used, those of work and the trap's own are more than the quantum
+    BAD_TICKS = 23  # more ticks than the quantum has left, or a quantum with its late ticks above 4294967295
+    NOT_ASLEEP = 24  # the thread doesn't sleep: it is ready, runs, waits or is dead
     # A refused trap costs its ticks all the same.
     NO_PORT = 30  # 0 or above the number of ports
     NOTHING_TO_REPLY = 32  # the thread serves no client
@@ -139,3 +148,4 @@ class ThreadState(Number):
     SERVED = 5  # other: the thread that serves it
     WAITING = 6  # other: the mutex that it waits for
     DEAD = 7
+    ASLEEP = 8  # until it is woken

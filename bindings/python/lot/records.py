@@ -22,7 +22,7 @@ class Sizes:
     """
 
     tickets: int  # how many may be made in all, 1 to 65535
-    currencies: int  # how many may be made in all besides base, 1 to 4096
+    currencies: int  # how many may be made in all, without base, 1 to 4096
     threads: int  # how many may be made in all, 1 to 4096
     ports: int  # at most 256
     mutexes: int  # at most 256

@@ -78,6 +78,14 @@ pub enum Command {
         /// 1 to 4294967295.
         amount: u64,
     },
+    /// Removes a thread that has ended, that no ticket funds, and that has no client and owns no mutex. Its name may be
+    /// given again, its number isn't. Answered by [`Reply::Done`](crate::Reply::Done).
+    ///
+    /// Refusals: `NoThread`, `Alive`, `InUse`.
+    RemoveThread {
+        /// The thread's name.
+        thread: Name,
+    },
     /// Makes a thread, which is ready, and which nothing funds yet. Answered by
     /// [`Reply::Thread`](crate::Reply::Thread).
     ///
@@ -114,6 +122,9 @@ pub enum Command {
 pub enum Action {
     /// Gives up the rest of the quantum: `Yielded`. It is never refused.
     Yield,
+    /// Sleeps until [`Event::Wake`]: `Slept`. It is never refused. What funds the thread is inactive meanwhile, and its
+    /// mutexes and its clients stay as they are. It is compensated for what is left of its quantum.
+    Sleep,
     /// Sends a number to a port, and waits for the answer: `ServedBy` or `Queued`.
     ///
     /// Refusal: `NoPort`.
@@ -218,6 +229,36 @@ pub enum Event {
         /// What it asks for.
         action: Action,
     },
+    /// The processor is taken from the thread that runs on it, before its quantum's end. The thread is ready, is
+    /// charged the ticks that it ran, and isn't compensated. Answered by [`Reply::Expired`](crate::Reply::Expired).
+    ///
+    /// Refusals: `BadProcessor`, `NotRunning`, `BadTicks`.
+    Preempt {
+        /// The processor's number, from 1.
+        processor: u32,
+        /// The ticks of work since the thread's last event, at most what the quantum has left.
+        ticks: u32,
+    },
+    /// The end of the quantum of the thread that runs on a processor, some ticks late. What was left of the quantum and
+    /// the late ticks count as used. Until the thread next wins a draw it weighs its value times the quantum over the
+    /// quantum and the late ticks, but at least 1 if it is worth something. With 0 late ticks this is
+    /// [`Event::Expire`]. Answered by [`Reply::Expired`](crate::Reply::Expired).
+    ///
+    /// Refusals: `BadProcessor`, `NotRunning`, `BadTicks`.
+    Overrun {
+        /// The processor's number, from 1.
+        processor: u32,
+        /// How many ticks late it is. With the quantum it is at most 4294967295.
+        late: u32,
+    },
+    /// A thread that sleeps is ready again, with the compensation that it got when it went to sleep. Answered by
+    /// [`Reply::Done`](crate::Reply::Done).
+    ///
+    /// Refusals: `NoThread`, `NotAsleep`.
+    Wake {
+        /// The thread's number, from 1.
+        thread: u32,
+    },
 }
 
 /// A function for each kind of event. The variants say what each does, its ranges and its refusals.
@@ -264,6 +305,12 @@ impl Event {
         Event::Command(Command::SetTicket { ticket, amount })
     }
 
+    /// [`Command::RemoveThread`].
+    #[must_use]
+    pub const fn remove_thread(thread: Name) -> Event {
+        Event::Command(Command::RemoveThread { thread })
+    }
+
     /// [`Command::MakeThread`].
     #[must_use]
     pub const fn make_thread(name: Name, script: u32) -> Event {
@@ -299,6 +346,57 @@ impl Event {
     pub const fn trap(processor: u32, ticks: u32, action: Action) -> Event {
         Event::Trap { processor, ticks, action }
     }
+
+    /// [`Event::Trap`] of [`Action::Sleep`].
+    ///
+    /// ```
+    /// use lot::{Event, Kernel, Name, Reply, Sizes, Status};
+    ///
+    /// let mut kernel = Kernel::new(Sizes::default())?;
+    /// let made = Event::make_funded(10, Name::BASE, "driver".parse()?, 1);
+    /// kernel.run(&[made, Event::draw(1, 0), Event::sleep(1, 49)])?;
+    /// assert_eq!(kernel.thread_row(1).map(|row| row.status), Some(Status::Asleep));
+    /// assert_eq!(kernel.event(&Event::draw(1, 0)), Reply::Idle);
+    /// kernel.event(&Event::wake(1)).ok()?;
+    /// // It used half of its quantum of 100 ticks, so it weighs twice its value.
+    /// let winner = Reply::Winner { thread: 1, number: 19, total: 20, delivered: None };
+    /// assert_eq!(kernel.event(&Event::draw(1, 19)), winner);
+    /// # Ok::<(), Box<dyn std::error::Error>>(())
+    /// ```
+    #[must_use]
+    pub const fn sleep(processor: u32, ticks: u32) -> Event {
+        Event::Trap { processor, ticks, action: Action::Sleep }
+    }
+
+    /// [`Event::Preempt`].
+    #[must_use]
+    pub const fn preempt(processor: u32, ticks: u32) -> Event {
+        Event::Preempt { processor, ticks }
+    }
+
+    /// [`Event::Overrun`].
+    ///
+    /// ```
+    /// use lot::{Event, Kernel, Name, Reply, Sizes};
+    ///
+    /// let mut kernel = Kernel::new(Sizes::default())?;
+    /// let made = Event::make_funded(10, Name::BASE, "slow".parse()?, 1);
+    /// kernel.run(&[made, Event::draw(1, 0)])?;
+    /// // The quantum is 100 ticks: it ran for twice as many, and so it weighs half.
+    /// assert_eq!(kernel.event(&Event::overrun(1, 100)), Reply::Expired { thread: 1, ticks: 200 });
+    /// assert_eq!(kernel.thread_row(1).map(|row| row.weight), Some(5));
+    /// # Ok::<(), Box<dyn std::error::Error>>(())
+    /// ```
+    #[must_use]
+    pub const fn overrun(processor: u32, late: u32) -> Event {
+        Event::Overrun { processor, late }
+    }
+
+    /// [`Event::Wake`].
+    #[must_use]
+    pub const fn wake(thread: u32) -> Event {
+        Event::Wake { thread }
+    }
 }
 
 impl From<Command> for Event {
@@ -322,6 +420,7 @@ impl Command {
             Command::Fund { ticket, target } => ffi::Event { ticket, name: target.plain(), ..EventKind::Fund.event() },
             Command::Unfund { ticket } => ffi::Event { ticket, ..EventKind::Unfund.event() },
             Command::SetTicket { ticket, amount } => ffi::Event { amount, ticket, ..EventKind::SetTicket.event() },
+            Command::RemoveThread { thread } => ffi::Event { name: thread.plain(), ..EventKind::RemoveThread.event() },
             Command::MakeThread { name, script } => {
                 ffi::Event { name: name.plain(), script, ..EventKind::MakeThread.event() }
             }
@@ -341,6 +440,7 @@ impl Action {
     fn plain(&self) -> ffi::Event {
         match *self {
             Action::Yield => EventKind::Yield.event(),
+            Action::Sleep => EventKind::Sleep.event(),
             Action::Call { port, number } => ffi::Event { object: port, sent: number, ..EventKind::Call.event() },
             Action::Receive { port } => ffi::Event { object: port, ..EventKind::Receive.event() },
             Action::Reply { number } => ffi::Event { sent: number, ..EventKind::Reply.event() },
@@ -366,6 +466,13 @@ impl Event {
             Event::Trap { processor, ticks, action } => {
                 ffi::Event { processor: *processor, ticks: *ticks, ..action.plain() }
             }
+            Event::Preempt { processor, ticks } => {
+                ffi::Event { processor: *processor, ticks: *ticks, ..EventKind::Preempt.event() }
+            }
+            Event::Overrun { processor, late } => {
+                ffi::Event { processor: *processor, ticks: *late, ..EventKind::Overrun.event() }
+            }
+            Event::Wake { thread } => ffi::Event { object: *thread, ..EventKind::Wake.event() },
         }
     }
 }

@@ -139,6 +139,7 @@ extern "C" {
     pub fn lot_version() -> u32;
     pub fn lot_name_new(bytes: *const u8, count: usize, name: *mut Name) -> u32;
     pub fn lot_kernel_new(sizes: *const Sizes, kernel: *mut Handle) -> u32;
+    pub fn lot_kernel_bytes(sizes: *const Sizes, bytes: *mut u64) -> u32;
     pub fn lot_kernel_free(kernel: *mut Handle) -> u32;
     pub fn lot_kernel_event(kernel: *mut Handle, event: *const Event, reply: *mut Reply) -> u32;
     pub fn lot_kernel_ticket_row(kernel: *mut Handle, ticket: u32, row: *mut TicketRow) -> u32;

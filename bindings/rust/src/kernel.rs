@@ -58,8 +58,8 @@ const _: () = {
 };
 
 impl Kernel {
-    /// Makes a kernel with base alone. This takes all the memory that it will ever use: 13 kilobytes for some dozen
-    /// threads, 6 megabytes at the largest sizes.
+    /// Makes a kernel with base alone. This takes all the memory that it will ever use: 12 kilobytes for 16 threads,
+    /// 5.4 megabytes at the largest sizes. [`Kernel::bytes`] says how much for any.
     ///
     /// ```
     /// use lot::{Error, Kernel, Sizes};
@@ -79,6 +79,26 @@ impl Kernel {
         // SAFETY: both are whole and apart, and the handle holds no kernel.
         ffi::done(unsafe { ffi::lot_kernel_new(&sizes, &mut handle) })?;
         Ok(Kernel { handle: UnsafeCell::new(handle) })
+    }
+
+    /// How many bytes [`Kernel::new`] asks of the system in all for these sizes, in at most 40 blocks.
+    ///
+    /// ```
+    /// use lot::{Error, Kernel, Sizes};
+    ///
+    /// assert!(Kernel::bytes(Sizes::default())? < 16 * 1024);
+    /// assert_eq!(Kernel::bytes(Sizes { threads: 4097, ..Sizes::default() }), Err(Error::BadLimits));
+    /// # Ok::<(), lot::Error>(())
+    /// ```
+    ///
+    /// # Errors
+    ///
+    /// [`Error::BadLimits`] if a size is out of its bounds.
+    pub fn bytes(sizes: Sizes) -> Result<u64, Error> {
+        let mut bytes = 0;
+        // SAFETY: both are whole and apart.
+        ffi::done(unsafe { ffi::lot_kernel_bytes(&sizes, &mut bytes) })?;
+        Ok(bytes)
     }
 
     /// Gives the kernel one event, and returns its reply. It takes no memory.
@@ -172,7 +192,8 @@ impl Kernel {
         ffi::if_there(status, row).map(CurrencyRow::of)
     }
 
-    /// The row of the thread with this number, from 1. `None` if there is none. A thread that has ended has one.
+    /// The row of the thread with this number, from 1. `None` if there is none, or it is removed. A thread that has
+    /// ended has one until it is removed.
     ///
     /// ```
     /// use lot::{Event, Kernel, Name, Runner, Sizes, Status};
@@ -204,7 +225,8 @@ impl Kernel {
         (0..self.currency_count()).filter_map(|currency| Some((currency, self.currency_row(currency)?)))
     }
 
-    /// The threads that were made, with their numbers, by rising number. Those that have ended are among them.
+    /// The threads that there are, with their numbers, by rising number. Those that have ended are among them until
+    /// they are removed.
     ///
     /// ```
     /// use lot::{Event, Kernel, Name, Sizes};
@@ -217,7 +239,7 @@ impl Kernel {
     /// # Ok::<(), Box<dyn std::error::Error>>(())
     /// ```
     pub fn threads(&self) -> impl Iterator<Item = (u32, ThreadRow)> + '_ {
-        (1..).map_while(|thread| Some((thread, self.thread_row(thread)?)))
+        (1..=self.sizes().threads).filter_map(|thread| Some((thread, self.thread_row(thread)?)))
     }
 
     /// Who runs on the processor with this number, from 1. `None` if nobody does, or there is no such processor.

@@ -7,14 +7,17 @@ use std::iter::FusedIterator;
 use std::num::NonZeroU32;
 
 /// What a thread of this value weighs in a draw. The compensation is how many ticks of its quantum it had used when it
-/// yielded or blocked before the quantum's end: then the weight is the value times the quantum divided by it, rounded
-/// down. Otherwise the weight is the value.
+/// yielded, blocked or went to sleep before the quantum's end, or the quantum and the ticks that it ended late: then
+/// the weight is the value times the quantum divided by it, rounded down, but at least 1 if the value is. Otherwise
+/// the weight is the value.
 ///
 /// ```
 /// use std::num::NonZeroU32;
 ///
 /// assert_eq!(lot::weight(400, NonZeroU32::new(20), 100), 2000);
 /// assert_eq!(lot::weight(400, None, 100), 400);
+/// // A quantum of 100 that ended 60 ticks late.
+/// assert_eq!(lot::weight(400, NonZeroU32::new(160), 100), 250);
 /// ```
 #[must_use]
 pub fn weight(value: u64, compensation: Option<NonZeroU32>, quantum: u32) -> u128 {

@@ -72,6 +72,11 @@ pub(crate) enum EventKind {
     Exit = 20,
     Serve = 21,
     SetTicket = 22,
+    RemoveThread = 23,
+    Sleep = 24,
+    Preempt = 25,
+    Overrun = 26,
+    Wake = 27,
 }
 
 impl EventKind {
@@ -116,6 +121,7 @@ numbered! {
         Refused = 11,
         RepliedThenReceived = 12,
         RepliedThenWaits = 13,
+        Slept = 14,
     }
 }
 
@@ -128,7 +134,7 @@ numbered! {
         /// The name isn't a good one. A [`Name`](crate::Name) always is, so the kernel never refuses one of this
         /// crate.
         BadName = 1,
-        /// A currency or a thread has the name already. A thread that has ended keeps its name.
+        /// A currency or a thread has the name already. A thread that has ended keeps its name until it is removed.
         NameTaken = 2,
         /// No currency has the name.
         NoCurrency = 3,
@@ -138,7 +144,8 @@ numbered! {
         NoTarget = 5,
         /// The amount is 0 or above 4294967295.
         BadAmount = 6,
-        /// A ticket is issued in the currency, or funds it.
+        /// A ticket funds the currency or thread, or is issued in the currency, or the thread has a client or owns a
+        /// mutex.
         InUse = 7,
         /// The ticket funds something already.
         Funding = 8,
@@ -154,14 +161,21 @@ numbered! {
         Full = 13,
         /// The script's number is 0 or above the number of scripts.
         NoScript = 14,
+        /// No thread has the name or the number. A thread that has ended has both until it is removed.
+        NoThread = 15,
+        /// The thread hasn't ended. One that waits for good hasn't either.
+        Alive = 16,
         /// The processor's number is 0 or above the number of processors.
         BadProcessor = 20,
         /// A thread runs on the processor already, so it can't draw.
         Busy = 21,
         /// No thread runs on the processor.
         NotRunning = 22,
-        /// The ticks of work and the trap's own are more than what the quantum has left.
+        /// The ticks of work, with the trap's own, are more than what the quantum has left; or a quantum with the ticks
+        /// that it ended late is above 4294967295.
         BadTicks = 23,
+        /// The thread to be woken doesn't sleep: it is ready, runs, waits or has ended.
+        NotAsleep = 24,
     }
 }
 
@@ -212,5 +226,6 @@ numbered! {
         Served = 5,
         Waiting = 6,
         Dead = 7,
+        Asleep = 8,
     }
 }

@@ -66,7 +66,7 @@ impl fmt::Display for EventRefusal {
             EventRefusal::NoTicket => "no ticket has the number",
             EventRefusal::NoTarget => "neither a currency nor a thread has the name",
             EventRefusal::BadAmount => "the amount is 0 or above 4294967295",
-            EventRefusal::InUse => "a ticket is issued in the currency or funds it",
+            EventRefusal::InUse => "tickets are in it or fund it, or the thread has a client or owns a mutex",
             EventRefusal::Funding => "the ticket funds something already",
             EventRefusal::NotFunding => "the ticket funds nothing",
             EventRefusal::Cycle => "the funding would close a cycle of currencies",
@@ -74,10 +74,13 @@ impl fmt::Display for EventRefusal {
             EventRefusal::DeadThread => "the thread has ended",
             EventRefusal::Full => "the kernel has room for no more of them",
             EventRefusal::NoScript => "no script has the number",
+            EventRefusal::NoThread => "no thread has the name or the number",
+            EventRefusal::Alive => "the thread hasn't ended",
             EventRefusal::BadProcessor => "no processor has the number",
             EventRefusal::Busy => "a thread runs on the processor already",
             EventRefusal::NotRunning => "no thread runs on the processor",
-            EventRefusal::BadTicks => "the ticks and the trap's own are more than the quantum has left",
+            EventRefusal::BadTicks => "the ticks are more than the quantum has left, or than may be counted",
+            EventRefusal::NotAsleep => "the thread doesn't sleep",
         })
     }
 }

@@ -35,6 +35,8 @@ pub enum Outcome {
     },
     /// The client with this number is answered, and the thread waits for a call. It runs no more.
     RepliedThenWaits(u32),
+    /// The thread sleeps until it is woken. It runs no more.
+    Slept,
     /// The thread owns the mutex.
     Locked,
     /// Nobody owns the mutex.
@@ -88,11 +90,12 @@ pub enum Reply {
     },
     /// No thread weighs anything, and nothing has changed.
     Idle,
-    /// A thread's quantum is over, and it runs no more.
+    /// A thread's quantum is over, or its processor was taken from it, and it runs no more.
     Expired {
         /// The thread's number.
         thread: u32,
-        /// The ticks that it ran for this: what was left of its quantum.
+        /// The ticks that it is charged for this: what was left of its quantum, and those that it ended late; or, where
+        /// its processor was taken from it, those that it ran.
         ticks: u32,
     },
     /// A thread has made a trap.
@@ -125,6 +128,7 @@ impl Outcome {
                 Outcome::RepliedThenReceived { to: reply.replied_to, client: reply.other, number: reply.sent }
             }
             OutcomeKind::RepliedThenWaits => Outcome::RepliedThenWaits(reply.replied_to),
+            OutcomeKind::Slept => Outcome::Slept,
             OutcomeKind::Locked => Outcome::Locked,
             OutcomeKind::Freed => Outcome::Freed,
             OutcomeKind::Passed => Outcome::Passed {

@@ -53,6 +53,8 @@ pub enum Status {
     Served(u32),
     /// It waits for the mutex with this number.
     Waiting(u32),
+    /// It sleeps until it is woken.
+    Asleep,
     /// It has ended.
     Dead,
 }
@@ -107,6 +109,7 @@ impl Status {
             StatusKind::Queued => Status::Queued(status.other),
             StatusKind::Served => Status::Served(status.other),
             StatusKind::Waiting => Status::Waiting(status.other),
+            StatusKind::Asleep => Status::Asleep,
             StatusKind::Dead => Status::Dead,
         }
     }

@@ -16,7 +16,7 @@
 pub struct Sizes {
     /// How many tickets may be made in all, 1 to 65535. Removing one gives nothing back.
     pub tickets: u32,
-    /// How many currencies may be made in all besides base, 1 to 4096. Removing one gives nothing back.
+    /// How many currencies may be made in all, without base, 1 to 4096. Removing one gives nothing back.
     pub currencies: u32,
     /// How many threads may be made in all, 1 to 4096. A thread that has ended counts, and keeps its name.
     pub threads: u32,

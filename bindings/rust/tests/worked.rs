@@ -112,6 +112,131 @@ fn inflation() {
     assert_eq!(values, [15, 5, 100]);
 }
 
+// A thread is removed once it is dead and no ticket funds it. Its name is free then, and its number isn't.
+#[test]
+fn removal() {
+    let mut kernel = Kernel::new(Sizes::SMALL).expect("small");
+    let remove = |kernel: &mut Kernel| command(kernel, Command::RemoveThread { thread: name("a") });
+    assert_eq!(remove(&mut kernel), Reply::Refused(EventRefusal::NoThread));
+    fund_thread(&mut kernel, 10, "base", "a");
+    fund_thread(&mut kernel, 5, "base", "b");
+    assert_eq!(remove(&mut kernel), Reply::Refused(EventRefusal::Alive));
+    assert_eq!(draw(&mut kernel, 9), Reply::Winner { thread: 1, number: 9, total: 15, delivered: None });
+    trap(&mut kernel, 4, Action::Exit);
+    assert_eq!(remove(&mut kernel), Reply::Refused(EventRefusal::InUse));
+    assert_eq!(command(&mut kernel, Command::Unfund { ticket: 1 }), Reply::Done);
+    assert_eq!(remove(&mut kernel), Reply::Done);
+    assert_eq!((kernel.thread_row(1), kernel.script_of(1)), (None, None));
+    assert_eq!(remove(&mut kernel), Reply::Refused(EventRefusal::NoThread));
+    assert_eq!(fund_thread(&mut kernel, 20, "base", "a"), Reply::Funded { ticket: 3, thread: 3 });
+    let threads: Vec<_> = kernel.threads().map(|(number, row)| (number, row.name, row.value)).collect();
+    assert_eq!(threads, [(2, name("b"), 5), (3, name("a"), 20)]);
+}
+
+fn trapped(thread: u32, ticks: u32, outcome: Outcome, goes_on: bool) -> Reply {
+    Reply::Trapped { thread, ticks, outcome, ends: false, goes_on }
+}
+
+// A thread that sleeps competes in no draw. It used 20 of 100 ticks, so it is woken with 5 times its weight (4.4, 4.5).
+#[test]
+fn sleeping() {
+    let mut kernel = Kernel::new(Sizes::SMALL).expect("small");
+    fund_thread(&mut kernel, 400, "base", "a");
+    fund_thread(&mut kernel, 100, "base", "b");
+    draw(&mut kernel, 0);
+    assert_eq!(trap(&mut kernel, 19, Action::Sleep), trapped(1, 20, Outcome::Slept, false));
+    let row = kernel.thread_row(1).expect("there");
+    assert_eq!((row.status, row.value, row.weight, row.ticks), (Status::Asleep, 0, 0, 20));
+    assert_eq!(draw(&mut kernel, 99), Reply::Winner { thread: 2, number: 99, total: 100, delivered: None });
+    assert_eq!(kernel.event(&Event::Expire { processor: 1 }), Reply::Expired { thread: 2, ticks: 100 });
+    assert_eq!(kernel.event(&Event::Wake { thread: 1 }), Reply::Done);
+    let row = kernel.thread_row(1).expect("there");
+    assert_eq!((row.status, row.value, row.weight, row.ticks), (Status::Ready, 400, 2000, 20));
+    assert_eq!(draw(&mut kernel, 1999), Reply::Winner { thread: 1, number: 1999, total: 2100, delivered: None });
+}
+
+// The tickets of a thread that sleeps are inactive: the currency's other thread has all of its 200 (4.4).
+#[test]
+fn sleepers_tickets() {
+    let mut kernel = Kernel::new(Sizes::SMALL).expect("small");
+    command(&mut kernel, Command::MakeCurrency { name: name("g") });
+    command(&mut kernel, Command::MakeTicket { amount: 200, currency: name("base") });
+    command(&mut kernel, Command::Fund { ticket: 1, target: name("g") });
+    fund_thread(&mut kernel, 2, "g", "a");
+    fund_thread(&mut kernel, 1, "g", "b");
+    let values = |kernel: &Kernel| [1, 2].map(|thread| kernel.thread_row(thread).expect("there").value);
+    assert_eq!(draw(&mut kernel, 0), Reply::Winner { thread: 1, number: 0, total: 199, delivered: None });
+    trap(&mut kernel, 0, Action::Sleep);
+    assert_eq!(values(&kernel), [0, 200]);
+    let row = kernel.ticket_row(2).expect("there");
+    assert_eq!((row.is_active, row.value, row.target), (false, 0, Some(name("a"))));
+    assert_eq!(kernel.event(&Event::Wake { thread: 1 }), Reply::Done);
+    assert_eq!(values(&kernel), [133, 66]);
+}
+
+#[test]
+fn sleep_refusals() {
+    let mut kernel = Kernel::new(Sizes::SMALL).expect("small");
+    let wake = |kernel: &mut Kernel, thread| kernel.event(&Event::Wake { thread }).refusal().map(|why| why.number());
+    fund_thread(&mut kernel, 400, "base", "a");
+    assert_eq!(trap(&mut kernel, 0, Action::Sleep), Reply::Refused(EventRefusal::NotRunning));
+    draw(&mut kernel, 0);
+    assert_eq!(trap(&mut kernel, 100, Action::Sleep), Reply::Refused(EventRefusal::BadTicks));
+    assert_eq!([1, 2, 0].map(|thread| wake(&mut kernel, thread)), [Some(24), Some(15), Some(15)]);
+    assert_eq!(trap(&mut kernel, 0, Action::Exit), trapped(1, 1, Outcome::Exited, false));
+    assert_eq!(kernel.event(&Event::Wake { thread: 1 }), Reply::Refused(EventRefusal::NotAsleep));
+    command(&mut kernel, Command::Unfund { ticket: 1 });
+    assert_eq!(command(&mut kernel, Command::RemoveThread { thread: name("a") }), Reply::Done);
+    assert_eq!(kernel.event(&Event::Wake { thread: 1 }), Reply::Refused(EventRefusal::NoThread));
+}
+
+// A thread whose processor is taken from it is charged what it has run, and isn't compensated (4.2, 4.5).
+#[test]
+fn preemption() {
+    let mut kernel = Kernel::new(Sizes::SMALL).expect("small");
+    fund_thread(&mut kernel, 400, "base", "a");
+    let preempt = |kernel: &mut Kernel, ticks| kernel.event(&Event::Preempt { processor: 1, ticks });
+    draw(&mut kernel, 0);
+    assert_eq!(preempt(&mut kernel, 30), Reply::Expired { thread: 1, ticks: 30 });
+    assert_eq!(draw(&mut kernel, 0), Reply::Winner { thread: 1, number: 0, total: 400, delivered: None });
+    assert_eq!(trap(&mut kernel, 19, Action::Lock { mutex: 1 }), trapped(1, 20, Outcome::Locked, true));
+    assert_eq!(preempt(&mut kernel, 81), Reply::Refused(EventRefusal::BadTicks));
+    assert_eq!(kernel.runner(1), Some(Runner { thread: 1, used: 20 }));
+    assert_eq!(preempt(&mut kernel, 80), Reply::Expired { thread: 1, ticks: 80 });
+    assert_eq!(preempt(&mut kernel, 0), Reply::Refused(EventRefusal::NotRunning));
+    let nowhere = kernel.event(&Event::Preempt { processor: 0, ticks: 0 });
+    assert_eq!(nowhere, Reply::Refused(EventRefusal::BadProcessor));
+    draw(&mut kernel, 0);
+    assert_eq!(preempt(&mut kernel, 0), Reply::Expired { thread: 1, ticks: 0 });
+    assert_eq!(kernel.thread_row(1).map(|row| (row.ticks, row.quanta)), Some((130, 3)));
+}
+
+// A thread whose quantum ended late weighs less until it next wins, but at least 1 if it is worth something (3.4).
+#[test]
+fn overruns() {
+    let mut kernel = Kernel::new(Sizes::SMALL).expect("small");
+    fund_thread(&mut kernel, 400, "base", "a");
+    let overrun = |kernel: &mut Kernel, late| kernel.event(&Event::Overrun { processor: 1, late });
+    let weight = |kernel: &Kernel| kernel.thread_row(1).expect("there").weight;
+    assert_eq!(overrun(&mut kernel, 0), Reply::Refused(EventRefusal::NotRunning));
+    draw(&mut kernel, 0);
+    assert_eq!(overrun(&mut kernel, 100), Reply::Expired { thread: 1, ticks: 200 });
+    assert_eq!(draw(&mut kernel, 199), Reply::Winner { thread: 1, number: 199, total: 200, delivered: None });
+    assert_eq!(kernel.event(&Event::Expire { processor: 1 }), Reply::Expired { thread: 1, ticks: 100 });
+    assert_eq!(draw(&mut kernel, 399), Reply::Winner { thread: 1, number: 399, total: 400, delivered: None });
+    assert_eq!(overrun(&mut kernel, 0), Reply::Expired { thread: 1, ticks: 100 });
+    assert_eq!(draw(&mut kernel, 399), Reply::Winner { thread: 1, number: 399, total: 400, delivered: None });
+    trap(&mut kernel, 19, Action::Lock { mutex: 1 });
+    assert_eq!(overrun(&mut kernel, 50), Reply::Expired { thread: 1, ticks: 130 });
+    assert_eq!(weight(&kernel), 266);
+    draw(&mut kernel, 0);
+    assert_eq!(overrun(&mut kernel, 4_294_967_196), Reply::Refused(EventRefusal::BadTicks));
+    assert_eq!(overrun(&mut kernel, 4_294_967_195), Reply::Expired { thread: 1, ticks: 4_294_967_295 });
+    assert_eq!(weight(&kernel), 1);
+    let nowhere = kernel.event(&Event::Overrun { processor: 3, late: 0 });
+    assert_eq!(nowhere, Reply::Refused(EventRefusal::BadProcessor));
+}
+
 #[test]
 fn call_and_reply() {
     let mut kernel = Kernel::new(Sizes::SMALL).expect("small");
@@ -204,6 +329,8 @@ fn the_lottery_alone() {
     assert_eq!(winner(&[u128::MAX, 1], 7), Err(Error::TooLarge));
     assert_eq!(weight(400, NonZeroU32::new(20), 100), 2000);
     assert_eq!(weight(400, None, 100), 400);
+    assert_eq!([200, 150].map(|used| weight(400, NonZeroU32::new(used), 100)), [200, 266]);
+    assert_eq!([0, 1].map(|value| weight(value, NonZeroU32::new(1000), 100)), [0, 1]);
     let mut generator = ParkMiller::new(1).expect("a seed");
     let last = (0..10000).map(|_| generator.next_value()).last();
     assert_eq!(last, Some(1_043_618_065));

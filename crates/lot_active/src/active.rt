@@ -1,6 +1,6 @@
 //! What is active, by the live threads.
 ghost use Rattle.std.specs.Prelude.{◌≡◌, ℕ, ◌<◌, ◌≤◌, ◌^◌, ◌↔◌, Bool, List, IfOk, IsTrue, Some, length, slice_set};
-ghost use Rattle.std.specs.Prelude.{false, true};
+ghost use Rattle.std.specs.Prelude.{◌+◌, ◌*◌, false, true};
 ghost use Rattle.lot_machine.specs.declared.funding.Edge.{Edge};
 ghost use Rattle.lot_machine.specs.declared.funding.Node.TheVariants.{Thread as ThreadNode};
 ghost use Rattle.lot_machine.specs.Numbered.{set_number};
@@ -61,6 +61,13 @@ impl Active {
             marks: Marks::new(alloc, nodes)?,
             layout,
         })
+    }
+
+    /// How many bytes `new` asks of the allocator in all, for a graph with this layout.
+    pub fn bytes(layout: Layout) -> u64
+        ensures { result ≡ 25 * node_count layout + 24 }
+    {
+        Marks::bytes(layout.node_count())
     }
 
     /// Whether a ticket with this target is active, in each graph that this is kept for.

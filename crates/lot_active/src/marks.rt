@@ -1,5 +1,5 @@
 //! The marks, the amounts and the worklist.
-ghost use Rattle.std.specs.Prelude.{◌≡◌, ℕ, ◌<◌, IfOk, IfSome, IfNone, [], length, replicate, false};
+ghost use Rattle.std.specs.Prelude.{◌≡◌, ℕ, ◌+◌, ◌*◌, ◌^◌, ◌<◌, IfOk, IfSome, IfNone, [], length, replicate, false};
 ghost use Rattle.lot_lists.specs.NodeLists.{nodes_of, HasSameSize, IsConsistent, empty_lists};
 ghost use Rattle.lot_graph.specs.Places.{layout_of, node_count};
 ghost use Rattle.lot_active.specs.Fundings.{graph_net};
@@ -12,6 +12,7 @@ use lot_graph::Graph;
 use lot_lists::{Lists, Nodes};
 use std::alloc::{AllocError, Global};
 use std::marker::Model;
+use std::mem::size_of;
 
 // The nodes whose marks changed and aren't published yet, those whose changed marks were, and those whose amount alone
 // changed.
@@ -20,6 +21,9 @@ const PENDING: usize = 0;
 const SWITCHED: usize = 1;
 
 const ADJUSTED: usize = 2;
+
+// What a node's mark and its amount take.
+const MARK_BYTES: u64 = size_of::<bool>() as u64 + size_of::<u64>() as u64;
 
 #[derive(Drop)]
 pub(crate) struct Marks {
@@ -52,6 +56,14 @@ impl Marks {
             lists: Lists::new(alloc, 3, nodes)?,
             passed: 0,
         })
+    }
+
+    /// How many bytes `new` asks of the allocator in all.
+    pub(crate) fn bytes(nodes: usize) -> u64
+        requires few { nodes < 2 ^ 40 }
+        ensures { result ≡ 25 * nodes + 24 }
+    {
+        MARK_BYTES * nodes as u64 + Lists::bytes(3, nodes)
     }
 
     pub(crate) fn is_on(&self, node: usize) -> bool

@@ -16,6 +16,7 @@ outcome_word (outcome.Replied client) = 6
 outcome_word outcome.Locked = 7
 outcome_word outcome.Freed = 8
 outcome_word (outcome.Passed to draw) = 12 + to
+outcome_word outcome.Slept = 0
 outcome_word outcome.Exited = 9
 outcome_word (outcome.Refused refusal) = 10
 outcome_word (outcome.RepliedThenReceived to client number) = 11

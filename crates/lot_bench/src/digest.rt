@@ -80,6 +80,7 @@ fn outcome_word(outcome: Outcome) -> u64
         Outcome::Locked => 7,
         Outcome::Freed => 8,
         Outcome::Passed { to, draw: _ } => 12 + u64::from(to),
+        Outcome::Slept => 0,
         Outcome::Exited => 9,
         Outcome::Refused(_) => 10,
         Outcome::RepliedThenReceived { .. } => 11,

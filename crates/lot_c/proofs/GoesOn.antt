@@ -1,9 +1,9 @@
 -- A reply's flag says whether the thread that it names runs on the event's processor.
-use Rattle.std.proofs.Common.{◌≡◌, ℕ, zero, suc, ◌+◌, ◌-◌, ◌<◌, ◌≤◌, ◌↔◌, Bool, true, false, ◌&&◌, not, ◌⊎◌, inl, inr, Option, Some, None, is_none, List, [], ◌∷◌, length, map, refl, sym, ◌∙◌, ap, arith, nat_lt, nat_le, slice_get, slice_index, get_or}
+use Rattle.std.proofs.Common.{◌≡◌, ℕ, zero, suc, ◌+◌, ◌-◌, ◌^◌, ◌<◌, ◌≤◌, ◌↔◌, Bool, true, false, ◌&&◌, not, ◌⊎◌, inl, inr, Option, Some, None, is_none, List, [], ◌∷◌, length, map, refl, sym, ◌∙◌, ap, arith, nat_lt, nat_le, slice_get, slice_index, get_or}
 use Rattle.std.proofs.lemmas.List.{length-map}
 use Rattle.std.proofs.lemmas.Option.{slice_get_cases, get_or_from_slice_get}
 use Rattle.lot_machine.specs.declared.action.Action.{Action}
-use Rattle.lot_machine.specs.declared.action.Action.TheVariants.{Yield, Call, Receive, Reply as ReplyTo, Serve, Lock, Unlock, Exit}
+use Rattle.lot_machine.specs.declared.action.Action.TheVariants.{Yield, Call, Receive, Reply as ReplyTo, Serve, Lock, Unlock, Sleep, Exit}
 use Rattle.lot_machine.specs.declared.after.After.{After}
 use Rattle.lot_machine.specs.declared.after.After.TheVariants.{GoesOn, Leaves, Ends}
 use Rattle.lot_machine.specs.declared.drawn.Drawn.{Drawn}
@@ -24,7 +24,7 @@ use Rattle.lot_machine.specs.Numbered.{at_number, numbers, option_any}
 use Rattle.lot_machine.specs.Order.{IsInOrder}
 use Rattle.lot_machine.specs.Ports.{port_at}
 use Rattle.lot_machine.specs.State.{State, QueuedCall, change_record, is_ready, ready_threads, status_of, thread_on, weight_of}
-use Rattle.lot_machine.specs.Step.{Effect, checked_effect, draw, ends_quantum, event_effect, event_refusal, expire, finish_trap, is_bad_processor, started, step, thread_there, trap_effect, trap_refusal, used_there}
+use Rattle.lot_machine.specs.Step.{Effect, checked_effect, draw, ends_quantum, event_effect, event_refusal, stopped, finish_trap, is_bad_processor, started, step, thread_there, trap_effect, trap_refusal, used_there}
 use Rattle.lot_machine.specs.Traps.{after_trap, with_ticks}
 use Rattle.lot_machine.proofs.CommandsKept.{all-pass}
 use Rattle.lot_machine.proofs.Idle.{filter-passes, is-ready, there-runs}
@@ -94,6 +94,7 @@ effect-agrees s t (Unlock m d) = at (mutex_at s.mutexes m).waiters refl
     at : (o : List ℕ) → (mutex_at s.mutexes m).waiters ≡ o → Agrees (trap_effect s t (Unlock m d))
     at [] is = rw is refl
     at (w ∷ ws) is = rw is refl
+effect-agrees s t Sleep = refl
 effect-agrees s t Exit = refl
 
 checked-agrees : (s : State) (t : ℕ) (action : Action) (o : Option TrapRefusal) → Agrees (checked_effect s o (trap_effect s t action))
@@ -168,9 +169,10 @@ draw-says s p d t = at (winner (map (weight_of s) (ready_threads s.records)) d) 
             let ready = is-ready (status_of s.records u) (filter-passes (λ v. option_any is_ready (status_of s.records v)) (numbers s.records) w.place u here) in
             status-now (started p) s.records u status.Ready (status.Running p 0) ready (λ r. refl)
 
-expire-says : (s : State) (p t before used : ℕ) → status_of s.records t ≡ Some (status.Running p before) → RunsApart (expire s t used).state.records → FlagSays p t (expire s t used)
-expire-says s p t before used runs apart =
-    let change : Record → Record = λ r. with_ticks (s.limits.quantum - used) (record r { status = status.Ready; compensation = None }) in
+stopped-says : (s : State) (p t before ticks : ℕ) (compensation : Option ℕ) → status_of s.records t ≡ Some (status.Running p before) → RunsApart (stopped s t ticks compensation).state.records
+    → FlagSays p t (stopped s t ticks compensation)
+stopped-says s p t before ticks compensation runs apart =
+    let change : Record → Record = λ r. with_ticks ticks (record r { status = status.Ready; compensation = compensation }) in
     let now = status-now change s.records t (status.Running p before) status.Ready runs (λ r. refl) in
     found-if (change_record change s.records t) p t status.Ready false apart now (λ other e. cc)
 
@@ -198,7 +200,24 @@ flag-says s e p t order on named = by e on named (step-order s e order).runs_apa
         let passed = all-pass ((is_bad_processor s q, BadProcessor) ∷ (is_none (thread_on s.records q), NotRunning) ∷ []) allowed in
         let there = there-runs s q passed.1.0 in
         let thread : thread_there s q ≡ t = some-injective (thread_there s q) t named in
-        rw (sym same) (rw (sym thread) (expire-says s q (thread_there s q) there.0 (used_there s q) there.1 apart)))
+        rw (sym same) (rw (sym thread) (stopped-says s q (thread_there s q) there.0 (s.limits.quantum - used_there s q) None there.1 apart)))
+    by (event.Preempt q ticks) on named apart =
+        let same : q ≡ p = some-injective q p on in
+        unrefused-says s (event_refusal s (event.Preempt q ticks)) (event_effect s (event.Preempt q ticks)) p t named apart (λ allowed named apart.
+        let passed = all-pass ((is_bad_processor s q, BadProcessor) ∷ (is_none (thread_on s.records q), NotRunning)
+        ∷ (nat_lt s.limits.quantum (used_there s q + ticks), BadTicks) ∷ []) allowed in
+        let there = there-runs s q passed.1.0 in
+        let thread : thread_there s q ≡ t = some-injective (thread_there s q) t named in
+        rw (sym same) (rw (sym thread) (stopped-says s q (thread_there s q) there.0 ticks None there.1 apart)))
+    by (event.Overrun q late) on named apart =
+        let same : q ≡ p = some-injective q p on in
+        unrefused-says s (event_refusal s (event.Overrun q late)) (event_effect s (event.Overrun q late)) p t named apart (λ allowed named apart.
+        let passed = all-pass ((is_bad_processor s q, BadProcessor) ∷ (is_none (thread_on s.records q), NotRunning)
+        ∷ (nat_le (2 ^ 32) (s.limits.quantum + late), BadTicks) ∷ []) allowed in
+        let there = there-runs s q passed.1.0 in
+        let thread : thread_there s q ≡ t = some-injective (thread_there s q) t named in
+        rw (sym same) (rw (sym thread) (stopped-says s q (thread_there s q) there.0 (s.limits.quantum - used_there s q + late) (Some (s.limits.quantum + late)) there.1 apart)))
+    by (event.Wake u) on named apart = cc
     by (event.Trap q ran action) on named apart =
         let same : q ≡ p = some-injective q p on in
         unrefused-says s (event_refusal s (event.Trap q ran action)) (event_effect s (event.Trap q ran action)) p t named apart (λ allowed named apart.

@@ -6,7 +6,7 @@ use Rattle.std.proofs.Math.Seq.{take-append_seam}
 use Rattle.std.proofs.lemmas.Nat.{div-add-mod'}
 use Rattle.lot_machine.specs.Commands.{is_good_name}
 use Rattle.lot_machine.specs.declared.action.Action.TheVariants as action
-use Rattle.lot_machine.specs.declared.command.Command.TheVariants.{MakeTicket, RemoveTicket, MakeCurrency, RemoveCurrency, Fund, Unfund, SetTicket, MakeThread, MakeFunded, List as Listing}
+use Rattle.lot_machine.specs.declared.command.Command.TheVariants.{MakeTicket, RemoveTicket, MakeCurrency, RemoveCurrency, Fund, Unfund, SetTicket, MakeThread, RemoveThread, MakeFunded, List as Listing}
 use Rattle.lot_machine.specs.declared.command.Kind.TheVariants.{Tickets, Currencies, Threads}
 use Rattle.lot_machine.specs.declared.event.Event.{Event}
 use Rattle.lot_machine.specs.declared.event.Event.TheVariants as event
@@ -53,6 +53,7 @@ meant (event.Command (Fund ticket target)) (short, good) = ap (result_map (λ n.
 meant (event.Command (Unfund ticket)) has = refl
 meant (event.Command (SetTicket ticket amount)) has = refl
 meant (event.Command (MakeThread name script)) (short, good) = ap (result_map (λ n. event.Command (MakeThread n script))) (named name short good)
+meant (event.Command (RemoveThread name)) (short, good) = ap (result_map (λ n. event.Command (RemoveThread n))) (named name short good)
 meant (event.Command (MakeFunded amount currency name script)) ((short, good), (short', good')) =
     ap (λ m. result_and_then m (λ c. result_map (λ n. event.Command (MakeFunded amount c n script)) (name_meant (plain_name name)))) (named currency short good)
     ∙ ap (result_map (λ n. event.Command (MakeFunded amount currency n script))) (named name short' good')
@@ -69,6 +70,10 @@ meant (event.Trap p ran (action.Lock mutex)) has = refl
 meant (event.Trap p ran (action.Serve port number)) has = refl
 meant (event.Trap p ran (action.Unlock mutex d)) has = ap (λ n. Ok (event.Trap p ran (action.Unlock mutex n))) (wide d)
 meant (event.Trap p ran action.Exit) has = refl
+meant (event.Trap p ran action.Sleep) has = refl
+meant (event.Preempt p ticks) has = refl
+meant (event.Overrun p ticks) has = refl
+meant (event.Wake t) has = refl
 
 -- ---- replies
 
@@ -82,7 +87,7 @@ if_so false x = None
 
 abbrev refusal_of : ℕ → Refusal
 refusal_of = pick refusal_number refusal.BadName (refusal.NameTaken ∷ refusal.NoCurrency ∷ refusal.NoTicket ∷ refusal.NoTarget ∷ refusal.BadAmount ∷ refusal.InUse ∷ refusal.Funding ∷ refusal.NotFunding
-    ∷ refusal.Cycle ∷ refusal.BaseFixed ∷ refusal.DeadThread ∷ refusal.Full ∷ refusal.NoScript ∷ refusal.BadProcessor ∷ refusal.Busy ∷ refusal.NotRunning ∷ refusal.BadTicks ∷ [])
+    ∷ refusal.Cycle ∷ refusal.BaseFixed ∷ refusal.DeadThread ∷ refusal.Full ∷ refusal.NoScript ∷ refusal.NoThread ∷ refusal.Alive ∷ refusal.BadProcessor ∷ refusal.Busy ∷ refusal.NotRunning ∷ refusal.BadTicks ∷ refusal.NotAsleep ∷ [])
 
 abbrev trap_refusal_of : ℕ → TrapRefusal
 trap_refusal_of = pick trap_refusal_number trap.NoPort (trap.NothingToReply ∷ trap.NoMutex ∷ trap.NotOwner ∷ trap.AlreadyOwner ∷ trap.LockCycle ∷ [])
@@ -90,7 +95,7 @@ trap_refusal_of = pick trap_refusal_number trap.NoPort (trap.NothingToReply ∷ 
 abbrev outcome_of : PlainReply → Outcome
 outcome_of r = pick outcome_number outcome.Exited (outcome.Yielded ∷ outcome.ServedBy r.other ∷ outcome.Queued ∷ outcome.Waits ∷ outcome.Received r.other r.sent ∷ outcome.Replied r.other ∷ outcome.Locked ∷ outcome.Freed
     ∷ outcome.Passed r.other (if_so r.has_draw (r.number.low, r.total.low)) ∷ outcome.Refused (trap_refusal_of r.reason)
-    ∷ outcome.RepliedThenReceived r.replied_to r.other r.sent ∷ outcome.RepliedThenWaits r.replied_to ∷ []) r.outcome
+    ∷ outcome.RepliedThenReceived r.replied_to r.other r.sent ∷ outcome.RepliedThenWaits r.replied_to ∷ outcome.Slept ∷ []) r.outcome
 
 abbrev reply_of : PlainReply → Reply
 reply_of r = pick reply_number reply.Idle (reply.Ticket r.ticket ∷ reply.Currency r.currency ∷ reply.Thread r.thread ∷ reply.Funded r.ticket r.thread ∷ reply.Done ∷ reply.List Tickets ∷ reply.List Currencies ∷ reply.List Threads
@@ -112,10 +117,13 @@ refusals refusal.BaseFixed = refl
 refusals refusal.DeadThread = refl
 refusals refusal.Full = refl
 refusals refusal.NoScript = refl
+refusals refusal.NoThread = refl
+refusals refusal.Alive = refl
 refusals refusal.BadProcessor = refl
 refusals refusal.Busy = refl
 refusals refusal.NotRunning = refl
 refusals refusal.BadTicks = refl
+refusals refusal.NotAsleep = refl
 
 trap_refusals : (why : TrapRefusal) → trap_refusal_of (trap_refusal_number why) ≡ why
 trap_refusals trap.NoPort = refl
@@ -138,6 +146,7 @@ outcomes outcome.Locked = refl
 outcomes outcome.Freed = refl
 outcomes (outcome.Passed to None) = refl
 outcomes (outcome.Passed to (Some d)) = refl
+outcomes outcome.Slept = refl
 outcomes outcome.Exited = refl
 outcomes (outcome.Refused why) = ap outcome.Refused (trap_refusals why)
 
@@ -163,7 +172,7 @@ replies one other same = sym (shown one) ∙ ap reply_of same ∙ shown other
 -- ---- statuses
 
 abbrev status_of : PlainStatus → Status
-status_of s = pick status_number status.Dead (status.Ready ∷ status.Running s.processor s.used ∷ status.Receiving s.other ∷ status.Queued s.other ∷ status.Served s.other ∷ status.Waiting s.other ∷ []) s.kind
+status_of s = pick status_number status.Dead (status.Ready ∷ status.Running s.processor s.used ∷ status.Receiving s.other ∷ status.Queued s.other ∷ status.Served s.other ∷ status.Waiting s.other ∷ status.Asleep ∷ []) s.kind
 
 doing : (s : Status) → status_of (plain_status s) ≡ s
 doing status.Ready = refl
@@ -172,6 +181,7 @@ doing (status.Receiving port) = refl
 doing (status.Queued port) = refl
 doing (status.Served server) = refl
 doing (status.Waiting mutex) = refl
+doing status.Asleep = refl
 doing status.Dead = refl
 
 pub statuses : (one other : Status) → plain_status one ≡ plain_status other → one ≡ other

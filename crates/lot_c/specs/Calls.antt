@@ -1,5 +1,5 @@
 -- The effect of calls on a kernel that C holds.
-use Rattle.std.specs.Prelude.{◌≡◌, ◌⊎◌, ℕ, Option, None, Some, IfSome, IsSomeAnd, Ok, Err, List, [], ◌∷◌, Result, length, ◌<◌, ◌≤◌}
+use Rattle.std.specs.Prelude.{◌≡◌, ◌⊎◌, ℕ, Option, None, Some, IfSome, IsSomeAnd, Ok, Err, List, [], ◌∷◌, Result, length, ◌+◌, ◌<◌, ◌≤◌}
 use Rattle.lot_machine.specs.declared.event.Event.{Event}
 use Rattle.lot_machine.specs.declared.row.TicketRow.{TicketRow}
 use Rattle.lot_machine.specs.declared.row.CurrencyRow.{CurrencyRow}
@@ -8,13 +8,13 @@ use Rattle.lot_machine.specs.declared.ticket.Ticket.{Ticket}
 use Rattle.lot_machine.specs.Bounds.{IsWithinBounds}
 use Rattle.lot_machine.specs.Facts.{IsSound}
 use Rattle.lot_machine.specs.Funding.{ticket_in}
-use Rattle.lot_machine.specs.Numbered.{at_number}
 use Rattle.lot_machine.specs.Rows as rows
-use Rattle.lot_machine.specs.State.{State, thread_on, used_by}
+use Rattle.lot_machine.specs.State.{State, thread_at, thread_on, used_by}
 use Rattle.lot_machine.specs.Step as machine
 use Rattle.lot_machine.specs.Step.{step, state_after}
 use Rattle.lot_value.specs.Caches.{HasNoneTwice}
 use Rattle.lot_kernel.specs.Counted.{AreDone, Counts, settled, with_ticket_read}
+use Rattle.lot_kernel.specs.Memory.{bytes_of}
 use Rattle.lot_kernel.specs.Snapshots.{Snapshot, MakesStale, starting}
 use Rattle.lot_c.specs.declared.event.PlainEvent.{PlainEvent}
 use Rattle.lot_c.specs.declared.reply.PlainReply.{PlainReply}
@@ -43,6 +43,15 @@ pub record Opens (sizes : PlainSizes) (status : ℕ) (old new : Option Snapshot)
   pub there : (k : Snapshot) → old ≡ Some k → (status ≡ code KernelThere) × (new ≡ Some k)
   pub limits : old ≡ None → ¬ IsWithinBounds (sizes_meant sizes) → (status ≡ code BadLimits) × (new ≡ None)
   pub made : old ≡ None → IsWithinBounds (sizes_meant sizes) → ((status ≡ code Done) × (new ≡ Some (starting (sizes_meant sizes)))) ⊎ ((status ≡ code NoMemory) × (new ≡ None))
+
+-- the bytes of a kernel itself, which it takes in addition to those of its tables
+abbrev pub box_bytes : ℕ
+box_bytes = 1168
+
+-- how many bytes a kernel with these sizes takes, if they are within their bounds
+pub record TellsBytes (sizes : PlainSizes) (status before after : ℕ) : Type 0 where
+  pub limits : ¬ IsWithinBounds (sizes_meant sizes) → (status ≡ code BadLimits) × (after ≡ before)
+  pub bytes : IsWithinBounds (sizes_meant sizes) → (status ≡ code Done) × (after ≡ bytes_of (sizes_meant sizes) + box_bytes)
 
 -- the kernel after an event: the machine's state, which is sound, and what is stale and was counted as a kernel's own
 -- call says
@@ -129,5 +138,5 @@ pub record ShowsRunner (processor status : ℕ) (k : Snapshot) (before after : P
 
 -- the script with which a thread was made, if there is such a thread
 pub record ShowsScript (thread status : ℕ) (k : Snapshot) (before after : ℕ) : Type 0 where
-  pub none : at_number k.state.threads thread ≡ None → (status ≡ code NotThere) × (after ≡ before)
-  pub script : IfSome (at_number k.state.threads thread) (λ t. (status ≡ code Done) × (after ≡ t.script))
+  pub none : thread_at k.state.threads thread ≡ None → (status ≡ code NotThere) × (after ≡ before)
+  pub script : IfSome (thread_at k.state.threads thread) (λ t. (status ≡ code Done) × (after ≡ t.script))

@@ -4,7 +4,7 @@ use Rattle.std.specs.List.{find}
 use Rattle.lot_machine.specs.declared.action.Action.{Action}
 use Rattle.lot_machine.specs.declared.action.Action.TheVariants as action
 use Rattle.lot_machine.specs.declared.command.Command.{Command}
-use Rattle.lot_machine.specs.declared.command.Command.TheVariants.{MakeTicket, RemoveTicket, MakeCurrency, RemoveCurrency, Fund, Unfund, SetTicket, MakeThread, MakeFunded, List as Listing}
+use Rattle.lot_machine.specs.declared.command.Command.TheVariants.{MakeTicket, RemoveTicket, MakeCurrency, RemoveCurrency, Fund, Unfund, SetTicket, MakeThread, RemoveThread, MakeFunded, List as Listing}
 use Rattle.lot_machine.specs.declared.command.Kind.TheVariants.{Tickets, Currencies, Threads}
 use Rattle.lot_machine.specs.declared.event.Event.{Event}
 use Rattle.lot_machine.specs.declared.event.Event.TheVariants as event
@@ -54,6 +54,7 @@ meanings =
     ∷ (EventKind.Unfund, λ e. asks (Unfund e.ticket))
     ∷ (EventKind.SetTicket, λ e. asks (SetTicket e.ticket e.amount))
     ∷ (EventKind.MakeThread, λ e. asks_of e.name (λ name. MakeThread name e.script))
+    ∷ (EventKind.RemoveThread, λ e. asks_of e.name RemoveThread)
     ∷ (EventKind.MakeFunded, λ e. result_and_then (name_meant e.currency) (λ currency. asks_of e.name (λ name. MakeFunded e.amount currency name e.script)))
     ∷ (EventKind.ListTickets, λ e. asks (Listing Tickets))
     ∷ (EventKind.ListCurrencies, λ e. asks (Listing Currencies))
@@ -68,6 +69,10 @@ meanings =
     ∷ (EventKind.Unlock, λ e. traps e (action.Unlock e.object (wide_meant e.number)))
     ∷ (EventKind.Exit, λ e. traps e action.Exit)
     ∷ (EventKind.Serve, λ e. traps e (action.Serve e.object e.sent))
+    ∷ (EventKind.Sleep, λ e. traps e action.Sleep)
+    ∷ (EventKind.Preempt, λ e. Ok (event.Preempt e.processor e.ticks))
+    ∷ (EventKind.Overrun, λ e. Ok (event.Overrun e.processor e.ticks))
+    ∷ (EventKind.Wake, λ e. Ok (event.Wake e.object))
     ∷ []
 
 -- what fields mean whose kind means this; without a kind they mean nothing

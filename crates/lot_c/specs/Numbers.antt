@@ -59,6 +59,11 @@ event_number EventKind.Unlock = 19
 event_number EventKind.Exit = 20
 event_number EventKind.Serve = 21
 event_number EventKind.SetTicket = 22
+event_number EventKind.RemoveThread = 23
+event_number EventKind.Sleep = 24
+event_number EventKind.Preempt = 25
+event_number EventKind.Overrun = 26
+event_number EventKind.Wake = 27
 
 -- the kinds of replies, with one for each listing
 abbrev pub reply_number : Reply → ℕ
@@ -91,6 +96,7 @@ outcome_number outcome.Exited = 10
 outcome_number (outcome.Refused why) = 11
 outcome_number (outcome.RepliedThenReceived to client number) = 12
 outcome_number (outcome.RepliedThenWaits to) = 13
+outcome_number outcome.Slept = 14
 
 -- why an event is refused, as docs/FORMATS.md has it and the program prints it
 abbrev pub refusal_number : Refusal → ℕ
@@ -108,10 +114,13 @@ refusal_number refusal.BaseFixed = 11
 refusal_number refusal.DeadThread = 12
 refusal_number refusal.Full = 13
 refusal_number refusal.NoScript = 14
+refusal_number refusal.NoThread = 15
+refusal_number refusal.Alive = 16
 refusal_number refusal.BadProcessor = 20
 refusal_number refusal.Busy = 21
 refusal_number refusal.NotRunning = 22
 refusal_number refusal.BadTicks = 23
+refusal_number refusal.NotAsleep = 24
 
 -- why a trap is refused, as docs/FORMATS.md has it too
 abbrev pub trap_refusal_number : TrapRefusal → ℕ
@@ -131,3 +140,4 @@ status_number (thread.Queued port) = 4
 status_number (thread.Served server) = 5
 status_number (thread.Waiting mutex) = 6
 status_number thread.Dead = 7
+status_number thread.Asleep = 8

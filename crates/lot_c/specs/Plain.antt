@@ -4,7 +4,7 @@ use Rattle.lot_machine.specs.Commands.{is_good_name}
 use Rattle.lot_machine.specs.declared.action.Action.{Action}
 use Rattle.lot_machine.specs.declared.action.Action.TheVariants as action
 use Rattle.lot_machine.specs.declared.command.Command.{Command}
-use Rattle.lot_machine.specs.declared.command.Command.TheVariants.{MakeTicket, RemoveTicket, MakeCurrency, RemoveCurrency, Fund, Unfund, SetTicket, MakeThread, MakeFunded, List as Listing}
+use Rattle.lot_machine.specs.declared.command.Command.TheVariants.{MakeTicket, RemoveTicket, MakeCurrency, RemoveCurrency, Fund, Unfund, SetTicket, MakeThread, RemoveThread, MakeFunded, List as Listing}
 use Rattle.lot_machine.specs.declared.command.Kind.TheVariants.{Tickets, Currencies, Threads}
 use Rattle.lot_machine.specs.declared.event.Event.{Event}
 use Rattle.lot_machine.specs.declared.event.Event.TheVariants as event
@@ -41,6 +41,7 @@ HasCommandNames (MakeCurrency name) = IsName name
 HasCommandNames (RemoveCurrency currency) = IsName currency
 HasCommandNames (Fund ticket target) = IsName target
 HasCommandNames (MakeThread name script) = IsName name
+HasCommandNames (RemoveThread name) = IsName name
 HasCommandNames (MakeFunded amount currency name script) = IsName currency × IsName name
 HasCommandNames other = Unit {0}
 
@@ -59,6 +60,7 @@ plain_command (Fund ticket target) = record (of_kind EventKind.Fund) { ticket = 
 plain_command (Unfund ticket) = record (of_kind EventKind.Unfund) { ticket = ticket }
 plain_command (SetTicket ticket amount) = record (of_kind EventKind.SetTicket) { ticket = ticket; amount = amount }
 plain_command (MakeThread name script) = record (of_kind EventKind.MakeThread) { name = plain_name name; script = script }
+plain_command (RemoveThread name) = record (of_kind EventKind.RemoveThread) { name = plain_name name }
 plain_command (MakeFunded amount currency name script) = record (of_kind EventKind.MakeFunded) { amount = amount; currency = plain_name currency; name = plain_name name; script = script }
 plain_command (Listing Tickets) = of_kind EventKind.ListTickets
 plain_command (Listing Currencies) = of_kind EventKind.ListCurrencies
@@ -73,6 +75,7 @@ plain_trap p ran (action.Reply number) = record (of_kind EventKind.Reply) { proc
 plain_trap p ran (action.Lock mutex) = record (of_kind EventKind.Lock) { processor = p; ticks = ran; object = mutex }
 plain_trap p ran (action.Unlock mutex d) = record (of_kind EventKind.Unlock) { processor = p; ticks = ran; object = mutex; number = plain_wide d }
 plain_trap p ran action.Exit = record (of_kind EventKind.Exit) { processor = p; ticks = ran }
+plain_trap p ran action.Sleep = record (of_kind EventKind.Sleep) { processor = p; ticks = ran }
 plain_trap p ran (action.Serve port number) = record (of_kind EventKind.Serve) { processor = p; ticks = ran; object = port; sent = number }
 
 -- an event in plain fields
@@ -81,3 +84,6 @@ plain_event (event.Command command) = plain_command command
 plain_event (event.Draw p d) = record (of_kind EventKind.Draw) { processor = p; number = plain_wide d }
 plain_event (event.Expire p) = record (of_kind EventKind.Expire) { processor = p }
 plain_event (event.Trap p ran action) = plain_trap p ran action
+plain_event (event.Preempt p ticks) = record (of_kind EventKind.Preempt) { processor = p; ticks = ticks }
+plain_event (event.Overrun p ticks) = record (of_kind EventKind.Overrun) { processor = p; ticks = ticks }
+plain_event (event.Wake t) = record (of_kind EventKind.Wake) { object = t }

@@ -1,7 +1,7 @@
 -- Rows of listings in plain fields.
 use Rattle.std.specs.Prelude.{ℕ, List, [], Option, is_some, unwrap_or}
 use Rattle.lot_machine.specs.declared.record.Status.{Status}
-use Rattle.lot_machine.specs.declared.record.Status.TheVariants.{Ready, Running, Receiving, Queued, Served, Waiting, Dead}
+use Rattle.lot_machine.specs.declared.record.Status.TheVariants.{Ready, Running, Receiving, Queued, Served, Waiting, Asleep, Dead}
 use Rattle.lot_machine.specs.declared.row.TicketRow.{TicketRow}
 use Rattle.lot_machine.specs.declared.row.CurrencyRow.{CurrencyRow}
 use Rattle.lot_machine.specs.declared.row.ThreadRow.{ThreadRow}
@@ -49,6 +49,7 @@ plain_status (Receiving port) = waits (Receiving port) port
 plain_status (Queued port) = waits (Queued port) port
 plain_status (Served server) = waits (Served server) server
 plain_status (Waiting mutex) = waits (Waiting mutex) mutex
+plain_status Asleep = waits Asleep 0
 plain_status Dead = waits Dead 0
 
 abbrev pub plain_thread_row : ThreadRow → PlainThreadRow

@@ -54,16 +54,26 @@ const SERVE: u32 = 21;
 
 const SET_TICKET: u32 = 22;
 
+const REMOVE_THREAD: u32 = 23;
+
+const SLEEP: u32 = 24;
+
+const PREEMPT: u32 = 25;
+
+const OVERRUN: u32 = 26;
+
+const WAKE: u32 = 27;
+
 /// An event in plain fields. Its kind says which of the others are read.
 #[repr(C)]
 #[derive(Clone, Copy)]
 pub struct PlainEvent {
     pub kind: u32,
-    /// The processor of a draw, an expiry or a trap, from 1.
+    /// The processor of a draw, a trap, or the end of a turn, from 1.
     pub processor: u32,
-    /// The ticks of work before a trap.
+    /// The ticks of work before a trap or a preemption, or by which a quantum ended late.
     pub ticks: u32,
-    /// The port or the mutex of a trap, from 1.
+    /// The port or the mutex of a trap, or the thread to wake, from 1.
     pub object: u32,
     /// The number that a call, a reply or a serving sends.
     pub sent: u32,
@@ -84,18 +94,30 @@ impl PlainEvent {
     pub(crate) fn read(&self) -> Result<Event, Status>
         ensures { result ≡ event_meant self.now }
     {
-        if self.kind < MAKE_TICKET || self.kind > SET_TICKET {
-            return Err(Status::BadKind);
+        match self.kind {
+            MAKE_TICKET..=LIST_THREADS | SET_TICKET | REMOVE_THREAD => {
+                Ok(Event::Command(self.read_command()?))
+            }
+            DRAW..=SERVE | SLEEP => Ok(self.read_turn()),
+            PREEMPT => Ok(Event::Preempt {
+                processor: self.processor,
+                ticks: self.ticks,
+            }),
+            OVERRUN => Ok(Event::Overrun {
+                processor: self.processor,
+                ticks: self.ticks,
+            }),
+            WAKE => Ok(Event::Wake {
+                thread: self.object,
+            }),
+            _ => Err(Status::BadKind),
         }
-        if self.kind < DRAW || self.kind == SET_TICKET {
-            return Ok(Event::Command(self.read_command()?));
-        }
-        Ok(self.read_turn())
     }
 
     /// The command that is meant, or why none is.
     fn read_command(&self) -> Result<Command, Status>
-        requires kind { IsBetween MAKE_TICKET LIST_THREADS self.now.kind ⊎ (self.now.kind ≡ SET_TICKET) }
+        requires kind { IsBetween MAKE_TICKET LIST_THREADS self.now.kind
+            ⊎ IsBetween SET_TICKET REMOVE_THREAD self.now.kind }
         ensures { event_meant self.now ≡ result_map event.Command result }
     {
         let ticket = self.ticket;
@@ -122,6 +144,9 @@ impl PlainEvent {
                 name: self.name.read()?,
                 script: self.script,
             }),
+            REMOVE_THREAD => Ok(Command::RemoveThread {
+                thread: self.name.read()?,
+            }),
             MAKE_FUNDED => self.read_funded(),
             LIST_TICKETS => Ok(Command::List(Kind::Tickets)),
             LIST_CURRENCIES => Ok(Command::List(Kind::Currencies)),
@@ -145,7 +170,7 @@ impl PlainEvent {
 
     /// The draw, expiry or trap that is meant.
     fn read_turn(&self) -> Event
-        requires kind { IsBetween DRAW SERVE self.now.kind }
+        requires kind { IsBetween DRAW SERVE self.now.kind ⊎ self.now.kind ≡ SLEEP }
         ensures { event_meant self.now ≡ Ok result }
     {
         match self.kind {
@@ -157,6 +182,7 @@ impl PlainEvent {
             REPLY => self.trap(Action::Reply(self.sent)),
             LOCK => self.trap(Action::Lock(self.object)),
             UNLOCK => self.trap(Action::Unlock(self.object, self.number.number())),
+            SLEEP => self.trap(Action::Sleep),
             EXIT => self.trap(Action::Exit),
             SERVE => self.trap(Action::Serve(self.object, self.sent)),
             _ => unreachable!(),

@@ -4,7 +4,7 @@ ghost use Rattle.lot_machine.specs.Bounds.{IsWithinBounds};
 ghost use Rattle.lot_machine.specs.Facts.{IsSound};
 ghost use Rattle.lot_kernel.specs.Snapshots.{starting};
 ghost use Rattle.lot_c.specs.declared.status.Status.TheVariants.{BadLimits, Done, NoKernel, NoMemory};
-ghost use Rattle.lot_c.specs.Calls.{Opens, ShowsRunner, ShowsScript, Through};
+ghost use Rattle.lot_c.specs.Calls.{Opens, ShowsRunner, ShowsScript, TellsBytes, Through};
 ghost use Rattle.lot_c.specs.Counts.{plain_meter, plain_sizes, sizes_meant};
 ghost use Rattle.lot_c.specs.Numbers.{code};
 
@@ -13,6 +13,10 @@ use crate::sizes::{PlainMeter, PlainRunner, PlainSizes};
 use crate::status::Status;
 use lot_kernel::{Kernel, Processor, ThreadNumber};
 use std::alloc::Global;
+use std::mem::size_of;
+
+// What the box of a kernel takes, beside the kernel's tables.
+const KERNEL_BYTES: u64 = size_of::<Kernel>() as u64;
 
 /// Makes a kernel with these sizes, for a handle that holds none. It allocates all the memory that the kernel will
 /// ever use.
@@ -49,6 +53,20 @@ fn make(alloc: Global, sizes: &PlainSizes) -> Result<Box<Kernel>, Status>
         return Err(Status::NoMemory);
     };
     Box::new(alloc, kernel).map_err(|_| Status::NoMemory)
+}
+
+/// How many bytes `lot_kernel_new` asks of the allocator in all for a kernel with these sizes.
+#[unsafe(no_mangle)]
+pub extern "C" fn lot_kernel_bytes(sizes: &PlainSizes, bytes: &mut u64) -> u32
+    ensures { TellsBytes sizes.now result bytes.old bytes.new }
+{
+    match sizes.limits() {
+        None => Status::BadLimits.code(),
+        Some(limits) => {
+            *bytes = KERNEL_BYTES + Kernel::bytes(&limits);
+            Status::Done.code()
+        }
+    }
 }
 
 /// Frees the kernel, if the handle holds one, and leaves the handle with none.

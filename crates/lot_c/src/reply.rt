@@ -63,6 +63,8 @@ const REPLIED_THEN_RECEIVED: u32 = 12;
 
 const REPLIED_THEN_WAITS: u32 = 13;
 
+const SLEPT: u32 = 14;
+
 /// A reply in plain fields. Its kind, and a trap's outcome, say which of the others are written; the rest are 0.
 #[repr(C)]
 #[derive(Clone, Copy)]
@@ -202,6 +204,7 @@ impl PlainReply {
             Outcome::Locked => PlainReply::came_to(LOCKED, 0),
             Outcome::Freed => PlainReply::came_to(FREED, 0),
             Outcome::Passed { to, draw } => PlainReply::of_passed(to, draw),
+            Outcome::Slept => PlainReply::came_to(SLEPT, 0),
             Outcome::Exited => PlainReply::came_to(EXITED, 0),
             Outcome::Refused(refusal) => PlainReply {
                 reason: number_of_trap_refusal(refusal),
@@ -273,6 +276,7 @@ fn runs_on(outcome: Outcome) -> bool
         | Outcome::Waits
         | Outcome::RepliedThenWaits(_)
         | Outcome::Passed { .. }
+        | Outcome::Slept
         | Outcome::Exited => false,
     }
 }
@@ -307,10 +311,13 @@ fn number_of_refusal(refusal: Refusal) -> u32
         Refusal::DeadThread => 12,
         Refusal::Full => 13,
         Refusal::NoScript => 14,
+        Refusal::NoThread => 15,
+        Refusal::Alive => 16,
         Refusal::BadProcessor => 20,
         Refusal::Busy => 21,
         Refusal::NotRunning => 22,
         Refusal::BadTicks => 23,
+        Refusal::NotAsleep => 24,
     }
 }
 

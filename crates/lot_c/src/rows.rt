@@ -21,6 +21,8 @@ const WAITING: u32 = 6;
 
 const DEAD: u32 = 7;
 
+const ASLEEP: u32 = 8;
+
 /// A ticket's row in plain fields.
 #[repr(C)]
 #[derive(Clone, Copy)]
@@ -122,6 +124,7 @@ impl PlainStatus {
             Status::Queued(port) => PlainStatus::waits(QUEUED, port),
             Status::Served(server) => PlainStatus::waits(SERVED, server),
             Status::Waiting(mutex) => PlainStatus::waits(WAITING, mutex),
+            Status::Asleep => PlainStatus::waits(ASLEEP, 0),
             Status::Dead => PlainStatus::waits(DEAD, 0),
         }
     }

@@ -1,5 +1,6 @@
 -- A thread's record has the ticks of the turns that name it.
 use Rattle.std.proofs.Common.{◌≡◌, ◌≢◌, ℕ, zero, suc, ◌+◌, ◌-◌, ◌*◌, ◌^◌, ◌<◌, ◌≤◌, ◌==◌, Bool, true, false, cond, Option, Some, None, is_none, List, [], ◌∷◌, ◌++◌, length, map, sum_by, get_or, slice_index, nat_lt, option_map, refl, sym, ◌∙◌, ap, subst, arith, if◌then◌else◌, set}
+use Rattle.std.specs.Prelude.{option_and_then}
 use Rattle.std.proofs.Math.Nat.{min-eq_left}
 use Rattle.std.proofs.lemmas.Bool.{eqb-false, eqb-true, ltb-false}
 use Rattle.std.proofs.lemmas.List.{get_or-set_other, get_or-set_same, map-append, map-set, length-map}
@@ -24,7 +25,7 @@ use Rattle.lot_machine.specs.Traps.{after_trap, with_ticks}
 use Rattle.lot_machine.specs.Change.{NewThread, PutRecord, newborn}
 use Rattle.lot_machine.specs.Step.{is_bad_processor, started, draw, expire, trap, trap_refusal, trap_effect, checked_effect, thread_there, used_there, event_effect, step}
 use Rattle.lot_machine.specs.Order.{IsInOrder}
-use Rattle.lot_machine.specs.Rows.{row_of_thread, thread_row}
+use Rattle.lot_machine.specs.Rows.{row_of_thread, thread_name, thread_row}
 use Rattle.lot_machine.specs.declared.row.ThreadRow.{ThreadRow}
 use Rattle.lot_machine.proofs.OrderKept.{opening-order, step-order}
 use Rattle.lot_machine.proofs.CommandsKept.{all-pass}
@@ -38,7 +39,7 @@ use Rattle.lot_simulation.specs.Report.{ActorTurn, beside, turns_made, turns_of,
 use Rattle.lot_simulation.proofs.TimedRuns.{timed-made, timed-world}
 use Rattle.lot_simulation.proofs.DrawnThreads.{number-some}
 use Rattle.lot_simulation.proofs.ProcessorCounts.{command-silent}
-use Rattle.lot_simulation.proofs.RecordCounts.{there-has, change-leaves, checked-even, after-even, there-numbered}
+use Rattle.lot_simulation.proofs.RecordCounts.{IsMade, turn-made, there-has, change-leaves, checked-even, after-even, there-numbered}
 use Rattle.lot_curves.specs.declared.stretch.Stretch.{Stretch}
 use Rattle.lot_curves.specs.Curves.{stretches_made, timed_stretches}
 use Rattle.lot_curves.specs.declared.stretch.Measure.TheVariants.{Ticks}
@@ -163,14 +164,17 @@ trap-adds s i p t used ran action named enough space =
 
 -- ---- events
 
-step-adds : (s : State) (i : ℕ) (e : Event) → own_ticks s.records i + s.limits.quantum < 2 ^ 64 → Adds s i (step s e)
-step-adds s i (event.Command command) space = command-adds s i command
-step-adds s i (event.Draw p d) space = unless-adds s i _ (draw s p d) (λ _. draw-adds s i p d)
-step-adds s i (event.Expire p) space =
+step-adds : (s : State) (i : ℕ) (e : Event) → IsMade e → own_ticks s.records i + s.limits.quantum < 2 ^ 64 → Adds s i (step s e)
+step-adds s i (event.Command command) made space = command-adds s i command
+step-adds s i (event.Preempt p ticks) made space = absurd made
+step-adds s i (event.Overrun p ticks) made space = absurd made
+step-adds s i (event.Wake t) made space = absurd made
+step-adds s i (event.Draw p d) made space = unless-adds s i _ (draw s p d) (λ _. draw-adds s i p d)
+step-adds s i (event.Expire p) made space =
     unless-adds s i _ (event_effect s (event.Expire p)) (λ e.
     let passed = all-pass ((is_bad_processor s p, BadProcessor) ∷ (is_none (thread_on s.records p), NotRunning) ∷ []) e in
     expire-adds s i (thread_there s p) (used_there s p) (there-numbered s p passed.1.0) space)
-step-adds s i (event.Trap p ran action) space =
+step-adds s i (event.Trap p ran action) made space =
     unless-adds s i _ (event_effect s (event.Trap p ran action)) (λ e.
     let passed = all-pass ((is_bad_processor s p, BadProcessor) ∷ (is_none (thread_on s.records p), NotRunning) ∷ (nat_lt s.limits.quantum (used_there s p + ran + 1), BadTicks) ∷ []) e in
     trap-adds s i p (thread_there s p) (used_there s p) ran action (there-numbered s p passed.1.0) (ltb-false s.limits.quantum (used_there s p + ran + 1) passed.1.1.0) space)
@@ -197,9 +201,9 @@ module _ (program : Program) (i : ℕ) where
   turn-adds : (w : World) (actor : ℕ) → IsInOrder w.state → own_ticks w.state.records i + w.state.limits.quantum < 2 ^ 64 → AddsTurn w i (system_turn program w actor)
   turn-adds w actor order space = at (actor == 0)
     where
-      of_step : (e : Event) (turn : Turn) → turn.world.state ≡ (step w.state e).state → turn.answer ≡ Answered e (step w.state e).reply → AddsTurn w i turn
-      of_step e turn state answer =
-          let adds = step-adds w.state i e space in
+      of_step : (e : Event) (turn : Turn) → IsMade e → turn.world.state ≡ (step w.state e).state → turn.answer ≡ Answered e (step w.state e).reply → AddsTurn w i turn
+      of_step e turn made state answer =
+          let adds = step-adds w.state i e made space in
           record {
             own = ap (λ (s : State). own_ticks s.records i) state ∙ adds.own ∙ ap (λ a. own_ticks w.state.records i + part_of i a) (sym answer);
             short = omega (arith, adds.short, ap (count_in ticks_in) answer);
@@ -208,11 +212,11 @@ module _ (program : Program) (i : ℕ) where
 
       console : (commands : List Command) → AddsTurn w i (console_turn program w commands)
       console [] = record { own = omega (arith, cond-none (0 == suc i)); short = omega arith; order = order }
-      console (c ∷ cs) = of_step (event.Command c) (console_turn program w (c ∷ cs)) refl refl
+      console (c ∷ cs) = of_step (event.Command c) (console_turn program w (c ∷ cs)) tt refl refl
 
       at : (b : Bool) → AddsTurn w i (if b then console_turn program w w.commands else processor_turn w actor (processor_event w actor))
       at true = console w.commands
-      at false = of_step (processor_event w actor) (processor_turn w actor (processor_event w actor)) refl refl
+      at false = of_step (processor_event w actor) (processor_turn w actor (processor_event w actor)) (turn-made w actor) refl refl
 
   run-adds : (w : World) (k : ℕ) (actors : List ℕ) → IsInOrder w.state → own_ticks w.state.records i ≤ k * 1000 → k + length actors < 2 ^ 32
       → own_ticks (system_after program w actors).state.records i ≡ own_ticks w.state.records i + sum_by (λ (turn : ActorTurn). part_of i turn.answer) (beside actors (system_answers program w actors))
@@ -267,18 +271,26 @@ module _ (program : Program) (bounds : IsWithinBounds program.limits) (i : ℕ) 
 
 -- ---- the report
 
+-- the row of a thread, if it has a name
+abbrev row_if : State → ℕ → Option (List ℕ) → Option ThreadRow
+row_if s t o = option_and_then (λ (name : List ℕ). option_map (row_of_thread s t) (at_number s.records t)) o
+
 -- the ticks that a row shows are those of the record
 row-ticks : (s : State) (t : ℕ) (row : ThreadRow) → thread_row s t ≡ Some row → (i : ℕ) × (t ≡ suc i) × (row.ticks ≡ own_ticks s.records i)
 row-ticks s zero row is = cc
-row-ticks s (suc i) row is = at (at_number s.records (suc i)) refl
+row-ticks s (suc i) row is = by (thread_name s (suc i)) refl
   where
-    at : (o : Option Record) → at_number s.records (suc i) ≡ o → (k : ℕ) × (suc i ≡ suc k) × (row.ticks ≡ own_ticks s.records k)
-    at None there = let none : None ≡ Some row = sym (ap (λ (o : Option Record). option_map (row_of_thread s (suc i)) o) there) ∙ is in cc
-    at (Some r) there =
-        let same : Some (row_of_thread s (suc i) r) ≡ Some row = sym (ap (λ (o : Option Record). option_map (row_of_thread s (suc i)) o) there) ∙ is in
-        let shown : row_of_thread s (suc i) r ≡ row = cc in
-        let place : suc i - 1 ≡ i = omega arith in
-        (i, refl, sym (ap (λ (x : ThreadRow). x.ticks) shown) ∙ sym (there-has (λ (x : Record). x.ticks) s.records (suc i) r there) ∙ ap (λ n. get_or (all_ticks s.records) n 0) place)
+    by : (o : Option (List ℕ)) → thread_name s (suc i) ≡ o → (k : ℕ) × (suc i ≡ suc k) × (row.ticks ≡ own_ticks s.records k)
+    by None gone = let none : None ≡ Some row = sym (ap (row_if s (suc i)) gone) ∙ is in cc
+    by (Some name) here = at (at_number s.records (suc i)) refl
+      where
+        at : (o : Option Record) → at_number s.records (suc i) ≡ o → (k : ℕ) × (suc i ≡ suc k) × (row.ticks ≡ own_ticks s.records k)
+        at None there = let none : None ≡ Some row = sym (ap (option_map (row_of_thread s (suc i))) there) ∙ sym (ap (row_if s (suc i)) here) ∙ is in cc
+        at (Some r) there =
+            let same : Some (row_of_thread s (suc i) r) ≡ Some row = sym (ap (option_map (row_of_thread s (suc i))) there) ∙ sym (ap (row_if s (suc i)) here) ∙ is in
+            let shown : row_of_thread s (suc i) r ≡ row = cc in
+            let place : suc i - 1 ≡ i = omega arith in
+            (i, refl, sym (ap (λ (x : ThreadRow). x.ticks) shown) ∙ sym (there-has (λ (x : Record). x.ticks) s.records (suc i) r there) ∙ ap (λ n. get_or (all_ticks s.records) n 0) place)
 
 -- a curve ends at what the record has
 ends-at : (s : State) (stretches : List Stretch) → ((i : ℕ) → own_ticks s.records i ≡ sum_by (λ (x : Stretch). x.ticks) (stretches_of (suc i) stretches)) → (t : ℕ) (row : ThreadRow) → thread_row s t ≡ Some row

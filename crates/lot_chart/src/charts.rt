@@ -13,7 +13,7 @@ use crate::standings::{select, stretches_of_thread};
 use crate::text::Text;
 use crate::{Line, Standing};
 use lot_curves::{Curves, Measure, Stretch, had_at};
-use lot_machine::Name;
+use lot_machine::{Name, index_of};
 use std::alloc::{AllocError, Global};
 
 /// How far across the plot begins.
@@ -359,7 +359,7 @@ fn name_of(names: &[Name], thread: u32) -> &[u8]
     if thread == 0 || thread as usize > names.len() {
         return b"others";
     }
-    names[thread as usize - 1].as_bytes()
+    names[index_of(thread)].as_bytes()
 }
 
 /// A part of the whole, in tenths of a percent.

@@ -1,5 +1,6 @@
 //! Making the turns of a program for its curves.
 ghost use Rattle.std.specs.Prelude.{◌≡◌, ◌+◌, ◌*◌, ◌^◌, ◌<◌, ◌≤◌, [], IfOk, OnOk, ⊤, length, vec_len};
+ghost use Rattle.std.specs.Fmt.{decimal};
 ghost use Rattle.lot_machine.specs.Bounds.{IsBetween};
 ghost use Rattle.lot_curves.specs.Curves.{curves_of, name_in, names_in};
 ghost use Rattle.lot_curves.specs.Stretches.{last_end};
@@ -8,6 +9,7 @@ ghost use Rattle.lot_playback.specs.Stages.{HasMade};
 ghost use Rattle.lot_playback.specs.Turns.{program_turns};
 ghost use Rattle.lot_chart.specs.Noted.{end_in, stretches_in};
 
+use itoa::Buffer;
 use lot_curves::{Curves, Stretch};
 use lot_engine::System;
 use lot_machine::Name;
@@ -97,7 +99,7 @@ fn note_turns(
     Ok(stretches)
 }
 
-/// The threads' names, by rising number.
+/// The threads' names, removed ones' too, by rising number.
 fn names_of(alloc: Global, system: &mut System) -> Result<Vec<Name>, AllocError>
     ensures few { IfOk result (λ names. vec_len names < 2 ^ 32) }
     ensures names { IfOk result (λ names. names.items ≡ names_in (world_of system.old).state) }
@@ -110,7 +112,7 @@ fn names_of(alloc: Global, system: &mut System) -> Result<Vec<Name>, AllocError>
     Ok(names)
 }
 
-/// The name of the thread with this number.
+/// The name of the thread with this number, or its number if it was removed.
 fn name_of(system: &mut System, thread: u32) -> Name
     requires { IsBetween 1 (length (world_of system.old).state.records) thread }
     ensures same { system.new ≡ system.old }
@@ -118,6 +120,17 @@ fn name_of(system: &mut System, thread: u32) -> Name
 {
     match system.thread_row(thread) {
         Some(row) => row.name,
+        None => number_name(thread),
+    }
+}
+
+/// A name that is this number. A good name begins with a letter, so no thread has it.
+fn number_name(number: u32) -> Name
+    ensures { result ≡ decimal number }
+{
+    let mut buffer = Buffer::new();
+    match Name::new(buffer.format(number)) {
+        Some(name) => name,
         None => unreachable!(),
     }
 }

@@ -1,9 +1,10 @@
-//! A small run, and its curves as a table and as a picture.
+//! Small runs, and their curves as a table and as a picture.
 ghost use Rattle.std.specs.Prelude.{◌≡◌, [], ◌∷◌, codes};
 ghost use Rattle.lot_curves.specs.declared.stretch.Measure.TheVariants.{Draws, Ticks};
 ghost use Rattle.lot_simulation.specs.Samples.{text};
 ghost use Rattle.lot_chart.specs.Charts.{chart};
 ghost use Rattle.lot_chart.specs.Samples.{three_tick_curves, three_tick_picture};
+ghost use Rattle.lot_chart.specs.Shown.{shares_output};
 ghost use Rattle.lot_chart.specs.Tables.{table};
 
 /// The ticks that two threads have run, and the draws that they have won. A draw counts from its time on.
@@ -19,4 +20,15 @@ pub fn tables()
 #[tactic(auto, unfolding(lot_simulation::specs::OnLiterals::texts_on_literals, crate::specs::Charts::picture))]
 pub fn pictures()
     ensures { chart (codes "a < b") three_tick_curves ≡ three_tick_picture }
+{}
+
+/// Thread 1 ends at tick 2. At tick 3 it is removed, and thread 3 gets its name. The removed thread keeps its column,
+/// which has its number for a name, and what it has run.
+#[tactic(auto, unfolding(lot_simulation::specs::OnLiterals::texts_on_literals, lot_simulation::specs::Timed::timed_room))]
+pub fn removed()
+    ensures { shares_output Ticks (text (codes "lottery 3" ∷ codes "quantum 10" ∷ codes "for 6" ∷ codes "script short"
+        ∷ codes "compute 1" ∷ codes "endscript" ∷ codes "fundx 1 base a short" ∷ codes "at 3" ∷ codes "unfund 1"
+        ∷ codes "rmthr a" ∷ codes "mkthr b short" ∷ codes "fundx 1 base a short" ∷ []))
+        ≡ text (codes "tick,1,b,a" ∷ codes "0,0,0,0" ∷ codes "1,1,0,0" ∷ codes "2,2,0,0" ∷ codes "3,2,0,0"
+        ∷ codes "4,2,0,1" ∷ codes "5,2,0,2" ∷ []) }
 {}

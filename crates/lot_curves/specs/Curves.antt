@@ -1,5 +1,6 @@
 -- Each thread's ticks or draws at each sample.
-use Rattle.std.specs.Prelude.{ℕ, ◌+◌, ◌*◌, ◌/◌, min, max, Option, Some, None, List, [], map, unwrap_or}
+use Rattle.std.specs.Prelude.{ℕ, ◌+◌, ◌*◌, ◌/◌, min, max, Option, Some, None, List, map, unwrap_or}
+use Rattle.std.specs.Fmt.{decimal}
 use Rattle.std.specs.List.{range_with_len}
 use Rattle.lot_machine.specs.Numbered.{numbers}
 use Rattle.lot_machine.specs.Rows.{thread_name}
@@ -16,11 +17,11 @@ pub record Curves : Type 0 where
   pub names : List (List ℕ)
   pub stretches : List Stretch
 
--- the thread's name
+-- the thread's name, or its number if it was removed
 abbrev pub name_in : State → ℕ → List ℕ
-name_in s thread = unwrap_or (thread_name s thread) []
+name_in s thread = unwrap_or (thread_name s thread) (decimal thread)
 
--- the names of a state's threads, by rising number
+-- the names of a state's threads, removed ones too, by rising number
 abbrev pub names_in : State → List (List ℕ)
 names_in s = map (name_in s) (numbers s.records)
 

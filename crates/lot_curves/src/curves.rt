@@ -5,7 +5,7 @@ ghost use Rattle.lot_curves.specs.Curves.{row_at};
 ghost use Rattle.lot_curves.specs.Stretches.{last_end};
 
 use crate::{Measure, Stretch};
-use lot_machine::Name;
+use lot_machine::{Name, index_of};
 use std::marker::Model;
 
 /// The maximum number of ticks after tick 0 at which curves are sampled.
@@ -126,5 +126,5 @@ fn add_part(row: &mut [u64], thread: u32, part: u64)
     if thread == 0 || thread as usize > row.len() {
         return;
     }
-    row[thread as usize - 1] += part;
+    row[index_of(thread)] += part;
 }

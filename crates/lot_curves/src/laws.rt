@@ -1,10 +1,11 @@
 //! Laws of the definitions of curves, with no code to run.
-ghost use Rattle.std.specs.Prelude.{◌≡◌, ◌≤◌, ℕ, List, length, sum_by};
+ghost use Rattle.std.specs.Prelude.{◌≡◌, ◌<◌, ◌≤◌, ◌^◌, ℕ, List, length, sum_by};
+ghost use Rattle.lot_simulation.specs.World.{Program, system_run};
 ghost use Rattle.lot_curves.specs.declared.stretch.Measure.{Measure as Measured};
 ghost use Rattle.lot_curves.specs.declared.stretch.Measure.TheVariants.{Draws, Ticks};
 ghost use Rattle.lot_curves.specs.declared.stretch.Stretch.{Stretch as StretchRecord};
 ghost use Rattle.lot_curves.specs.Curves as curves;
-ghost use Rattle.lot_curves.specs.Curves.{sample_count, sample_tick, sample_ticks, share_at};
+ghost use Rattle.lot_curves.specs.Curves.{name_in, sample_count, sample_tick, sample_ticks, share_at};
 ghost use Rattle.lot_curves.specs.Stretches.{had_at, last_end, stretches_of};
 
 /// There are at most 201 samples, and the last is at the last tick.
@@ -27,4 +28,10 @@ pub fn curves_end_at_all()
 pub fn curves_rise()
     ensures { (measure : Measured) (earlier later : ℕ) (stretches : List StretchRecord) → earlier ≤ later
         → had_at measure earlier stretches ≤ had_at measure later stretches }
+{}
+
+/// No two threads' curves have the same name, removed threads' included. Numbers of threads have at most 32 bits.
+pub fn names_are_different()
+    ensures { (program : Program) (history : List ℕ) (t u : ℕ) → t < 2 ^ 32 → u < 2 ^ 32
+        → name_in (system_run program history).state t ≡ name_in (system_run program history).state u → t ≡ u }
 {}

@@ -5,8 +5,9 @@ ghost use Rattle.lot_machine.specs.Lottery.{running_sums};
 
 use lot_machine::Drawn;
 
-/// The weight of a value in a processor's draw: with a compensation, which is how many ticks of its quantum a thread
-/// had used when it yielded or blocked, it is inflated as if the whole quantum were used (3.4, 4.5).
+/// The weight of a value in a processor's draw: with a compensation, which is how many ticks a thread had used when it
+/// yielded or blocked, or when its quantum ended late, it is changed as if a whole quantum were used (3.4, 4.5). What is
+/// worth something weighs something.
 ///
 /// `value` is in base units, `compensation` and `quantum` are in ticks.
 pub fn weight(value: u64, compensation: Option<u32>, quantum: u32) -> u128
@@ -16,14 +17,14 @@ pub fn weight(value: u64, compensation: Option<u32>, quantum: u32) -> u128
 {
     match compensation {
         None => u128::from(value),
-        Some(used) => inflated(value, quantum, used),
+        Some(used) => compensated(value, quantum, used).max(u128::from(value.min(1))),
     }
 }
 
-/// A value as if the whole quantum were used. Nearly all products fit 64 bits, which divide faster.
-fn inflated(value: u64, quantum: u32, used: u32) -> u128
+/// A value as if a whole quantum were used. Nearly all products fit 64 bits, which divide faster.
+fn compensated(value: u64, quantum: u32, used: u32) -> u128
     requires { 0 < used }
-    ensures inflated { result ≡ value * quantum / used }
+    ensures compensated { result ≡ value * quantum / used }
     ensures small { result < 2 ^ 96 }
 {
     match value.checked_mul(u64::from(quantum)) {

@@ -1,5 +1,5 @@
 //! The threads that compete for a processor, with their weights in a tree of partial sums.
-ghost use Rattle.std.specs.Prelude.{◌≡◌, ◌⊎◌, ◌↔◌, ℕ, ◌-◌, ◌+◌, ◌<◌, ◌^◌, [], Contains, IfOk, IfSome, IsSome};
+ghost use Rattle.std.specs.Prelude.{◌≡◌, ◌⊎◌, ◌↔◌, ℕ, ◌-◌, ◌+◌, ◌*◌, ◌<◌, ◌^◌, [], Contains, IfOk, IfSome, IsSome};
 ghost use Rattle.std.specs.Prelude.{MatchOption, length, replicate, slice_get, slice_set};
 ghost use Rattle.std.specs.List.{remove};
 ghost use Rattle.lot_machine.specs.declared.funding.Node.TheVariants.{Thread as ThreadNode};
@@ -22,9 +22,13 @@ use lot_tree::SumTree;
 use lot_value::ValuedGraph;
 use std::alloc::{AllocError, Global};
 use std::marker::Model;
+use std::mem::size_of;
 
 // The only list of the changed threads.
 const CHANGED: usize = 0;
+
+// What a thread takes for what it competes with.
+const COMPETITOR_BYTES: u64 = size_of::<Option<Competitor>>() as u64;
 
 /// What each thread competes with, if it does, and the weights of those that compete; and how many places of the tree
 /// of weights were visited.
@@ -77,6 +81,14 @@ impl RunQueue {
             quantum: limits.quantum,
             visits: 0,
         })
+    }
+
+    /// How many bytes `new` asks of the allocator in all.
+    pub fn bytes(limits: &Limits) -> u64
+        ensures { result ≡ 60 * limits.now.threads + 8 }
+    {
+        let threads = limits.threads as usize;
+        SumTree::bytes(threads) + Lists::bytes(1, threads) + COMPETITOR_BYTES * threads as u64
     }
 
     /// How many ticks a quantum has.

@@ -2,6 +2,9 @@ pub mod StepFacts
 pub mod ReplyFacts
 pub mod Runs
 pub mod PlaceFacts
+pub mod GoneFacts
+pub mod RowFacts
+pub mod InOrder
 pub mod TurnFacts
 pub mod RunFacts
 pub mod CountFacts

@@ -1,22 +1,24 @@
 -- Where the threads are in their scripts, one of them changed or one more.
-use Rattle.std.proofs.Common.{◌≡◌, ℕ, zero, suc, Option, ◌+◌, ◌-◌, ◌<◌, ◌≤◌, Some, None, List, [], ◌∷◌, ◌++◌, length, get_or, map, drop, option_map, refl, sym, ◌∙◌, ap, subst, arith}
+use Rattle.std.proofs.Common.{◌≡◌, ℕ, zero, suc, ◌⊎◌, inl, inr, Option, ◌+◌, ◌-◌, ◌<◌, ◌≤◌, Some, None, List, [], ◌∷◌, ◌++◌, length, get_or, map, drop, option_map, refl, sym, ◌∙◌, ap, subst, arith}
+use Rattle.std.specs.Prelude.{IfSome, option_and_then}
 use Rattle.std.proofs.Math.Seq.{drop-append_seam}
+use Rattle.std.proofs.Math.ListN.{drop_of_length-le}
 use Rattle.std.specs.List.{slice_get, slice_set}
-use Rattle.std.specs.Option.{unwrap_or}
-use Rattle.std.proofs.lemmas.List.{get_or-set_same, set-set, set-get_or}
+use Rattle.std.specs.Option.{unwrap_or, option_flatten}
+use Rattle.std.proofs.lemmas.List.{append-nil, get_or-set_same, length-set, set-set, set-get_or}
 use Rattle.std.proofs.lemmas.Option.{unwrap_or-slice_get}
 use Rattle.lot_machine.specs.declared.record.Thread.{Thread}
 use Rattle.lot_simulation.specs.Script.{Context, start}
 use Rattle.lot_simulation.specs.World.{Program}
-use Rattle.lot_machine.specs.State.{State}
+use Rattle.lot_machine.specs.State.{State, thread_at}
 use Rattle.lot_machine.specs.Bounds.{IsBetween}
 use Rattle.lot_machine.specs.Numbered.{at_number, set_number}
 use Rattle.lot_simulation.specs.World.{delivered_to, new_contexts}
-use Rattle.lot_machine.proofs.Tickets.{at_number-suc}
+use Rattle.lot_machine.proofs.Tickets.{at_number-suc, some-injective}
 use Rattle.lot_simulation.proofs.DrawnThreads.{number-some}
 use Rattle.lot_script.specs.Places.{Place, first_place}
 use Rattle.lot_engine.specs.Held.{script_lines, IsAt, AreAt}
-use Rattle.lot_engine.specs.Steps.{OneMore, delivered_to_place, place_of}
+use Rattle.lot_engine.specs.Steps.{MakesNone, OneMore, delivered_to_place, place_of}
 
 -- the element with a number stands at the place before it
 pub number-or : {A : Type 0} (xs : List A) (n : ℕ) (d : A) → 1 ≤ n → unwrap_or (at_number xs n) d ≡ get_or xs (n - 1) d
@@ -47,7 +49,7 @@ at-delivered_to program t p c (Some n) at =
     record { script = at.script; fits = record { line = at.fits.line; done = at.fits.done; loops = at.fits.loops }; means = ap (λ (d : Context). record d { accumulator = n }) at.means }
 
 module _ (program : Program) where
-  pub at-lengths : (threads : List Thread) (places : List Place) (contexts : List Context) → AreAt program threads places contexts → (length places ≡ length threads) × (length contexts ≡ length threads)
+  pub at-lengths : (threads : List (Option Thread)) (places : List Place) (contexts : List Context) → AreAt program threads places contexts → (length places ≡ length threads) × (length contexts ≡ length threads)
   at-lengths [] [] [] at = (refl, refl)
   at-lengths [] [] (c ∷ cs) at = absurd at
   at-lengths [] (p ∷ ps) cs at = absurd at
@@ -56,8 +58,8 @@ module _ (program : Program) where
   at-lengths (t ∷ ts) (p ∷ ps) (c ∷ cs) at = let rest = at-lengths ts ps cs at.1 in (ap suc rest.0, ap suc rest.1)
 
   -- one more of each
-  pub at-more : (threads : List Thread) (places : List Place) (contexts : List Context) (t : Thread) (p : Place) (c : Context) → AreAt program threads places contexts → IsAt program t p c
-      → AreAt program (threads ++ t ∷ []) (places ++ p ∷ []) (contexts ++ c ∷ [])
+  pub at-more : (threads : List (Option Thread)) (places : List Place) (contexts : List Context) (t : Thread) (p : Place) (c : Context) → AreAt program threads places contexts → IsAt program t p c
+      → AreAt program (threads ++ Some t ∷ []) (places ++ p ∷ []) (contexts ++ c ∷ [])
   at-more [] [] [] t p c at more = (more, tt)
   at-more [] [] (d ∷ ds) t p c at more = absurd at
   at-more [] (q ∷ qs) ds t p c at more = absurd at
@@ -66,51 +68,101 @@ module _ (program : Program) where
   at-more (u ∷ us) (q ∷ qs) (d ∷ ds) t p c at more = (at.0, at-more us qs ds t p c at.1 more)
 
   -- what is known of the thread at a place
-  pub at-place : (threads : List Thread) (places : List Place) (contexts : List Context) (i : ℕ) (t : Thread) (p : Place) (c : Context) → AreAt program threads places contexts → i < length threads
-      → IsAt program (get_or threads i t) (get_or places i p) (get_or contexts i c)
-  at-place [] [] [] i t p c at below = absurd (omega arith)
-  at-place [] [] (d ∷ ds) i t p c at below = absurd at
-  at-place [] (q ∷ qs) ds i t p c at below = absurd at
-  at-place (u ∷ us) [] ds i t p c at below = absurd at
-  at-place (u ∷ us) (q ∷ qs) [] i t p c at below = absurd at
-  at-place (u ∷ us) (q ∷ qs) (d ∷ ds) zero t p c at below = at.0
-  at-place (u ∷ us) (q ∷ qs) (d ∷ ds) (suc i) t p c at below = at-place us qs ds i t p c at.1 (omega (arith, below))
+  pub at-place : (threads : List (Option Thread)) (places : List Place) (contexts : List Context) (i : ℕ) (p : Place) (c : Context) → AreAt program threads places contexts → i < length threads
+      → IfSome (get_or threads i None) (λ t. IsAt program t (get_or places i p) (get_or contexts i c))
+  at-place [] [] [] i p c at below = absurd (omega arith)
+  at-place [] [] (d ∷ ds) i p c at below = absurd at
+  at-place [] (q ∷ qs) ds i p c at below = absurd at
+  at-place (u ∷ us) [] ds i p c at below = absurd at
+  at-place (u ∷ us) (q ∷ qs) [] i p c at below = absurd at
+  at-place (u ∷ us) (q ∷ qs) (d ∷ ds) zero p c at below = at.0
+  at-place (u ∷ us) (q ∷ qs) (d ∷ ds) (suc i) p c at below = at-place us qs ds i p c at.1 (omega (arith, below))
 
   -- the thread at a place is elsewhere in its script
-  pub at-set : (threads : List Thread) (places : List Place) (contexts : List Context) (i : ℕ) (t : Thread) (p : Place) (c : Context) → AreAt program threads places contexts → IsAt program (get_or threads i t) p c
-      → AreAt program threads (slice_set places i p) (slice_set contexts i c)
-  at-set [] [] [] i t p c at now = tt
-  at-set [] [] (d ∷ ds) i t p c at now = absurd at
-  at-set [] (q ∷ qs) ds i t p c at now = absurd at
-  at-set (u ∷ us) [] ds i t p c at now = absurd at
-  at-set (u ∷ us) (q ∷ qs) [] i t p c at now = absurd at
-  at-set (u ∷ us) (q ∷ qs) (d ∷ ds) zero t p c at now = (now, at.1)
-  at-set (u ∷ us) (q ∷ qs) (d ∷ ds) (suc i) t p c at now = (at.0, at-set us qs ds i t p c at.1 now)
+  pub at-set : (threads : List (Option Thread)) (places : List Place) (contexts : List Context) (i : ℕ) (p : Place) (c : Context) → AreAt program threads places contexts
+      → IfSome (get_or threads i None) (λ t. IsAt program t p c) → AreAt program threads (slice_set places i p) (slice_set contexts i c)
+  at-set [] [] [] i p c at now = tt
+  at-set [] [] (d ∷ ds) i p c at now = absurd at
+  at-set [] (q ∷ qs) ds i p c at now = absurd at
+  at-set (u ∷ us) [] ds i p c at now = absurd at
+  at-set (u ∷ us) (q ∷ qs) [] i p c at now = absurd at
+  at-set (u ∷ us) (q ∷ qs) (d ∷ ds) zero p c at now = (now, at.1)
+  at-set (u ∷ us) (q ∷ qs) (d ∷ ds) (suc i) p c at now = (at.0, at-set us qs ds i p c at.1 now)
+
+  -- the thread at a place is removed
+  pub at-gone : (threads : List (Option Thread)) (places : List Place) (contexts : List Context) (i : ℕ) → AreAt program threads places contexts → AreAt program (slice_set threads i None) places contexts
+  at-gone [] places contexts i at = at
+  at-gone (u ∷ us) [] ds i at = absurd at
+  at-gone (u ∷ us) (q ∷ qs) [] i at = absurd at
+  at-gone (u ∷ us) (q ∷ qs) (d ∷ ds) zero at = (tt, at.1)
+  at-gone (u ∷ us) (q ∷ qs) (d ∷ ds) (suc i) at = (at.0, at-gone us qs ds i at.1)
+
+  -- what is known of the thread with a number, if it is there
+  pub at-number : (threads : List (Option Thread)) (places : List Place) (contexts : List Context) (t : ℕ) (thread : Thread) (p : Place) (c : Context) → AreAt program threads places contexts
+      → IsBetween 1 (length threads) t → thread_at threads t ≡ Some thread → IsAt program thread (get_or places (t - 1) p) (get_or contexts (t - 1) c)
+  at-number threads places contexts t thread p c at between there =
+      let numbered : at_number threads t ≡ Some (get_or threads (t - 1) None) = number-some threads t None between in
+      let same : get_or threads (t - 1) None ≡ Some thread = sym (ap option_flatten numbered) ∙ there in
+      subst (λ o. IfSome o (λ x. IsAt program x (get_or places (t - 1) p) (get_or contexts (t - 1) c))) same (at-place threads places contexts (t - 1) p c at (omega (arith, between)))
+
+-- a thread with a script is there
+pub scripted : (o : Option Thread) (script : ℕ) → option_map (λ (t : Thread). t.script) o ≡ Some script → (thread : Thread) × (o ≡ Some thread) × (thread.script ≡ script)
+scripted None script is = cc
+scripted (Some thread) script is = (thread, refl, some-injective thread.script script is)
+
+-- a number that is handed over to a thread, if it is there
+pub if-delivered_to : (program : Program) (o : Option Thread) (p : Place) (c : Context) (number : Option ℕ) → IfSome o (λ t. IsAt program t p c) → IfSome o (λ t. IsAt program t (delivered_to_place number p) (delivered_to number c))
+if-delivered_to program None p c number at = tt
+if-delivered_to program (Some t) p c number at = at-delivered_to program t p c number at
 
 -- the last of some has their count as its number
-number-last : (threads : List Thread) (t : Thread) → at_number (threads ++ t ∷ []) (length threads + 1) ≡ Some t
+number-last : (threads : List (Option Thread)) (t : Thread) → thread_at (threads ++ Some t ∷ []) (length threads + 1) ≡ Some t
 number-last threads t =
     let next : length threads + 1 ≡ suc (length threads) = omega arith in
-    ap (at_number (threads ++ t ∷ [])) next ∙ at_number-suc (threads ++ t ∷ []) (length threads) ∙ last threads
+    ap (thread_at (threads ++ Some t ∷ [])) next ∙ ap option_flatten (at_number-suc (threads ++ Some t ∷ []) (length threads) ∙ last threads)
   where
-    last : (ts : List Thread) → slice_get (ts ++ t ∷ []) (length ts) ≡ Some t
+    last : (ts : List (Option Thread)) → slice_get (ts ++ Some t ∷ []) (length ts) ≡ Some (Some t)
     last [] = refl
     last (u ∷ us) = last us
 
+-- the thread that was made is there
+pub made-there : (s after : State) (n : ℕ) (more : OneMore s after n) → thread_at after.threads n ≡ Some more.thread
+made-there s after n more = ap (λ ts. thread_at ts n) more.threads ∙ ap (thread_at (s.threads ++ Some more.thread ∷ [])) more.number ∙ number-last s.threads more.thread
+
+-- where a new thread is in its script
+begun : Program → Option Thread → Context
+begun program t = start (unwrap_or (option_and_then (λ (made : Thread). at_number program.scripts made.script) t) [])
+
 -- a thread that was made is where its script begins
 pub new-at : (program : Program) (s after : State) (n script : ℕ) (places : List Place) (before : List Context) (place : Place) → OneMore s after n → AreAt program s.threads places before
-    → Some script ≡ option_map (λ (t : Thread). t.script) (at_number after.threads n) → ((t : Thread) → t.script ≡ script → IsAt program t place (start (script_lines program script)))
+    → Some script ≡ option_map (λ (t : Thread). t.script) (thread_at after.threads n) → ((t : Thread) → t.script ≡ script → IsAt program t place (start (script_lines program script)))
     → AreAt program after.threads (places ++ place ∷ []) (before ++ new_contexts program s after)
+unfolding begun
 new-at program s after n script places before place more at is begins =
-    let last : at_number after.threads n ≡ Some more.thread = ap (λ ts. at_number ts n) more.threads ∙ ap (at_number (s.threads ++ more.thread ∷ [])) more.number ∙ number-last s.threads more.thread in
-    let same : Some script ≡ Some more.thread.script = is ∙ ap (option_map (λ (t : Thread). t.script)) last in
+    let same : Some script ≡ Some more.thread.script = is ∙ ap (option_map (λ (t : Thread). t.script)) (made-there s after n more) in
     let number : more.thread.script ≡ script = cc in
     let added : new_contexts program s after ≡ start (script_lines program more.thread.script) ∷ [] =
-    ap (λ ts. map (λ (t : Thread). start (script_lines program t.script)) (drop (length s.threads) ts)) more.threads
-    ∙ ap (map (λ (t : Thread). start (script_lines program t.script))) (drop-append_seam s.threads (more.thread ∷ [])) in
+    ap (λ ts. map (begun program) (drop (length s.threads) ts)) more.threads ∙ ap (map (begun program)) (drop-append_seam s.threads (Some more.thread ∷ [])) in
     let context : IsAt program more.thread place (start (script_lines program more.thread.script)) =
     subst (λ k. IsAt program more.thread place (start (script_lines program k))) (sym number) (begins more.thread number) in
-    let longer : AreAt program (s.threads ++ more.thread ∷ []) (places ++ place ∷ []) (before ++ start (script_lines program more.thread.script) ∷ []) =
+    let longer : AreAt program (s.threads ++ Some more.thread ∷ []) (places ++ place ∷ []) (before ++ start (script_lines program more.thread.script) ∷ []) =
     at-more program s.threads places before more.thread place (start (script_lines program more.thread.script)) at context in
     subst (λ ts. AreAt program ts (places ++ place ∷ []) (before ++ new_contexts program s after)) (sym more.threads)
-    (subst (λ cs. AreAt program (s.threads ++ more.thread ∷ []) (places ++ place ∷ []) (before ++ cs)) (sym added) longer)
+    (subst (λ cs. AreAt program (s.threads ++ Some more.thread ∷ []) (places ++ place ∷ []) (before ++ cs)) (sym added) longer)
+
+-- no thread is made, so each is where it was
+pub none-at : (program : Program) (s after : State) (places : List Place) (before : List Context) → MakesNone s after → AreAt program s.threads places before → AreAt program after.threads places (before ++ new_contexts program s after)
+unfolding begun
+none-at program s after places before none at = by none.threads
+  where
+    nothing : (ts : List (Option Thread)) → length ts ≡ length s.threads → drop (length s.threads) ts ≡ []
+    nothing ts same = drop_of_length-le ts (omega (arith, same))
+
+    from : (ts : List (Option Thread)) → after.threads ≡ ts → length ts ≡ length s.threads → AreAt program ts places before → AreAt program after.threads places (before ++ new_contexts program s after)
+    from ts is same there =
+        let added : new_contexts program s after ≡ [] = ap (λ x. map (begun program) (drop (length s.threads) x)) is ∙ ap (map (begun program)) (nothing ts same) in
+        subst (λ x. AreAt program x places (before ++ new_contexts program s after)) (sym is) (subst (λ cs. AreAt program ts places (before ++ cs)) (sym added) (subst (AreAt program ts places) (sym (append-nil before)) there))
+
+    by : (after.threads ≡ s.threads) ⊎ ((t : ℕ) × (after.threads ≡ set_number s.threads t None)) → AreAt program after.threads places (before ++ new_contexts program s after)
+    by (inl same) = from s.threads same refl at
+    by (inr (t, is)) = from (set_number s.threads t None) is (length-set s.threads (t - 1) None) (at-gone program s.threads places before (t - 1) at)

@@ -1,5 +1,5 @@
 -- Whom a reply names.
-use Rattle.std.proofs.Common.{◌≡◌, ℕ, zero, suc, ◌+◌, ◌==◌, false, not, ◌||◌, Option, Some, None, is_none, List, [], ◌∷◌, length, map, option_map, nat_lt, refl, sym, ◌∙◌, ap, arith, length-append}
+use Rattle.std.proofs.Common.{◌≡◌, ℕ, zero, suc, ◌+◌, ◌==◌, false, not, ◌||◌, Option, Some, None, inl, inr, is_none, unwrap_or, List, [], ◌∷◌, length, map, option_map, nat_lt, refl, sym, ◌∙◌, ap, arith, length-append}
 use Rattle.std.specs.List.{slice_get}
 use Rattle.std.proofs.lemmas.Bool.{ltb-false, leb-false, or_parts, eqb-false}
 use Rattle.std.proofs.lemmas.Option.{slice_get_within}
@@ -7,7 +7,7 @@ use Rattle.lot_machine.specs.declared.record.Record.{Record}
 use Rattle.lot_machine.specs.declared.record.Status.{Status}
 use Rattle.lot_machine.specs.declared.action.Action.{Action}
 use Rattle.lot_machine.specs.declared.command.Command.{Command}
-use Rattle.lot_machine.specs.declared.command.Command.TheVariants.{MakeThread, MakeFunded}
+use Rattle.lot_machine.specs.declared.command.Command.TheVariants.{MakeThread, RemoveThread, MakeFunded}
 use Rattle.lot_machine.specs.declared.event.Event.TheVariants as event
 use Rattle.lot_machine.specs.declared.refusal.Refusal.{Refusal}
 use Rattle.lot_machine.specs.declared.refusal.Refusal.TheVariants.{BadName, NameTaken, NoCurrency, BadAmount, Full, NoScript}
@@ -15,12 +15,12 @@ use Rattle.lot_machine.specs.declared.drawn.Drawn.{Drawn}
 use Rattle.lot_machine.specs.Bounds.{IsBetween}
 use Rattle.lot_machine.specs.Lottery.{winner}
 use Rattle.lot_machine.specs.State.{State, status_of, ready_threads, weight_of}
-use Rattle.lot_machine.specs.Commands.{Step, is_bad_amount, is_good_name, is_taken, is_no_script, are_tickets_full, are_threads_full, currency_named, with_thread, command_refusal, command_effect, command_step, unless_refused}
+use Rattle.lot_machine.specs.Commands.{Step, is_bad_amount, is_good_name, is_taken, is_no_script, are_tickets_full, are_threads_full, currency_named, thread_named, with_thread, command_refusal, command_effect, command_step, unless_refused}
 use Rattle.lot_machine.specs.Step.{draw, thread_there, event_refusal, event_effect, step}
 use Rattle.lot_machine.proofs.CommandsKept.{all-pass}
 use Rattle.lot_machine.proofs.Tickets.{at_number-suc}
 use Rattle.lot_simulation.proofs.DrawnThreads.{drawn-numbered}
-use Rattle.lot_engine.specs.Steps.{KeepsThreads, OneMore, MakesThread, OfDraw, OfRun}
+use Rattle.lot_engine.specs.Steps.{MakesNone, OneMore, MakesThread, OfDraw, OfRun}
 
 -- ---- commands
 
@@ -38,12 +38,12 @@ with_thread-more s name script known room =
       count = omega (arith, free);
     }
 
-kept-same : (s : State) (c : Command) (o : Option Refusal) (next : Step) → KeepsThreads s s → ((o ≡ None) → MakesThread s next.state next.reply) → MakesThread s (unless_refused s o next).state (unless_refused s o next).reply
+kept-same : (s : State) (c : Command) (o : Option Refusal) (next : Step) → MakesNone s s → ((o ≡ None) → MakesThread s next.state next.reply) → MakesThread s (unless_refused s o next).state (unless_refused s o next).reply
 kept-same s c None next none made = made refl
 kept-same s c (Some refusal) next none made = none
 
-unchanged : (s : State) → KeepsThreads s s
-unchanged s = record { threads = refl; records = refl; limits = refl }
+unchanged : (s : State) → MakesNone s s
+unchanged s = record { threads = inl refl; records = refl; limits = refl }
 
 pub command-makes : (s : State) (c : Command) → MakesThread s (command_step s c).state (command_step s c).reply
 command-makes s (MakeThread name script) =
@@ -55,7 +55,9 @@ command-makes s (MakeFunded amount currency name script) =
     let passed = all-pass ((is_bad_amount amount, BadAmount) ∷ (is_none (currency_named s currency), NoCurrency) ∷ (not (is_good_name name), BadName) ∷ (is_taken s name, NameTaken) ∷ (is_no_script s script, NoScript) ∷ (are_tickets_full s || are_threads_full s, Full) ∷ []) e in
     let more = with_thread-more s name script passed.1.1.1.1.0 (or_parts (are_tickets_full s) (are_threads_full s) passed.1.1.1.1.1.0).1 in
     record { number = more.number; thread = more.thread; threads = more.threads; records = more.records; script = more.script; limits = more.limits; count = more.count })
-command-makes s other = kept-same s other (command_refusal s other) (command_effect s other) (unchanged s) (λ _. record { threads = refl; records = refl; limits = refl })
+command-makes s (RemoveThread name) =
+    kept-same s (RemoveThread name) _ (command_effect s (RemoveThread name)) (unchanged s) (λ _. record { threads = inr (unwrap_or (thread_named s name) 0, refl); records = refl; limits = refl })
+command-makes s other = kept-same s other (command_refusal s other) (command_effect s other) (unchanged s) (λ _. record { threads = inl refl; records = refl; limits = refl })
 
 -- ---- draws
 

@@ -16,7 +16,7 @@ use Rattle.lot_machine.specs.declared.reply.Reply.TheVariants as reply
 use Rattle.lot_machine.specs.Bounds.{IsBetween}
 use Rattle.lot_machine.specs.Commands.{Step, unless_refused}
 use Rattle.lot_machine.specs.Numbered.{at_number, set_number}
-use Rattle.lot_machine.specs.State.{State}
+use Rattle.lot_machine.specs.State.{State, thread_at}
 use Rattle.lot_machine.specs.Step.{event_effect, event_refusal, step, thread_there, used_there}
 use Rattle.lot_simulation.specs.declared.script.ScriptTrap.{ScriptTrap}
 use Rattle.lot_simulation.specs.Script.{Context, Slice, is_mark, slice}
@@ -31,8 +31,7 @@ use Rattle.lot_engine.specs.declared.turn.Work.{Work}
 use Rattle.lot_engine.specs.Held.{script_lines, IsAt, IsHeld}
 use Rattle.lot_engine.specs.Steps.{OfRun, did, event_done, event_given, place_of, places_after, places_received, slice_between}
 use Rattle.lot_engine.specs.Turns.{IsWork, IsWorkIn, IsSliceOf, work_at}
-use Rattle.lot_simulation.proofs.DrawnThreads.{number-some}
-use Rattle.lot_engine.proofs.PlaceFacts.{number-or, at-lengths, at-place, delivered-set}
+use Rattle.lot_engine.proofs.PlaceFacts.{number-or, scripted, at-lengths, at-number, delivered-set}
 use Rattle.lot_engine.proofs.TurnFacts.{there-between, turn-answer, turn-held}
 
 -- ---- what a slice did as an event
@@ -142,19 +141,16 @@ module _ (program : Program) (w : World) (s : State) (places : List Place) (seed
 
   pub work-kept : IsWork program w p (work_at running (place_of places running.thread))
   work-kept =
-      let none : Thread = record { name = []; script = 0 } in
       let start : Context = record { rest = []; accumulator = 0 } in
       let within = thread-kept in
       let lengths = at-lengths program s.threads places w.contexts held.places_at in
       let count : IsBetween 1 (length s.threads) running.thread = rw (← lengths.0) within in
-      let numbered : at_number s.threads running.thread ≡ Some (get_or s.threads (running.thread - 1) none) = number-some s.threads running.thread none count in
-      let at : IsAt program (get_or s.threads (running.thread - 1) none) (get_or places (running.thread - 1) first_place) (get_or w.contexts (running.thread - 1) start) =
-      at-place program s.threads places w.contexts (running.thread - 1) none first_place start held.places_at (omega (arith, count)) in
-      let here : IsAt program (get_or s.threads (running.thread - 1) none) (place_of places running.thread) (context_of w running.thread) =
+      let its : option_map (λ (t : Thread). t.script) (thread_at s.threads running.thread) ≡ Some running.script = ap (λ (x : State). option_map (λ (t : Thread). t.script) (thread_at x.threads running.thread)) held.state ∙ is.script in
+      let (thread, there, number) = scripted (thread_at s.threads running.thread) running.script its in
+      let at : IsAt program thread (get_or places (running.thread - 1) first_place) (get_or w.contexts (running.thread - 1) start) =
+      at-number program s.threads places w.contexts running.thread thread first_place start held.places_at count there in
+      let here : IsAt program thread (place_of places running.thread) (context_of w running.thread) =
       rw (number-or places running.thread first_place within.0, number-or w.contexts running.thread start within.0) at in
-      let same : Some (get_or s.threads (running.thread - 1) none).script ≡ Some running.script =
-      ap (option_map (λ (t : Thread). t.script)) (sym numbered) ∙ ap (λ (x : State). option_map (λ (t : Thread). t.script) (at_number x.threads running.thread)) held.state ∙ is.script in
-      let number : (get_or s.threads (running.thread - 1) none).script ≡ running.script = cc in
       record {
         runs = is.runs;
         script = is.script;

@@ -1,15 +1,15 @@
 -- What a system holds after a turn is what the world comes to.
-use Rattle.std.proofs.Common.{◌≡◌, ◌↔◌, ℕ, suc, ◌+◌, ◌-◌, ◌<◌, ◌≤◌, ◌==◌, Bool, true, false, Option, Some, None, List, [], ◌∷◌, ◌++◌, length, drop, get_or, unwrap_or, option_map, refl, sym, ◌∙◌, ap, subst, arith, length-append, ne_eqb}
+use Rattle.std.proofs.Common.{◌≡◌, ◌↔◌, ℕ, suc, ◌+◌, ◌-◌, ◌<◌, ◌≤◌, ◌==◌, ◌⊎◌, inl, inr, Bool, true, false, Option, Some, None, List, [], ◌∷◌, ◌++◌, length, drop, get_or, unwrap_or, option_map, refl, sym, ◌∙◌, ap, subst, arith, length-append, ne_eqb}
 use Rattle.std.specs.Prelude.{if◌then◌else◌, nat_lt, count_by, is_some}
 use Rattle.std.proofs.Math.Seq.{drop-cons}
-use Rattle.std.proofs.Math.ListN.{drop_of_length-le}
+use Rattle.std.proofs.Math.ListN.{drop_of_length-le, length-set}
 use Rattle.std.proofs.lemmas.Bool.{ltb-true, ltb-false}
 use Rattle.std.proofs.lemmas.List.Sums.{sum_by_push}
 use Rattle.std.proofs.lemmas.List.Elements.{All-push}
-use Rattle.std.specs.Option.{IfSome}
+use Rattle.std.specs.Option.{IfSome, option_flatten}
 use Rattle.lot_machine.specs.declared.record.Record.{Record}
 use Rattle.lot_machine.specs.declared.record.Thread.{Thread}
-use Rattle.lot_machine.specs.declared.record.Status.TheVariants.{Running}
+use Rattle.lot_machine.specs.declared.record.Status.TheVariants.{Running, Dead}
 use Rattle.lot_simulation.specs.declared.script.ScriptTrap.{ScriptTrap}
 use Rattle.lot_machine.specs.declared.command.Command.{Command}
 use Rattle.lot_machine.specs.declared.command.Command.TheVariants.{List as Listing}
@@ -18,12 +18,13 @@ use Rattle.lot_machine.specs.declared.event.Event.{Event}
 use Rattle.lot_machine.specs.declared.event.Event.TheVariants as event
 use Rattle.lot_machine.specs.declared.reply.Reply.{Reply}
 use Rattle.lot_machine.specs.declared.reply.Reply.TheVariants as reply
-use Rattle.lot_machine.specs.Bounds.{IsBetween}
+use Rattle.lot_machine.specs.Bounds.{IsBetween, IsWithinBounds}
 use Rattle.lot_machine.specs.Numbered.{at_number, set_number}
 use Rattle.lot_simulation.specs.Script.{Context, slice}
-use Rattle.lot_machine.specs.State.{State, thread_on, used_by}
+use Rattle.lot_machine.specs.State.{State, status_of, thread_at, thread_on, used_by}
+use Rattle.lot_machine.specs.Order.{IsInOrder}
 use Rattle.lot_machine.specs.Step.{step, thread_there, used_there}
-use Rattle.lot_simulation.specs.World.{Program, World, action_of, event_of_slice, generator_of, number_from, seed_from, number_of, context_of, slice_on, processor_event, takes_number, delivered_to, number_delivered, contexts_after, new_contexts, console_turn, processor_turn, system_turn, IsLegal}
+use Rattle.lot_simulation.specs.World.{Program, World, action_of, event_of_slice, generator_of, number_from, seed_from, number_of, context_of, slice_on, processor_event, takes_number, delivered_to, number_delivered, contexts_after, new_contexts, console_turn, processor_turn, system_turn, system_run, IsLegal}
 use Rattle.lot_simulation.specs.World.Answer.{Answered}
 use Rattle.lot_machine.proofs.RecordsKept.{found-runs}
 use Rattle.lot_script.specs.Drafts.{IsScript}
@@ -34,17 +35,24 @@ use Rattle.lot_engine.specs.Held.{script_lines, IsAt, AreAt, IsKept, IsHeld}
 use Rattle.lot_engine.specs.Steps.{KeepsThreads, MakesIn, MakesThread, made_thread, OfDraw, OfRun, OfGiven, done_of, event_given, delivered_to_place, place_of, places_after}
 use Rattle.lot_engine.specs.Turns.{IsWork, IsWorkIn, IsSliceOf, Matches}
 use Rattle.lot_engine.proofs.StepFacts.{draws-same, expires-same, traps-same}
+use Rattle.lot_engine.proofs.InOrder.{run-in-order}
 use Rattle.lot_engine.proofs.ReplyFacts.{command-makes, numbered, draw-names, expire-names, trap-names}
 use Rattle.lot_simulation.proofs.DrawnThreads.{number-some}
-use Rattle.lot_engine.proofs.PlaceFacts.{number-or, at-delivered_to, at-lengths, at-place, at-set}
+use Rattle.lot_engine.proofs.PlaceFacts.{number-or, if-delivered_to, scripted, at-lengths, at-number, at-place, at-set}
 
 -- ---- what is kept
 
 kept-in : (program : Program) (s after : State) (made : Option ℕ) → IsKept program s → MakesIn s after made → IsKept program after
 kept-in program s after None kept is =
-    record { limits = is.limits ∙ kept.limits; records = is.records ∙ kept.records ∙ ap length (sym is.threads); count = rw (is.threads, is.limits) kept.count }
+    let long = as-long is.threads in
+    let room : length s.threads ≤ after.limits.threads = rw is.limits kept.count in
+    record { limits = is.limits ∙ kept.limits; records = is.records ∙ kept.records ∙ sym long; count = rw long room }
+  where
+    as-long : (after.threads ≡ s.threads) ⊎ ((t : ℕ) × (after.threads ≡ set_number s.threads t None)) → length after.threads ≡ length s.threads
+    as-long (inl same) = ap length same
+    as-long (inr (t, one_less)) = ap length one_less ∙ length-set s.threads (t - 1) None
 kept-in program s after (Some n) kept is =
-    let longer = length-append s.threads (is.thread ∷ []) in
+    let longer = length-append s.threads (Some is.thread ∷ []) in
     let threads : length after.threads ≡ length s.threads + 1 = ap length is.threads ∙ longer in
     let room : length s.threads + 1 ≤ after.limits.threads = rw is.limits is.count in
     record { limits = is.limits ∙ kept.limits; records = is.records ∙ ap (λ n. n + 1) kept.records ∙ sym threads; count = rw threads room }
@@ -146,37 +154,31 @@ slice-names s p drawn given (Some trap) is = rw is (trap-names s p given.ticks (
 -- what a system answers for the thread on a processor is its work
 module _ (program : Program) (w : World) (s : State) (places : List Place) (seeds : List ℕ) (spent : ℕ) (held : IsHeld program w s places seeds spent) (p : ℕ) where
   -- the thread's script is one of the program's
-  pub script-there : (t script : ℕ) → IsBetween 1 (length s.records) t → option_map (λ t. t.script) (at_number s.threads t) ≡ Some script → IsBetween 1 (length program.scripts) script
+  pub script-there : (t script : ℕ) → IsBetween 1 (length s.records) t → option_map (λ t. t.script) (thread_at s.threads t) ≡ Some script → IsBetween 1 (length program.scripts) script
   script-there t script between is =
-      let none : Thread = record { name = []; script = 0 } in
       let start : Context = record { rest = []; accumulator = 0 } in
       let count : IsBetween 1 (length s.threads) t = rw held.kept.records at between in
-      let numbered : at_number s.threads t ≡ Some (get_or s.threads (t - 1) none) = number-some s.threads t none count in
-      let at : IsAt program (get_or s.threads (t - 1) none) (get_or places (t - 1) first_place) (get_or w.contexts (t - 1) start) =
-      at-place program s.threads places w.contexts (t - 1) none first_place start held.places_at (omega (arith, count)) in
-      let same : Some (get_or s.threads (t - 1) none).script ≡ Some script = ap (option_map (λ (t : Thread). t.script)) (sym numbered) ∙ is in
-      let number : (get_or s.threads (t - 1) none).script ≡ script = cc in
+      let (thread, there, number) = scripted (thread_at s.threads t) script is in
+      let at : IsAt program thread (get_or places (t - 1) first_place) (get_or w.contexts (t - 1) start) =
+      at-number program s.threads places w.contexts t thread first_place start held.places_at count there in
       rw (← number) at.script
 
   pub work-is : (work : Work) (used : ℕ) → thread_on s.records p ≡ Some work.thread → used_by s.records p work.thread ≡ Some used → IsBetween 1 (length s.records) work.thread → used < s.limits.quantum
-      → s.limits.quantum ≤ 1000 → option_map (λ t. t.script) (at_number s.threads work.thread) ≡ Some work.script → (d : Place) → work.place ≡ get_or places (work.thread - 1) d → work.budget ≡ s.limits.quantum - used
+      → s.limits.quantum ≤ 1000 → option_map (λ t. t.script) (thread_at s.threads work.thread) ≡ Some work.script → (d : Place) → work.place ≡ get_or places (work.thread - 1) d → work.budget ≡ s.limits.quantum - used
       → IsScript (script_lines program work.script) → IsWork program w p work
   work-is work used runs there between below most script d context budget legal =
-      let none : Thread = record { name = []; script = 0 } in
       let start : Context = record { rest = []; accumulator = 0 } in
       let count : IsBetween 1 (length s.threads) work.thread = rw held.kept.records at between in
-      let numbered : at_number s.threads work.thread ≡ Some (get_or s.threads (work.thread - 1) none) = number-some s.threads work.thread none count in
-      let at : IsAt program (get_or s.threads (work.thread - 1) none) (get_or places (work.thread - 1) d) (get_or w.contexts (work.thread - 1) start) =
-      at-place program s.threads places w.contexts (work.thread - 1) none d start held.places_at (omega (arith, count)) in
-      let same : Some (get_or s.threads (work.thread - 1) none).script ≡ Some work.script = ap (option_map (λ (t : Thread). t.script)) (sym numbered) ∙ script in
-      let number : (get_or s.threads (work.thread - 1) none).script ≡ work.script = cc in
-      let here : IsAt program (get_or s.threads (work.thread - 1) none) work.place (context_of w work.thread) =
+      let (thread, known, number) = scripted (thread_at s.threads work.thread) work.script script in
+      let at : IsAt program thread (get_or places (work.thread - 1) d) (get_or w.contexts (work.thread - 1) start) =
+      at-number program s.threads places w.contexts work.thread thread d start held.places_at count known in
+      let here : IsAt program thread work.place (context_of w work.thread) =
       rw (context, number-or w.contexts work.thread start between.0) at in
       let spent_there : used_there s p ≡ used = rw (runs, there) refl in
       let left : work.budget ≡ w.state.limits.quantum - used_there w.state p = budget ∙ ap (λ n. s.limits.quantum - n) (sym spent_there) ∙ ap (λ (x : State). x.limits.quantum - used_there x p) held.state in
       record {
         runs = ap (λ (x : State). thread_on x.records p) (sym held.state) ∙ runs;
-        script = ap (λ (x : State). option_map (λ (t : Thread). t.script) (at_number x.threads work.thread)) (sym held.state) ∙ script;
+        script = ap (λ (x : State). option_map (λ (t : Thread). t.script) (thread_at x.threads work.thread)) (sym held.state) ∙ script;
         there = rw (← number) here.script;
         legal = legal;
         fits = rw (← number) here.fits;
@@ -184,6 +186,19 @@ module _ (program : Program) (w : World) (s : State) (places : List Place) (seed
         budget = left;
         some_left = (omega (arith, budget, below), omega (arith, budget, most));
       }
+
+  -- the thread that runs wasn't removed
+  pub runner-scripted : IsWithinBounds program.limits → (history : List ℕ) → w ≡ system_run program history → (t : ℕ) → thread_on s.records p ≡ Some t → (script : ℕ) × (option_map (λ (d : Thread). d.script) (thread_at s.threads t) ≡ Some script)
+  runner-scripted bounds history run t runs =
+      let order : IsInOrder s = subst IsInOrder (sym (held.state ∙ ap (λ (x : World). x.state) run)) (run-in-order program history bounds) in
+      let found = found-runs s.records p t runs in
+      let between = there-between s.records p t runs in
+      let numbered : at_number s.threads t ≡ Some (get_or s.threads (t - 1) None) = number-some s.threads t None (omega (arith, between.0), omega (arith, between.1, held.kept.records)) in
+      by order found (get_or s.threads (t - 1) None) numbered
+    where
+      by : IsInOrder s → ((used : ℕ) × (status_of s.records t ≡ Some (Running p used))) → (o : Option Thread) → at_number s.threads t ≡ Some o → (script : ℕ) × (option_map (λ (d : Thread). d.script) (thread_at s.threads t) ≡ Some script)
+      by order found (Some thread) is = (thread.script, ap (λ o. option_map (λ (d : Thread). d.script) (option_flatten o)) is)
+      by order found None is = let never : Some Dead ≡ Some (Running p found.0) = sym (order.removed t is) ∙ found.1 in cc
 
 -- ---- a processor's turn
 
@@ -202,22 +217,17 @@ module _ (program : Program) (w : World) (s : State) (p : ℕ) (state : s ≡ w.
       let between = there-between w.state.records p work.thread is.1.runs in
       (work.thread, (rw state between, subst (λ t. OfRun t (step s (event_given p drawn (Some given))).reply) (there-is work.thread is.1.runs) named))
 
-module _ (program : Program) (w : World) (p : ℕ) (threads : List Thread) (places : List Place) (at : AreAt program threads places w.contexts) where
+module _ (program : Program) (w : World) (p : ℕ) (threads : List (Option Thread)) (places : List Place) (at : AreAt program threads places w.contexts) where
   -- the thread's place, if it is elsewhere then
-  moved : (t : ℕ) (place : Place) (context : Context) → ((d : Thread) → IsAt program (get_or threads (t - 1) d) place context) → AreAt program threads (set_number places t place) (set_number w.contexts t context)
-  moved t place context now = from threads refl
-    where
-      from : (ts : List Thread) → threads ≡ ts → AreAt program threads (set_number places t place) (set_number w.contexts t context)
-      from [] is = at-set program threads places w.contexts (t - 1) (record { name = []; script = 0 }) place context at (now (record { name = []; script = 0 }))
-      from (d ∷ ds) is = at-set program threads places w.contexts (t - 1) d place context at (now d)
+  moved : (t : ℕ) (place : Place) (context : Context) → IfSome (get_or threads (t - 1) None) (λ x. IsAt program x place context) → AreAt program threads (set_number places t place) (set_number w.contexts t context)
+  moved t place context now = at-set program threads places w.contexts (t - 1) place context at now
 
   draw-follows : (r : Reply) → OfDraw (length threads) r → AreAt program threads (places_after places None r) (contexts_after w p r)
   draw-follows (reply.Winner t number total delivered) of =
-      let lengths = at-lengths program threads places w.contexts at in
-      moved t (delivered_to_place delivered (place_of places t)) (delivered_to delivered (context_of w t)) (λ d.
-      at-delivered_to program (get_or threads (t - 1) d) (place_of places t) (context_of w t) delivered
-      (rw (number-or places t first_place of.0, number-or w.contexts t (record { rest = []; accumulator = 0 }) of.0)
-      (at-place program threads places w.contexts (t - 1) d first_place (record { rest = []; accumulator = 0 }) at (omega (arith, of.0, of.1)))))
+      let start : Context = record { rest = []; accumulator = 0 } in
+      let there : IfSome (get_or threads (t - 1) None) (λ x. IsAt program x (place_of places t) (context_of w t)) =
+      rw (number-or places t first_place of.0, number-or w.contexts t start of.0) (at-place program threads places w.contexts (t - 1) first_place start at (omega (arith, of.0, of.1))) in
+      moved t (delivered_to_place delivered (place_of places t)) (delivered_to delivered (context_of w t)) (if-delivered_to program (get_or threads (t - 1) None) (place_of places t) (context_of w t) delivered there)
   draw-follows reply.Idle of = at
   draw-follows (reply.Refused why) of = at
   draw-follows (reply.Ticket n) of = absurd of
@@ -231,24 +241,27 @@ module _ (program : Program) (w : World) (p : ℕ) (threads : List Thread) (plac
 
   module _ (work : Work) (given : Parts) (is : IsWork program w p work) (of : IsSliceOf program work given) (exact : IsSlice given) (same : threads ≡ w.state.threads) (between : IsBetween 1 (length threads) work.thread) where
     -- the slice's end is a place of the thread's script
-    end-at : (d : Thread) → IsAt program (get_or threads (work.thread - 1) d) given.end (slice_on w p work.thread).end
-    end-at d =
-        let numbered : at_number threads work.thread ≡ Some (get_or threads (work.thread - 1) d) = number-some threads work.thread d between in
-        let script : Some (get_or threads (work.thread - 1) d).script ≡ Some work.script =
-        ap (option_map (λ (t : Thread). t.script)) (sym numbered) ∙ ap (λ (ts : List Thread). option_map (λ (t : Thread). t.script) (at_number ts work.thread)) same ∙ is.script in
-        let number : (get_or threads (work.thread - 1) d).script ≡ work.script = cc in
-        let lines : given.lines ≡ script_lines program (get_or threads (work.thread - 1) d).script = of.lines ∙ ap (script_lines program) (sym number) in
-        record {
-          script = rw number is.there;
-          fits = rw (← lines) exact.end_fits;
-          means = rw (slice-done program w p work given is of exact, ← lines) refl;
-        }
+    end-at : IfSome (get_or threads (work.thread - 1) None) (λ x. IsAt program x given.end (slice_on w p work.thread).end)
+    end-at = by (get_or threads (work.thread - 1) None) (number-some threads work.thread None between)
+      where
+        by : (o : Option Thread) → at_number threads work.thread ≡ Some o → IfSome o (λ x. IsAt program x given.end (slice_on w p work.thread).end)
+        by None numbered = tt
+        by (Some thread) numbered =
+            let script : Some thread.script ≡ Some work.script =
+            ap (λ o. option_map (λ (t : Thread). t.script) (option_flatten o)) (sym numbered) ∙ ap (λ (ts : List (Option Thread)). option_map (λ (t : Thread). t.script) (thread_at ts work.thread)) same ∙ is.script in
+            let number : thread.script ≡ work.script = cc in
+            let lines : given.lines ≡ script_lines program thread.script = of.lines ∙ ap (script_lines program) (sym number) in
+            record {
+              script = rw number is.there;
+              fits = rw (← lines) exact.end_fits;
+              means = rw (slice-done program w p work given is of exact, ← lines) refl;
+            }
 
     slice-follows : (r : Reply) → OfRun work.thread r → AreAt program threads (places_after places (Some given) r) (contexts_after w p r)
     slice-follows (reply.Expired t ticks) names = rw names (moved work.thread given.end (slice_on w p work.thread).end end-at)
     slice-follows (reply.Trapped t ticks outcome ends) names =
-        rw names (moved work.thread (delivered_to_place (number_delivered outcome) given.end) (delivered_to (number_delivered outcome) (slice_on w p work.thread).end) (λ d.
-        at-delivered_to program (get_or threads (work.thread - 1) d) given.end (slice_on w p work.thread).end (number_delivered outcome) (end-at d)))
+        rw names (moved work.thread (delivered_to_place (number_delivered outcome) given.end) (delivered_to (number_delivered outcome) (slice_on w p work.thread).end)
+        (if-delivered_to program (get_or threads (work.thread - 1) None) given.end (slice_on w p work.thread).end (number_delivered outcome) end-at))
     slice-follows (reply.Refused why) names = at
     slice-follows (reply.Winner t number total delivered) names = absurd names
     slice-follows reply.Idle names = absurd names
@@ -305,7 +318,7 @@ module _ (program : Program) (w : World) (s : State) (places : List Place) (seed
           let places_now : AreAt program after.threads now (contexts_after w p r) = rw (at, same-threads.threads) turn-places in
           rw its-turn (record {
             state = state ∙ ap (λ (x : State). (step x e).state) held.state;
-            kept = kept-in program s after None held.kept same-threads;
+            kept = kept-in program s after None held.kept (record { threads = inl same-threads.threads; records = same-threads.records; limits = same-threads.limits });
             places_at = subst (λ (x : Reply). AreAt program after.threads now (contexts_after w p x)) replies places_now;
             seeds = numbers ∙ ap (λ (ns : List ℕ). if takes_number e then set_number ns p (seed_from (is_some program.duration) (unwrap_or (at_number ns p) 0)) else ns) held.seeds
                 ∙ ap (λ wide. if takes_number e then set_number w.generators p (seed_from wide (generator_of w p)) else w.generators) (sym held.wide);

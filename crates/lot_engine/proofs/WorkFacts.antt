@@ -2,7 +2,7 @@
 use Rattle.std.proofs.Common.{◌≡◌, ℕ, Option, Some, None, refl, sym, ◌∙◌, ap, subst}
 use Rattle.std.specs.Option.{option_map}
 use Rattle.lot_machine.specs.declared.record.Thread.{Thread}
-use Rattle.lot_machine.specs.Numbered.{at_number}
+use Rattle.lot_machine.specs.State.{thread_at}
 use Rattle.lot_simulation.specs.World.{Program, World, context_of}
 use Rattle.lot_script.specs.Places.{Fits, Place, context_at}
 use Rattle.lot_script.specs.Slices.{Parts}
@@ -32,7 +32,7 @@ module _ (program : Program) (w : World) (p : ℕ) (a b : Work) (one : IsWork pr
 
   script-one : a.script ≡ b.script
   script-one =
-      let both : Some a.script ≡ Some b.script = sym one.script ∙ ap (λ t. option_map (λ (d : Thread). d.script) (at_number w.state.threads t)) thread-one ∙ other.script in cc
+      let both : Some a.script ≡ Some b.script = sym one.script ∙ ap (λ t. option_map (λ (d : Thread). d.script) (thread_at w.state.threads t)) thread-one ∙ other.script in cc
 
   place-one : a.place ≡ b.place
   place-one =

@@ -1,5 +1,5 @@
 -- How a system's fields hold the world of its history.
-use Rattle.std.specs.Prelude.{◌≡◌, ℕ, ◌≤◌, ⊤, List, [], ◌∷◌, length, drop, is_some, unwrap_or}
+use Rattle.std.specs.Prelude.{◌≡◌, ℕ, ◌≤◌, ⊤, Option, IfSome, List, [], ◌∷◌, length, drop, is_some, unwrap_or}
 use Rattle.lot_simulation.specs.declared.script.Line.{Line}
 use Rattle.lot_machine.specs.declared.record.Thread.{Thread}
 use Rattle.lot_machine.specs.Bounds.{IsBetween}
@@ -19,10 +19,10 @@ pub record IsAt (program : Program) (thread : Thread) (place : Place) (context :
   pub fits : Fits (script_lines program thread.script) place
   pub means : context_at (script_lines program thread.script) place ≡ context
 
--- each thread's place is where the thread is in its script
-abbrev pub AreAt : Program → List Thread → List Place → List Context → Type 0
+-- Each thread's place is where the thread is in its script; that of a thread that was removed may be any.
+abbrev pub AreAt : Program → List (Option Thread) → List Place → List Context → Type 0
 AreAt program [] [] [] = ⊤
-AreAt program (thread ∷ threads) (place ∷ places) (context ∷ contexts) = IsAt program thread place context × AreAt program threads places contexts
+AreAt program (thread ∷ threads) (place ∷ places) (context ∷ contexts) = IfSome thread (λ there. IsAt program there place context) × AreAt program threads places contexts
 AreAt program threads places contexts = ⊥
 
 -- the state is one of the program's kernel, and each thread has a record

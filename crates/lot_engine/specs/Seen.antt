@@ -1,7 +1,8 @@
 -- A system as contracts see it.
-use Rattle.std.specs.Prelude.{ℕ, ◌==◌, List, [], ◌∷◌, ◌++◌, count_by, length}
+use Rattle.std.specs.Prelude.{◌≡◌, ℕ, ◌==◌, true, List, [], ◌∷◌, ◌++◌, count_by, is_some, length}
 use Rattle.lot_machine.specs.declared.command.Kind.{Kind}
 use Rattle.lot_machine.specs.declared.command.Kind.TheVariants.{Tickets, Currencies, Threads}
+use Rattle.lot_machine.specs.Rows.{thread_row}
 use Rattle.lot_machine.specs.State.{State}
 use Rattle.lot_simulation.specs.World.{Program, World, system_run}
 
@@ -32,3 +33,7 @@ abbrev pub given_count : State → Kind → ℕ
 given_count s Tickets = length s.tickets
 given_count s Currencies = length s.currencies
 given_count s Threads = length s.records
+
+-- the thread has a row: it was made, and wasn't removed
+abbrev pub HasRow : State → ℕ → Type 0
+HasRow s t = is_some (thread_row s t) ≡ true

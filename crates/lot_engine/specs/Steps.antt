@@ -1,5 +1,5 @@
 -- The threads after an event, and the thread that its reply names.
-use Rattle.std.specs.Prelude.{◌≡◌, ℕ, ◌+◌, ◌≤◌, ⊤, Bool, true, false, Option, Some, None, List, [], ◌∷◌, ◌++◌, length, unwrap_or}
+use Rattle.std.specs.Prelude.{◌≡◌, ◌⊎◌, ℕ, ◌+◌, ◌≤◌, ⊤, Bool, true, false, Option, Some, None, List, [], ◌∷◌, ◌++◌, length, unwrap_or}
 use Rattle.lot_machine.specs.declared.event.Event.{Event}
 use Rattle.lot_machine.specs.declared.event.Event.TheVariants as event
 use Rattle.lot_machine.specs.declared.record.Thread.{Thread}
@@ -26,11 +26,17 @@ pub record KeepsThreads (s after : State) : Type 0 where
   pub records : length after.records ≡ length s.records
   pub limits : after.limits ≡ s.limits
 
+-- no thread more: the same threads, or one of them was removed; and as many records, and the same sizes
+pub record MakesNone (s after : State) : Type 0 where
+  pub threads : (after.threads ≡ s.threads) ⊎ ((t : ℕ) × (after.threads ≡ set_number s.threads t None))
+  pub records : length after.records ≡ length s.records
+  pub limits : after.limits ≡ s.limits
+
 -- one more thread, which has this number and one of the scripts
 pub record OneMore (s after : State) (n : ℕ) : Type 0 where
   pub number : n ≡ length s.threads + 1
   pub thread : Thread
-  pub threads : after.threads ≡ s.threads ++ thread ∷ []
+  pub threads : after.threads ≡ s.threads ++ Some thread ∷ []
   pub records : length after.records ≡ length s.records + 1
   pub script : IsBetween 1 s.limits.scripts thread.script
   pub limits : after.limits ≡ s.limits
@@ -42,9 +48,9 @@ made_thread (reply.Thread n) = Some n
 made_thread (reply.Funded ticket n) = Some n
 made_thread other = None
 
--- a command that made no thread leaves the threads as they are
+-- a command that made no thread leaves the threads as they are, or removes one
 abbrev pub MakesIn : State → State → Option ℕ → Type 0
-MakesIn s after None = KeepsThreads s after
+MakesIn s after None = MakesNone s after
 MakesIn s after (Some n) = OneMore s after n
 
 -- the reply to a command names the thread that was made, if one was

@@ -1,8 +1,7 @@
 -- An actor's work, and the result of its turn.
 use Rattle.std.specs.Prelude.{◌≡◌, ℕ, ◌-◌, ◌<◌, ◌≤◌, ⊤, Option, Some, None, [], length, option_map}
 use Rattle.lot_machine.specs.Bounds.{IsBetween}
-use Rattle.lot_machine.specs.Numbered.{at_number}
-use Rattle.lot_machine.specs.State.{thread_on}
+use Rattle.lot_machine.specs.State.{thread_at, thread_on}
 use Rattle.lot_machine.specs.Step.{used_there}
 use Rattle.lot_simulation.specs.World.{Program, World, context_of, system_turn}
 use Rattle.lot_simulation.specs.World.Answer.{Answered}
@@ -25,7 +24,7 @@ use Rattle.lot_engine.specs.Held.{script_lines}
 -- of its quantum. Its script is one that was built.
 pub record IsWork (program : Program) (w : World) (p : ℕ) (work : Work) : Type 0 where
   pub runs : thread_on w.state.records p ≡ Some work.thread
-  pub script : option_map (λ t. t.script) (at_number w.state.threads work.thread) ≡ Some work.script
+  pub script : option_map (λ t. t.script) (thread_at w.state.threads work.thread) ≡ Some work.script
   pub there : IsBetween 1 (length program.scripts) work.script
   pub legal : IsScript (script_lines program work.script)
   pub fits : Fits (script_lines program work.script) work.place

@@ -1,17 +1,18 @@
 //! The system.
 ghost use Rattle.std.specs.Prelude.{◌≡◌, ◌↔◌, ◌<◌, ◌≤◌, ◌*◌, ◌^◌, [], ◌∷◌, ◌++◌, All, IfOk, IfErr};
-ghost use Rattle.std.specs.Prelude.{IsFalse, IsTrue, Some, length, vec_len, vec_capacity};
+ghost use Rattle.std.specs.Prelude.{IsFalse, IsTrue, Some, None, false, length, vec_len, vec_capacity};
 ghost use Rattle.lot_machine.specs.Bounds.{IsBetween};
+ghost use Rattle.lot_machine.specs.Lends.{is_live};
 ghost use Rattle.lot_machine.specs.Mutexes.{mutex_at};
 ghost use Rattle.lot_machine.specs.Rows as rows;
-ghost use Rattle.lot_machine.specs.State.{sizes_of};
+ghost use Rattle.lot_machine.specs.State.{live_of, sizes_of};
 ghost use Rattle.lot_simulation.specs.Formats.{unit_of};
 ghost use Rattle.lot_simulation.specs.World.Answer.{Answered};
 ghost use Rattle.lot_simulation.specs.World.{IsLegal, system_turn};
 ghost use Rattle.lot_simulation.specs.Report.{ticks_in, total_of, turns_made, turns_of};
 ghost use Rattle.lot_engine.specs.Counted.{counted};
 ghost use Rattle.lot_engine.specs.Playing.{IsPlayed, turn_in};
-ghost use Rattle.lot_engine.specs.Seen.{after_turn, commands_made, given_count, world_of};
+ghost use Rattle.lot_engine.specs.Seen.{HasRow, after_turn, commands_made, given_count, world_of};
 ghost use Rattle.lot_script.specs.Places.{Place as PlaceRecord};
 ghost use Rattle.lot_engine.specs.Turns.{Answers, Faults, Goes, IfStale, IsEnded, IsFresh, IsWorkOf, Prevents, work_at};
 
@@ -362,20 +363,23 @@ impl System {
             .currency_row(CurrencyNumber { number: currency })
     }
 
-    /// What the kernel shows of the thread with this number, if there is one.
+    /// What the kernel shows of the thread with this number, if there is one. Without a row it isn't live.
     pub fn thread_row(&mut self, thread: u32) -> Option<ThreadRow>
         ensures row { result ≡ rows.thread_row (world_of self.old).state thread }
+        ensures gone { result ≡ None → is_live (live_of (world_of self.old).state) thread ≡ false }
         ensures state { self.new ≡ self.old }
     {
         self.kernel.thread_row(ThreadNumber { number: thread })
     }
 
     /// Lists in `out` the threads that wait for the mutex, the one that has waited longest first; none if there is no
-    /// such mutex. It allocates no memory, since `out` has room for all threads.
+    /// such mutex. Each has a row, since a thread that waits wasn't removed. It allocates no memory, since `out` has
+    /// room for all threads.
     pub fn list_waiters(&self, mutex: u32, out: &mut Vec<u32>)
         requires { self.now.setting.program.limits.threads ≤ vec_capacity out.old }
         ensures waiters { out.new.items ≡ (mutex_at (world_of self.now).state.mutexes mutex).waiters }
         ensures there { All (IsBetween 1 (length (world_of self.now).state.records)) out.new.items }
+        ensures shown { All (HasRow (world_of self.now).state) out.new.items }
         ensures few { vec_len out.new ≤ self.now.setting.program.limits.threads }
         ensures room { vec_capacity out.new ≡ vec_capacity out.old }
     {
@@ -424,7 +428,7 @@ impl System {
         all.saturating_sub(self.spent)
     }
 
-    /// How many threads there are.
+    /// How many threads were made, those removed since included.
     pub fn thread_count(&self) -> u32
         ensures count { result ≡ length (world_of self.now).state.records }
         ensures within { result ≤ self.now.setting.program.limits.threads }

@@ -1,5 +1,6 @@
 pub mod EventFacts
 pub mod GatheringFacts
+pub mod RowFacts
 pub mod LineFacts
 pub mod WonFacts
 pub mod TurnFacts

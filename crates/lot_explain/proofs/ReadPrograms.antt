@@ -5,7 +5,7 @@ use Rattle.std.specs.Str.{bytes_eq}
 use Rattle.std.proofs.lemmas.Bool.{leb-false, ltb-false, or_parts}
 use Rattle.std.proofs.lemmas.List.Elements.{All-nil, All-push}
 use Rattle.lot_machine.specs.declared.command.Command.{Command}
-use Rattle.lot_machine.specs.declared.command.Command.TheVariants.{MakeTicket, RemoveTicket, MakeCurrency, RemoveCurrency, Fund, Unfund, SetTicket, MakeThread, MakeFunded, List as Listing}
+use Rattle.lot_machine.specs.declared.command.Command.TheVariants.{MakeTicket, RemoveTicket, MakeCurrency, RemoveCurrency, Fund, Unfund, SetTicket, MakeThread, RemoveThread, MakeFunded, List as Listing}
 use Rattle.lot_machine.specs.declared.command.Kind.TheVariants.{Tickets, Currencies, Threads}
 use Rattle.lot_machine.specs.Bounds.{IsBetween, IsUnit, IsWithinBounds}
 use Rattle.lot_machine.specs.Commands.{first_failing}
@@ -240,6 +240,7 @@ module _ (r : Reading) (kept : IsRead r) where
   body-kept n body.Fund (t ∷ to ∷ []) = any-read (any_number t) IsRead (λ ticket. any-read (any_name to) IsRead (λ target. command-kept (Fund ticket target) tt))
   body-kept n body.Unfund (t ∷ []) = any-read _ IsRead (λ ticket. command-kept (Unfund ticket) tt)
   body-kept n body.SetTicket (t ∷ a ∷ []) = any-read (any_number t) IsRead (λ ticket. any-read (any_number a) IsRead (λ amount. command-kept (SetTicket ticket amount) tt))
+  body-kept n body.RemoveThread (c ∷ []) = any-read _ IsRead (λ thread. command-kept (RemoveThread thread) tt)
   body-kept n body.MakeThread (token ∷ s ∷ []) =
       then-read IsShortName IsRead (name-short token) (λ name short. any-read (script_number (script_names r) s) IsRead (λ number. command-kept (MakeThread name number) short))
   body-kept n body.MakeFunded (a ∷ c ∷ token ∷ s ∷ []) =

@@ -1,7 +1,8 @@
 -- The lots of a lottery: they are no more than there may be threads, their names are short, and they weigh less than 2 ^ 66 together.
 use Rattle.std.proofs.Common.{◌≡◌, ℕ, zero, suc, ◌+◌, ◌^◌, ◌<◌, ◌≤◌, eqb, Bool, true, false, Option, Some, None, List, [], ◌∷◌, Contains, length, map, sum_by, get_or, slice_get, refl, sym, ◌∙◌, ap, subst, arith, unwrap_or, option_map}
-use Rattle.std.specs.Prelude.{All}
+use Rattle.std.specs.Prelude.{All, IfSome}
 use Rattle.std.specs.List.{list_any}
+use Rattle.std.specs.Option.{option_flatten}
 use Rattle.std.proofs.lemmas.Bool.{eqb-true, ne_eqb}
 use Rattle.std.proofs.lemmas.List.{length-map}
 use Rattle.std.proofs.lemmas.List.Elements.{All-nil, All-cons}
@@ -33,11 +34,15 @@ use Rattle.lot_explain.proofs.Lengths.{IsShortLot}
 abbrev pub IsShortThread : Thread → Type 0
 IsShortThread thread = length thread.name ≤ 16
 
+-- so has that of the thread at a place, if it is there
+abbrev pub IsShortPlace : Option Thread → Type 0
+IsShortPlace place = IfSome place IsShortThread
+
 -- a state that is in order, has no more threads than there may be, and has short names
 pub record HasShortNames (s : State) : Type 0 where
   pub order : IsInOrder s
   pub room : length s.records ≤ s.limits.threads
-  pub names : All IsShortThread s.threads
+  pub names : All IsShortPlace s.threads
 
 -- lots that are no more than there may be threads, each with a short name, and that weigh less than 2 ^ 66 together
 pub record AreShort (s : State) (lots : List Lot) : Type 0 where
@@ -83,15 +88,16 @@ module _ (s : State) (short : HasShortNames s) where
   name-short : (t : ℕ) → length (unwrap_or (thread_name s t) []) ≤ 16
   name-short t = at (at_number s.threads t) refl
     where
-      at : (o : Option Thread) → at_number s.threads t ≡ o → length (unwrap_or (option_map (λ (thread : Thread). thread.name) o) []) ≤ 16
+      at : (o : Option (Option Thread)) → at_number s.threads t ≡ o → length (unwrap_or (option_map (λ (thread : Thread). thread.name) (option_flatten o)) []) ≤ 16
       at None is = omega arith
-      at (Some thread) is = found t is
+      at (Some None) is = omega arith
+      at (Some (Some thread)) is = found t is
         where
-          found : (n : ℕ) → at_number s.threads n ≡ Some thread → length thread.name ≤ 16
+          found : (n : ℕ) → at_number s.threads n ≡ Some (Some thread) → length thread.name ≤ 16
           found zero there = cc
           found (suc i) there =
               let place = sym (at_number-suc s.threads i) ∙ there in
-              subst (λ (x : Thread). length x.name ≤ 16) (get_or_from_slice_get s.threads i thread thread place) (short.names i thread (slice_get_within s.threads i thread place))
+              subst IsShortPlace (get_or_from_slice_get s.threads i (Some thread) (Some thread) place) (short.names i (Some thread) (slice_get_within s.threads i (Some thread) place))
 
   -- the lots of threads that are there have short names
   each-short : (v : ℕ → ℕ) (ts : List ℕ) → AreThere s ts → All IsShortLot (map (λ t. lot_of s t (v t)) ts)

@@ -1,13 +1,13 @@
 -- A turn writes few lines of lots, and leaves names short.
-use Rattle.std.proofs.Common.{◌≡◌, ℕ, ◌+◌, ◌*◌, ◌≤◌, ◌==◌, nat_lt, Bool, true, false, not, ◌||◌, cond, Option, Some, None, is_some, is_none, List, [], ◌∷◌, ◌++◌, length, refl, sym, ◌∙◌, ap, subst, arith}
+use Rattle.std.proofs.Common.{◌≡◌, ℕ, ◌+◌, ◌-◌, ◌*◌, ◌^◌, ◌≤◌, ◌==◌, nat_lt, nat_le, Bool, true, false, not, ◌||◌, cond, Option, Some, None, is_some, is_none, unwrap_or, List, [], ◌∷◌, ◌++◌, length, refl, sym, ◌∙◌, ap, subst, arith}
 use Rattle.std.specs.Prelude.{All}
 use Rattle.std.proofs.lemmas.Bool.{leb-false, ltb-false, or_parts}
-use Rattle.std.proofs.lemmas.List.{length-append}
-use Rattle.std.proofs.lemmas.List.Elements.{All-head, All-tail, All-nil, All-push}
+use Rattle.std.proofs.lemmas.List.{length-append, length-set}
+use Rattle.std.proofs.lemmas.List.Elements.{All-head, All-tail, All-nil, All-push, All-set}
 use Rattle.std.proofs.Math.Nat.{mul-le-mul_right}
 use Rattle.lot_machine.specs.declared.action.Action.TheVariants as action
 use Rattle.lot_machine.specs.declared.command.Command.{Command}
-use Rattle.lot_machine.specs.declared.command.Command.TheVariants.{MakeThread, MakeFunded}
+use Rattle.lot_machine.specs.declared.command.Command.TheVariants.{MakeThread, RemoveThread, MakeFunded}
 use Rattle.lot_machine.specs.declared.event.Event.{Event}
 use Rattle.lot_machine.specs.declared.event.Event.TheVariants as event
 use Rattle.lot_machine.specs.declared.record.Thread.{Thread}
@@ -16,7 +16,7 @@ use Rattle.lot_machine.specs.declared.refusal.Refusal.TheVariants.{BadName, Name
 use Rattle.lot_machine.specs.declared.reply.Reply.TheVariants as reply
 use Rattle.lot_machine.specs.declared.sizes.Sizes.{Sizes}
 use Rattle.lot_machine.specs.Bounds.{IsWithinBounds}
-use Rattle.lot_machine.specs.Commands.{are_threads_full, are_tickets_full, command_effect, command_refusal, command_step, currency_named, is_bad_amount, is_good_name, is_no_script, is_taken, unless_refused}
+use Rattle.lot_machine.specs.Commands.{are_threads_full, are_tickets_full, command_effect, command_refusal, command_step, currency_named, is_bad_amount, is_good_name, is_no_script, is_taken, thread_named, unless_refused}
 use Rattle.lot_machine.specs.Named.{processor_of}
 use Rattle.lot_machine.specs.Order.{IsInOrder}
 use Rattle.lot_machine.specs.State.{State, thread_on}
@@ -34,7 +34,7 @@ use Rattle.lot_explain.specs.Explained.{lots_text}
 use Rattle.lot_explain.specs.Lots.{entrants_in, lots_of, won_in, won_lines}
 use Rattle.lot_explain.specs.Short.{HasShortName}
 use Rattle.lot_explain.proofs.Lengths.{HasShortTime, lines-short}
-use Rattle.lot_explain.proofs.ShortLots.{IsShortThread, HasShortNames, among-short}
+use Rattle.lot_explain.proofs.ShortLots.{IsShortThread, IsShortPlace, HasShortNames, among-short}
 
 -- What each world keeps: its state is in order, its limits are the program's, no more threads were made than may be, and their names are
 -- short, as are those in the commands that are left.
@@ -43,7 +43,7 @@ pub record IsShort (sizes : Sizes) (w : World) : Type 0 where
   pub limits : w.state.limits ≡ sizes
   pub records : length w.state.records ≡ length w.state.threads
   pub room : length w.state.threads ≤ sizes.threads
-  pub names : All IsShortThread w.state.threads
+  pub names : All IsShortPlace w.state.threads
   pub commands : All HasShortName w.commands
 
 -- ---- an event of a processor
@@ -61,6 +61,13 @@ processor-few s (event.Draw q d) p on passes =
 processor-few s (event.Expire q) p on passes =
     let checks = all-pass ((is_bad_processor s q, BadProcessor) ∷ (is_none (thread_on s.records q), NotRunning) ∷ []) passes in
     subst (λ n. n ≤ s.limits.processors) (some-injective q p on) (good-processor s q checks.0)
+processor-few s (event.Preempt q ticks) p on passes =
+    let checks = all-pass ((is_bad_processor s q, BadProcessor) ∷ (is_none (thread_on s.records q), NotRunning) ∷ (nat_lt s.limits.quantum (used_there s q + ticks), BadTicks) ∷ []) passes in
+    subst (λ n. n ≤ s.limits.processors) (some-injective q p on) (good-processor s q checks.0)
+processor-few s (event.Overrun q late) p on passes =
+    let checks = all-pass ((is_bad_processor s q, BadProcessor) ∷ (is_none (thread_on s.records q), NotRunning) ∷ (nat_le (2 ^ 32) (s.limits.quantum + late), BadTicks) ∷ []) passes in
+    subst (λ n. n ≤ s.limits.processors) (some-injective q p on) (good-processor s q checks.0)
+processor-few s (event.Wake t) p on passes = cc
 processor-few s (event.Trap q ran a) p on passes =
     let checks = all-pass ((is_bad_processor s q, BadProcessor) ∷ (is_none (thread_on s.records q), NotRunning) ∷ (nat_lt s.limits.quantum (used_there s q + ran + 1), BadTicks) ∷ []) passes in
     subst (λ n. n ≤ s.limits.processors) (some-injective q p on) (good-processor s q checks.0)
@@ -70,6 +77,9 @@ none-won : (e : Event) (refusal : Refusal) → won_in e (reply.Refused refusal) 
 none-won (event.Command command) refusal = refl
 none-won (event.Draw p d) refusal = refl
 none-won (event.Expire p) refusal = refl
+none-won (event.Preempt p ticks) refusal = refl
+none-won (event.Overrun p late) refusal = refl
+none-won (event.Wake t) refusal = refl
 none-won (event.Trap p ran action.Yield) refusal = refl
 none-won (event.Trap p ran other) refusal = refl
 
@@ -94,20 +104,25 @@ module _ (style : LineStyle) (timely : HasShortTime style) (s : State) (short : 
 
 -- no more threads than there may be, with short names
 abbrev HasRoom : State → State → Type 0
-HasRoom s after = All IsShortThread after.threads × (length after.threads ≤ s.limits.threads)
+HasRoom s after = All IsShortPlace after.threads × (length after.threads ≤ s.limits.threads)
 
 -- one thread more
-thread-more : (s : State) (thread : Thread) → IsShortThread thread → are_threads_full s ≡ false → All IsShortThread s.threads → All IsShortThread (s.threads ++ thread ∷ []) × (length (s.threads ++ thread ∷ []) ≤ s.limits.threads)
+thread-more : (s : State) (thread : Thread) → IsShortThread thread → are_threads_full s ≡ false → All IsShortPlace s.threads → All IsShortPlace (s.threads ++ Some thread ∷ []) × (length (s.threads ++ Some thread ∷ []) ≤ s.limits.threads)
 thread-more s thread short free names =
-    (All-push IsShortThread s.threads thread names short, omega (arith, length-append s.threads (thread ∷ []), leb-false s.limits.threads (length s.threads) free))
+    (All-push IsShortPlace s.threads (Some thread) names short, omega (arith, length-append s.threads (Some thread ∷ []), leb-false s.limits.threads (length s.threads) free))
 
--- a command makes a thread only if there is room for it
-command-threads : (s : State) (c : Command) → HasShortName c → All IsShortThread s.threads → length s.threads ≤ s.limits.threads → HasRoom s (command_step s c).state
+-- a command makes a thread only if there is room for it, and one that is removed leaves its place
+command-threads : (s : State) (c : Command) → HasShortName c → All IsShortPlace s.threads → length s.threads ≤ s.limits.threads → HasRoom s (command_step s c).state
 command-threads s (MakeThread name script) short names room =
     let c = MakeThread name script in
     unrefused (HasRoom s) s (command_refusal s c) (command_effect s c) (names, room) (λ passes.
     let checks = all-pass ((not (is_good_name name), BadName) ∷ (is_taken s name, NameTaken) ∷ (is_no_script s script, NoScript) ∷ (are_threads_full s, Full) ∷ []) passes in
     thread-more s (record { name = name; script = script }) short checks.1.1.1.0 names)
+command-threads s (RemoveThread name) short names room =
+    let c = RemoveThread name in
+    let place = unwrap_or (thread_named s name) 0 - 1 in
+    unrefused (HasRoom s) s (command_refusal s c) (command_effect s c) (names, room) (λ _.
+    (All-set IsShortPlace s.threads place None tt names, omega (arith, length-set s.threads place None, room)))
 command-threads s (MakeFunded amount currency name script) short names room =
     let c = MakeFunded amount currency name script in
     unrefused (HasRoom s) s (command_refusal s c) (command_effect s c) (names, room) (λ passes.
@@ -142,13 +157,13 @@ short-names limits w short = record { order = short.order; room = omega (arith, 
 processor-keeps : (limits : Sizes) (w : World) (p : ℕ) (e : Event) → processor_of e ≡ Some p → IsShort limits w → IsShort limits (processor_turn w p e).world
 processor-keeps limits w p e on short =
     let sizes = step-sizes w.state e p on in
-    let count = ap (length {A = Thread}) sizes.2 in
+    let count = ap (length {A = Option Thread}) sizes.2 in
     record {
       order = step-order w.state e short.order;
       limits = sizes.0 ∙ short.limits;
       records = omega (arith, sizes.1, count, short.records);
       room = omega (arith, count, short.room);
-      names = subst (All IsShortThread) (sym sizes.2) short.names;
+      names = subst (All IsShortPlace) (sym sizes.2) short.names;
       commands = short.commands;
     }
 
@@ -199,6 +214,6 @@ opening-short program bounds commands = record {
   limits = refl;
   records = refl;
   room = omega arith;
-  names = All-nil IsShortThread;
+  names = All-nil IsShortPlace;
   commands = commands;
 }

@@ -169,6 +169,9 @@ module _ (s : State) (p ran m d : ℕ) where
 step-won : (s : State) (e : Event) → HasWon (lots_of s e) e (step s e).reply
 step-won s (event.Command c) = tt
 step-won s (event.Expire p) = tt
+step-won s (event.Preempt p ticks) = tt
+step-won s (event.Overrun p late) = tt
+step-won s (event.Wake t) = tt
 step-won s (event.Draw p d) = refused-draw s p d (event_refusal s (event.Draw p d)) (draw s p d) (drawn-won s p d)
 step-won s (event.Trap p ran (action.Unlock m d)) =
     let e = event.Trap p ran (action.Unlock m d) in
@@ -177,6 +180,7 @@ step-won s (event.Trap p ran (action.Unlock m d)) =
     let ends = ends_quantum effect.after (used_there s p + ran + 1) s.limits.quantum in
     refused-unlock s p ran m d (event_refusal s e) (event_effect s e) (checked-won s p ran m d (trap_refusal s t (action.Unlock m d)) t t (ran + 1) ends)
 step-won s (event.Trap p ran action.Yield) = tt
+step-won s (event.Trap p ran action.Sleep) = tt
 step-won s (event.Trap p ran (action.Call port number)) = tt
 step-won s (event.Trap p ran (action.Receive port)) = tt
 step-won s (event.Trap p ran (action.Reply number)) = tt

@@ -1,11 +1,10 @@
 //! Gathering the lots of a lottery before it is held.
 ghost use Rattle.std.specs.Prelude.{◌≡◌, ◌+◌, ◌<◌, ◌≤◌, ◌∷◌, ◌++◌, [], All, IfOk, length, map, vec_len, vec_capacity};
-ghost use Rattle.lot_machine.specs.Bounds.{IsBetween};
 ghost use Rattle.lot_machine.specs.declared.event.Event.{Event as AnEvent};
 ghost use Rattle.lot_machine.specs.declared.reply.Reply.{Reply as AReply};
 ghost use Rattle.lot_simulation.specs.World.Answer.{Answered};
 ghost use Rattle.lot_engine.specs.Playing.{turn_in};
-ghost use Rattle.lot_engine.specs.Seen.{world_of};
+ghost use Rattle.lot_engine.specs.Seen.{HasRow, world_of};
 ghost use Rattle.lot_explain.specs.Gathering.{lot_if_ready};
 ghost use Rattle.lot_explain.specs.Lots.{draw_lots, lots_of, waiter_lot};
 
@@ -117,7 +116,7 @@ fn push_if_ready(lots: &mut Vec<Lot>, system: &mut System, thread: u32)
 /// Puts the lots of those who wait for a mutex.
 fn push_waiters(lots: &mut Vec<Lot>, system: &mut System, waiters: &[u32])
     requires none { lots.old.items ≡ [] }
-    requires there { All (IsBetween 1 (length (world_of system.old).state.records)) waiters.now }
+    requires there { All (HasRow (world_of system.old).state) waiters.now }
     requires room { length waiters.now ≤ vec_capacity lots.old }
     ensures same { system.new ≡ system.old }
     ensures lots { lots.new.items ≡ map (waiter_lot (world_of system.old).state) waiters.now }
@@ -128,9 +127,9 @@ fn push_waiters(lots: &mut Vec<Lot>, system: &mut System, waiters: &[u32])
     }
 }
 
-/// Puts the lot of a thread that waits for a mutex.
+/// Puts the lot of a thread that waits for a mutex: it isn't dead, so it wasn't removed.
 fn push_waiter(lots: &mut Vec<Lot>, system: &mut System, thread: u32)
-    requires there { IsBetween 1 (length (world_of system.old).state.records) thread }
+    requires there { HasRow (world_of system.old).state thread }
     requires room { vec_len lots.old < vec_capacity lots.old }
     ensures same { system.new ≡ system.old }
     ensures lots { lots.new.items ≡ lots.old.items ++ waiter_lot (world_of system.old).state thread ∷ [] }

@@ -9,7 +9,6 @@ use Rattle.std.proofs.lemmas.Option.{slice_get_within}
 use Rattle.lot_machine.specs.declared.funding.Edge.{Edge}
 use Rattle.lot_machine.specs.declared.funding.Edge.TheVariants.{OfTicket, OfLender, OfMutex}
 use Rattle.lot_machine.specs.declared.funding.Lend.{Lend}
-use Rattle.lot_machine.specs.declared.funding.Lend.TheVariants.{Nobody}
 use Rattle.lot_machine.specs.declared.funding.Node.{Node}
 use Rattle.lot_machine.specs.declared.funding.Node.TheVariants as node
 use Rattle.lot_machine.specs.declared.record.Record.{Record}

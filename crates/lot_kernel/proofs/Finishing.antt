@@ -9,7 +9,7 @@ use Rattle.lot_machine.specs.declared.funding.Node.{Node}
 use Rattle.lot_machine.specs.declared.funding.Lend.{Lend}
 use Rattle.lot_machine.specs.declared.record.Record.{Record}
 use Rattle.lot_machine.specs.declared.record.Status.{Status}
-use Rattle.lot_machine.specs.declared.record.Status.TheVariants.{Ready, Running, Receiving, Queued, Served, Waiting, Dead}
+use Rattle.lot_machine.specs.declared.record.Status.TheVariants.{Ready, Running, Receiving, Queued, Served, Waiting, Asleep, Dead}
 use Rattle.lot_machine.specs.Bounds.{IsBetween}
 use Rattle.lot_machine.specs.Funding.{lend_node}
 use Rattle.lot_machine.specs.Facts.{HasNoCycle, FundsThere}
@@ -41,6 +41,7 @@ stops-below quantum (Receiving p) stops = tt
 stops-below quantum (Queued p) stops = tt
 stops-below quantum (Served s) stops = tt
 stops-below quantum (Waiting m) stops = tt
+stops-below quantum Asleep stops = tt
 stops-below quantum Dead stops = tt
 
 stops-run : (s : State) (stale : List Node) (meter : Meter) (t : ℕ) (status : Status) → ((p used : ℕ) → ¬ (status ≡ Running p used)) → CanRun (threads_of s stale meter) t status
@@ -50,6 +51,7 @@ stops-run s stale meter t (Receiving p) stops = tt
 stops-run s stale meter t (Queued p) stops = tt
 stops-run s stale meter t (Served u) stops = tt
 stops-run s stale meter t (Waiting m) stops = tt
+stops-run s stale meter t Asleep stops = tt
 stops-run s stale meter t Dead stops = tt
 
 -- the record of the thread that made a trap, after it

@@ -32,7 +32,7 @@ module _ (sizes : Sizes) (names : List (Option (List ℕ))) (v new : Threaded) (
   held-tickets tickets is = subst (λ n. IsHeld sizes names n q) (sym is) (ap (λ (w : Threaded). record w { tickets = tickets; stale = new.stale }) was)
 
   -- other names and records
-  pub held-threads : (threads : List Thread) (records : List Record) → new ≡ record (with_records v records new.stale) { threads = threads } → IsHeld sizes names new q
+  pub held-threads : (threads : List (Option Thread)) (records : List Record) → new ≡ record (with_records v records new.stale) { threads = threads } → IsHeld sizes names new q
   held-threads threads records is = subst (λ n. IsHeld sizes names n q) (sym is) (ap (λ (w : Threaded). record (with_records w records new.stale) { threads = threads }) was)
 
   -- nothing but what is stale and what was counted

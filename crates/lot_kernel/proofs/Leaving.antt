@@ -3,7 +3,7 @@ use Rattle.std.proofs.Common.{◌≡◌, ◌∙◌, ℕ, ◌⊎◌, inl, inr, Op
 use Rattle.std.proofs.lemmas.List.{get_or_past}
 use Rattle.std.proofs.lemmas.Option.{slice_get_cases, get_or_from_slice_get}
 use Rattle.lot_machine.specs.declared.action.Action.{Action}
-use Rattle.lot_machine.specs.declared.action.Action.TheVariants.{Yield, Call, Receive, Reply as ReplyTo, Serve, Lock, Unlock, Exit}
+use Rattle.lot_machine.specs.declared.action.Action.TheVariants.{Yield, Call, Receive, Reply as ReplyTo, Serve, Lock, Unlock, Sleep, Exit}
 use Rattle.lot_machine.specs.declared.drawn.Drawn.{Drawn}
 use Rattle.lot_machine.specs.declared.record.Record.{Record}
 use Rattle.lot_machine.specs.declared.record.Status.{Status}
@@ -142,6 +142,7 @@ effect-leaves s t p used action runs queues = checked (trap_refusal s t action) 
         serve-leaves s.records t p used runs s.clients s.ports s.mutexes queues port number (all-pass ((is_none (at_number s.ports port), NoPort) ∷ (is_none (first_client s.clients t), NothingToReply) ∷ []) allowed).1.0
     passed (Lock m) allowed = lock-leaves s.records t p used runs s.clients s.ports s.mutexes queues m
     passed (Unlock m d) allowed = unlock-leaves s.records t p used runs s.clients s.ports s.mutexes queues (value_of s) m d
+    passed Sleep allowed = refl
     passed Exit allowed = refl
 
     checked : (o : Option TrapRefusal) → trap_refusal s t action ≡ o → at_number (checked_effect s (trap_refusal s t action) (trap_effect s t action)).state.records t ≡ at_number s.records t

@@ -1,7 +1,7 @@
 -- What is counted, through the parts of an event.
 use Rattle.std.proofs.Common.{◌≡◌, ◌≢◌, ◌∙◌, ℕ, Option, Some, List, [], ◌∷◌, Contains, map, slice_index, option_map, unwrap_or, refl, subst, sym}
 use Rattle.lot_machine.specs.declared.action.Action.{Action}
-use Rattle.lot_machine.specs.declared.action.Action.TheVariants.{Yield, Call, Receive, Reply, Serve, Lock, Unlock, Exit}
+use Rattle.lot_machine.specs.declared.action.Action.TheVariants.{Yield, Call, Receive, Reply, Serve, Lock, Unlock, Sleep, Exit}
 use Rattle.lot_machine.specs.declared.drawn.Drawn.{Drawn}
 use Rattle.lot_machine.specs.declared.funding.Node.TheVariants.{Thread}
 use Rattle.lot_machine.specs.declared.record.Record.{Record}
@@ -28,6 +28,7 @@ module _ (old mid new : Snapshot) (kept : KeepsStale mid new) (meter : new.meter
   trap-then (Reply n) o first = nothing-twice old mid new first kept meter
   trap-then (Serve p n) o first = nothing-twice old mid new first kept meter
   trap-then (Lock m) o first = nothing-twice old mid new first kept meter
+  trap-then Sleep o first = nothing-twice old mid new first kept meter
   trap-then Exit o first = nothing-twice old mid new first kept meter
   trap-then (Unlock m d) (outcome.Passed to draw) first = record {
     once = first.once;
@@ -45,6 +46,7 @@ module _ (old mid new : Snapshot) (kept : KeepsStale mid new) (meter : new.meter
   trap-then (Unlock m d) (outcome.RepliedThenWaits to) first = nothing-twice old mid new first kept meter
   trap-then (Unlock m d) outcome.Locked first = nothing-twice old mid new first kept meter
   trap-then (Unlock m d) outcome.Freed first = nothing-twice old mid new first kept meter
+  trap-then (Unlock m d) outcome.Slept first = nothing-twice old mid new first kept meter
   trap-then (Unlock m d) outcome.Exited first = nothing-twice old mid new first kept meter
   trap-then (Unlock m d) (outcome.Refused why) first = nothing-twice old mid new first kept meter
 

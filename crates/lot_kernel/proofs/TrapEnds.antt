@@ -3,7 +3,7 @@ use Rattle.std.proofs.Common.{◌≡◌, ◌∙◌, ℕ, ◌-◌, Bool, Option, 
 use Rattle.std.proofs.Math.ListN.{length-set}
 use Rattle.std.proofs.lemmas.List.{length-map}
 use Rattle.lot_machine.specs.declared.action.Action.{Action}
-use Rattle.lot_machine.specs.declared.action.Action.TheVariants.{Yield, Call, Receive, Reply as ReplyTo, Serve, Lock, Unlock, Exit}
+use Rattle.lot_machine.specs.declared.action.Action.TheVariants.{Yield, Call, Receive, Reply as ReplyTo, Serve, Lock, Unlock, Sleep, Exit}
 use Rattle.lot_machine.specs.declared.after.After.{After}
 use Rattle.lot_machine.specs.declared.after.After.TheVariants.{GoesOn, Leaves, Ends}
 use Rattle.lot_machine.specs.declared.funding.Lend.{Lend}
@@ -11,7 +11,7 @@ use Rattle.lot_machine.specs.declared.funding.Lend.TheVariants.{Nobody}
 use Rattle.lot_machine.specs.declared.funding.Node.{Node}
 use Rattle.lot_machine.specs.declared.record.Record.{Record}
 use Rattle.lot_machine.specs.declared.record.Status.{Status}
-use Rattle.lot_machine.specs.declared.record.Status.TheVariants.{Ready, Running, Receiving, Queued, Served, Waiting}
+use Rattle.lot_machine.specs.declared.record.Status.TheVariants.{Ready, Running, Receiving, Queued, Served, Waiting, Asleep}
 use Rattle.lot_machine.specs.declared.refusal.TrapRefusal.{TrapRefusal}
 use Rattle.lot_machine.specs.declared.reply.Outcome.{Outcome}
 use Rattle.lot_machine.specs.declared.reply.Reply.TheVariants.{Trapped}
@@ -46,6 +46,7 @@ effect-limits s t action = by (trap_refusal s t action) refl
     done (Serve p number) = refl
     done (Lock m) = refl
     done (Unlock m d) = refl
+    done Sleep = refl
     done Exit = refl
 
     by : (o : Option TrapRefusal) → trap_refusal s t action ≡ o → (effect_of s t action).state.limits ≡ s.limits
@@ -147,6 +148,7 @@ module _ (s : State) (t p used : ℕ) (order : IsInOrder s) (runs : status_of s.
       done (Serve port number) allowed = serve-there port number
       done (Lock m) allowed = lock-lends m allowed
       done (Unlock m d) allowed = unlock-there m d
+      done Sleep allowed = λ status e node to. absurd (lends-nothing Asleep status refl e node to)
       done Exit allowed = λ status e. absurd (ends-nowhere status e)
 
       by : (o : Option TrapRefusal) → trap_refusal s t action ≡ o → LendsThere (effect_of s t action).state (effect_of s t action).after

@@ -1,3 +1,4 @@
 pub mod Snapshots
 pub mod Counted
 pub mod Trapped
+pub mod Memory

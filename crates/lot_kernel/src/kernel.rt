@@ -3,8 +3,7 @@ ghost use Rattle.std.specs.Prelude.{◌≡◌, ◌<◌, ◌≤◌, All, None, So
 ghost use Rattle.std.specs.Prelude.{option_map, vec_len, vec_capacity};
 ghost use Rattle.lot_machine.specs.Bounds.{IsBetween};
 ghost use Rattle.lot_machine.specs.Mutexes.{mutex_at};
-ghost use Rattle.lot_machine.specs.Numbered as numbered;
-ghost use Rattle.lot_machine.specs.State.{sizes_of, thread_on, used_by};
+ghost use Rattle.lot_machine.specs.State.{sizes_of, thread_at, thread_on, used_by};
 ghost use Rattle.lot_machine.specs.Step.{replies, state_after, step};
 ghost use Rattle.lot_machine.specs.Facts.{IsSound};
 ghost use Rattle.lot_machine.specs.Rows as rows;
@@ -12,6 +11,7 @@ ghost use Rattle.lot_machine.specs.declared.ticket.Ticket.{Ticket as ATicket};
 ghost use Rattle.lot_machine.specs.Funding.{ticket_in};
 ghost use Rattle.lot_value.specs.Caches.{HasNoneTwice};
 ghost use Rattle.lot_kernel.specs.Counted.{AreDone, Counts, settled, with_ticket_read};
+ghost use Rattle.lot_kernel.specs.Memory.{bytes_of};
 ghost use Rattle.lot_kernel.specs.Snapshots.{MakesStale, starting};
 
 use crate::tables::Tables;
@@ -60,6 +60,14 @@ impl Kernel {
         Ok(Kernel {
             tables: Tables::new(alloc, limits)?,
         })
+    }
+
+    /// How many bytes `new` asks of the allocator in all, for a host that gives the kernel a fixed region of memory.
+    /// Tests compare it with what `new` does ask.
+    pub fn bytes(limits: &Limits) -> u64
+        ensures { result ≡ bytes_of (sizes_of limits.now) }
+    {
+        Tables::bytes(limits)
     }
 
     /// The limits that the kernel was made with.
@@ -190,7 +198,7 @@ impl Kernel {
 
     /// The number of the script that the thread was made with, `None` if and only if there is no such thread.
     pub fn script_of(&self, thread: ThreadNumber) -> Option<u32>
-        ensures { result ≡ option_map (λ t. t.script) (numbered.at_number self.now.state.threads thread.number) }
+        ensures { result ≡ option_map (λ t. t.script) (thread_at self.now.state.threads thread.number) }
     {
         self.tables.script_of(thread)
     }

@@ -16,12 +16,13 @@ pub(crate) fn currency_place(currencies: &[Option<Name>], name: &Name) -> Option
 }
 
 /// The place of the thread with this name, dead ones too.
-pub(crate) fn thread_place(threads: &[Thread], name: &Name) -> Option<usize>
-    ensures { result ≡ position (λ t. bytes_eq name.now t.name) threads.now }
+pub(crate) fn thread_place(threads: &[Option<Thread>], name: &Name) -> Option<usize>
+    ensures { result ≡ position (option_any (λ t. bytes_eq name.now t.name)) threads.now }
 {
-    threads
-        .iter()
-        .position(|thread| is_same(name, &thread.name))
+    threads.iter().position(|thread| match thread {
+        Some(other) => is_same(name, &other.name),
+        None => false,
+    })
 }
 
 /// Whether it is the same name. Names that are made one after the other differ most often in their last byte, so that

@@ -5,20 +5,26 @@ ghost use Rattle.lot_machine.specs.Order.{IsInOrder};
 ghost use Rattle.lot_machine.specs.State.{sizes_of};
 ghost use Rattle.lot_machine.specs.Step.{step};
 ghost use Rattle.lot_kernel.specs.Counted.{Counts};
+ghost use Rattle.lot_kernel.specs.Memory.{bytes_of};
 ghost use Rattle.lot_kernel.specs.Snapshots.{MakesStale, starting};
 
 mod commands;
 mod processors;
 mod rows;
+mod stops;
 mod traps;
 
-use lot_machine::{Event, Limits, MutexNumber, Name, Processor, Reply};
+use lot_machine::{Event, Limits, MutexNumber, Name, Processor, Reply, ThreadNumber};
 use lot_mutex::Lottery;
 use lot_queues::Queues;
 use lot_threads::Threads;
 use lot_value::Meter;
 use std::alloc::{AllocError, Global};
 use std::marker::Model;
+use std::mem::size_of;
+
+// What a currency takes for its name.
+const NAME_BYTES: u64 = size_of::<Option<Name>>() as u64;
 
 /// The names of currencies, the threads with their values and the counts, and the queues. Contracts see the state that
 /// they hold.
@@ -77,6 +83,16 @@ impl Tables {
         })
     }
 
+    /// How many bytes `new` asks of the allocator in all.
+    pub(crate) fn bytes(limits: &Limits) -> u64
+        ensures { result ≡ bytes_of (sizes_of limits.now) }
+    {
+        NAME_BYTES * (limits.currencies as u64 + 1)
+            + Threads::bytes(limits)
+            + Queues::bytes(limits.ports, limits.mutexes, limits.threads)
+            + Lottery::bytes(limits.threads)
+    }
+
     pub(crate) fn limits(&self) -> Limits
         ensures { sizes_of result ≡ self.now.state.limits }
     {
@@ -131,6 +147,13 @@ impl Tables {
             Event::Trap(number, ran, action) => {
                 self.trap(Processor { number: *number }, *ran, action, reply);
             }
+            Event::Preempt { processor, ticks } => {
+                self.preempt(Processor { number: *processor }, *ticks, reply);
+            }
+            Event::Overrun { processor, ticks } => {
+                self.overrun(Processor { number: *processor }, *ticks, reply);
+            }
+            Event::Wake { thread } => self.wake(ThreadNumber { number: *thread }, reply),
         }
     }
 }

@@ -2,9 +2,11 @@ mod amounts;
 mod bounds;
 mod helpers;
 mod mutexes;
+mod pauses;
 mod ports;
 mod queues;
 mod reads;
+mod removals;
 mod same;
 mod threads;
 mod traps;
@@ -29,6 +31,7 @@ enum Line<'a> {
     Unfund(u64),
     Settkt(u64, u64),
     Mkthr(&'a str, u32),
+    Rmthr(&'a str),
     Fundx(u64, &'a str, &'a str, u32),
     List(Kind),
 }
@@ -44,6 +47,9 @@ enum Step<'a> {
     /// A trap on the processor with this number, without work before it: its thread, and its outcome. It costs its one
     /// tick, and doesn't end the quantum.
     Traps(u32, Action, u32, Outcome),
+    /// A trap after so many ticks of work.
+    Works(u32, u32, Action, u32, Outcome),
+    Pauses(Pause, Reply),
     Ticket(TicketShown<'a>),
     Currency(CurrencyShown<'a>),
     Thread(ThreadShown<'a>),
@@ -52,6 +58,14 @@ enum Step<'a> {
     NoTicket(u32),
     NoCurrency(u32),
     NoThread(u32),
+}
+
+/// How a processor is left without a trap, with its number and ticks, or which thread is woken.
+#[derive(Clone, Copy, Debug)]
+enum Pause {
+    Preempt(u32, u32),
+    Overrun(u32, u32),
+    Wake(u32),
 }
 
 /// A thread that wins a draw, the number drawn, and the total.
@@ -93,6 +107,9 @@ fn command(rt: &impl Abort, line: Line<'_>) -> Command {
             let name = name(rt, text);
             Command::MakeThread { name, script }
         }
+        Line::Rmthr(text) => Command::RemoveThread {
+            thread: name(rt, text),
+        },
         Line::Fundx(amount, issuer, text, script) => Command::MakeFunded {
             amount,
             currency: name(rt, issuer),
@@ -207,6 +224,14 @@ fn check_value(rt: &impl Abort, kernel: &mut Kernel, thread: u32, value: u64) {
     check_same_at(rt, &thread, &found, &Some(value));
 }
 
+fn event_of(pause: Pause) -> Event {
+    match pause {
+        Pause::Preempt(processor, ticks) => Event::Preempt { processor, ticks },
+        Pause::Overrun(processor, ticks) => Event::Overrun { processor, ticks },
+        Pause::Wake(thread) => Event::Wake { thread },
+    }
+}
+
 /// Takes a step.
 fn take(rt: &impl Abort, kernel: &mut Kernel, step: Step<'_>) {
     match step {
@@ -226,6 +251,11 @@ fn take(rt: &impl Abort, kernel: &mut Kernel, step: Step<'_>) {
             let event = Event::Trap(processor, 0, action);
             check_event(rt, kernel, event, trapped(thread, outcome));
         }
+        Step::Works(processor, ran, action, thread, outcome) => {
+            let event = Event::Trap(processor, ran, action);
+            check_event(rt, kernel, event, trapped_after(thread, ran, outcome));
+        }
+        Step::Pauses(pause, reply) => check_event(rt, kernel, event_of(pause), reply),
         _ => check_shown(rt, kernel, step),
     }
 }
@@ -241,7 +271,12 @@ fn check_shown(rt: &impl Abort, kernel: &mut Kernel, step: Step<'_>) {
         Step::NoCurrency(number) => check_currency(rt, kernel, number, None),
         Step::NoThread(number) => check_thread(rt, kernel, number, None),
         // `take` gives these to the kernel.
-        Step::Gives(..) | Step::Wins(..) | Step::Idles(..) | Step::Traps(..) => {}
+        Step::Gives(..)
+        | Step::Wins(..)
+        | Step::Idles(..)
+        | Step::Traps(..)
+        | Step::Works(..)
+        | Step::Pauses(..) => {}
     }
 }
 
@@ -304,6 +339,16 @@ fn small(rt: &impl Abort, alloc: Global, tickets: u32, currencies: u32, threads:
     })
     .expect(rt, "limits");
     Kernel::new(alloc, limits).expect(rt, "memory")
+}
+
+/// A trap of this thread after so many ticks of work, which doesn't end the quantum.
+fn trapped_after(thread: u32, ran: u32, outcome: Outcome) -> Reply {
+    Reply::Trapped {
+        thread,
+        ticks: ran.saturating_add(1),
+        outcome,
+        ends: false,
+    }
 }
 
 /// A draw with this winner of a row, and what is delivered to the thread.

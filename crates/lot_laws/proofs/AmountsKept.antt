@@ -20,12 +20,12 @@ use Rattle.lot_machine.specs.declared.sizes.Sizes.{Sizes}
 use Rattle.lot_machine.specs.declared.funding.Node.{Node}
 use Rattle.lot_machine.specs.declared.funding.Node.TheVariants.{Currency, Thread, Mutex}
 use Rattle.lot_machine.specs.State.{State, funding_of, live_of, lend_of}
-use Rattle.lot_machine.specs.Named.{processor_of}
 use Rattle.lot_machine.specs.Commands.{command_refusal, command_effect, command_step, currency_or_base, target_named, Step, unless_refused, is_bad_amount}
 use Rattle.lot_machine.specs.Step.{step, state_after}
 use Rattle.lot_machine.proofs.Changes.{number-push, number-set, number-there}
 use Rattle.lot_machine.proofs.CommandsKept.{unrefused, all-pass}
-use Rattle.lot_machine.proofs.StepSizes.{step-tickets, step-grown, step-limits}
+use Rattle.lot_machine.proofs.StepChanges.{Console, by_event}
+use Rattle.lot_machine.proofs.StepSizes.{other-tickets, step-grown, step-limits}
 use Rattle.lot_machine.proofs.OrderKept.{run-order, order-sound}
 use Rattle.lot_laws.proofs.Insulated.{insulated}
 use Rattle.lot_machine.proofs.Tickets.{some-injective, flatten-some}
@@ -122,14 +122,17 @@ command-tickets n s (MakeFunded amount currency name script) elsewhere =
     one-more n s.tickets amount (currency_or_base s currency) (target.Thread (length s.threads + 1)))
 command-tickets n s other elsewhere = unrefused (KeepsIn n s) s (command_refusal s other) (command_effect s other) (as-they-were n s.tickets) (λ _. as-they-were n s.tickets)
 
-unchanged : (n : ℕ) (s : State) (e : Event) (p : ℕ) → processor_of e ≡ Some p → KeepsIn n s (step s e).state
-unchanged n s e p on = subst (ComesOf n s.tickets) (sym (step-tickets s e p on)) (as-they-were n s.tickets)
+unchanged : (n : ℕ) (s : State) (e : Event) → ¬ (by_event e ≡ Console) → KeepsIn n s (step s e).state
+unchanged n s e other = subst (ComesOf n s.tickets) (sym (other-tickets s e other)) (as-they-were n s.tickets)
 
 event-tickets : (n : ℕ) (s : State) (e : Event) → ¬ SetsAmountOf n e → KeepsIn n s (step s e).state
 event-tickets n s (event.Command command) elsewhere = command-tickets n s command elsewhere
-event-tickets n s (event.Draw p d) elsewhere = unchanged n s (event.Draw p d) p refl
-event-tickets n s (event.Expire p) elsewhere = unchanged n s (event.Expire p) p refl
-event-tickets n s (event.Trap p ran action) elsewhere = unchanged n s (event.Trap p ran action) p refl
+event-tickets n s (event.Draw p d) elsewhere = unchanged n s (event.Draw p d) (λ e. cc)
+event-tickets n s (event.Expire p) elsewhere = unchanged n s (event.Expire p) (λ e. cc)
+event-tickets n s (event.Trap p ran action) elsewhere = unchanged n s (event.Trap p ran action) (λ e. cc)
+event-tickets n s (event.Preempt p ticks) elsewhere = unchanged n s (event.Preempt p ticks) (λ e. cc)
+event-tickets n s (event.Overrun p ticks) elsewhere = unchanged n s (event.Overrun p ticks) (λ e. cc)
+event-tickets n s (event.Wake t) elsewhere = unchanged n s (event.Wake t) (λ e. cc)
 
 run-tickets : (n : ℕ) (s : State) (events : List Event) → All (λ e. ¬ SetsAmountOf n e) events → KeepsIn n s (state_after s events)
 run-tickets n s [] elsewhere = as-they-were n s.tickets

@@ -3,7 +3,7 @@ use Rattle.std.proofs.Common.{◌≡◌, ◌≢◌, ℕ, ◌+◌, Bool, true, fa
 use Rattle.std.proofs.lemmas.Bool.{cases_eq, eqb-true}
 use Rattle.lot_machine.specs.declared.record.Record.{Record}
 use Rattle.lot_machine.specs.declared.record.Status.{Status}
-use Rattle.lot_machine.specs.declared.record.Status.TheVariants.{Ready, Running, Receiving, Queued as QueuedAt, Served, Waiting, Dead}
+use Rattle.lot_machine.specs.declared.record.Status.TheVariants.{Ready, Running, Receiving, Queued as QueuedAt, Served, Waiting, Asleep, Dead}
 use Rattle.lot_machine.specs.declared.funding.Lend.TheVariants.{Nobody}
 use Rattle.lot_machine.specs.declared.ticket.Ticket.{Ticket}
 use Rattle.lot_machine.specs.declared.ticket.Target.{Target}
@@ -89,6 +89,7 @@ live-nobody (Receiving port) e = cc
 live-nobody (QueuedAt port) e = cc
 live-nobody (Served server) e = cc
 live-nobody (Waiting m) e = cc
+live-nobody Asleep e = cc
 live-nobody Dead e = cc
 
 -- a live thread lends to nobody
@@ -111,7 +112,7 @@ module _ (s : State) (t : ℕ) (no_cycle : HasNoCycle (funding_of s)) (there : F
   ends u (w ∷ rest) is v (x ∷ more) leads alive =
       let same : x ≡ w = some-injective x w (sym leads.0 ∙ is.0) in ends w rest is.1 v more (subst (λ y. IsLendChain (funding_of s) y more v) same leads.1) alive
 
-  unbacked : (u : ℕ) → lends_lead (funding_of s) u t ≡ true → is_backed (funding_of s) (live_of s) u ≡ false
+  pub unbacked : (u : ℕ) → lends_lead (funding_of s) u t ≡ true → is_backed (funding_of s) (live_of s) u ≡ false
   unbacked u leads = by (is_backed (funding_of s) (live_of s) u) refl
     where
       by : (b : Bool) → is_backed (funding_of s) (live_of s) u ≡ b → b ≡ false

@@ -15,7 +15,6 @@ use Rattle.lot_machine.specs.declared.sizes.Sizes.{Sizes}
 use Rattle.lot_machine.specs.Numbered.{at_number, set_number, option_any}
 use Rattle.lot_machine.specs.Funding.{ticket_in, with_new_ticket, without_ticket, with_target, retargeted, with_amount, reissued, is_currency}
 use Rattle.lot_machine.specs.State.{State, opening, funding_of}
-use Rattle.lot_machine.specs.Named.{processor_of}
 use Rattle.lot_machine.specs.Commands.{currency_named, is_good_name, is_taken, is_bad_amount, is_no_script, are_tickets_full, are_threads_full, is_dead_thread, is_funding, is_cycle, command_refusal, command_effect, command_step, currency_or_base, target_named}
 use Rattle.lot_machine.specs.Order.{IsInOrder}
 use Rattle.lot_machine.specs.Step.{step, state_after}
@@ -26,7 +25,8 @@ use Rattle.lot_machine.proofs.OrderKept.{reached-order}
 use Rattle.lot_laws.specs.Conservation.{HasAmounts}
 use Rattle.lot_laws.specs.Insulation.{FundsNoBase}
 use Rattle.lot_laws.specs.Reachable.{IsReachable}
-use Rattle.lot_machine.proofs.StepSizes.{step-tickets}
+use Rattle.lot_machine.proofs.StepChanges.{Console, by_event}
+use Rattle.lot_machine.proofs.StepSizes.{other-tickets}
 
 -- a target that isn't base
 not-base : (o : Option Target) → option_any (is_currency 0) o ≡ false → unwrap_or o target.Unfunded ≢ target.Currency 0
@@ -104,14 +104,17 @@ module _ (IsSo : Ticket → Type 0)
       one-more s.tickets amount (currency_or_base s currency) (target.Thread (length s.threads + 1)) passed.0 (λ same. cc) each)
   command-each s other each = unrefused EachIn s (command_refusal s other) (command_effect s other) each (λ _. each)
 
-  unchanged : (s : State) (e : Event) (p : ℕ) → processor_of e ≡ Some p → EachIn s → EachIn (step s e).state
-  unchanged s e p on each = subst Each (sym (step-tickets s e p on)) each
+  unchanged : (s : State) (e : Event) → ¬ (by_event e ≡ Console) → EachIn s → EachIn (step s e).state
+  unchanged s e other each = subst Each (sym (other-tickets s e other)) each
 
   pub event-each : (s : State) (e : Event) → EachIn s → EachIn (step s e).state
   event-each s (event.Command command) each = command-each s command each
-  event-each s (event.Draw p d) each = unchanged s (event.Draw p d) p refl each
-  event-each s (event.Expire p) each = unchanged s (event.Expire p) p refl each
-  event-each s (event.Trap p ran action) each = unchanged s (event.Trap p ran action) p refl each
+  event-each s (event.Draw p d) each = unchanged s (event.Draw p d) (λ e. cc) each
+  event-each s (event.Expire p) each = unchanged s (event.Expire p) (λ e. cc) each
+  event-each s (event.Trap p ran action) each = unchanged s (event.Trap p ran action) (λ e. cc) each
+  event-each s (event.Preempt p ticks) each = unchanged s (event.Preempt p ticks) (λ e. cc) each
+  event-each s (event.Overrun p ticks) each = unchanged s (event.Overrun p ticks) (λ e. cc) each
+  event-each s (event.Wake t) each = unchanged s (event.Wake t) (λ e. cc) each
 
   run-each : (s : State) (events : List Event) → EachIn s → EachIn (state_after s events)
   run-each s [] each = each

@@ -20,3 +20,5 @@ pub mod Enclosed
 pub mod StaysInside
 pub mod Inflated
 pub mod Served
+pub mod StayOut
+pub mod Sleepers

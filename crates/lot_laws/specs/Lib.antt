@@ -10,5 +10,7 @@ pub mod Insulation
 pub mod Transfers
 -- The states that a run can come to, and what their fundings have.
 pub mod Reachable
+-- Threads that were removed, and what could refer to them.
+pub mod Removed
 -- Runs and states that are small enough to compute.
 pub mod Runs

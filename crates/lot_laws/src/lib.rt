@@ -5,6 +5,8 @@
 pub mod conservation;
 pub mod fairness;
 pub mod insulation;
+pub mod pauses;
 pub mod reachable;
+pub mod removed;
 pub mod transfers;
 pub mod worked;

@@ -5,7 +5,7 @@ use Rattle.std.proofs.lemmas.List.Sums.{sum-map}
 use Rattle.std.proofs.lemmas.Option.{slice_get-map}
 use Rattle.lot_machine.specs.declared.record.Record.{Record}
 use Rattle.lot_machine.specs.declared.record.Status.{Status}
-use Rattle.lot_machine.specs.declared.record.Status.TheVariants.{Ready, Running, Receiving, Queued, Served, Waiting, Dead}
+use Rattle.lot_machine.specs.declared.record.Status.TheVariants.{Ready, Running, Receiving, Queued, Served, Waiting, Asleep, Dead}
 use Rattle.lot_machine.specs.Bounds.{IsWithinBounds}
 use Rattle.lot_machine.specs.Numbered.{at_number, numbers, option_any}
 use Rattle.lot_machine.specs.Lends.{is_live, is_backed}
@@ -26,7 +26,7 @@ some-le false n = omega arith
 -- a compensation makes a value no more than a quantum's times as large
 weight-le : (value : ℕ) (compensation : Option ℕ) (quantum : ℕ) → 1 ≤ quantum → weight value compensation quantum ≤ value * quantum
 weight-le value None quantum some = omega (arith, mul-le-mul_left value some)
-weight-le value (Some used) quantum some = div-le_self (value * quantum) used
+weight-le value (Some used) quantum some = omega (arith, mul-le-mul_left value some, div-le_self (value * quantum) used)
 
 ready-live_status : (status : Status) → is_ready status ≡ true → is_live_status status ≡ true
 ready-live_status Ready e = refl
@@ -35,6 +35,7 @@ ready-live_status (Receiving p) e = cc
 ready-live_status (Queued p) e = cc
 ready-live_status (Served t) e = cc
 ready-live_status (Waiting m) e = cc
+ready-live_status Asleep e = cc
 ready-live_status Dead e = cc
 
 module _ (s : State) where

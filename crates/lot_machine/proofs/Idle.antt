@@ -1,5 +1,5 @@
 -- Who runs, who is Ready, and who has used nothing on a processor.
-use Rattle.std.proofs.Common.{◌≡◌, ℕ, zero, suc, ◌<◌, ◌≤◌, ◌==◌, Bool, true, false, ◌⊎◌, inl, inr, Option, Some, None, is_some, is_none, List, [], ◌∷◌, ◌++◌, length, map, filter, refl, sym, ◌∙◌, ap, subst, ne_eqb, option_map, option_and_then, unwrap_or, get_or, slice_get, slice_index}
+use Rattle.std.proofs.Common.{◌≡◌, ℕ, zero, suc, ◌<◌, ◌≤◌, ◌-◌, ◌==◌, Bool, true, false, ◌⊎◌, inl, inr, Option, Some, None, is_some, is_none, List, [], ◌∷◌, ◌++◌, length, map, filter, refl, sym, ◌∙◌, ap, subst, ne_eqb, arith, option_map, option_and_then, unwrap_or, get_or, slice_get, slice_index}
 use Rattle.std.specs.Bool.{then_some}
 use Rattle.std.proofs.lemmas.List.{get_or_past}
 use Rattle.std.proofs.lemmas.Option.{slice_get_cases, get_or_from_slice_get}
@@ -7,7 +7,7 @@ use Rattle.lot_machine.specs.declared.record.Record.{Record}
 use Rattle.lot_machine.specs.declared.record.Status.{Status}
 use Rattle.lot_machine.specs.declared.record.Status.TheVariants as status
 use Rattle.lot_machine.specs.Numbered.{at_number, numbers, option_any}
-use Rattle.lot_machine.specs.State.{State, QueuedCall, Port, Mutex, status_of, used_on, used_by, thread_on, is_ready, ready_threads, change_record}
+use Rattle.lot_machine.specs.State.{State, QueuedCall, Port, Mutex, status_of, used_on, used_by, thread_on, is_dead, is_asleep, is_ready, ready_threads, change_record}
 use Rattle.lot_machine.specs.Ports.{first_client, port_at}
 use Rattle.lot_machine.specs.Mutexes.{mutex_at}
 use Rattle.lot_machine.specs.Step.{thread_there}
@@ -42,7 +42,43 @@ is-ready (Some (status.Receiving p)) e = cc
 is-ready (Some (status.Queued p)) e = cc
 is-ready (Some (status.Served server)) e = cc
 is-ready (Some (status.Waiting m)) e = cc
+is-ready (Some status.Asleep) e = cc
 is-ready (Some status.Dead) e = cc
+
+pub is-dead : (o : Option Status) → option_any is_dead o ≡ true → o ≡ Some status.Dead
+is-dead None e = cc
+is-dead (Some status.Dead) e = refl
+is-dead (Some status.Ready) e = cc
+is-dead (Some (status.Running p used)) e = cc
+is-dead (Some (status.Receiving p)) e = cc
+is-dead (Some (status.Queued p)) e = cc
+is-dead (Some (status.Served server)) e = cc
+is-dead (Some (status.Waiting m)) e = cc
+is-dead (Some status.Asleep) e = cc
+
+pub is-asleep : (o : Option Status) → option_any is_asleep o ≡ true → o ≡ Some status.Asleep
+is-asleep None e = cc
+is-asleep (Some status.Asleep) e = refl
+is-asleep (Some status.Ready) e = cc
+is-asleep (Some (status.Running p used)) e = cc
+is-asleep (Some (status.Receiving p)) e = cc
+is-asleep (Some (status.Queued p)) e = cc
+is-asleep (Some (status.Served server)) e = cc
+is-asleep (Some (status.Waiting m)) e = cc
+is-asleep (Some status.Dead) e = cc
+
+-- who has a status keeps it when one more thread comes
+pub status-more : (records : List Record) (r : Record) (t : ℕ) (now : Status) → status_of records t ≡ Some now → status_of (records ++ r ∷ []) t ≡ Some now
+status-more records r t now is = from (number-push records r t)
+  where
+    from : (at_number (records ++ r ∷ []) t ≡ at_number records t) ⊎ ((at_number records t ≡ None) × (at_number (records ++ r ∷ []) t ≡ Some r)) → status_of (records ++ r ∷ []) t ≡ Some now
+    from (inl same) = ap (option_map (λ (x : Record). x.status)) same ∙ is
+    from (inr (none, new)) = let never : None ≡ Some now = sym (ap (option_map (λ (x : Record). x.status)) none) ∙ is in cc
+
+-- who has a status has a number
+pub status-number : (records : List Record) (t : ℕ) (now : Status) → status_of records t ≡ Some now → suc (t - 1) ≡ t
+status-number records zero now is = cc
+status-number records (suc i) now is = omega arith
 
 -- ---- who runs on a processor
 
@@ -82,6 +118,7 @@ used-stopped p (status.Queued q) stops = refl
 used-stopped p (status.Receiving q) stops = refl
 used-stopped p (status.Served q) stops = refl
 used-stopped p (status.Waiting q) stops = refl
+used-stopped p status.Asleep stops = refl
 used-stopped p status.Dead stops = refl
 
 -- who doesn't run on this processor has used nothing there
@@ -103,6 +140,18 @@ used-changed change records t p before after u = from (status-changed change rec
         → used_by (change_record change records t) p u ≡ used_by records p u
     from (inl same) = ap (option_and_then (used_on p)) same
     from (inr (at, (r, there, new))) = ap (option_and_then (used_on p)) new ∙ after r ∙ sym (ap (used_by records p) at ∙ before)
+
+-- the thread isn't dead
+abbrev pub IsAlive : List Record → ℕ → Type 0
+IsAlive records t = ¬ (status_of records t ≡ Some status.Dead)
+
+-- a thread isn't dead if its status says so
+pub alive-of : (records : List Record) (t : ℕ) (now : Status) → status_of records t ≡ Some now → ¬ (now ≡ status.Dead) → IsAlive records t
+alive-of records t now is other dead = other (some-injective now status.Dead (sym is ∙ dead))
+
+-- nobody has the number 0
+pub nobody-alive : (records : List Record) → IsAlive records 0
+nobody-alive records dead = cc
 
 -- the ticks that a record says, if there is one
 abbrev used_in : ℕ → Option Record → Option ℕ
@@ -126,55 +175,94 @@ index-holds P xs place none each = from (slice_get_cases xs place).1
     from (inl (x, below, is, same)) = let there : slice_index xs place ≡ x = get_or_from_slice_get xs place x 0 is in subst P (sym there) (each x is)
     from (inr (past, _)) = let there : slice_index xs place ≡ 0 = get_or_past xs place 0 past in subst P (sym there) none
 
--- who stands among the Ready threads has used nothing on any processor
-pub ready-used : (s : State) (p place t : ℕ) → slice_get (ready_threads s.records) place ≡ Some t → used_by s.records p t ≡ None
-ready-used s p place t here =
-    let passes = filter-passes (λ u. option_any is_ready (status_of s.records u)) (numbers s.records) place t here in
-    used-of s.records p t status.Ready (is-ready (status_of s.records t) passes) refl
+-- who stands among the Ready threads is Ready
+ready-stands : (s : State) (place t : ℕ) → slice_get (ready_threads s.records) place ≡ Some t → status_of s.records t ≡ Some status.Ready
+ready-stands s place t here = is-ready (status_of s.records t) (filter-passes (λ u. option_any is_ready (status_of s.records u)) (numbers s.records) place t here)
 
--- who waits has used nothing on any processor
-module _ (p : ℕ) (records : List Record) (clients : List (List ℕ)) (ports : List Port) (mutexes : List Mutex) (queues : HasQueues records clients ports mutexes) where
+-- and has used nothing on any processor
+pub ready-used : (s : State) (p place t : ℕ) → slice_get (ready_threads s.records) place ≡ Some t → used_by s.records p t ≡ None
+ready-used s p place t here = used-of s.records p t status.Ready (ready-stands s place t here) refl
+
+-- and isn't dead
+pub ready-alive : (s : State) (place t : ℕ) → slice_get (ready_threads s.records) place ≡ Some t → IsAlive s.records t
+ready-alive s place t here = alive-of s.records t status.Ready (ready-stands s place t here) (λ e. cc)
+
+-- ---- who waits
+
+module _ (records : List Record) (clients : List (List ℕ)) (ports : List Port) (mutexes : List Mutex) (queues : HasQueues records clients ports mutexes) where
   -- the first that receives at a port
-  pub receiver-used : (port server : ℕ) (others : List ℕ) → (port_at ports port).receivers ≡ server ∷ others → used_by records p server ≡ None
-  receiver-used port server others = from (at_number ports port) refl
+  receiver-stands : (port server : ℕ) (others : List ℕ) → (port_at ports port).receivers ≡ server ∷ others → status_of records server ≡ Some (status.Receiving port)
+  receiver-stands port server others = from (at_number ports port) refl
     where
       from : (o : Option Port) → at_number ports port ≡ o → (unwrap_or o (record { calls = []; receivers = [] })).receivers ≡ server ∷ others
-          → used_by records p server ≡ None
+          → status_of records server ≡ Some (status.Receiving port)
       from None is e = cc
       from (Some x) is e =
           let queue : IsQueue records (status.Receiving port) (server ∷ others) = subst (IsQueue records (status.Receiving port)) e (queues.receivers port x is) in
-          used-of records p server (status.Receiving port) (queue.each 0 server refl) refl
+          queue.each 0 server refl
 
   -- the first whose call is queued there
-  pub caller-used : (port : ℕ) (first : QueuedCall) (others : List QueuedCall) → (port_at ports port).calls ≡ first ∷ others → used_by records p first.caller ≡ None
-  caller-used port first others = from (at_number ports port) refl
+  caller-stands : (port : ℕ) (first : QueuedCall) (others : List QueuedCall) → (port_at ports port).calls ≡ first ∷ others → status_of records first.caller ≡ Some (status.Queued port)
+  caller-stands port first others = from (at_number ports port) refl
     where
       from : (o : Option Port) → at_number ports port ≡ o → (unwrap_or o (record { calls = []; receivers = [] })).calls ≡ first ∷ others
-          → used_by records p first.caller ≡ None
+          → status_of records first.caller ≡ Some (status.Queued port)
       from None is e = cc
       from (Some x) is e =
           let callers : List QueuedCall → List ℕ = map (λ (call : QueuedCall). call.caller) in
           let queue : IsQueue records (status.Queued port) (callers (first ∷ others)) = subst (λ calls. IsQueue records (status.Queued port) (callers calls)) e (queues.callers port x is) in
-          used-of records p first.caller (status.Queued port) (queue.each 0 first.caller refl) refl
+          queue.each 0 first.caller refl
 
-  -- a thread's first client, or 0
-  pub client-used : (server : ℕ) → used_by records p (unwrap_or (first_client clients server) 0) ≡ None
-  client-used server = from (first_client clients server) refl
+  -- who stands at a place of those that wait for a mutex
+  waiter-stands : (m place : ℕ) (waiters : List ℕ) → (mutex_at mutexes m).waiters ≡ waiters → (t : ℕ) → slice_get waiters place ≡ Some t → status_of records t ≡ Some (status.Waiting m)
+  waiter-stands m place waiters e t here = from (at_number mutexes m) refl e
+    where
+      from : (o : Option Mutex) → at_number mutexes m ≡ o → (unwrap_or o (record { owner = None; waiters = [] })).waiters ≡ waiters → status_of records t ≡ Some (status.Waiting m)
+      from None is none = let empty : slice_get {X = ℕ} [] place ≡ Some t = ap (λ ts. slice_get ts place) none ∙ here in cc
+      from (Some x) is same = let queue = queues.waiters m x is in queue.each place t (ap (λ ts. slice_get ts place) same ∙ here)
+
+  -- none of them has used anything on a processor
+  pub receiver-used : (p port server : ℕ) (others : List ℕ) → (port_at ports port).receivers ≡ server ∷ others → used_by records p server ≡ None
+  receiver-used p port server others is = used-of records p server (status.Receiving port) (receiver-stands port server others is) refl
+
+  pub caller-used : (p port : ℕ) (first : QueuedCall) (others : List QueuedCall) → (port_at ports port).calls ≡ first ∷ others → used_by records p first.caller ≡ None
+  caller-used p port first others is = used-of records p first.caller (status.Queued port) (caller-stands port first others is) refl
+
+  -- nor has a thread's first client, or 0
+  pub client-used : (p server : ℕ) → used_by records p (unwrap_or (first_client clients server) 0) ≡ None
+  client-used p server = from (first_client clients server) refl
     where
       from : (o : Option ℕ) → first_client clients server ≡ o → used_by records p (unwrap_or o 0) ≡ None
       from None is = refl
       from (Some client) is =
           let queue = queue-clients records clients ports mutexes queues server in used-of records p client (status.Served server) (queue.each 0 client is) refl
 
-  -- who stands at a place of those that wait for a mutex, or 0
-  pub waiter-used : (m place : ℕ) (waiters : List ℕ) → (mutex_at mutexes m).waiters ≡ waiters → used_by records p (slice_index waiters place) ≡ None
-  waiter-used m place waiters e = index-holds (λ t. used_by records p t ≡ None) waiters place refl (λ t here. from (at_number mutexes m) refl e t here)
+  pub waiter-used : (p m place : ℕ) (waiters : List ℕ) → (mutex_at mutexes m).waiters ≡ waiters → used_by records p (slice_index waiters place) ≡ None
+  waiter-used p m place waiters e =
+      index-holds (λ t. used_by records p t ≡ None) waiters place refl (λ t here. used-of records p t (status.Waiting m) (waiter-stands m place waiters e t here) refl)
+
+  -- and none of them is dead
+  pub receiver-alive : (port server : ℕ) (others : List ℕ) → (port_at ports port).receivers ≡ server ∷ others → IsAlive records server
+  receiver-alive port server others is = alive-of records server (status.Receiving port) (receiver-stands port server others is) (λ e. cc)
+
+  pub caller-alive : (port : ℕ) (first : QueuedCall) (others : List QueuedCall) → (port_at ports port).calls ≡ first ∷ others → IsAlive records first.caller
+  caller-alive port first others is = alive-of records first.caller (status.Queued port) (caller-stands port first others is) (λ e. cc)
+
+  pub client-alive : (server : ℕ) → IsAlive records (unwrap_or (first_client clients server) 0)
+  client-alive server = from (first_client clients server) refl
     where
-      from : (o : Option Mutex) → at_number mutexes m ≡ o → (unwrap_or o (record { owner = None; waiters = [] })).waiters ≡ waiters
-          → (t : ℕ) → slice_get waiters place ≡ Some t → used_by records p t ≡ None
-      from None is none t here = let empty : slice_get {X = ℕ} [] place ≡ Some t = ap (λ ts. slice_get ts place) none ∙ here in cc
-      from (Some x) is same t here =
-          let queue = queues.waiters m x is in used-of records p t (status.Waiting m) (queue.each place t (ap (λ ts. slice_get ts place) same ∙ here)) refl
+      from : (o : Option ℕ) → first_client clients server ≡ o → IsAlive records (unwrap_or o 0)
+      from None is = nobody-alive records
+      from (Some client) is =
+          let queue = queue-clients records clients ports mutexes queues server in alive-of records client (status.Served server) (queue.each 0 client is) (λ e. cc)
+
+  pub waiter-alive : (m place : ℕ) (waiters : List ℕ) → (mutex_at mutexes m).waiters ≡ waiters → IsAlive records (slice_index waiters place)
+  waiter-alive m place waiters e =
+      index-holds (IsAlive records) waiters place (nobody-alive records) (λ t here. alive-of records t (status.Waiting m) (waiter-stands m place waiters e t here) (λ same. cc))
+
+-- who runs isn't dead
+pub there-alive : (s : State) (p : ℕ) → is_none (thread_on s.records p) ≡ false → IsAlive s.records (thread_there s p)
+there-alive s p some = let there = there-runs s p some in alive-of s.records (thread_there s p) (status.Running p there.0) there.1 (λ e. cc)
 
 -- who runs on another processor has used nothing on this one
 pub there-used : (s : State) (p q : ℕ) → ¬ (q ≡ p) → is_none (thread_on s.records q) ≡ false → used_by s.records p (thread_there s q) ≡ None

@@ -1,5 +1,5 @@
 -- The thread that the reply to an event of one processor names doesn't run on another.
-use Rattle.std.proofs.Common.{◌≡◌, ℕ, suc, ◌+◌, ◌-◌, ◌%◌, ◌<◌, ◌≤◌, ◌==◌, Bool, true, false, ◌⊎◌, inl, inr, Option, Some, None, is_none, List, [], ◌∷◌, length, map, sum, refl, sym, ◌∙◌, ap, arith, nat_lt, get_or, slice_get, slice_index, if◌then◌else◌}
+use Rattle.std.proofs.Common.{◌≡◌, ℕ, suc, ◌+◌, ◌-◌, ◌%◌, ◌^◌, ◌<◌, ◌≤◌, ◌==◌, Bool, true, false, ◌⊎◌, inl, inr, Option, Some, None, is_none, List, [], ◌∷◌, length, map, sum, refl, sym, ◌∙◌, ap, arith, nat_lt, nat_le, get_or, slice_get, slice_index, if◌then◌else◌}
 use Rattle.std.proofs.lemmas.Bool.{ltb-false, eqb-false, cases_lt}
 use Rattle.std.proofs.Math.Nat.{mod-lt}
 use Rattle.std.proofs.lemmas.List.{length-map}
@@ -110,6 +110,17 @@ step-named s (event.Expire r) p q t on other named =
     let done = unrefused-named s (event_refusal s (event.Expire r)) (event_effect s (event.Expire r)) t named in
     let passed = all-pass ((is_bad_processor s r, BadProcessor) ∷ (is_none (thread_on s.records r), NotRunning) ∷ []) done.0 in
     there-named s p r t (λ same. other (sym (some-injective r q on) ∙ same)) passed.1.0 (some-injective (thread_there s r) t done.1)
+step-named s (event.Preempt r ticks) p q t on other named =
+    let done = unrefused-named s (event_refusal s (event.Preempt r ticks)) (event_effect s (event.Preempt r ticks)) t named in
+    let passed = all-pass ((is_bad_processor s r, BadProcessor) ∷ (is_none (thread_on s.records r), NotRunning)
+    ∷ (nat_lt s.limits.quantum (used_there s r + ticks), BadTicks) ∷ []) done.0 in
+    there-named s p r t (λ same. other (sym (some-injective r q on) ∙ same)) passed.1.0 (some-injective (thread_there s r) t done.1)
+step-named s (event.Overrun r ticks) p q t on other named =
+    let done = unrefused-named s (event_refusal s (event.Overrun r ticks)) (event_effect s (event.Overrun r ticks)) t named in
+    let passed = all-pass ((is_bad_processor s r, BadProcessor) ∷ (is_none (thread_on s.records r), NotRunning)
+    ∷ (nat_le (2 ^ 32) (s.limits.quantum + ticks), BadTicks) ∷ []) done.0 in
+    there-named s p r t (λ same. other (sym (some-injective r q on) ∙ same)) passed.1.0 (some-injective (thread_there s r) t done.1)
+step-named s (event.Wake u) p q t on other named = cc
 step-named s (event.Trap r ran action) p q t on other named =
     let done = unrefused-named s (event_refusal s (event.Trap r ran action)) (event_effect s (event.Trap r ran action)) t named in
     let passed = all-pass ((is_bad_processor s r, BadProcessor) ∷ (is_none (thread_on s.records r), NotRunning)

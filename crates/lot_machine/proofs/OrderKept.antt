@@ -1,5 +1,5 @@
 -- A state that is in order stays so through each event, and is sound.
-use Rattle.std.proofs.Common.{◌≡◌, ℕ, zero, suc, ◌+◌, ◌-◌, ◌<◌, ◌≤◌, Bool, true, false, not, ◌⊎◌, inl, inr, Option, Some, None, is_some, is_none, List, [], ◌∷◌, length, map, replicate, refl, sym, ◌∙◌, ap, subst, arith, nat_lt, option_map, option_and_then, unwrap_or, get_or, slice_get, slice_index}
+use Rattle.std.proofs.Common.{◌≡◌, ℕ, zero, suc, ◌+◌, ◌-◌, ◌^◌, ◌<◌, ◌≤◌, Bool, true, false, not, ◌⊎◌, inl, inr, Option, Some, None, is_some, is_none, List, [], ◌∷◌, length, map, replicate, refl, sym, ◌∙◌, ap, subst, arith, nat_lt, nat_le, option_map, option_and_then, unwrap_or, get_or, slice_get, slice_index}
 use Rattle.std.specs.Option.{option_flatten}
 use Rattle.std.proofs.lemmas.List.{get_or_past}
 use Rattle.std.proofs.lemmas.List.Elements.{All-nil}
@@ -9,15 +9,16 @@ use Rattle.lot_machine.specs.declared.ticket.Target.{Target}
 use Rattle.lot_machine.specs.declared.ticket.Target.TheVariants as target
 use Rattle.lot_machine.specs.declared.record.Record.{Record}
 use Rattle.lot_machine.specs.declared.record.Status.{Status}
+use Rattle.lot_machine.specs.declared.record.Thread.{Thread}
 use Rattle.lot_machine.specs.declared.record.Status.TheVariants as status
 use Rattle.lot_machine.specs.declared.funding.Lend.{Lend}
 use Rattle.lot_machine.specs.declared.funding.Lend.TheVariants.{Nobody}
 use Rattle.lot_machine.specs.declared.action.Action.{Action}
-use Rattle.lot_machine.specs.declared.action.Action.TheVariants.{Yield, Call, Receive, Reply as ReplyTo, Serve, Lock, Unlock, Exit}
+use Rattle.lot_machine.specs.declared.action.Action.TheVariants.{Yield, Call, Receive, Reply as ReplyTo, Serve, Lock, Unlock, Sleep, Exit}
 use Rattle.lot_machine.specs.declared.command.Command.{Command}
 use Rattle.lot_machine.specs.declared.event.Event.{Event}
 use Rattle.lot_machine.specs.declared.event.Event.TheVariants as event
-use Rattle.lot_machine.specs.declared.refusal.Refusal.TheVariants.{BadProcessor, Busy, NotRunning, BadTicks}
+use Rattle.lot_machine.specs.declared.refusal.Refusal.TheVariants.{NoThread, BadProcessor, Busy, NotRunning, BadTicks, NotAsleep}
 use Rattle.lot_machine.specs.declared.refusal.TrapRefusal.{TrapRefusal}
 use Rattle.lot_machine.specs.declared.refusal.TrapRefusal.TheVariants.{NoPort, NothingToReply, NoMutex, NotOwner, AlreadyOwner, LockCycle}
 use Rattle.lot_machine.specs.declared.drawn.Drawn.{Drawn}
@@ -27,23 +28,23 @@ use Rattle.lot_machine.specs.Numbered.{at_number, numbers, option_any}
 use Rattle.lot_machine.specs.Funding.{target_of, issuer_of}
 use Rattle.lot_machine.specs.Lends.{lends_on_to, LendsTo, borrower}
 use Rattle.lot_machine.specs.Lottery.{winner}
-use Rattle.lot_machine.specs.State.{State, Port, Mutex, QueuedCall, opening, funding_of, lend_of, status_of, is_ready, ready_threads, thread_on, change_record, value_of, weight_of}
+use Rattle.lot_machine.specs.State.{State, Port, Mutex, QueuedCall, opening, funding_of, is_asleep, lend_of, status_of, is_ready, ready_threads, thread_at, thread_on, change_record, value_of, weight_of}
 use Rattle.lot_machine.specs.Commands.{command_step}
 use Rattle.lot_machine.specs.declared.after.After.{After}
 use Rattle.lot_machine.specs.Traps.{after_trap, with_ticks}
 use Rattle.lot_machine.specs.declared.after.After.TheVariants.{GoesOn, Leaves, Ends}
 use Rattle.lot_machine.specs.Ports.{first_client, reply}
 use Rattle.lot_machine.specs.Mutexes.{mutex_at}
-use Rattle.lot_machine.specs.Step.{Effect, is_bad_processor, started, draw, expire, owns, trap_refusal, trap_effect, checked_effect, trap, thread_there, used_there, event_effect, step, state_after}
+use Rattle.lot_machine.specs.Step.{Effect, is_bad_processor, started, draw, stopped, wake, owns, trap_refusal, trap_effect, checked_effect, trap, thread_there, used_there, event_effect, step, state_after}
 use Rattle.lot_machine.specs.Facts.{HasNoCycle, FundsThere, IsSound}
 use Rattle.lot_machine.specs.Order.{IsQueue, HasQueues, IsInOrder}
 use Rattle.lot_machine.proofs.Tickets.{at_number-suc, some-injective}
 use Rattle.lot_machine.proofs.CommandsKept.{unrefused, all-pass}
 use Rattle.lot_machine.proofs.RecordsKept.{RunsAlone, apart}
-use Rattle.lot_machine.proofs.Idle.{filter-passes, is-ready, there-runs, there-alone, free-of, used-of, used-elsewhere}
-use Rattle.lot_machine.proofs.StepChanges.{By, On, Leads, kept, Apart, Queues, HasAmount, HasRoom, change-apart, change-room, change-there, change-queues, command-keeps, command-leads, draw-leads, expire-leads, checked-leads, finish-leads}
-use Rattle.lot_machine.proofs.Queues.{queue-empty, queues-live}
-use Rattle.lot_machine.proofs.TrapQueues.{stay-queues, call-queues, receive-queues, reply-queues, replied-queues, lock-queues, unlock-queues}
+use Rattle.lot_machine.proofs.Idle.{alive-of, filter-passes, is-ready, is-asleep, there-runs, there-alone, free-of, used-of, used-elsewhere}
+use Rattle.lot_machine.proofs.StepChanges.{By, On, Leads, kept, Apart, Queues, HasAmount, HasRoom, AreRemovedDead, change-apart, change-gone, change-removed, change-room, change-there, change-queues, command-keeps, command-leads, draw-leads, stopped-leads, wake-leads, checked-leads, finish-leads, passes, Console}
+use Rattle.lot_machine.proofs.Queues.{queue-empty, queues-changed, queues-live}
+use Rattle.lot_machine.proofs.TrapQueues.{nowhere-from, stay-queues, call-queues, receive-queues, reply-queues, replied-queues, lock-queues, unlock-queues}
 use Rattle.lot_machine.proofs.TrapCycles.{cycle-nobody, call-cycle, receive-cycle, reply-cycle, replied-cycle, lock-cycle, unlock-cycle}
 use Rattle.lot_machine.proofs.BaseKept.{base-bounded}
 use Rattle.lot_machine.proofs.Bounded.{sound}
@@ -51,26 +52,31 @@ use Rattle.lot_machine.proofs.Bounded.{sound}
 -- ---- what allowed changes keep of the order
 
 -- all but cycles, queues and what tickets fund
-frame-order : {by : By} (s b : State) → IsInOrder s → Leads by s b → HasNoCycle (funding_of b) → FundsThere (funding_of b) → Queues b → IsInOrder b
-frame-order {by} s b order leads no_cycle there queues =
+frame-order : {by : By} (s b : State) → IsInOrder s → Leads by s b → HasNoCycle (funding_of b) → FundsThere (funding_of b) → Queues b → AreRemovedDead b → IsInOrder b
+frame-order {by} s b order leads no_cycle there queues removed =
     let room = kept HasRoom (change-room by s) leads (order.amounts, order.ticket_count, order.bounds) in
     let runs = kept Apart (change-apart by s order.runs_apart) leads order.runs_apart in
-    record { no_cycle = no_cycle; funds_there = there; runs_apart = runs; queues = queues; amounts = room.0; ticket_count = room.1; bounds = room.2 }
+    record { no_cycle = no_cycle; funds_there = there; runs_apart = runs; queues = queues; removed = removed; amounts = room.0; ticket_count = room.1; bounds = room.2 }
 
 command-order : (s : State) (c : Command) → IsInOrder s → IsInOrder (command_step s c).state
 command-order s c order =
     let leads = command-leads s c in
     let funded = command-keeps s c order.no_cycle order.funds_there in
-    frame-order s (command_step s c).state order leads funded.0 funded.1 (kept Queues (change-queues s) leads order.queues)
+    frame-order s (command_step s c).state order leads funded.0 funded.1 (kept Queues (change-queues s) leads order.queues) (kept AreRemovedDead (change-gone s) leads order.removed)
 
 -- nothing makes a cycle, and those who wait stand where their statuses say
 abbrev IsUntangled : State → Type 0
 IsUntangled s = HasNoCycle (funding_of s) × Queues s
 
--- an event of a processor leaves what tickets fund
+-- what isn't the console's leaves what tickets fund
+other-order : {by : By} (s b : State) → ¬ (by ≡ Console) → IsInOrder s → Leads by s b → IsUntangled b → IsInOrder b
+other-order {by} s b other order leads (no_cycle, queues) =
+    frame-order s b order leads no_cycle (kept (λ a. FundsThere (funding_of a)) (change-there by s other) leads order.funds_there) queues
+    (kept (λ a. (a.threads ≡ s.threads) × AreRemovedDead a) (change-removed by s other order.queues order.removed) leads (refl, order.removed)).1
+
+-- nor does an event of a processor
 processor-order : (p : ℕ) (s b : State) → IsInOrder s → Leads (On p) s b → IsUntangled b → IsInOrder b
-processor-order p s b order leads (no_cycle, queues) =
-    frame-order s b order leads no_cycle (kept (λ a. FundsThere (funding_of a)) (change-there (On p) s (λ e. cc)) leads order.funds_there) queues
+processor-order p s b order leads untangled = other-order s b (λ e. cc) order leads untangled
 
 -- ---- draws and expiries
 
@@ -100,10 +106,26 @@ draw-order s p d free order = processor-order p s (draw s p d).state order (draw
         let t = slice_index (ready_threads s.records) w.place in
         rw is (cycle-nobody s (started p) t (λ r. refl) order.no_cycle, ready-queues s (started p) w.place order.queues)
 
-expire-untangled : (s : State) (p t before used : ℕ) → status_of s.records t ≡ Some (status.Running p before) → IsInOrder s → IsUntangled (expire s t used).state
-expire-untangled s p t before used runs order =
-    let change : Record → Record = λ r. with_ticks (s.limits.quantum - used) (record r { status = status.Ready; compensation = None }) in
-    (cycle-nobody s change t (λ r. refl) order.no_cycle, queues-live s.records s.clients s.ports s.mutexes order.queues change t (status.Running p before) runs refl)
+-- who sleeps stands in no queue
+queues-sleeper : (s : State) (change : Record → Record) (t : ℕ) → status_of s.records t ≡ Some status.Asleep → Queues s → HasQueues (change_record change s.records t) s.clients s.ports s.mutexes
+queues-sleeper s change t sleeps queues =
+    queues-changed s.records s.clients s.ports s.mutexes queues change t
+    (nowhere-from s.records s.clients s.ports s.mutexes t status.Asleep queues sleeps (λ p port e. cc) (λ p port e. cc) (λ m mutex e. cc) (λ server threads e. cc))
+
+-- the thread that runs on the processor is taken off it
+stopped-order : (s : State) (p ticks : ℕ) (compensation : Option ℕ) → is_none (thread_on s.records p) ≡ false → IsInOrder s → IsInOrder (stopped s (thread_there s p) ticks compensation).state
+stopped-order s p ticks compensation some order =
+    let there = there-runs s p some in
+    let change : Record → Record = λ r. with_ticks ticks (record r { status = status.Ready; compensation = compensation }) in
+    processor-order p s (stopped s (thread_there s p) ticks compensation).state order (stopped-leads s p ticks compensation some)
+    (cycle-nobody s change (thread_there s p) (λ r. refl) order.no_cycle, queues-live s.records s.clients s.ports s.mutexes order.queues change (thread_there s p) (status.Running p there.0) there.1 refl)
+
+-- a thread that sleeps is woken
+wake-order : (s : State) (t : ℕ) → status_of s.records t ≡ Some status.Asleep → IsInOrder s → IsInOrder (wake s t).state
+wake-order s t sleeps order =
+    let change : Record → Record = λ r. record r { status = status.Ready } in
+    other-order s (wake s t).state (λ e. cc) order (wake-leads s t sleeps)
+    (cycle-nobody s change t (λ r. refl) order.no_cycle, queues-sleeper s change t sleeps order.queues)
 
 -- ---- traps
 
@@ -136,6 +158,7 @@ module _ (s : State) (order : IsInOrder s) (t p before ticks used : ℕ) (runs :
 
   effect-untangled : (action : Action) → trap_refusal s t action ≡ None → IsUntangled (finished (trap_effect s t action))
   effect-untangled Yield allowed = nothing-else (Leaves status.Ready) (λ r. refl)
+  effect-untangled Sleep allowed = nothing-else (Leaves status.Asleep) (λ r. refl)
   effect-untangled Exit allowed = nothing-else Ends (λ r. refl)
   effect-untangled (Call port number) allowed =
       let passed = all-pass ((is_none (at_number s.ports port), NoPort) ∷ []) allowed in
@@ -174,7 +197,7 @@ pub trap-order : (s : State) (p t before used ran : ℕ) (action : Action) → s
 trap-order s p t before used ran action runs alone order =
     let effect = checked_effect s (trap_refusal s t action) (trap_effect s t action) in
     let works = checked-leads s t action (trap_refusal s t action) in
-    let leads = finish-leads s p t (ran + 1) (used + ran + 1) effect works (λ queues q other. used-of s.records q t (status.Running p before) runs (used-elsewhere q p before (λ same. other (sym same)))) (λ apart. alone) in
+    let leads = finish-leads s p t (ran + 1) (used + ran + 1) effect works (alive-of s.records t (status.Running p before) runs (λ e. cc)) (λ queues q other. used-of s.records q t (status.Running p before) runs (used-elsewhere q p before (λ same. other (sym same)))) (λ apart. alone) in
     processor-order p s (trap s p t used ran action).state order leads (checked-untangled s order t p before (ran + 1) (used + ran + 1) runs action (trap_refusal s t action) refl)
 
 -- ---- events and runs
@@ -188,8 +211,19 @@ step-order s (event.Draw p d) order =
 step-order s (event.Expire p) order =
     unrefused IsInOrder s _ (event_effect s (event.Expire p)) order (λ e.
     let passed = all-pass ((is_bad_processor s p, BadProcessor) ∷ (is_none (thread_on s.records p), NotRunning) ∷ []) e in
-    let there = there-runs s p passed.1.0 in
-    processor-order p s (event_effect s (event.Expire p)).state order (expire-leads s p passed.1.0) (expire-untangled s p (thread_there s p) there.0 (used_there s p) there.1 order))
+    stopped-order s p (s.limits.quantum - used_there s p) None passed.1.0 order)
+step-order s (event.Preempt p ticks) order =
+    unrefused IsInOrder s _ (event_effect s (event.Preempt p ticks)) order (λ e.
+    let passed = all-pass ((is_bad_processor s p, BadProcessor) ∷ (is_none (thread_on s.records p), NotRunning) ∷ (nat_lt s.limits.quantum (used_there s p + ticks), BadTicks) ∷ []) e in
+    stopped-order s p ticks None passed.1.0 order)
+step-order s (event.Overrun p ticks) order =
+    unrefused IsInOrder s _ (event_effect s (event.Overrun p ticks)) order (λ e.
+    let passed = all-pass ((is_bad_processor s p, BadProcessor) ∷ (is_none (thread_on s.records p), NotRunning) ∷ (nat_le (2 ^ 32) (s.limits.quantum + ticks), BadTicks) ∷ []) e in
+    stopped-order s p (s.limits.quantum - used_there s p + ticks) (Some (s.limits.quantum + ticks)) passed.1.0 order)
+step-order s (event.Wake t) order =
+    unrefused IsInOrder s _ (event_effect s (event.Wake t)) order (λ e.
+    let passed = all-pass ((is_none (thread_at s.threads t), NoThread) ∷ (not (option_any is_asleep (status_of s.records t)), NotAsleep) ∷ []) e in
+    wake-order s t (is-asleep (status_of s.records t) (passes (option_any is_asleep (status_of s.records t)) passed.1.0)) order)
 step-order s (event.Trap p ran action) order =
     unrefused IsInOrder s _ (event_effect s (event.Trap p ran action)) order (λ e.
     let passed = all-pass ((is_bad_processor s p, BadProcessor) ∷ (is_none (thread_on s.records p), NotRunning) ∷ (nat_lt s.limits.quantum (used_there s p + ran + 1), BadTicks) ∷ []) e in
@@ -229,11 +263,15 @@ opening-order limits bounds = record {
     waiters = λ m mutex there. subst (λ (x : Mutex). IsQueue [] (status.Waiting m) x.waiters) (sym (number-replicate limits.mutexes (record { owner = None; waiters = [] }) mutex m there)) (queue-empty [] (status.Waiting m));
     served = λ server threads there. absurd (no-client server threads there);
   };
+  removed = λ t there. absurd (nobody t there);
   amounts = All-nil HasAmount;
   ticket_count = omega arith;
   bounds = bounds;
 }
   where
+    nobody : (t : ℕ) → at_number {A = Option Thread} [] t ≡ Some None → ⊥
+    nobody t e = let none : None ≡ Some None = sym (number-empty {A = Option Thread} t) ∙ e in cc
+
     no-ticket : (n c : ℕ) → issuer_of (funding_of (opening limits)) n ≡ Some c → ⊥
     no-ticket n c e = let none : None ≡ Some c = sym (ap (λ o. option_map (λ (t : Ticket). t.issuer) (option_flatten o)) (number-empty {A = Option Ticket} n)) ∙ e in cc
 

@@ -6,7 +6,7 @@ use Rattle.std.proofs.lemmas.Bool.{eqb-true, eq-eqb, cases_eq}
 use Rattle.std.proofs.lemmas.Option.{slice_get_within}
 use Rattle.lot_machine.specs.declared.record.Record.{Record}
 use Rattle.lot_machine.specs.declared.record.Status.{Status}
-use Rattle.lot_machine.specs.declared.record.Status.TheVariants.{Ready, Running, Queued, Receiving, Served, Waiting, Dead}
+use Rattle.lot_machine.specs.declared.record.Status.TheVariants.{Ready, Running, Queued, Receiving, Served, Waiting, Asleep, Dead}
 use Rattle.lot_machine.specs.Numbered.{at_number, set_number, numbers}
 use Rattle.lot_machine.specs.State.{status_of, used_on, used_by, thread_on, change_record}
 use Rattle.lot_machine.specs.declared.after.After.{After}
@@ -64,6 +64,7 @@ used_on-some p used (Queued q) e = cc
 used_on-some p used (Receiving q) e = cc
 used_on-some p used (Served q) e = cc
 used_on-some p used (Waiting q) e = cc
+used_on-some p used Asleep e = cc
 used_on-some p used Dead e = cc
 
 -- who has used ticks on a processor runs there

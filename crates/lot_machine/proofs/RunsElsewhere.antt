@@ -23,6 +23,9 @@ step-same s e p order apart =
     elsewhere (event.Draw q d) apart is = let same : q ≡ p = cc in apart (ap Some same)
     elsewhere (event.Expire q) apart is = let same : q ≡ p = cc in apart (ap Some same)
     elsewhere (event.Trap q ran action) apart is = let same : q ≡ p = cc in apart (ap Some same)
+    elsewhere (event.Preempt q ticks) apart is = let same : q ≡ p = cc in apart (ap Some same)
+    elsewhere (event.Overrun q ticks) apart is = let same : q ≡ p = cc in apart (ap Some same)
+    elsewhere (event.Wake t) apart is = cc
 
 -- the same, of one thread
 pub step-used : (s : State) (e : Event) (p t : ℕ) → IsInOrder s → ¬ (processor_of e ≡ Some p) → used_by (step s e).state.records p t ≡ used_by s.records p t

@@ -1,5 +1,5 @@
 -- Each event is a list of changes, each of which is allowed where it is made. So what each allowed change keeps, each event keeps.
-use Rattle.std.proofs.Common.{◌≡◌, ℕ, zero, suc, ◌+◌, ◌-◌, ◌^◌, ◌<◌, ◌≤◌, ◌==◌, Bool, true, false, not, ◌||◌, Option, Some, None, is_some, is_none, List, [], ◌∷◌, ◌++◌, length, drop, map, remove, refl, sym, ◌∙◌, ap, subst, arith, cond, nat_lt, option_map, unwrap_or, slice_get, slice_set, slice_index, All, IfSome}
+use Rattle.std.proofs.Common.{◌≡◌, ℕ, zero, suc, ◌+◌, ◌-◌, ◌^◌, ◌<◌, ◌≤◌, ◌==◌, Bool, true, false, not, ◌||◌, ◌⊎◌, inl, inr, Option, Some, None, is_some, is_none, List, [], ◌∷◌, ◌++◌, length, drop, map, remove, refl, sym, ◌∙◌, ap, subst, arith, cond, nat_lt, nat_le, option_map, unwrap_or, slice_get, slice_set, slice_index, All, IfSome}
 use Rattle.std.specs.Option.{option_flatten}
 use Rattle.std.proofs.lemmas.Bool.{ltb-false, leb-false, or_parts}
 use Rattle.std.proofs.lemmas.List.{length-append, map-append, map-set}
@@ -11,12 +11,12 @@ use Rattle.lot_machine.specs.declared.ticket.Target.TheVariants as target
 use Rattle.lot_machine.specs.declared.record.Record.{Record}
 use Rattle.lot_machine.specs.declared.record.Status.TheVariants as status
 use Rattle.lot_machine.specs.declared.action.Action.{Action}
-use Rattle.lot_machine.specs.declared.action.Action.TheVariants.{Yield, Call, Receive, Reply as ReplyTo, Serve, Lock, Unlock, Exit}
+use Rattle.lot_machine.specs.declared.action.Action.TheVariants.{Yield, Call, Receive, Reply as ReplyTo, Serve, Lock, Unlock, Sleep, Exit}
 use Rattle.lot_machine.specs.declared.command.Command.{Command}
-use Rattle.lot_machine.specs.declared.command.Command.TheVariants.{MakeTicket, RemoveTicket, MakeCurrency, RemoveCurrency, Fund, Unfund, SetTicket, MakeThread, MakeFunded, List as Listing}
+use Rattle.lot_machine.specs.declared.command.Command.TheVariants.{MakeTicket, RemoveTicket, MakeCurrency, RemoveCurrency, Fund, Unfund, SetTicket, MakeThread, RemoveThread, MakeFunded, List as Listing}
 use Rattle.lot_machine.specs.declared.event.Event.{Event}
 use Rattle.lot_machine.specs.declared.event.Event.TheVariants as event
-use Rattle.lot_machine.specs.declared.refusal.Refusal.TheVariants.{BadName, NameTaken, NoCurrency, NoTicket, NoTarget, BadAmount, InUse, Funding as IsFunding, Cycle, BaseFixed, DeadThread, Full, NoScript, BadProcessor, Busy, NotRunning, BadTicks}
+use Rattle.lot_machine.specs.declared.refusal.Refusal.TheVariants.{BadName, NameTaken, NoCurrency, NoTicket, NoTarget, BadAmount, InUse, Funding as IsFunding, Cycle, BaseFixed, DeadThread, Full, NoScript, NoThread, Alive, BadProcessor, Busy, NotRunning, BadTicks, NotAsleep}
 use Rattle.lot_machine.specs.declared.refusal.TrapRefusal.{TrapRefusal}
 use Rattle.lot_machine.specs.declared.drawn.Drawn.{Drawn}
 use Rattle.lot_machine.specs.declared.after.After.{After}
@@ -25,29 +25,31 @@ use Rattle.lot_machine.specs.Numbered.{at_number, set_number, option_any}
 use Rattle.lot_machine.specs.Funding.{ticket_in, with_target, retargeted, reissued, issued_in, backing_currency, is_currency, currency_funded}
 use Rattle.lot_machine.specs.Bounds.{IsWithinBounds}
 use Rattle.lot_machine.specs.Lottery.{winner}
-use Rattle.lot_machine.specs.State.{State, funding_of, lend_of, QueuedCall, status_of, used_by, thread_on, ready_threads, change_record, value_of, weight_of}
-use Rattle.lot_machine.specs.Commands.{currency_named, target_named, currency_or_base, is_good_name, is_taken, is_no_script, is_bad_amount, are_tickets_full, are_threads_full, is_in_use, is_dead_thread, is_funding, is_cycle, command_effect, command_step}
+use Rattle.lot_machine.specs.State.{State, funding_of, is_asleep, lend_of, QueuedCall, status_of, thread_at, used_by, thread_on, ready_threads, change_record, value_of, weight_of}
+use Rattle.lot_machine.specs.Commands.{currency_named, thread_named, target_named, currency_or_base, is_good_name, is_taken, is_no_script, is_bad_amount, are_tickets_full, are_threads_full, is_in_use, is_dead_in, is_thread_in_use, is_dead_thread, is_funding, is_cycle, command_effect, command_step}
 use Rattle.lot_machine.specs.Traps.{after_trap, with_ticks}
 use Rattle.lot_machine.specs.Ports.{clients_of, port_at, first_client, call, receive, reply}
 use Rattle.lot_machine.specs.Mutexes.{mutex_at, lock, unlock}
-use Rattle.lot_machine.specs.Step.{Effect, of_ports, of_mutexes, is_bad_processor, started, draw, trap_refusal, trap_effect, checked_effect, thread_there, used_there, event_effect, step}
+use Rattle.lot_machine.specs.Step.{Effect, of_ports, of_mutexes, is_bad_processor, started, draw, stopped, wake, trap_refusal, trap_effect, checked_effect, thread_there, used_there, event_effect, step}
 use Rattle.lot_machine.specs.Facts.{HasNoCycle, FundsThere, RunsApart}
 use Rattle.lot_machine.specs.Order.{HasQueues}
-use Rattle.lot_machine.specs.Change.{Change, NewTicket, PutTicket, NewCurrency, DropCurrency, NewThread, PutRecord, PutClients, PutPort, PutMutex, newborn, applied, applied_all}
-use Rattle.lot_machine.proofs.Idle.{there-alone, free-of, SameUsed, used-changed, used-more, used-stopped_on, index-holds, ready-used, receiver-used, caller-used, client-used, waiter-used, there-used}
+use Rattle.lot_machine.specs.Change.{Change, NewTicket, PutTicket, NewCurrency, DropCurrency, NewThread, DropThread, PutRecord, PutClients, PutPort, PutMutex, newborn, applied, applied_all}
+use Rattle.lot_machine.proofs.Idle.{there-alone, free-of, SameUsed, used-changed, used-more, used-of, used-stopped_on, index-holds, IsAlive, nobody-alive, ready-used, receiver-used, caller-used, client-used, waiter-used, there-used, is-dead, is-asleep, alive-of, status-more, status-number, ready-alive, receiver-alive, caller-alive, client-alive, waiter-alive, there-alive}
 use Rattle.lot_machine.proofs.Amounts.{HasNoCycle-amount, FundsThere-amount, place-of}
 use Rattle.lot_machine.proofs.CommandsKept.{IsFunded, unrefused, all-pass, none-of, named-there, target-currency, keeps-remove_ticket, keeps-unfund, keeps-target}
 use Rattle.lot_machine.proofs.FundingKept.{HasNoCycle-new_ticket, FundsThere-new_ticket, HasNoCycle-currencies, FundsThere-after, FundsThere-removed}
 use Rattle.lot_machine.proofs.LendsKept.{HasNoCycle-lends_more}
 use Rattle.lot_machine.proofs.Queues.{queues-more}
-use Rattle.lot_machine.proofs.RecordsKept.{RunsAlone, StopsIfLeaves, nobody-runs, RunsAlone-stops, RunsApart-changed, RunsApart-more}
+use Rattle.lot_machine.proofs.Changes.{number-push, number-set}
+use Rattle.lot_machine.proofs.RecordsKept.{RunsAlone, StopsIfLeaves, status-changed, nobody-runs, RunsAlone-stops, RunsApart-changed, RunsApart-more}
 
 -- ---- changes that are allowed
 
--- who makes a change: the console, the work of a trap, or the thread that an event of this processor names
+-- who makes a change: the console, the work of a trap, a timer that wakes threads, or the thread that an event of this processor names
 pub data By : Type 0 where
   Console : By
   Work : By
+  Timer : By
   On : ℕ → By
 
 abbrev pub Apart : State → Type 0
@@ -60,24 +62,26 @@ Queues s = HasQueues s.records s.clients s.ports s.mutexes
 abbrev pub HasAmount : Option Ticket → Type 0
 HasAmount place = IfSome place (λ t. t.amount < 2 ^ 32)
 
--- A thread's record changes: the thread is there; it runs on no other processor than the event's, if those who wait stood where
--- their statuses say at the start; it runs afterwards only there, where nobody else does if each processor had its own thread; and
+-- A thread's record changes: the thread is there; it wasn't dead at the start, and it runs on no other processor than the event's,
+-- if those who wait stood where their statuses say at the start; it runs afterwards only there, where nobody else does if each processor had its own thread; and
 -- the work of a trap leaves what it has won and used.
 pub record Moves (by : By) (s a : State) (t : ℕ) (r : Record) : Type 0 where
   pub there : (old : Record) × (at_number a.records t ≡ Some old)
   pub mover : ¬ (by ≡ Console)
   pub tally : by ≡ Work → r ≡ record there.0 { status = r.status; compensation = r.compensation; delivered = r.delivered }
+  pub alive : Queues s → IsAlive s.records t
   pub elsewhere : Queues s → (p : ℕ) → ¬ (by ≡ On p) → used_by a.records p t ≡ None
   pub runs : (p used : ℕ) → r.status ≡ status.Running p used → (by ≡ On p) × (Apart s → RunsAlone a.records p t)
 
 -- The change is allowed in the second state, which the event has reached from the first. The console alone changes tickets and
--- currencies and makes threads, and it changes nothing else.
+-- currencies and makes and removes threads, and it changes nothing else.
 abbrev pub Allowed : By → State → State → Change → Type 0
 Allowed by s a (NewTicket t) = (by ≡ Console) × (t.amount < 2 ^ 32) × (length a.tickets < a.limits.tickets) × (currency_funded t.target ≡ None)
 Allowed by s a (PutTicket n place) = (by ≡ Console) × (All HasAmount a.tickets → HasAmount place) × (IsFunded a → IsFunded (record a { tickets = set_number a.tickets n place }))
 Allowed by s a (NewCurrency name) = by ≡ Console
 Allowed by s a (DropCurrency c) = (by ≡ Console) × (length (backing_currency (funding_of a) c) ≡ 0)
 Allowed by s a (NewThread t) = by ≡ Console
+Allowed by s a (DropThread t) = (by ≡ Console) × (status_of a.records t ≡ Some status.Dead)
 Allowed by s a (PutRecord t r) = Moves by s a t r
 Allowed by s a other = ¬ (by ≡ Console)
 
@@ -115,8 +119,9 @@ working p s b leads = kept (Leads (On p) s) (λ a c allowed before. Then before 
 
     may : (a : State) (c : Change) → Allowed Work s a c → Allowed (On p) s a c
     may a (NewThread t) allowed = absurd (not-console allowed)
+    may a (DropThread t) allowed = absurd (not-console allowed.0)
     may a (PutRecord t r) allowed =
-        record { there = allowed.there; mover = λ e. cc; tally = λ e. cc; elsewhere = λ queues q other. allowed.elsewhere queues q (not-on q); runs = λ q used is. absurd (not-on q (allowed.runs q used is).0) }
+        record { there = allowed.there; mover = λ e. cc; tally = λ e. cc; alive = allowed.alive; elsewhere = λ queues q other. allowed.elsewhere queues q (not-on q); runs = λ q used is. absurd (not-on q (allowed.runs q used is).0) }
     may a (PutClients t x) allowed = λ e. cc
     may a (PutPort t x) allowed = λ e. cc
     may a (PutMutex t x) allowed = λ e. cc
@@ -131,14 +136,14 @@ LeavesTally change = (r : Record) → change r ≡ record r { status = (change r
 
 -- one thread's record changes, if it is there
 put : {by : By} {s : State} (a : State) (change : Record → Record) (t : ℕ) → ¬ (by ≡ Console) → (by ≡ Work → LeavesTally change) → Leads by s a
-    → (Queues s → (p : ℕ) → ¬ (by ≡ On p) → used_by a.records p t ≡ None)
+    → (Queues s → IsAlive s.records t) → (Queues s → (p : ℕ) → ¬ (by ≡ On p) → used_by a.records p t ≡ None)
     → ((r : Record) (p used : ℕ) → (change r).status ≡ status.Running p used → (by ≡ On p) × (Apart s → RunsAlone a.records p t))
     → Leads by s (record a { records = change_record change a.records t })
-put {by} {s} a change t mover tally leads elsewhere runs = at (at_number a.records t) refl
+put {by} {s} a change t mover tally leads alive elsewhere runs = at (at_number a.records t) refl
   where
     at : (o : Option Record) → at_number a.records t ≡ o → Leads by s (record a { records = change_record change a.records t })
     at None is = rw is leads
-    at (Some r) is = rw is (Then leads (PutRecord t (change r)) (record { there = (r, is); mover = mover; tally = λ work. tally work r; elsewhere = elsewhere; runs = runs r }))
+    at (Some r) is = rw is (Then leads (PutRecord t (change r)) (record { there = (r, is); mover = mover; tally = λ work. tally work r; alive = alive; elsewhere = elsewhere; runs = runs r }))
 
 -- ---- what allowed changes keep
 
@@ -193,7 +198,8 @@ HasGrownFrom s after = (after.limits ≡ s.limits) × ((more : ℕ) × (length a
 
 pub change-grown : (by : By) (s : State) → Keeps by s (HasGrownFrom s)
 change-grown by s a (NewThread t) allowed (limits, (more, records, threads)) =
-    (limits, (more + 1, omega (arith, records, length-append a.records (newborn ∷ [])), omega (arith, threads, length-append a.threads (t ∷ []))))
+    (limits, (more + 1, omega (arith, records, length-append a.records (newborn ∷ [])), omega (arith, threads, length-append a.threads (Some t ∷ []))))
+change-grown by s a (DropThread t) allowed (limits, (more, records, threads)) = (limits, (more, records, length-set a.threads (t - 1) None ∙ threads))
 change-grown by s a (PutRecord t r) allowed (limits, (more, records, threads)) = (limits, (more, length-set a.records (t - 1) r ∙ records, threads))
 change-grown by s a other allowed grown = grown
 
@@ -203,8 +209,46 @@ HasSizesOf s after = (after.limits ≡ s.limits) × (length after.records ≡ le
 
 pub change-sizes : (by : By) (s : State) → ¬ (by ≡ Console) → Keeps by s (HasSizesOf s)
 change-sizes by s other a (NewThread t) allowed sizes = absurd (other allowed)
+change-sizes by s other a (DropThread t) allowed sizes = absurd (other allowed.0)
 change-sizes by s other a (PutRecord t r) allowed (limits, records, threads) = (limits, length-set a.records (t - 1) r ∙ records, threads)
 change-sizes by s other a c allowed sizes = sizes
+
+-- a thread that was removed is dead
+abbrev pub AreRemovedDead : State → Type 0
+AreRemovedDead s = (t : ℕ) → at_number s.threads t ≡ Some None → status_of s.records t ≡ Some status.Dead
+
+-- what isn't the console's removes nobody, and wakes nobody who was dead at the start
+pub change-removed : (by : By) (s : State) → ¬ (by ≡ Console) → Queues s → AreRemovedDead s → Keeps by s (λ a. (a.threads ≡ s.threads) × AreRemovedDead a)
+change-removed by s other queues before a (NewThread t) allowed removed = absurd (other allowed)
+change-removed by s other queues before a (DropThread t) allowed removed = absurd (other allowed.0)
+change-removed by s other queues before a (PutRecord t r) allowed (same, dead) = (same, λ u gone. from u gone (status-changed (λ _. r) a.records t u))
+  where
+    from : (u : ℕ) → at_number a.threads u ≡ Some None
+        → (status_of (change_record (λ _. r) a.records t) u ≡ status_of a.records u) ⊎ ((u ≡ t) × ((x : Record) × (at_number a.records t ≡ Some x) × (status_of (change_record (λ _. r) a.records t) u ≡ Some r.status)))
+        → status_of (set_number a.records t r) u ≡ Some status.Dead
+    from u gone (inl kept) = ap (λ rs. status_of rs u) (sym (put-changes a.records t r allowed.there.0 allowed.there.1)) ∙ kept ∙ dead u gone
+    from u gone (inr (at, _)) =
+        absurd (allowed.alive queues (before t (ap (λ threads. at_number threads t) (sym same) ∙ subst (λ n. at_number a.threads n ≡ Some None) at gone)))
+change-removed by s other queues before a c allowed removed = removed
+
+-- what the console removes is dead, and what it makes is there
+pub change-gone : (s : State) → Keeps Console s AreRemovedDead
+change-gone s a (NewThread t) allowed removed u gone = from (number-push a.threads (Some t) u)
+  where
+    older : at_number a.threads u ≡ Some None → status_of (a.records ++ newborn ∷ []) u ≡ Some status.Dead
+    older before = status-more a.records newborn u status.Dead (removed u before)
+
+    from : (at_number (a.threads ++ Some t ∷ []) u ≡ at_number a.threads u) ⊎ ((at_number a.threads u ≡ None) × (at_number (a.threads ++ Some t ∷ []) u ≡ Some (Some t)))
+        → status_of (a.records ++ newborn ∷ []) u ≡ Some status.Dead
+    from (inl same) = older (sym same ∙ gone)
+    from (inr (none, made)) = let differs : Some (Some t) ≡ Some None = sym made ∙ gone in cc
+change-gone s a (DropThread t) (console, dead) removed u gone = from (number-set a.threads t None u)
+  where
+    from : (at_number (set_number a.threads t None) u ≡ at_number a.threads u) ⊎ ((u ≡ suc (t - 1)) × (at_number (set_number a.threads t None) u ≡ Some None)) → status_of a.records u ≡ Some status.Dead
+    from (inl same) = removed u (sym same ∙ gone)
+    from (inr (at, new)) = let there : u ≡ t = at ∙ status-number a.records t status.Dead dead in ap (status_of a.records) there ∙ dead
+change-gone s a (PutRecord t r) allowed removed u gone = absurd (allowed.mover refl)
+change-gone s a other allowed removed u gone = removed u gone
 
 -- the same tickets
 pub change-tickets : (by : By) (s : State) → ¬ (by ≡ Console) → Keeps by s (λ a. a.tickets ≡ s.tickets)
@@ -283,6 +327,19 @@ command-leads s (SetTicket n amount) =
     (refl, λ _. amount-small (ticket_in s.tickets n) amount passed.0, λ (cycle, funds). (HasNoCycle-amount (funding_of s) n amount place there cycle, FundsThere-amount (funding_of s) n amount place there funds)))
 command-leads s (MakeThread name script) =
     unrefused (Leads Console s) s _ (command_effect s (MakeThread name script)) Stays (λ _. Then Stays (NewThread (record { name = name; script = script })) refl)
+command-leads s (RemoveThread name) =
+    unrefused (Leads Console s) s _ (command_effect s (RemoveThread name)) Stays (λ e.
+    let passed = all-pass ((is_none (thread_named s name), NoThread) ∷ (not (option_any (is_dead_in s) (thread_named s name)), Alive)
+    ∷ (option_any (is_thread_in_use s) (thread_named s name), InUse) ∷ []) e in
+    Then Stays (DropThread (unwrap_or (thread_named s name) 0)) (refl, ended (thread_named s name) passed.0 passed.1.0))
+  where
+    holds : (b : Bool) → not b ≡ false → b ≡ true
+    holds true e = refl
+    holds false e = cc
+
+    ended : (o : Option ℕ) → is_none o ≡ false → not (option_any (is_dead_in s) o) ≡ false → status_of s.records (unwrap_or o 0) ≡ Some status.Dead
+    ended None named alive = cc
+    ended (Some t) named alive = is-dead (status_of s.records t) (holds (is_dead_in s t) alive)
 command-leads s (MakeFunded amount currency name script) =
     unrefused (Leads Console s) s _ (command_effect s (MakeFunded amount currency name script)) Stays (λ e.
     let passed = all-pass ((is_bad_amount amount, BadAmount) ∷ (is_none (currency_named s currency), NoCurrency) ∷ (not (is_good_name name), BadName)
@@ -308,6 +365,7 @@ change-funded s a (DropCurrency c) (console, unused) (no_cycle, there) = (
 )
 change-funded s a (NewThread t) allowed (no_cycle, there) =
     (subst (λ xs. HasNoCycle (record (funding_of a) { lends = xs })) (sym (map-append (λ (r : Record). lend_of r.status) a.records (newborn ∷ []))) (HasNoCycle-lends_more (funding_of a) no_cycle), there)
+change-funded s a (DropThread t) allowed funded = funded
 change-funded s a (PutRecord t r) allowed funded = absurd (allowed.mover refl)
 change-funded s a (PutClients t x) allowed funded = absurd (allowed refl)
 change-funded s a (PutPort t x) allowed funded = absurd (allowed refl)
@@ -343,10 +401,10 @@ abbrev pub Works : State → Effect → Type 0
 Works s e = Leads Work s e.state × StopsIfLeaves e.after
 
 -- a thread that the work of a trap wakes or takes doesn't run before or after
-wakes : {s : State} (a : State) (change : Record → Record) (t : ℕ) → Leads Work s a → (Queues s → (p : ℕ) → used_by a.records p t ≡ None)
+wakes : {s : State} (a : State) (change : Record → Record) (t : ℕ) → Leads Work s a → (Queues s → IsAlive s.records t) → (Queues s → (p : ℕ) → used_by a.records p t ≡ None)
     → ((r : Record) (p used : ℕ) → ¬ ((change r).status ≡ status.Running p used)) → LeavesTally change
     → Leads Work s (record a { records = change_record change a.records t })
-wakes a change t leads idle stops tally = put a change t (λ e. cc) (λ _. tally) leads (λ queues p _. idle queues p) (λ r p used is. absurd (stops r p used is))
+wakes a change t leads alive idle stops tally = put a change t (λ e. cc) (λ _. tally) leads alive (λ queues p _. idle queues p) (λ r p used is. absurd (stops r p used is))
 
 call-leads : (s : State) (t port number : ℕ) → Works s (of_ports s (call s.records s.clients s.ports t port number))
 call-leads s t port number = at (port_at s.ports port).receivers refl
@@ -355,24 +413,25 @@ call-leads s t port number = at (port_at s.ports port).receivers refl
     at [] is = rw is (Then Stays (PutPort port (record { calls = (port_at s.ports port).calls ++ record { caller = t; number = number } ∷ []; receivers = [] })) (λ e. cc), λ p used e. cc)
     at (server ∷ others) is =
         let woken = wakes s (λ r. record r { status = status.Ready; delivered = Some number }) server Stays
-        (λ queues p. receiver-used p s.records s.clients s.ports s.mutexes queues port server others is) (λ r. ready-stops) (λ r. refl) in
+        (λ queues. receiver-alive s.records s.clients s.ports s.mutexes queues port server others is) (λ queues p. receiver-used s.records s.clients s.ports s.mutexes queues p port server others is) (λ r. ready-stops) (λ r. refl) in
         rw is (Then (Then woken (PutClients server (clients_of s.clients server ++ t ∷ [])) (λ e. cc)) (PutPort port (record { calls = (port_at s.ports port).calls; receivers = others })) (λ e. cc), λ p used e. cc)
 
 receive-leads : {s : State} (a : State) (server port : ℕ) → Leads Work s a
+    → ((first : QueuedCall) (others : List QueuedCall) → (port_at a.ports port).calls ≡ first ∷ others → Queues s → IsAlive s.records first.caller)
     → ((first : QueuedCall) (others : List QueuedCall) → (port_at a.ports port).calls ≡ first ∷ others → Queues s → (p : ℕ) → used_by a.records p first.caller ≡ None)
     → Works s (of_ports a (receive a.records a.clients a.ports server port))
-receive-leads {s} a server port leads callers = at (port_at a.ports port).calls refl
+receive-leads {s} a server port leads alive callers = at (port_at a.ports port).calls refl
   where
     at : (o : List QueuedCall) → (port_at a.ports port).calls ≡ o → Works s (of_ports a (receive a.records a.clients a.ports server port))
     at [] is = rw is (Then leads (PutPort port (record { calls = []; receivers = (port_at a.ports port).receivers ++ server ∷ [] })) (λ e. cc), λ p used e. cc)
     at (first ∷ others) is =
-        let taken = wakes a (λ r. record r { status = status.Served server }) first.caller leads (callers first others is) (λ r p used e. cc) (λ r. refl) in
+        let taken = wakes a (λ r. record r { status = status.Served server }) first.caller leads (alive first others is) (callers first others is) (λ r p used e. cc) (λ r. refl) in
         rw is (Then (Then taken (PutClients server (clients_of a.clients server ++ first.caller ∷ [])) (λ e. cc)) (PutPort port (record { calls = others; receivers = (port_at a.ports port).receivers })) (λ e. cc), tt)
 
 reply-leads : (s : State) (server number : ℕ) → Works s (of_ports s (reply s.records s.clients s.ports server number))
 reply-leads s server number =
     let woken = wakes s (λ r. record r { status = status.Ready; delivered = Some number }) (unwrap_or (first_client s.clients server) 0) Stays
-    (λ queues p. client-used p s.records s.clients s.ports s.mutexes queues server) (λ r. ready-stops) (λ r. refl) in
+    (λ queues. client-alive s.records s.clients s.ports s.mutexes queues server) (λ queues p. client-used s.records s.clients s.ports s.mutexes queues p server) (λ r. ready-stops) (λ r. refl) in
     (Then woken (PutClients server (drop 1 (clients_of s.clients server))) (λ e. cc), tt)
 
 lock-leads : (s : State) (t m : ℕ) → Works s (of_mutexes s (lock s.records s.mutexes t m))
@@ -390,20 +449,22 @@ unlock-leads s value m d = at (mutex_at s.mutexes m).waiters refl
     at (w ∷ ws) is =
         let place = unwrap_or (option_map (λ (drawn : Drawn). drawn.place) (winner (map value (w ∷ ws)) d)) 0 in
         let passed = slice_index (w ∷ ws) place in
-        let woken = wakes s (λ r. record r { status = status.Ready }) passed Stays (λ queues p. waiter-used p s.records s.clients s.ports s.mutexes queues m place (w ∷ ws) is) (λ r. ready-stops) (λ r. refl) in
+        let woken = wakes s (λ r. record r { status = status.Ready }) passed Stays (λ queues. waiter-alive s.records s.clients s.ports s.mutexes queues m place (w ∷ ws) is) (λ queues p. waiter-used s.records s.clients s.ports s.mutexes queues p m place (w ∷ ws) is) (λ r. ready-stops) (λ r. refl) in
         rw is (Then woken (PutMutex m (record { owner = Some passed; waiters = remove (w ∷ ws) place })) (λ e. cc), ready-stops)
 
 pub effect-leads : (s : State) (t : ℕ) (action : Action) → Works s (trap_effect s t action)
 effect-leads s t Yield = (Stays, ready-stops)
 effect-leads s t (Call port number) = call-leads s t port number
-effect-leads s t (Receive port) = receive-leads s t port Stays (λ first others is queues p. caller-used p s.records s.clients s.ports s.mutexes queues port first others is)
+effect-leads s t (Receive port) =
+    receive-leads s t port Stays (λ first others is queues. caller-alive s.records s.clients s.ports s.mutexes queues port first others is) (λ first others is queues p. caller-used s.records s.clients s.ports s.mutexes queues p port first others is)
 effect-leads s t (ReplyTo number) = reply-leads s t number
 effect-leads s t (Serve port number) =
     let replied = (reply-leads s t number).0 in
-    receive-leads (of_ports s (reply s.records s.clients s.ports t number)).state t port replied (λ first others is queues p.
-    kept (λ a. SameUsed p s.records a.records) (change-used Work s p queues (λ e. cc)) replied (λ u. refl) first.caller ∙ caller-used p s.records s.clients s.ports s.mutexes queues port first others is)
+    receive-leads (of_ports s (reply s.records s.clients s.ports t number)).state t port replied (λ first others is queues. caller-alive s.records s.clients s.ports s.mutexes queues port first others is) (λ first others is queues p.
+    kept (λ a. SameUsed p s.records a.records) (change-used Work s p queues (λ e. cc)) replied (λ u. refl) first.caller ∙ caller-used s.records s.clients s.ports s.mutexes queues p port first others is)
 effect-leads s t (Lock m) = lock-leads s t m
 effect-leads s t (Unlock m d) = unlock-leads s (value_of s) m d
+effect-leads s t Sleep = (Stays, λ p used e. cc)
 effect-leads s t Exit = (Stays, tt)
 
 pub checked-leads : (s : State) (t : ℕ) (action : Action) (o : Option TrapRefusal) → Works s (checked_effect s o (trap_effect s t action))
@@ -422,19 +483,27 @@ draw-leads s p d free = at (winner (map (weight_of s) (ready_threads s.records))
     at None is = rw is Stays
     at (Some w) is =
         let won = slice_index (ready_threads s.records) w.place in
-        rw is (put s (started p) won (λ e. cc) (λ e. cc) Stays (λ queues q other. index-holds (λ t. used_by s.records q t ≡ None) (ready_threads s.records) w.place refl (ready-used s q w.place))
+        rw is (put s (started p) won (λ e. cc) (λ e. cc) Stays (λ queues. index-holds (IsAlive s.records) (ready_threads s.records) w.place (nobody-alive s.records) (ready-alive s w.place))
+        (λ queues q other. index-holds (λ t. used_by s.records q t ≡ None) (ready_threads s.records) w.place refl (ready-used s q w.place))
         (λ r q used e. (ap On (starts q 0 used e), λ apart u more runs. absurd (nobody-runs s.records p u more free (subst (λ x. status_of s.records u ≡ Some (status.Running x more)) (sym (starts q 0 used e)) runs)))))
 
-pub expire-leads : (s : State) (p : ℕ) → is_none (thread_on s.records p) ≡ false → Leads (On p) s (event_effect s (event.Expire p)).state
-expire-leads s p there =
-    put s (λ r. with_ticks (s.limits.quantum - used_there s p) (record r { status = status.Ready; compensation = None })) (thread_there s p) (λ e. cc) (λ e. cc) Stays
+-- the thread that runs on the processor is taken off it
+pub stopped-leads : (s : State) (p ticks : ℕ) (compensation : Option ℕ) → is_none (thread_on s.records p) ≡ false → Leads (On p) s (stopped s (thread_there s p) ticks compensation).state
+stopped-leads s p ticks compensation there =
+    put s (λ r. with_ticks ticks (record r { status = status.Ready; compensation = compensation })) (thread_there s p) (λ e. cc) (λ e. cc) Stays (λ _. there-alive s p there)
     (λ queues q other. there-used s q p (λ same. other (ap On same)) there) (λ r q used is. cc)
 
+-- a thread that sleeps is woken
+pub wake-leads : (s : State) (t : ℕ) → status_of s.records t ≡ Some status.Asleep → Leads Timer s (wake s t).state
+wake-leads s t sleeps =
+    put s (λ r. record r { status = status.Ready }) t (λ e. cc) (λ e. cc) Stays (λ _. alive-of s.records t status.Asleep sleeps (λ e. cc))
+    (λ queues q other. used-of s.records q t status.Asleep sleeps refl) (λ r q used is. cc)
+
 -- how the thread that made a trap goes on, or leaves
-pub finish-leads : (s : State) (p t ticks used : ℕ) (e : Effect) → Works s e → (Queues s → (q : ℕ) → ¬ (q ≡ p) → used_by s.records q t ≡ None) → (Apart s → RunsAlone s.records p t)
+pub finish-leads : (s : State) (p t ticks used : ℕ) (e : Effect) → Works s e → IsAlive s.records t → (Queues s → (q : ℕ) → ¬ (q ≡ p) → used_by s.records q t ≡ None) → (Apart s → RunsAlone s.records p t)
     → Leads (On p) s (record e.state { records = change_record (λ r. with_ticks ticks (after_trap e.after p used s.limits.quantum r)) e.state.records t })
-finish-leads s p t ticks used e (works, stops) idle alone =
-    put e.state (λ r. with_ticks ticks (after_trap e.after p used s.limits.quantum r)) t (λ e. cc) (λ e. cc) (working p s e.state works)
+finish-leads s p t ticks used e (works, stops) alive idle alone =
+    put e.state (λ r. with_ticks ticks (after_trap e.after p used s.limits.quantum r)) t (λ e. cc) (λ e. cc) (working p s e.state works) (λ _. alive)
     (λ queues q other. kept (λ a. SameUsed q s.records a.records) (change-used Work s q queues (λ e. cc)) works (λ u. refl) t ∙ idle queues q (λ same. other (ap On (sym same))))
     (λ r q more is. let here = runs e.after stops r q more is in (ap On here, λ apart. subst (λ x. RunsAlone e.state.records x t) here (kept (λ a. RunsAlone a.records p t) (change-alone s p t) works (alone apart))))
   where
@@ -447,6 +516,11 @@ finish-leads s p t ticks used e (works, stops) idle alone =
     runs (Leaves now) stops r q more is = absurd (stops q more is)
     runs Ends stops r q more is = cc
 
+-- what a check asks holds if it doesn't fail
+pub passes : (b : Bool) → not b ≡ false → b ≡ true
+passes true e = refl
+passes false e = cc
+
 -- ---- events
 
 -- whose changes an event's are
@@ -455,6 +529,9 @@ by_event (event.Command command) = Console
 by_event (event.Draw p d) = On p
 by_event (event.Expire p) = On p
 by_event (event.Trap p ran action) = On p
+by_event (event.Preempt p ticks) = On p
+by_event (event.Overrun p ticks) = On p
+by_event (event.Wake t) = Timer
 
 pub step-leads : (s : State) (e : Event) → Leads (by_event e) s (step s e).state
 step-leads s (event.Command command) = command-leads s command
@@ -465,10 +542,22 @@ step-leads s (event.Draw p d) =
 step-leads s (event.Expire p) =
     unrefused (Leads (On p) s) s _ (event_effect s (event.Expire p)) Stays (λ e.
     let passed = all-pass ((is_bad_processor s p, BadProcessor) ∷ (is_none (thread_on s.records p), NotRunning) ∷ []) e in
-    expire-leads s p passed.1.0)
+    stopped-leads s p (s.limits.quantum - used_there s p) None passed.1.0)
+step-leads s (event.Preempt p ticks) =
+    unrefused (Leads (On p) s) s _ (event_effect s (event.Preempt p ticks)) Stays (λ e.
+    let passed = all-pass ((is_bad_processor s p, BadProcessor) ∷ (is_none (thread_on s.records p), NotRunning) ∷ (nat_lt s.limits.quantum (used_there s p + ticks), BadTicks) ∷ []) e in
+    stopped-leads s p ticks None passed.1.0)
+step-leads s (event.Overrun p ticks) =
+    unrefused (Leads (On p) s) s _ (event_effect s (event.Overrun p ticks)) Stays (λ e.
+    let passed = all-pass ((is_bad_processor s p, BadProcessor) ∷ (is_none (thread_on s.records p), NotRunning) ∷ (nat_le (2 ^ 32) (s.limits.quantum + ticks), BadTicks) ∷ []) e in
+    stopped-leads s p (s.limits.quantum - used_there s p + ticks) (Some (s.limits.quantum + ticks)) passed.1.0)
+step-leads s (event.Wake t) =
+    unrefused (Leads Timer s) s _ (event_effect s (event.Wake t)) Stays (λ e.
+    let passed = all-pass ((is_none (thread_at s.threads t), NoThread) ∷ (not (option_any is_asleep (status_of s.records t)), NotAsleep) ∷ []) e in
+    wake-leads s t (is-asleep (status_of s.records t) (passes (option_any is_asleep (status_of s.records t)) passed.1.0)))
 step-leads s (event.Trap p ran action) =
     unrefused (Leads (On p) s) s _ (event_effect s (event.Trap p ran action)) Stays (λ e.
     let passed = all-pass ((is_bad_processor s p, BadProcessor) ∷ (is_none (thread_on s.records p), NotRunning) ∷ (nat_lt s.limits.quantum (used_there s p + ran + 1), BadTicks) ∷ []) e in
     let t = thread_there s p in
-    finish-leads s p t (ran + 1) (used_there s p + ran + 1) (checked_effect s (trap_refusal s t action) (trap_effect s t action)) (checked-leads s t action (trap_refusal s t action))
+    finish-leads s p t (ran + 1) (used_there s p + ran + 1) (checked_effect s (trap_refusal s t action) (trap_effect s t action)) (checked-leads s t action (trap_refusal s t action)) (there-alive s p passed.1.0)
     (λ queues q other. there-used s q p (λ same. other (sym same)) passed.1.0) (there-alone s p passed.1.0))

@@ -32,14 +32,20 @@ not-console (event.Command command) q on is = cc
 not-console (event.Draw p d) q on is = cc
 not-console (event.Expire p) q on is = cc
 not-console (event.Trap p ran action) q on is = cc
+not-console (event.Preempt p ticks) q on is = cc
+not-console (event.Overrun p ticks) q on is = cc
+not-console (event.Wake t) q on is = cc
 
--- it makes no thread, and leaves the limits
-pub step-sizes : (s : State) (e : Event) (q : ℕ) → processor_of e ≡ Some q → HasSizesOf s (step s e).state
-step-sizes s e q on = kept (HasSizesOf s) (change-sizes (by_event e) s (not-console e q on)) (step-leads s e) (refl, refl, refl)
+-- an event that isn't the console's makes no thread, and leaves the limits
+pub other-sizes : (s : State) (e : Event) → ¬ (by_event e ≡ Console) → HasSizesOf s (step s e).state
+other-sizes s e other = kept (HasSizesOf s) (change-sizes (by_event e) s other) (step-leads s e) (refl, refl, refl)
 
 -- and the tickets
-pub step-tickets : (s : State) (e : Event) (q : ℕ) → processor_of e ≡ Some q → (step s e).state.tickets ≡ s.tickets
-step-tickets s e q on = kept (λ a. a.tickets ≡ s.tickets) (change-tickets (by_event e) s (not-console e q on)) (step-leads s e) refl
+pub other-tickets : (s : State) (e : Event) → ¬ (by_event e ≡ Console) → (step s e).state.tickets ≡ s.tickets
+other-tickets s e other = kept (λ a. a.tickets ≡ s.tickets) (change-tickets (by_event e) s other) (step-leads s e) refl
+
+pub step-sizes : (s : State) (e : Event) (q : ℕ) → processor_of e ≡ Some q → HasSizesOf s (step s e).state
+step-sizes s e q on = other-sizes s e (not-console e q on)
 
 -- any event leaves the limits, and a thread that it makes has a record
 pub step-grown : (s : State) (e : Event) → HasGrownFrom s (step s e).state

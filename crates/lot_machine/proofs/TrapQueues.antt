@@ -19,7 +19,7 @@ use Rattle.lot_machine.proofs.Tickets.{some-injective}
 use Rattle.lot_machine.proofs.Queues.{IsAbsent, StandsNowhere, number-set_same, record-of, status-now, status-other, queue-empty, absent-other, queue-push, queue-rest, absent-rest, queue-without, absent-without, queues-changed, queues-live, nowhere-live, queues-port, queues-mutex, queues-clients, queue-clients}
 
 -- who stands nowhere else than in the queue of its own status, and not there, stands nowhere
-nowhere-from : (records : List Record) (clients : List (List ℕ)) (ports : List Port) (mutexes : List Mutex) (t : ℕ) (now : Status) → HasQueues records clients ports mutexes → status_of records t ≡ Some now
+pub nowhere-from : (records : List Record) (clients : List (List ℕ)) (ports : List Port) (mutexes : List Mutex) (t : ℕ) (now : Status) → HasQueues records clients ports mutexes → status_of records t ≡ Some now
     → ((p : ℕ) (port : Port) → now ≡ Receiving p → at_number ports p ≡ Some port → IsAbsent port.receivers t)
     → ((p : ℕ) (port : Port) → now ≡ Queued p → at_number ports p ≡ Some port → IsAbsent (map (λ (call : QueuedCall). call.caller) port.calls) t)
     → ((m : ℕ) (mutex : Mutex) → now ≡ Waiting m → at_number mutexes m ≡ Some mutex → IsAbsent mutex.waiters t)

@@ -7,14 +7,15 @@ use Rattle.lot_machine.specs.declared.record.Status.TheVariants as status
 use Rattle.lot_machine.specs.Numbered.{set_number}
 use Rattle.lot_machine.specs.State.{State, Port, Mutex}
 
--- One more row at the end of a table, or another row in one of its places. A ticket or a currency that is removed leaves
--- a gap, and a thread that is made gets a row in each of three tables.
+-- One more row at the end of a table, or another row in one of its places. What is removed leaves a gap, and a thread
+-- that is made gets a row in each of three tables.
 pub data Change : Type 0 where
   NewTicket : Ticket → Change
   PutTicket : ℕ → Option Ticket → Change
   NewCurrency : List ℕ → Change
   DropCurrency : ℕ → Change
   NewThread : Thread → Change
+  DropThread : ℕ → Change
   PutRecord : ℕ → Record → Change
   PutClients : ℕ → List ℕ → Change
   PutPort : ℕ → Port → Change
@@ -31,10 +32,11 @@ applied s (PutTicket n place) = record s { tickets = set_number s.tickets n plac
 applied s (NewCurrency name) = record s { currencies = s.currencies ++ Some name ∷ [] }
 applied s (DropCurrency c) = record s { currencies = slice_set s.currencies c None }
 applied s (NewThread thread) = record s {
-  threads = s.threads ++ thread ∷ [];
+  threads = s.threads ++ Some thread ∷ [];
   records = s.records ++ newborn ∷ [];
   clients = s.clients ++ [] ∷ [];
 }
+applied s (DropThread t) = record s { threads = set_number s.threads t None }
 applied s (PutRecord t r) = record s { records = set_number s.records t r }
 applied s (PutClients t clients) = record s { clients = set_number s.clients t clients }
 applied s (PutPort p port) = record s { ports = set_number s.ports p port }

@@ -1,12 +1,13 @@
 -- Weights, drawing and drawn numbers (2, 3.4, 4.1, 4.2, 4.5).
-use Rattle.std.specs.Prelude.{ℕ, zero, suc, ◌+◌, ◌-◌, ◌*◌, ◌/◌, ◌%◌, ◌<◌, ◌≤◌, ◌==◌, nat_lt, Option, Some, None, List, [], ◌∷◌, take, sum, if◌then◌else◌}
+use Rattle.std.specs.Prelude.{ℕ, zero, suc, ◌+◌, ◌-◌, ◌*◌, ◌/◌, ◌%◌, ◌<◌, ◌≤◌, min, max, ◌==◌, nat_lt, Option, Some, None, List, [], ◌∷◌, take, sum, if◌then◌else◌}
 use Rattle.lot_machine.specs.declared.drawn.Drawn.{Drawn}
 
--- The weight of a value in a processor's draw: with a compensation, which is the ticks used, it is inflated as if the
--- whole quantum were used (3.4, 4.5).
+-- The weight of a value in a processor's draw: with a compensation, which is the ticks used, it is changed as if a whole
+-- quantum were used: it is more if they are fewer than a quantum, and less if they are more. What is worth something weighs
+-- something (3.4, 4.5).
 abbrev pub weight : ℕ → Option ℕ → ℕ → ℕ
 weight value None quantum = value
-weight value (Some used) quantum = value * quantum / used
+weight value (Some used) quantum = max (min value 1) (value * quantum / used)
 
 -- for each place, `before` plus the sum of the weights up to and including it
 abbrev pub running_sums : ℕ → List ℕ → List ℕ

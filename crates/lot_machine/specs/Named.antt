@@ -5,12 +5,15 @@ use Rattle.lot_machine.specs.declared.event.Event.TheVariants as event
 use Rattle.lot_machine.specs.declared.reply.Reply.{Reply}
 use Rattle.lot_machine.specs.declared.reply.Reply.TheVariants as reply
 
--- the event's processor; a command of the console has none
+-- the event's processor; a command of the console and a wake have none
 abbrev pub processor_of : Event → Option ℕ
 processor_of (event.Command command) = None
 processor_of (event.Draw p d) = Some p
 processor_of (event.Expire p) = Some p
 processor_of (event.Trap p ran action) = Some p
+processor_of (event.Preempt p ticks) = Some p
+processor_of (event.Overrun p ticks) = Some p
+processor_of (event.Wake t) = None
 
 -- the thread that runs now, or that ran until its quantum ended or its trap was made
 abbrev pub thread_in : Reply → Option ℕ

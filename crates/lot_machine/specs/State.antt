@@ -1,12 +1,13 @@
 -- The state of the kernel (4.3, 4.4, 4.6, 6.1).
 use Rattle.std.specs.Prelude.{ℕ, ◌-◌, ◌^◌, min, ◌==◌, Bool, true, false, Option, Some, None, is_some, List, [], ◌∷◌, map, filter, find, replicate, codes, option_and_then, option_map}
 use Rattle.std.specs.Bool.{then_some}
+use Rattle.std.specs.Option.{option_flatten}
 use Rattle.lot_machine.specs.declared.ticket.Ticket.{Ticket}
 use Rattle.lot_machine.specs.declared.limits.Limits.{Limits}
 use Rattle.lot_machine.specs.declared.record.Record.{Record}
 use Rattle.lot_machine.specs.declared.record.Thread.{Thread}
 use Rattle.lot_machine.specs.declared.record.Status.{Status}
-use Rattle.lot_machine.specs.declared.record.Status.TheVariants.{Ready, Running, Served, Waiting, Dead}
+use Rattle.lot_machine.specs.declared.record.Status.TheVariants.{Ready, Running, Served, Waiting, Asleep, Dead}
 use Rattle.lot_machine.specs.declared.funding.Lend.{Lend}
 use Rattle.lot_machine.specs.declared.funding.Lend.TheVariants.{Nobody, ToThread, ToMutex}
 use Rattle.lot_machine.specs.declared.sizes.Sizes.{Sizes}
@@ -31,11 +32,12 @@ pub record Mutex : Type 0 where
   pub waiters : List ℕ
 
 -- Tickets, threads, ports and mutexes are numbered from 1, and currencies from 0, which is base. What was removed stays
--- as a gap, so the lengths count what was made. Thread n has the nth of `threads`, of `records` and of `clients`.
+-- as a gap, so the lengths count what was made. Thread n has the nth of `threads`, of `records` and of `clients`; where it
+-- was removed, its record stays Dead.
 pub record State : Type 0 where
   pub currencies : List (Option (List ℕ))  -- each currency's name
   pub tickets : List (Option Ticket)
-  pub threads : List Thread
+  pub threads : List (Option Thread)  -- the name and the script that each was made with
   pub records : List Record
   pub clients : List (List ℕ)  -- whom each thread serves, in the order in which they were taken
   pub ports : List Port
@@ -68,6 +70,10 @@ opening limits = record {
   mutexes = replicate limits.mutexes (record { owner = None; waiters = [] });
   limits = limits;
 }
+
+-- the thread with this number, if it is there
+abbrev pub thread_at : List (Option Thread) → ℕ → Option Thread
+thread_at threads t = option_flatten (at_number threads t)
 
 -- ---- the funding graph of a state
 
@@ -106,6 +112,11 @@ is_ready other = false
 abbrev pub is_dead : Status → Bool
 is_dead Dead = true
 is_dead other = false
+
+-- whether the thread sleeps
+abbrev pub is_asleep : Status → Bool
+is_asleep Asleep = true
+is_asleep other = false
 
 -- the ticks used so far, if the thread runs on this processor
 abbrev pub used_on : ℕ → Status → Option ℕ

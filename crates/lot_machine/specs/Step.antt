@@ -1,13 +1,13 @@
 -- One event, and a whole run of events (4.2 to 4.7, 6.1).
-use Rattle.std.specs.Prelude.{ℕ, ◌+◌, ◌-◌, nat_lt, nat_le, ◌==◌, Bool, false, not, ◌||◌, Option, Some, None, is_some, is_none, List, [], ◌∷◌, map, slice_index, option_and_then, unwrap_or}
+use Rattle.std.specs.Prelude.{ℕ, ◌+◌, ◌-◌, ◌^◌, nat_lt, nat_le, ◌==◌, Bool, false, not, ◌||◌, Option, Some, None, is_some, is_none, List, [], ◌∷◌, map, slice_index, option_and_then, unwrap_or}
 use Rattle.lot_machine.specs.declared.record.Record.{Record}
 use Rattle.lot_machine.specs.declared.record.Status.TheVariants as status
 use Rattle.lot_machine.specs.declared.action.Action.{Action}
-use Rattle.lot_machine.specs.declared.action.Action.TheVariants.{Yield, Call, Receive, Reply as ReplyTo, Serve, Lock, Unlock, Exit}
+use Rattle.lot_machine.specs.declared.action.Action.TheVariants.{Yield, Call, Receive, Reply as ReplyTo, Serve, Lock, Unlock, Sleep, Exit}
 use Rattle.lot_machine.specs.declared.event.Event.{Event}
 use Rattle.lot_machine.specs.declared.event.Event.TheVariants as event
 use Rattle.lot_machine.specs.declared.refusal.Refusal.{Refusal}
-use Rattle.lot_machine.specs.declared.refusal.Refusal.TheVariants.{BadProcessor, Busy, NotRunning, BadTicks}
+use Rattle.lot_machine.specs.declared.refusal.Refusal.TheVariants.{NoThread, BadProcessor, Busy, NotRunning, BadTicks, NotAsleep}
 use Rattle.lot_machine.specs.declared.refusal.TrapRefusal.{TrapRefusal}
 use Rattle.lot_machine.specs.declared.refusal.TrapRefusal.TheVariants.{NoPort, NothingToReply, NoMutex, NotOwner, AlreadyOwner, LockCycle}
 use Rattle.lot_machine.specs.declared.reply.Reply.{Reply}
@@ -18,7 +18,7 @@ use Rattle.lot_machine.specs.Numbered.{at_number, option_any}
 use Rattle.lot_machine.specs.Lends.{lends_on_to}
 use Rattle.lot_machine.specs.declared.drawn.Drawn.{Drawn}
 use Rattle.lot_machine.specs.Lottery.{winner}
-use Rattle.lot_machine.specs.State.{State, funding_of, ready_threads, thread_on, used_by, value_of, weight_of, change_record, saturated}
+use Rattle.lot_machine.specs.State.{State, funding_of, is_asleep, ready_threads, status_of, thread_at, thread_on, used_by, value_of, weight_of, change_record, saturated}
 use Rattle.lot_machine.specs.Commands.{Step, first_failing, unless_refused, command_step}
 use Rattle.lot_machine.specs.declared.after.After.{After}
 use Rattle.lot_machine.specs.Traps.{after_trap, with_ticks}
@@ -30,7 +30,7 @@ use Rattle.lot_machine.specs.Mutexes.{MutexTrap, mutex_at, lock, unlock}
 abbrev pub is_bad_processor : State → ℕ → Bool
 is_bad_processor s p = (p == 0) || nat_lt s.limits.processors p
 
--- ---- draws and expiries
+-- ---- draws, and how a processor is left without a trap
 
 -- The winner runs with nothing used; it has won one quantum more, and its compensation and what was delivered to it
 -- end (3.4, 4.2).
@@ -51,12 +51,24 @@ draw s p d = drawn (winner (map (weight_of s) (ready_threads s.records)) d)
     drawn None = record { state = s; reply = answer.Idle }
     drawn (Some w) = won (slice_index (ready_threads s.records) w.place) w
 
--- the quantum ends: the thread is Ready without compensation, and the rest of the quantum counts as used (4.2)
-abbrev pub expire : State → ℕ → ℕ → Step
-expire s t used = record {
-  state = record s { records = change_record (λ r. with_ticks (s.limits.quantum - used) (record r { status = status.Ready; compensation = None })) s.records t };
-  reply = answer.Expired t (s.limits.quantum - used);
+-- the thread is taken off its processor: it is Ready with this compensation, and has run this many ticks more (4.2)
+abbrev pub stopped : State → ℕ → ℕ → Option ℕ → Step
+stopped s t ticks compensation = record {
+  state = record s { records = change_record (λ r. with_ticks ticks (record r { status = status.Ready; compensation = compensation })) s.records t };
+  reply = answer.Expired t ticks;
 }
+
+-- the quantum ends: there is no compensation, and the rest of the quantum counts as used (4.2)
+abbrev pub expire : State → ℕ → ℕ → Step
+expire s t used = stopped s t (s.limits.quantum - used) None
+
+-- the quantum ended this many ticks late: they count as used, and so the thread weighs less in its next draw (3.4, 4.5)
+abbrev pub overrun : State → ℕ → ℕ → ℕ → Step
+overrun s t used late = stopped s t (s.limits.quantum - used + late) (Some (s.limits.quantum + late))
+
+-- a thread that slept is Ready, with the compensation that it had when it began to sleep (4.4, 4.5)
+abbrev pub wake : State → ℕ → Step
+wake s t = record { state = record s { records = change_record (λ r. record r { status = status.Ready }) s.records t }; reply = answer.Done }
 
 -- ---- traps
 
@@ -75,6 +87,7 @@ trap_refusal s t (Lock m) =
     first_failing ((is_none (at_number s.mutexes m), NoMutex) ∷ (owns s t m, AlreadyOwner)
     ∷ (option_any (λ owner. lends_on_to (funding_of s) owner t) (mutex_at s.mutexes m).owner, LockCycle) ∷ [])
 trap_refusal s t (Unlock m d) = first_failing ((is_none (at_number s.mutexes m), NoMutex) ∷ (not (owns s t m), NotOwner) ∷ [])
+trap_refusal s t Sleep = None
 trap_refusal s t Exit = None
 
 -- the state after a trap's work, its outcome, and how the thread that made it leaves its processor
@@ -100,6 +113,7 @@ trap_effect s t (ReplyTo number) = of_ports s (reply s.records s.clients s.ports
 trap_effect s t (Serve p number) = of_ports s (serve s.records s.clients s.ports t p number)
 trap_effect s t (Lock m) = of_mutexes s (lock s.records s.mutexes t m)
 trap_effect s t (Unlock m d) = of_mutexes s (unlock s.records s.mutexes (value_of s) m d)
+trap_effect s t Sleep = record { state = s; outcome = outcome.Slept; after = Leaves status.Asleep }
 trap_effect s t Exit = record { state = s; outcome = outcome.Exited; after = Ends }
 
 -- a refused trap has no other effect, and the thread goes on
@@ -141,6 +155,14 @@ event_refusal s (event.Expire p) = first_failing ((is_bad_processor s p, BadProc
 event_refusal s (event.Trap p ran action) =
     first_failing ((is_bad_processor s p, BadProcessor) ∷ (is_none (thread_on s.records p), NotRunning)
     ∷ (nat_lt s.limits.quantum (used_there s p + ran + 1), BadTicks) ∷ [])
+event_refusal s (event.Preempt p ticks) =
+    first_failing ((is_bad_processor s p, BadProcessor) ∷ (is_none (thread_on s.records p), NotRunning)
+    ∷ (nat_lt s.limits.quantum (used_there s p + ticks), BadTicks) ∷ [])
+event_refusal s (event.Overrun p ticks) =
+    first_failing ((is_bad_processor s p, BadProcessor) ∷ (is_none (thread_on s.records p), NotRunning)
+    ∷ (nat_le (2 ^ 32) (s.limits.quantum + ticks), BadTicks) ∷ [])
+event_refusal s (event.Wake t) =
+    first_failing ((is_none (thread_at s.threads t), NoThread) ∷ (not (option_any is_asleep (status_of s.records t)), NotAsleep) ∷ [])
 
 -- The effect of an event that isn't refused. If it needs a thread on the processor, one runs there then.
 abbrev pub event_effect : State → Event → Step
@@ -148,6 +170,9 @@ event_effect s (event.Command command) = command_step s command
 event_effect s (event.Draw p d) = draw s p d
 event_effect s (event.Expire p) = expire s (thread_there s p) (used_there s p)
 event_effect s (event.Trap p ran action) = trap s p (thread_there s p) (used_there s p) ran action
+event_effect s (event.Preempt p ticks) = stopped s (thread_there s p) ticks None
+event_effect s (event.Overrun p ticks) = overrun s (thread_there s p) (used_there s p) ticks
+event_effect s (event.Wake t) = wake s t
 
 -- one event: the state after it and the reply. A refused event changes nothing
 abbrev pub step : State → Event → Step

@@ -51,6 +51,10 @@ pub enum Command {
         name: Name,
         script: u32,
     },
+    /// `rmthr`: a dead thread that nothing refers to any more; its name is free again
+    RemoveThread {
+        thread: Name,
+    },
     /// `fundx`: a new thread, and a new ticket that funds it
     MakeFunded {
         amount: u64,
@@ -91,6 +95,9 @@ impl Command {
             Command::MakeThread { name, script } => Command::MakeThread {
                 name: name.copied(),
                 script: *script,
+            },
+            Command::RemoveThread { thread } => Command::RemoveThread {
+                thread: thread.copied(),
             },
             Command::MakeFunded {
                 amount,

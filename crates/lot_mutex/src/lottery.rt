@@ -1,5 +1,5 @@
 //! The lottery over the values of the waiters for a mutex (6.1).
-ghost use Rattle.std.specs.Prelude.{◌≡◌, ◌≢◌, ◌<◌, ◌≤◌, ◌^◌, ◌↔◌, [], All, IfOk, IfSome, IsTrue, length, map};
+ghost use Rattle.std.specs.Prelude.{◌≡◌, ◌≢◌, ◌*◌, ◌<◌, ◌≤◌, ◌^◌, ◌↔◌, [], All, IfOk, IfSome, IsTrue, length, map};
 ghost use Rattle.std.specs.Prelude.{option_map, slice_index, unwrap_or, vec_capacity};
 ghost use Rattle.lot_machine.specs.declared.record.Status.TheVariants as status;
 ghost use Rattle.lot_machine.specs.Lottery as lottery;
@@ -15,6 +15,10 @@ use lot_queues::Queues;
 use lot_threads::Threads;
 use std::alloc::{AllocError, Global};
 use std::marker::Model;
+use std::mem::size_of;
+
+// What a waiter takes for its number and for what it is worth.
+const WAITER_BYTES: u64 = size_of::<u32>() as u64 + size_of::<u128>() as u64;
 
 /// Room for the lottery of a mutex: who waits for it, and what each is worth.
 #[derive(Drop)]
@@ -50,6 +54,13 @@ impl Lottery {
             waiters: Vec::with_capacity(alloc, threads as usize)?,
             worths: Vec::with_capacity(alloc, threads as usize)?,
         })
+    }
+
+    /// How many bytes `new` asks of the allocator in all: 20 for each thread.
+    pub fn bytes(threads: u32) -> u64
+        ensures { result ≡ 20 * threads }
+    {
+        WAITER_BYTES * threads as u64
     }
 
     /// How many waiters there is room for.

@@ -1,23 +1,17 @@
 -- How many rows a listing has, and that it is its first line and theirs.
-use Rattle.std.proofs.Common.{◌≡◌, ◌⊎◌, inl, inr, ℕ, zero, suc, ◌+◌, ◌<◌, ◌≤◌, Bool, true, false, Some, None, List, [], ◌∷◌, ◌++◌, length, filter, get_or, refl, sym, ◌∙◌, ap, arith, append-nil, append_assoc, length-append}
-use Rattle.std.specs.Prelude.{is_some, codes}
+use Rattle.std.proofs.Common.{◌≡◌, ℕ, zero, suc, ◌+◌, Bool, true, false, List, [], ◌∷◌, ◌++◌, length, filter, refl, sym, ◌∙◌, ap, arith, append-nil, append_assoc, length-append}
+use Rattle.std.specs.Prelude.{codes}
 use Rattle.std.specs.Fmt.{decimal}
-use Rattle.std.specs.List.{flat_map, range_with_len, slice_get}
-use Rattle.std.specs.Option.{option_map}
+use Rattle.std.specs.List.{flat_map, range_with_len}
 use Rattle.std.proofs.lemmas.List.Elements.{filter-append}
-use Rattle.std.proofs.lemmas.Option.{slice_get_cases}
-use Rattle.lot_machine.specs.declared.record.Record.{Record}
 use Rattle.lot_machine.specs.declared.command.Kind.{Kind}
 use Rattle.lot_machine.specs.declared.command.Kind.TheVariants.{Tickets, Currencies, Threads}
-use Rattle.lot_machine.specs.Numbered.{at_number}
 use Rattle.lot_machine.specs.State.{State}
-use Rattle.lot_machine.specs.Rows.{row_of_thread}
 use Rattle.lot_simulation.specs.declared.style.LineStyle.{LineStyle}
 use Rattle.lot_simulation.specs.Texts.{newline, front, listing_text}
-use Rattle.lot_machine.proofs.Tickets.{at_number-suc}
 use Rattle.lot_print.specs.Listings.{listing_line}
 use Rattle.lot_engine.specs.Seen.{given_count}
-use Rattle.lot_play.specs.Listing.{first_number, is_there, row_line, rows_among}
+use Rattle.lot_play.specs.Listing.{first_number, row_line, rows_among}
 
 numbers-push : (a k : ℕ) → range_with_len a (suc k) ≡ range_with_len a k ++ (a + k) ∷ []
 numbers-push a zero = let e : a + 0 ≡ a = omega arith in ap (λ n. n ∷ []) (sym e)
@@ -38,24 +32,6 @@ module _ (test : ℕ → Bool) (a k : ℕ) where
       let none : filter test ((a + k) ∷ []) ≡ [] = rw is refl in
       ap length filter-push ∙ ap (λ ns. length (filter test (range_with_len a k) ++ ns)) none ∙ ap length (append-nil (filter test (range_with_len a k)))
 
--- if each of the numbers passes, they all count
-passing-all : (test : ℕ → Bool) (a k : ℕ) → ((i : ℕ) → i < k → test (a + i) ≡ true) → length (filter test (range_with_len a k)) ≡ k
-passing-all test a zero all = refl
-passing-all test a (suc k) all =
-    let e : k + 1 ≡ suc k = omega arith in
-    ap (λ n. length (filter test (range_with_len a n))) (sym e) ∙ passing-there test a k (all k (omega arith)) ∙ ap (λ n. n + 1) (passing-all test a k (λ i below. all i (omega (arith, below)))) ∙ e
-
--- each thread that was made has a row
-thread-there : (s : State) (i : ℕ) → i < length s.records → is_there s Threads (1 + i) ≡ true
-thread-there s i below = from (slice_get_cases s.records i).1
-  where
-    number : at_number s.records (1 + i) ≡ slice_get s.records i
-    number = let e : 1 + i ≡ suc i = omega arith in ap (at_number s.records) e ∙ at_number-suc s.records i
-
-    from : ((r : Record) × (i < length s.records) × (slice_get s.records i ≡ Some r) × (get_or s.records i r ≡ r)) ⊎ ((length s.records ≤ i) × (slice_get s.records i ≡ None)) → is_there s Threads (1 + i) ≡ true
-    from (inl (r, within, is, there)) = ap (λ o. is_some (option_map (row_of_thread s (1 + i)) o)) (number ∙ is)
-    from (inr (past, none)) = absurd (omega (arith, past, below))
-
 -- with what a listing begins
 abbrev word_of : Kind → List ℕ
 word_of Tickets = codes "lstkt "
@@ -67,7 +43,7 @@ listing-is : (style : LineStyle) (s : State) (kind : Kind)
     → listing_text style s kind ≡ word_of kind ++ (decimal (rows_among s kind (given_count s kind)) ++ (newline ++ flat_map (row_line style s kind) (range_with_len (first_number kind) (given_count s kind))))
 listing-is style s Tickets = refl
 listing-is style s Currencies = refl
-listing-is style s Threads = rw (passing-all (is_there s Threads) 1 (length s.records) (thread-there s)) refl
+listing-is style s Threads = refl
 
 line-is : (kind : Kind) (n : ℕ) (lines : List ℕ) → listing_line kind n ++ lines ≡ word_of kind ++ (decimal n ++ (newline ++ lines))
 line-is Tickets n lines = ap (λ xs. codes "lstkt " ++ xs) (append_assoc (decimal n) newline lines)

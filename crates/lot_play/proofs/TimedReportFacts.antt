@@ -1,6 +1,6 @@
 -- What the report of turns in time shows is what the definitions say of all of the program's turns.
 use Rattle.std.proofs.Common.{◌≡◌, ℕ, zero, suc, ◌+◌, ◌^◌, ◌<◌, cond, Bool, true, false, Option, Some, None, List, [], ◌∷◌, length, filter, refl, sym, ◌∙◌, ap, subst, arith}
-use Rattle.std.specs.Prelude.{map, sum_by, if◌then◌else◌}
+use Rattle.std.specs.Prelude.{map, sum_by, option_and_then, if◌then◌else◌}
 use Rattle.std.specs.List.{range_with_len}
 use Rattle.std.specs.Option.{option_map, option_map_or}
 use Rattle.std.proofs.lemmas.List.Sums.{sum_by-cons}
@@ -9,7 +9,7 @@ use Rattle.lot_machine.specs.declared.row.ThreadRow.{ThreadRow}
 use Rattle.lot_machine.specs.Facts.{live_value}
 use Rattle.lot_machine.specs.Lends.{is_live}
 use Rattle.lot_machine.specs.Numbered.{at_number}
-use Rattle.lot_machine.specs.Rows.{row_of_thread, thread_row}
+use Rattle.lot_machine.specs.Rows.{row_of_thread, thread_name, thread_row}
 use Rattle.lot_machine.specs.State.{State, live_of, value_of}
 use Rattle.lot_print.specs.Totals.{timed_processor_line, timed_thread_line, timed_total_line}
 use Rattle.lot_simulation.specs.declared.timed.Waits.{Waits}
@@ -73,15 +73,16 @@ pub processor-line : (c : Counts) (turns : List ActorTurn) (p end idle : ℕ) (m
 processor-line c turns p end idle m is unused = rw (is, unused) refl
 
 -- a thread's row shows its value
-row-value : (s : State) (t : ℕ) (row : ThreadRow) (o : Option Record) → option_map (row_of_thread s t) o ≡ Some row → row.value ≡ value_of s t
-row-value s t row None is = absurd (cc)
-row-value s t row (Some r) is = let e : row_of_thread s t r ≡ row = cc in sym (ap (λ (x : ThreadRow). x.value) e)
+row-value : (s : State) (t : ℕ) (row : ThreadRow) (name : Option (List ℕ)) (o : Option Record) → option_and_then (λ n. option_map (row_of_thread s t) o) name ≡ Some row → row.value ≡ value_of s t
+row-value s t row None o is = absurd (cc)
+row-value s t row (Some name) None is = absurd (cc)
+row-value s t row (Some name) (Some r) is = let e : row_of_thread s t r ≡ row = cc in sym (ap (λ (x : ThreadRow). x.value) e)
 
 pub thread-line : (s : State) (turns : List TimedTurn) (t : ℕ) (row : ThreadRow) (all live values : ℕ) (mutexes replies : Waits) → thread_row s t ≡ Some row
     → all ≡ total_of ticks_in (actor_turns turns) → live ≡ live_part s t (value_of s t) → values ≡ live_value s → mutexes ≡ waits_in mutex_change turns t → replies ≡ waits_in reply_change turns t
     → timed_thread_line t row all live values mutexes replies ≡ option_map_or (timed_thread_total s turns (total_of ticks_in (actor_turns turns)) t) (thread_row s t) []
 thread-line s turns t row all live values mutexes replies is ticks own whole for_mutex for_reply =
-    let value = row-value s t row (at_number s.records t) is in
+    let value = row-value s t row (thread_name s t) (at_number s.records t) is in
     let part : live ≡ live_part s t row.value = own ∙ ap (live_part s t) (sym value) in
     rw (is, ticks, part, whole, for_mutex, for_reply) (refl {a = timed_thread_total s turns (total_of ticks_in (actor_turns turns)) t row})
 

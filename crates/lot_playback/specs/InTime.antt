@@ -1,5 +1,5 @@
 -- Turns in the order of time, of a system.
-use Rattle.std.specs.Prelude.{◌≡◌, ℕ, ◌+◌, ◌-◌, ◌<◌, ◌≤◌, ◌*◌, ◌^◌, ◌==◌, nat_le, Bool, true, false, Option, Some, None, List, ◌++◌, length, map, take, drop, slice_index_or, count_by, All, if◌then◌else◌}
+use Rattle.std.specs.Prelude.{◌≡◌, ℕ, ◌+◌, ◌-◌, ◌<◌, ◌≤◌, ◌*◌, ◌^◌, nat_le, Bool, true, false, Option, Some, None, List, ◌++◌, length, map, take, drop, slice_index_or, All, if◌then◌else◌}
 use Rattle.lot_machine.specs.declared.action.Action.TheVariants as action
 use Rattle.lot_machine.specs.declared.event.Event.{Event}
 use Rattle.lot_machine.specs.declared.event.Event.TheVariants as event

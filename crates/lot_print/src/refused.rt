@@ -78,10 +78,13 @@ pub(crate) fn refusal_code(refusal: Refusal) -> u32
         Refusal::DeadThread => 12,
         Refusal::Full => 13,
         Refusal::NoScript => 14,
+        Refusal::NoThread => 15,
+        Refusal::Alive => 16,
         Refusal::BadProcessor => 20,
         Refusal::Busy => 21,
         Refusal::NotRunning => 22,
         Refusal::BadTicks => 23,
+        Refusal::NotAsleep => 24,
     }
 }
 
@@ -105,10 +108,13 @@ pub(crate) fn refusal_name(refusal: Refusal) -> &'static str
         Refusal::DeadThread => "DeadThread",
         Refusal::Full => "Full",
         Refusal::NoScript => "NoScript",
+        Refusal::NoThread => "NoThread",
+        Refusal::Alive => "Alive",
         Refusal::BadProcessor => "BadProcessor",
         Refusal::Busy => "Busy",
         Refusal::NotRunning => "NotRunning",
         Refusal::BadTicks => "BadTicks",
+        Refusal::NotAsleep => "NotAsleep",
     }
 }
 

@@ -275,6 +275,7 @@ fn push_trap<const N: usize>(
             line.push_count(" to ", to);
             push_draw(line, style, unit, draw);
         }
+        (Action::Sleep, Outcome::Slept) => line.push_word("sleep"),
         (Action::Exit, Outcome::Exited) => line.push_word("exit"),
         _ => (),
     }

@@ -172,6 +172,7 @@ fn push_status(line: &mut RowLine, status: Status)
         Status::Queued(port) => line.push_field("queued ", port),
         Status::Served(server) => line.push_field("served ", server),
         Status::Waiting(mutex) => line.push_field("waiting ", mutex),
+        Status::Asleep => line.push_text("asleep"),
         Status::Dead => line.push_text("dead"),
     }
 }

@@ -1,6 +1,6 @@
 //! The queues.
-ghost use Rattle.std.specs.Prelude.{◌≡◌, ◌↔◌, ◌+◌, ◌<◌, ◌≤◌, ◌^◌, ◌++◌, ◌∷◌, [], ℕ, IfNone, IfOk, IfSome, IsTrue, drop};
-ghost use Rattle.std.specs.Prelude.{length, map, remove, option_map, slice_get, vec_len, vec_capacity};
+ghost use Rattle.std.specs.Prelude.{◌≡◌, ◌↔◌, ◌<◌, ◌≤◌, ◌^◌, ◌++◌, ◌∷◌, [], ℕ, IfNone, IfOk, IfSome, IsTrue, drop};
+ghost use Rattle.std.specs.Prelude.{◌+◌, ◌*◌, length, map, remove, option_map, slice_get, vec_len, vec_capacity};
 ghost use Rattle.lot_machine.specs.Numbered.{set_number};
 ghost use Rattle.lot_machine.specs.Ports as machine;
 ghost use Rattle.lot_machine.specs.Ports.{port_at, clients_of, with_client};
@@ -16,6 +16,12 @@ use lot_lists::Lists;
 use lot_machine::index_of;
 use std::alloc::{AllocError, Global};
 use std::marker::Model;
+use std::mem::size_of;
+
+// What a thread takes for the number that it sent, and a mutex for its owner.
+const SENT_BYTES: u64 = size_of::<u32>() as u64;
+
+const OWNER_BYTES: u64 = size_of::<Option<u32>>() as u64;
 
 /// A call that was taken from its port: who called, and the number that was sent.
 #[derive(Clone, Copy, Debug, PartialEq, Eq)]
@@ -78,6 +84,20 @@ impl Queues {
             threads: 0,
             layout,
         })
+    }
+
+    /// How many bytes `new` asks of the allocator in all.
+    pub fn bytes(ports: u32, mutexes: u32, threads: u32) -> u64
+        ensures { result ≡ 16 * ports + 16 * mutexes + 28 * threads }
+    {
+        let layout = Layout {
+            room: threads,
+            ports,
+            mutexes,
+        };
+        Lists::bytes(layout.list_count(), threads as usize)
+            + SENT_BYTES * threads as u64
+            + OWNER_BYTES * mutexes as u64
     }
 
     /// How many threads there may be.

@@ -1,4 +1,5 @@
 -- The quanta and the ticks of the threads' records add up to what is counted in the turns that led to them.
+use Rattle.std.specs.Prelude.{⊤}
 use Rattle.std.proofs.Common.{◌≡◌, ℕ, zero, suc, ◌+◌, ◌-◌, ◌*◌, ◌^◌, ◌<◌, ◌≤◌, ◌==◌, Bool, true, false, Option, Some, None, is_none, List, [], ◌∷◌, length, map, sum, sum_by, get_or, set, slice_get, slice_index, nat_lt, refl, sym, ◌∙◌, ap, subst, arith, if◌then◌else◌}
 use Rattle.std.proofs.Math.Nat.{min-eq_left}
 use Rattle.std.proofs.lemmas.Bool.{ltb-false}
@@ -27,7 +28,9 @@ use Rattle.lot_machine.specs.Traps.{after_trap, with_ticks}
 use Rattle.lot_machine.specs.Change.{NewThread, PutRecord, newborn}
 use Rattle.lot_machine.specs.Step.{is_bad_processor, started, draw, expire, trap, trap_refusal, trap_effect, checked_effect, thread_there, used_there, event_effect, step}
 use Rattle.lot_machine.specs.Order.{IsInOrder}
-use Rattle.lot_simulation.specs.World.{Program, World, Turn, console_turn, processor_turn, processor_event, opening_world, system_turn, system_after, system_answers, system_run}
+use Rattle.lot_simulation.specs.declared.script.ScriptTrap.{ScriptTrap}
+use Rattle.lot_simulation.specs.Script.{Slice}
+use Rattle.lot_simulation.specs.World.{Program, World, Turn, event_of_slice, number_of, slice_on, console_turn, processor_turn, processor_event, opening_world, system_turn, system_after, system_answers, system_run}
 use Rattle.lot_simulation.specs.World.Answer.{Answered}
 use Rattle.lot_simulation.specs.Report.{ActorTurn, beside, turns_made, count_in, quanta_in, ticks_in, total_of}
 use Rattle.lot_machine.proofs.OrderKept.{opening-order, step-order}
@@ -220,14 +223,39 @@ there-numbered s p some = from (some-of (thread_on s.records p) some)
         let named = numbered s.records t (status.Running p there.0) there.1 in
         rw found (named.0, omega (arith, named.1))
 
-step-adds : (s : State) (e : Event) → HasSpace s → Adds s (step s e)
-step-adds s (event.Command command) space = command-adds s command
-step-adds s (event.Draw p d) space = unless-adds s _ (draw s p d) (λ _. draw-adds s p d space)
-step-adds s (event.Expire p) space =
+-- a command, a draw, an expiry or a trap: no system makes other events
+abbrev pub IsMade : Event → Type 0
+IsMade (event.Preempt p ticks) = ⊥
+IsMade (event.Overrun p ticks) = ⊥
+IsMade (event.Wake t) = ⊥
+IsMade other = ⊤
+
+pub slice-made : (p drawn : ℕ) (s : Slice) → IsMade (event_of_slice p drawn s)
+slice-made p drawn s = by s.trap refl
+  where
+    by : (o : Option ScriptTrap) → s.trap ≡ o → IsMade (event_of_slice p drawn s)
+    by None is = rw is tt
+    by (Some trap) is = rw is tt
+
+-- the event of a processor's turn is one of these
+pub turn-made : (w : World) (p : ℕ) → IsMade (processor_event w p)
+turn-made w p = by (thread_on w.state.records p) refl
+  where
+    by : (o : Option ℕ) → thread_on w.state.records p ≡ o → IsMade (processor_event w p)
+    by None is = rw is tt
+    by (Some t) is = rw is (slice-made p (number_of w p) (slice_on w p t))
+
+step-adds : (s : State) (e : Event) → IsMade e → HasSpace s → Adds s (step s e)
+step-adds s (event.Command command) made space = command-adds s command
+step-adds s (event.Preempt p ticks) made space = absurd made
+step-adds s (event.Overrun p ticks) made space = absurd made
+step-adds s (event.Wake t) made space = absurd made
+step-adds s (event.Draw p d) made space = unless-adds s _ (draw s p d) (λ _. draw-adds s p d space)
+step-adds s (event.Expire p) made space =
     unless-adds s _ (event_effect s (event.Expire p)) (λ e.
     let passed = all-pass ((is_bad_processor s p, BadProcessor) ∷ (is_none (thread_on s.records p), NotRunning) ∷ []) e in
     expire-adds s (thread_there s p) (used_there s p) _ (number-some s.records (thread_there s p) newborn (there-numbered s p passed.1.0)) space)
-step-adds s (event.Trap p ran action) space =
+step-adds s (event.Trap p ran action) made space =
     unless-adds s _ (event_effect s (event.Trap p ran action)) (λ e.
     let passed = all-pass ((is_bad_processor s p, BadProcessor) ∷ (is_none (thread_on s.records p), NotRunning) ∷ (nat_lt s.limits.quantum (used_there s p + ran + 1), BadTicks) ∷ []) e in
     trap-adds s p (thread_there s p) (used_there s p) ran action (there-numbered s p passed.1.0) (ltb-false s.limits.quantum (used_there s p + ran + 1) passed.1.1.0) space)
@@ -246,9 +274,9 @@ module _ (program : Program) where
   system_turn-adds : (w : World) (actor : ℕ) → IsInOrder w.state → HasSpace w.state → AddsTurn w (system_turn program w actor)
   system_turn-adds w actor order space = at (actor == 0)
     where
-      of_step : (e : Event) (turn : Turn) → turn.world.state ≡ (step w.state e).state → turn.answer ≡ Answered e (step w.state e).reply → AddsTurn w turn
-      of_step e turn state answer =
-          let adds = step-adds w.state e space in
+      of_step : (e : Event) (turn : Turn) → IsMade e → turn.world.state ≡ (step w.state e).state → turn.answer ≡ Answered e (step w.state e).reply → AddsTurn w turn
+      of_step e turn made state answer =
+          let adds = step-adds w.state e made space in
           record {
             quanta = ap (λ (s : State). quanta_of s.records) state ∙ adds.quanta ∙ ap (λ a. quanta_of w.state.records + count_in quanta_in a) (sym answer);
             ticks = ap (λ (s : State). ticks_of s.records) state ∙ adds.ticks ∙ ap (λ a. ticks_of w.state.records + count_in ticks_in a) (sym answer);
@@ -259,11 +287,11 @@ module _ (program : Program) where
 
       console : (commands : List Command) → AddsTurn w (console_turn program w commands)
       console [] = record { quanta = omega arith; ticks = omega arith; bounded = omega arith; short = omega arith; order = order }
-      console (c ∷ cs) = of_step (event.Command c) (console_turn program w (c ∷ cs)) refl refl
+      console (c ∷ cs) = of_step (event.Command c) (console_turn program w (c ∷ cs)) tt refl refl
 
       at : (b : Bool) → AddsTurn w (if b then console_turn program w w.commands else processor_turn w actor (processor_event w actor))
       at true = console w.commands
-      at false = of_step (processor_event w actor) (processor_turn w actor (processor_event w actor)) refl refl
+      at false = of_step (processor_event w actor) (processor_turn w actor (processor_event w actor)) (turn-made w actor) refl refl
 
   -- after k turns, and with less than 2 ^ 32 in all
   run-adds : (w : World) (k : ℕ) (actors : List ℕ) → IsInOrder w.state → quanta_of w.state.records ≤ k → ticks_of w.state.records ≤ k * 1000 → k + length actors < 2 ^ 32

@@ -6,7 +6,7 @@ use Rattle.lot_simulation.specs.declared.script.Line.{Line}
 use Rattle.lot_simulation.specs.declared.script.Line.TheVariants as line
 use Rattle.lot_simulation.specs.declared.script.ScriptTrap.TheVariants as trap
 use Rattle.lot_machine.specs.declared.command.Command.{Command}
-use Rattle.lot_machine.specs.declared.command.Command.TheVariants.{MakeTicket, RemoveTicket, MakeCurrency, RemoveCurrency, Fund, Unfund, SetTicket, MakeThread, MakeFunded, List as Listing}
+use Rattle.lot_machine.specs.declared.command.Command.TheVariants.{MakeTicket, RemoveTicket, MakeCurrency, RemoveCurrency, Fund, Unfund, SetTicket, MakeThread, RemoveThread, MakeFunded, List as Listing}
 use Rattle.lot_machine.specs.declared.command.Kind.TheVariants.{Tickets, Currencies, Threads}
 use Rattle.lot_simulation.specs.declared.input.HeaderWord.{HeaderWord}
 use Rattle.lot_simulation.specs.declared.input.HeaderWord.TheVariants as header
@@ -213,6 +213,9 @@ body_line n r body.SetTicket (t ∷ a ∷ []) = do
   ticket ← any_number t
   amount ← any_number a
   add_command r (SetTicket ticket amount)
+body_line n r body.RemoveThread (token ∷ []) = do
+  thread ← any_name token
+  add_command r (RemoveThread thread)
 body_line n r body.MakeThread (token ∷ s ∷ []) = do
   name ← any_name token
   number ← script_number (script_names r) s

@@ -86,10 +86,13 @@ refusal_code refusal.BaseFixed = 11
 refusal_code refusal.DeadThread = 12
 refusal_code refusal.Full = 13
 refusal_code refusal.NoScript = 14
+refusal_code refusal.NoThread = 15
+refusal_code refusal.Alive = 16
 refusal_code refusal.BadProcessor = 20
 refusal_code refusal.Busy = 21
 refusal_code refusal.NotRunning = 22
 refusal_code refusal.BadTicks = 23
+refusal_code refusal.NotAsleep = 24
 
 -- their names
 abbrev pub refusal_name : Refusal → List ℕ
@@ -107,10 +110,13 @@ refusal_name refusal.BaseFixed = codes "BaseFixed"
 refusal_name refusal.DeadThread = codes "DeadThread"
 refusal_name refusal.Full = codes "Full"
 refusal_name refusal.NoScript = codes "NoScript"
+refusal_name refusal.NoThread = codes "NoThread"
+refusal_name refusal.Alive = codes "Alive"
 refusal_name refusal.BadProcessor = codes "BadProcessor"
 refusal_name refusal.Busy = codes "Busy"
 refusal_name refusal.NotRunning = codes "NotRunning"
 refusal_name refusal.BadTicks = codes "BadTicks"
+refusal_name refusal.NotAsleep = codes "NotAsleep"
 
 -- the codes of traps that are refused
 abbrev pub trap_refusal_code : TrapRefusal → ℕ
@@ -191,6 +197,7 @@ trap_text style unit (action.Lock mutex) outcome.Locked = codes "lock " ++ (deci
 trap_text style unit (action.Lock mutex) outcome.Waits = codes "lock " ++ (decimal mutex ++ codes " waits")
 trap_text style unit (action.Unlock mutex d) outcome.Freed = codes "unlock " ++ (decimal mutex ++ codes " free")
 trap_text style unit (action.Unlock mutex d) (outcome.Passed to drawn) = codes "unlock " ++ (decimal mutex ++ (codes " to " ++ (decimal to ++ drawn_text style unit drawn)))
+trap_text style unit action.Sleep outcome.Slept = codes "sleep"
 trap_text style unit action.Exit outcome.Exited = codes "exit"
 trap_text style unit other never = []
 
@@ -214,6 +221,7 @@ status_text (status.Receiving port) = codes "receiving " ++ decimal port
 status_text (status.Queued port) = codes "queued " ++ decimal port
 status_text (status.Served server) = codes "served " ++ decimal server
 status_text (status.Waiting mutex) = codes "waiting " ++ decimal mutex
+status_text status.Asleep = codes "asleep"
 status_text status.Dead = codes "dead"
 
 -- whether a ticket is active
@@ -261,7 +269,7 @@ listing_text style s Tickets =
 listing_text style s Currencies =
     codes "lscur " ++ (decimal (row_count (currency_row s) (range_with_len 0 (length s.currencies))) ++ (newline ++ lines_for (currency_line style s.limits.unit) (currency_row s) (range_with_len 0 (length s.currencies))))
 listing_text style s Threads =
-    codes "lsthr " ++ (decimal (length s.records) ++ (newline ++ lines_for (thread_line style s.limits.unit) (thread_row s) (numbers s.records)))
+    codes "lsthr " ++ (decimal (row_count (thread_row s) (numbers s.records)) ++ (newline ++ lines_for (thread_line style s.limits.unit) (thread_row s) (numbers s.records)))
 
 -- ---- replies
 

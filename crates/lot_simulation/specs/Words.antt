@@ -45,9 +45,9 @@ body_words =
     ∷ (codes "runs", body.Runs) ∷ []
 
 -- The same of an input whose turns come in the order of time, which also says when its commands are made, and may give
--- tickets other amounts.
+-- tickets other amounts and remove threads.
 abbrev pub timed_body_words : List (List ℕ × BodyWord)
-timed_body_words = (codes "at", body.At) ∷ (codes "settkt", body.SetTicket) ∷ body_words
+timed_body_words = (codes "at", body.At) ∷ (codes "settkt", body.SetTicket) ∷ (codes "rmthr", body.RemoveThread) ∷ body_words
 
 -- the words of a script
 abbrev pub script_words : List (List ℕ × ScriptWord)

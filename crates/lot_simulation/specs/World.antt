@@ -1,5 +1,5 @@
 -- The simulated system: a console, processors with their generators, and threads with their scripts.
-use Rattle.std.specs.Prelude.{ℕ, ◌-◌, ◌≤◌, ◌==◌, Bool, true, false, Option, Some, None, is_some, List, [], ◌∷◌, ◌++◌, length, map, drop, count_by, All, unwrap_or, if◌then◌else◌}
+use Rattle.std.specs.Prelude.{ℕ, ◌-◌, ◌≤◌, ◌==◌, Bool, true, false, Option, Some, None, is_some, List, [], ◌∷◌, ◌++◌, length, map, drop, count_by, All, option_and_then, unwrap_or, if◌then◌else◌}
 use Rattle.std.specs.List.{last_or}
 use Rattle.lot_simulation.specs.declared.script.Line.{Line}
 use Rattle.lot_simulation.specs.declared.script.ScriptTrap.{ScriptTrap}
@@ -134,7 +134,8 @@ contexts_after w p other = w.contexts
 
 -- a thread that is made gets its script's list, and accumulator 0
 abbrev pub new_contexts : Program → State → State → List Context
-new_contexts program old new = map (λ t. start (unwrap_or (at_number program.scripts t.script) [])) (drop (length old.threads) new.threads)
+new_contexts program old new =
+    map (λ t. start (unwrap_or (option_and_then (λ made. at_number program.scripts made.script) t) [])) (drop (length old.threads) new.threads)
 
 -- ---- turns
 

@@ -27,6 +27,7 @@ pub enum BodyWord {
     Fund,
     Unfund,
     SetTicket,
+    RemoveThread,
     MakeThread,
     MakeFunded,
     ListTickets,

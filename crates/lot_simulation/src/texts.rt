@@ -26,15 +26,18 @@ pub fn command_refusals()
     ensures dead_thread { refusal_line refusal.DeadThread ≡ text (codes "refused 12 DeadThread" ∷ []) }
     ensures full { refusal_line refusal.Full ≡ text (codes "refused 13 Full" ∷ []) }
     ensures no_script { refusal_line refusal.NoScript ≡ text (codes "refused 14 NoScript" ∷ []) }
+    ensures no_thread { refusal_line refusal.NoThread ≡ text (codes "refused 15 NoThread" ∷ []) }
+    ensures alive { refusal_line refusal.Alive ≡ text (codes "refused 16 Alive" ∷ []) }
 {}
 
-/// Each refusal of an event of a processor.
+/// Each refusal of an event of a processor, and of a wake.
 #[tactic(auto, unfolding(crate::specs::OnLiterals::texts_on_literals))]
 pub fn event_refusals()
     ensures bad_processor { refusal_line refusal.BadProcessor ≡ text (codes "refused 20 BadProcessor" ∷ []) }
     ensures busy { refusal_line refusal.Busy ≡ text (codes "refused 21 Busy" ∷ []) }
     ensures not_running { refusal_line refusal.NotRunning ≡ text (codes "refused 22 NotRunning" ∷ []) }
     ensures bad_ticks { refusal_line refusal.BadTicks ≡ text (codes "refused 23 BadTicks" ∷ []) }
+    ensures not_asleep { refusal_line refusal.NotAsleep ≡ text (codes "refused 24 NotAsleep" ∷ []) }
 {}
 
 /// Each refusal of a trap.
@@ -93,6 +96,8 @@ pub fn statuses()
         ≡ text (codes "thread 1 a served 6 value 10 weight 20 quanta 3 ticks 40" ∷ []) }
     ensures waiting { status_line (status.Waiting 7)
         ≡ text (codes "thread 1 a waiting 7 value 10 weight 20 quanta 3 ticks 40" ∷ []) }
+    ensures asleep { status_line status.Asleep
+        ≡ text (codes "thread 1 a asleep value 10 weight 20 quanta 3 ticks 40" ∷ []) }
     ensures dead { status_line status.Dead ≡ text (codes "thread 1 a dead value 10 weight 20 quanta 3 ticks 40" ∷ []) }
 {}
 

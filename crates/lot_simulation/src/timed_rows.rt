@@ -182,6 +182,56 @@ pub fn amounts_in_time()
         ∷ codes "total turns 18 quanta 4 ticks 300 refused 2 left 0" ∷ []) }
 {}
 
+/// A thread that is removed once it has ended and no ticket funds it. It has no line in a listing and in the report
+/// then. Its name is given again, and its number isn't.
+#[tactic(auto, unfolding(crate::specs::OnLiterals::texts_on_literals, crate::specs::Timed::timed_room))]
+pub fn threads_removed()
+    ensures { output (text (codes "lottery 3" ∷ codes "quantum 10" ∷ codes "for 30" ∷ codes "script short"
+        ∷ codes "compute 4" ∷ codes "endscript" ∷ codes "script long" ∷ codes "compute 1000" ∷ codes "endscript"
+        ∷ codes "fundx 3 base a short" ∷ codes "fundx 1 base b long" ∷ codes "rmthr a" ∷ codes "rmthr c"
+        ∷ codes "rmthr base" ∷ codes "at 8" ∷ codes "rmthr a" ∷ codes "unfund 1" ∷ codes "rmthr a" ∷ codes "lsthr"
+        ∷ codes "rmthr a" ∷ codes "fund 1 a" ∷ codes "mkthr a short" ∷ codes "fund 1 a" ∷ codes "lsthr" ∷ []))
+        ≡ text (codes "0 0 funded 1 1" ∷ codes "0 0 funded 2 2" ∷ codes "0 0 refused 16 Alive"
+        ∷ codes "0 0 refused 15 NoThread" ∷ codes "0 0 refused 15 NoThread" ∷ codes "0 1 draw 1.992 of 4 thread 1"
+        ∷ codes "5 1 thread 1 ticks 5 exit" ∷ codes "5 1 draw 0.281 of 1 thread 2" ∷ codes "8 0 refused 7 InUse"
+        ∷ codes "8 0 done" ∷ codes "8 0 done" ∷ codes "8 0 lsthr 1"
+        ∷ codes "8 thread 2 b running 1 used 0 value 1 weight 1 quanta 1 ticks 0" ∷ codes "8 0 refused 15 NoThread"
+        ∷ codes "8 0 refused 5 NoTarget" ∷ codes "8 0 thread 3" ∷ codes "8 0 done" ∷ codes "8 0 lsthr 2"
+        ∷ codes "8 thread 2 b running 1 used 0 value 1 weight 1 quanta 1 ticks 0"
+        ∷ codes "8 thread 3 a ready value 3 weight 3 quanta 0 ticks 0" ∷ codes "15 1 thread 2 ticks 10 expire"
+        ∷ codes "15 1 draw 3.921 of 4 thread 3" ∷ codes "20 1 thread 3 ticks 5 exit"
+        ∷ codes "20 1 draw 0.363 of 1 thread 2" ∷ codes "30 1 thread 2 ticks 10 expire"
+        ∷ codes "30 1 draw 0.738 of 1 thread 2" ∷ codes "report"
+        ∷ codes "thread 2 b quanta 3 ticks 20 share 66.666% value 100%"
+        ∷ codes "thread 3 a quanta 1 ticks 5 share 16.666% value 0%"
+        ∷ codes "processor 1 quanta 5 idle 0 ticks 30 unused 0"
+        ∷ codes "total turns 23 quanta 5 ticks 30 refused 6 left 0" ∷ []) }
+{}
+
+/// Threads that stay, though they have ended and nothing funds them: thread 1 owns a mutex, and thread 3 has a client.
+/// The client waits for good, and hasn't ended.
+#[tactic(auto, unfolding(crate::specs::OnLiterals::texts_on_literals, crate::specs::Timed::timed_room))]
+pub fn threads_kept()
+    ensures { output (text (codes "lottery 3" ∷ codes "quantum 10" ∷ codes "for 8" ∷ codes "port p" ∷ codes "mutex m"
+        ∷ codes "script owner" ∷ codes "lock m" ∷ codes "endscript" ∷ codes "script client" ∷ codes "call p"
+        ∷ codes "endscript" ∷ codes "script server" ∷ codes "receive p" ∷ codes "endscript"
+        ∷ codes "fundx 1 base o owner" ∷ codes "at 3" ∷ codes "fundx 1 base c client" ∷ codes "at 5"
+        ∷ codes "fundx 1 base s server" ∷ codes "at 8" ∷ codes "unfund 1" ∷ codes "rmthr o" ∷ codes "unfund 3"
+        ∷ codes "rmthr s" ∷ codes "rmthr c" ∷ []))
+        ≡ text (codes "0 0 funded 1 1" ∷ codes "0 1 draw 0.992 of 1 thread 1"
+        ∷ codes "1 1 thread 1 ticks 1 lock 1 taken" ∷ codes "2 1 thread 1 ticks 1 exit" ∷ codes "2 1 idle"
+        ∷ codes "3 0 funded 2 2" ∷ codes "3 1 draw 0.921 of 1 thread 2" ∷ codes "4 1 thread 2 ticks 1 call 1 queued"
+        ∷ codes "4 1 idle" ∷ codes "5 0 funded 3 3" ∷ codes "5 1 draw 0.738 of 1 thread 3"
+        ∷ codes "6 1 thread 3 ticks 1 receive 1 client 2 got 0" ∷ codes "7 1 thread 3 ticks 1 exit"
+        ∷ codes "7 1 idle" ∷ codes "8 0 done" ∷ codes "8 0 refused 7 InUse" ∷ codes "8 0 done"
+        ∷ codes "8 0 refused 7 InUse" ∷ codes "8 0 refused 16 Alive" ∷ codes "8 1 idle" ∷ codes "report"
+        ∷ codes "thread 1 o quanta 1 ticks 2 share 40% value 0%"
+        ∷ codes "thread 2 c quanta 1 ticks 1 share 20% value 0%"
+        ∷ codes "thread 3 s quanta 1 ticks 2 share 40% value 0%"
+        ∷ codes "processor 1 quanta 3 idle 4 ticks 5 unused 3"
+        ∷ codes "total turns 20 quanta 3 ticks 5 refused 3 left 0" ∷ []) }
+{}
+
 /// Commands that are refused are counted.
 #[tactic(auto, unfolding(crate::specs::OnLiterals::texts_on_literals, crate::specs::Timed::timed_room))]
 pub fn refused_commands()
@@ -252,6 +302,12 @@ pub fn refused_inputs()
     ensures amount_in_first { output (text (codes "lottery 1" ∷ codes "settkt 1 5" ∷ []))
         ≡ refused_on_line (codes "2 51 BadLine") }
     ensures amount_lacking { output (text (codes "lottery 3" ∷ codes "for 5" ∷ codes "settkt 1" ∷ []))
+        ≡ refused_on_line (codes "3 51 BadLine") }
+    ensures removal_in_second { output (text (codes "lottery 2" ∷ codes "rmthr a" ∷ []))
+        ≡ refused_on_line (codes "2 51 BadLine") }
+    ensures removal_in_first { output (text (codes "lottery 1" ∷ codes "rmthr a" ∷ []))
+        ≡ refused_on_line (codes "2 51 BadLine") }
+    ensures removal_lacking { output (text (codes "lottery 3" ∷ codes "for 5" ∷ codes "rmthr" ∷ []))
         ≡ refused_on_line (codes "3 51 BadLine") }
     ensures serve_in_first { output (text (codes "lottery 1" ∷ codes "port p" ∷ codes "script s" ∷ codes "serve p"
         ∷ [])) ≡ refused_on_line (codes "4 51 BadLine") }

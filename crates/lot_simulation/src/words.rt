@@ -71,13 +71,18 @@ pub const HEADER_WORDS: [WordRow<HeaderWord>; 7] = [
     ),
 ];
 
-/// The words of the body, after `at` and `settkt`, which only some formats have.
-pub const BODY_WORDS: [WordRow<BodyWord>; 18] = [
+/// The words of the body, after `at`, `settkt` and `rmthr`, which only some formats have.
+pub const BODY_WORDS: [WordRow<BodyWord>; 19] = [
     (b"at", BodyWord::At, Once(&[("TICK", Time(ranges::TICK))])),
     (
         b"settkt",
         BodyWord::SetTicket,
         Command(&[("TICKET", AnyNumber), ("AMOUNT", AnyNumber)]),
+    ),
+    (
+        b"rmthr",
+        BodyWord::RemoveThread,
+        Command(&[("THREAD", AnyName)]),
     ),
     (
         b"port",
@@ -210,7 +215,7 @@ pub const SCRIPT_WORDS: [WordRow<ScriptWord>; 13] = [
 // The same tables as data of the program: a constant would be built anew at each call.
 static HEADER_TABLE: [WordRow<HeaderWord>; 7] = HEADER_WORDS;
 
-static BODY_TABLE: [WordRow<BodyWord>; 18] = BODY_WORDS;
+static BODY_TABLE: [WordRow<BodyWord>; 19] = BODY_WORDS;
 
 static SCRIPT_TABLE: [WordRow<ScriptWord>; 13] = SCRIPT_WORDS;
 
@@ -242,7 +247,7 @@ impl BodyWord {
         if format.is_timed() {
             word_spelled(&BODY_TABLE, token)
         } else {
-            word_spelled(&BODY_TABLE[2..], token)
+            word_spelled(&BODY_TABLE[3..], token)
         }
     }
 }

@@ -37,6 +37,7 @@ pub(crate) fn body_line(
         BodyWord::Fund => fund(reading, tokens),
         BodyWord::Unfund => unfund(reading, tokens),
         BodyWord::SetTicket => set_ticket(reading, tokens),
+        BodyWord::RemoveThread => remove_thread(reading, tokens),
         BodyWord::MakeThread => make_thread(reading, tokens),
         BodyWord::MakeFunded => make_funded(reading, tokens),
         BodyWord::ListTickets => list_tickets(reading, tokens),
@@ -159,6 +160,16 @@ fn unfund(reading: &mut Reading, tokens: Tokens<'_>) -> Result<(), LineFault>
     let ticket = tokens.only()?;
     let ticket = any_number(ticket)?;
     reading.add_command(Command::Unfund { ticket })
+}
+
+/// `rmthr THREAD`, in an input of `lottery 3`
+fn remove_thread(reading: &mut Reading, mut tokens: Tokens<'_>) -> Result<(), LineFault>
+    ensures { (n : ℕ)
+        → Gives reading.new result (body_after_header n reading.old BodyWord.RemoveThread tokens.entry) }
+{
+    let thread = tokens.only()?;
+    let thread = any_name(thread)?;
+    reading.add_command(Command::RemoveThread { thread })
 }
 
 /// `settkt TICKET AMOUNT`, in an input of `lottery 3`

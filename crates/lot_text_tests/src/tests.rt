@@ -23,6 +23,7 @@ enum Asked<'a> {
     Unfund(u64),
     SetTicket(u64, u64),
     MakeThread(&'a str, u32),
+    RemoveThread(&'a str),
     MakeFunded(u64, &'a str, &'a str, u32),
     List(Kind),
 }
@@ -66,6 +67,9 @@ fn command(rt: &impl Abort, asked: Asked<'_>) -> Command {
             let name = name(rt, text);
             Command::MakeThread { name, script }
         }
+        Asked::RemoveThread(text) => Command::RemoveThread {
+            thread: name(rt, text),
+        },
         Asked::MakeFunded(amount, issuer, text, script) => Command::MakeFunded {
             amount,
             currency: name(rt, issuer),
@@ -270,10 +274,11 @@ fn reads_the_whole_grammar(rt: HostRuntime) {
     check_said(&rt, rt.alloc(), WHOLE_GRAMMAR, &WHOLE_GRAMMAR_SAYS);
 }
 
-/// What only inputs have whose turns come in the order of time.
+/// What only inputs have whose turns come in the order of time. One name has 16 bytes, the longest, and isn't good.
 const TIMED: &str =
     "lottery 3\nprocessors 2\nturns 5\nfor 4294967295\nport p\nscript s\nloop 2 serve p yield\nend endscript\n\
-    mkthr a s\nat 10\nat 20\nlstkt\nlscur\nat 20\nlsthr\nsettkt 3 0\nsettkt 0 18446744073709551615\nat 4294967295";
+    mkthr a s\nat 10\nat 20\nlstkt\nlscur\nat 20\nlsthr\nsettkt 3 0\nsettkt 0 18446744073709551615\n\
+    rmthr a\nrmthr 0123456789abcdef\nat 4294967295";
 
 /// The seeds are those after 1 of the generator that multiplies by 48271 modulo 2147483647.
 const TIMED_SAYS: Said<'_> = Said {
@@ -303,10 +308,12 @@ const TIMED_SAYS: Said<'_> = Said {
         Asked::List(Kind::Threads),
         Asked::SetTicket(3, 0),
         Asked::SetTicket(0, 18446744073709551615),
+        Asked::RemoveThread("a"),
+        Asked::RemoveThread("0123456789abcdef"),
     ],
     schedule: &[],
     duration: Some(4294967295),
-    times: &[0, 20, 20, 20, 20, 20],
+    times: &[0, 20, 20, 20, 20, 20, 20, 20],
 };
 
 #[test]
@@ -456,6 +463,8 @@ const REFUSED_BODIES: [Refusals<'_>; 8] = [
             "settkt 1 5",
             "settkt 1",
             "settkt x 5",
+            "rmthr a",
+            "rmthr",
         ],
     },
     Refusals {
@@ -577,7 +586,15 @@ const REFUSED_RUNS: [Refusals<'_>; 4] = [
     Refusals {
         line: 2,
         refusal: InputRefusal::BadLine,
-        ends: &["runs 0", "runs", "settkt 1 5", "settkt", "settkt 007 5"],
+        ends: &[
+            "runs 0",
+            "runs",
+            "settkt 1 5",
+            "settkt",
+            "settkt 007 5",
+            "rmthr a",
+            "rmthr abcdefghijklmnopq",
+        ],
     },
     Refusals {
         line: 2,
@@ -606,7 +623,14 @@ const REFUSED_DURATIONS: [Refusals<'_>; 3] = [
     Refusals {
         line: 2,
         refusal: InputRefusal::BadHeader,
-        ends: &["quantum 5", "port p", "seed 1\n", "at 0", "settkt 1 5"],
+        ends: &[
+            "quantum 5",
+            "port p",
+            "seed 1\n",
+            "at 0",
+            "settkt 1 5",
+            "rmthr a",
+        ],
     },
     Refusals {
         line: 3,
@@ -621,7 +645,7 @@ const REFUSED_DURATIONS: [Refusals<'_>; 3] = [
 ];
 
 /// Lines after its header.
-const REFUSED_TIMES: [Refusals<'_>; 4] = [
+const REFUSED_TIMES: [Refusals<'_>; 5] = [
     Refusals {
         line: 3,
         refusal: InputRefusal::BadLine,
@@ -635,7 +659,15 @@ const REFUSED_TIMES: [Refusals<'_>; 4] = [
             "settkt 1",
             "settkt 1 2 3",
             "settkt 1 2 #",
+            "rmthr",
+            "rmthr a b",
+            "rmthr a #",
         ],
+    },
+    Refusals {
+        line: 3,
+        refusal: InputRefusal::TooLong,
+        ends: &["rmthr abcdefghijklmnopq"],
     },
     Refusals {
         line: 3,

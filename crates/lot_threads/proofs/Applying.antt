@@ -23,7 +23,7 @@ lives-stay : (lives : List Bool) (c : Change) → LeavesThreads c → live_after
 lives-stay lives (PutThread t lend live) leaves = absurd leaves
 lives-stay lives other leaves = refl
 
-module _ (v new : Valued) (q : Queued) (threads : List Thread) (records : List Record) (runners : List (Option ℕ)) (is : AreOf v q threads records runners)
+module _ (v new : Valued) (q : Queued) (threads : List (Option Thread)) (records : List Record) (runners : List (Option ℕ)) (is : AreOf v q threads records runners)
     (c : Change) (leaves : LeavesThreads c) (done : new ≡ applied v c new.known.stale) (stale : StaleBy c v new) where
   limit : new.now.thread_limit ≡ v.now.thread_limit
   limit = ap (λ (x : Valued). x.now.thread_limit) done

@@ -4,7 +4,7 @@ use Rattle.std.specs.Option.{option_flatten}
 use Rattle.std.proofs.lemmas.Bool.{cases_eq}
 use Rattle.lot_machine.specs.declared.record.Record.{Record}
 use Rattle.lot_machine.specs.declared.record.Status.{Status}
-use Rattle.lot_machine.specs.declared.record.Status.TheVariants.{Ready, Running, Receiving, Queued, Served, Waiting, Dead}
+use Rattle.lot_machine.specs.declared.record.Status.TheVariants.{Ready, Running, Receiving, Queued, Served, Waiting, Asleep, Dead}
 use Rattle.lot_machine.specs.Bounds.{IsBetween}
 use Rattle.lot_machine.specs.Numbered.{at_number, set_number}
 use Rattle.lot_machine.specs.State.{status_of, thread_on, used_by}
@@ -88,6 +88,7 @@ module _ (records : List Record) (runners : List (Option ℕ)) (t : ℕ) (was no
   length-left (Queued p) = refl
   length-left (Served s) = refl
   length-left (Waiting m) = refl
+  length-left Asleep = refl
   length-left Dead = refl
 
   -- another thread's entry stays when the thread leaves
@@ -103,6 +104,7 @@ module _ (records : List Record) (runners : List (Option ℕ)) (t : ℕ) (was no
       by (Queued q) is = at
       by (Served s) is = at
       by (Waiting m) is = at
+      by Asleep is = at
       by Dead is = at
 
   -- an entry after the thread has left was there before, and is another's
@@ -135,6 +137,7 @@ module _ (records : List Record) (runners : List (Option ℕ)) (t : ℕ) (was no
       by (Queued q) is e = (e, apart (Queued q) is (λ q used same. cc) e)
       by (Served s) is e = (e, apart (Served s) is (λ q used same. cc) e)
       by (Waiting m) is e = (e, apart (Waiting m) is (λ q used same. cc) e)
+      by Asleep is e = (e, apart Asleep is (λ q used same. cc) e)
       by Dead is e = (e, apart Dead is (λ q used same. cc) e)
 
   -- another thread's entry stays when the thread enters
@@ -148,6 +151,7 @@ module _ (records : List Record) (runners : List (Option ℕ)) (t : ℕ) (was no
       by (Queued q) is = at
       by (Served s) is = at
       by (Waiting m) is = at
+      by Asleep is = at
       by Dead is = at
 
   all : (u p used : ℕ) → status_of after u ≡ Some (Running p used) → runner_at table p ≡ Some u
@@ -185,6 +189,7 @@ module _ (records : List Record) (runners : List (Option ℕ)) (t : ℕ) (was no
       by (Queued q) is e = old e
       by (Served s) is e = old e
       by (Waiting m) is e = old e
+      by Asleep is e = old e
       by Dead is e = old e
 
   -- the table is that of the records again

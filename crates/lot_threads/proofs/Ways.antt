@@ -27,6 +27,7 @@ live-alone (status.Served server) live = cc
 live-alone (status.Waiting m) live = cc
 live-alone (status.Queued p) live = cc
 live-alone (status.Receiving p) live = cc
+live-alone status.Asleep live = cc
 live-alone status.Dead live = cc
 
 pub live-lends : (records : List Record) (t : ℕ) → IsLive (live_in records) t → at_number (lends_in records) t ≡ Some Nobody

@@ -42,7 +42,7 @@ pub record Threaded : Type 0 where
   pub unit : ℕ
   pub quantum : ℕ
   pub processors : ℕ
-  pub threads : List Thread
+  pub threads : List (Option Thread)
   pub records : List Record
   pub stale : List Node
   pub meter : Meter
@@ -127,7 +127,7 @@ pub record StaleByIn (change : Change) (old new : Threaded) : Type 0 where
   pub owners : HoldsOfOwners change (IsStaleIn new)
 
 -- The graph and the queue are those of the records: what is lent, who is live, who competes, and who runs where.
-pub record AreOf (v : Valued) (q : Queued) (threads : List Thread) (records : List Record) (runners : List (Option ℕ)) : Type 0 where
+pub record AreOf (v : Valued) (q : Queued) (threads : List (Option Thread)) (records : List Record) (runners : List (Option ℕ)) : Type 0 where
   pub names : length threads ≡ length records
   pub lends : v.now.funding.lends ≡ lends_in records
   pub live : v.live ≡ live_in records

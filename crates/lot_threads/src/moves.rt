@@ -1,5 +1,5 @@
 //! How a thread begins to run and stops, and how it gets a number.
-ghost use Rattle.std.specs.Prelude.{◌≡◌, ◌<◌, None, Some, option_and_then};
+ghost use Rattle.std.specs.Prelude.{◌≡◌, ◌<◌, None, Some, IfSome, option_and_then};
 ghost use Rattle.lot_machine.specs.declared.funding.Node.{Node as ANode};
 ghost use Rattle.lot_machine.specs.declared.record.Status.TheVariants as status;
 ghost use Rattle.lot_machine.specs.Bounds.{IsBetween};
@@ -47,13 +47,14 @@ impl Threads {
         before.delivered
     }
 
-    /// A thread's quantum ends after these further ticks: it is Ready without compensation (4.2).
-    pub fn expire(&mut self, thread: ThreadNumber, ticks: u32)
+    /// A thread leaves its processor after these further ticks: it is Ready with this compensation (3.4, 4.2).
+    pub fn stop(&mut self, thread: ThreadNumber, ticks: u32, compensation: Option<u32>)
         requires thread { IsThreadOf self.old thread.number }
-        ensures expired { self.new ≡ with_records self.old (change_record
+        requires some { IfSome compensation (λ used. 0 < used) }
+        ensures stopped { self.new ≡ with_records self.old (change_record
             (λ r. with_ticks ticks (record r {
               status = status.Ready;
-              compensation = None;
+              compensation = compensation;
             })) self.old.records thread.number) self.new.stale }
         ensures kept { (node : ANode) → IsStaleIn self.old node → IsStaleIn self.new node }
         ensures stale { MakesStaleIn self.old self.new }
@@ -63,7 +64,7 @@ impl Threads {
         };
         let next = Record {
             status: Status::Ready,
-            compensation: None,
+            compensation,
             ticks: before.ticks.saturating_add(u64::from(ticks)),
             ..before
         };

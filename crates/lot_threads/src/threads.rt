@@ -1,6 +1,6 @@
 //! The threads, and all that follows from what each is doing.
-ghost use Rattle.std.specs.Prelude.{◌≡◌, ◌+◌, ◌<◌, ◌≤◌, ◌↔◌, ◌++◌, ◌∷◌, ◌≢◌, true, false, [], Some, None, IfOk, IfSome};
-ghost use Rattle.std.specs.Prelude.{IsTrue, MatchOption, length, replicate};
+ghost use Rattle.std.specs.Prelude.{◌≡◌, ◌+◌, ◌<◌, ◌≤◌, ◌++◌, ◌∷◌, ◌≢◌, true, false, [], Some, None, IfOk, IfSome};
+ghost use Rattle.std.specs.Prelude.{◌*◌, ◌↔◌, IsTrue, MatchOption, length, replicate};
 ghost use Rattle.std.specs.Prelude.{vec_capacity};
 ghost use Rattle.lot_machine.specs.declared.funding.Node.{Node as ANode};
 ghost use Rattle.lot_machine.specs.declared.funding.Node.TheVariants.{Currency as CurrencyNode, Thread as ThreadNode};
@@ -38,6 +38,12 @@ use lot_machine::{
 use lot_value::{Change, Meter, ValuedGraph};
 use std::alloc::{AllocError, Global};
 use std::marker::Model;
+use std::mem::size_of;
+
+// What a thread's name and record take, and a processor for who runs on it.
+const THREAD_BYTES: u64 = size_of::<Option<Thread>>() as u64 + size_of::<Record>() as u64;
+
+const RUNNER_BYTES: u64 = size_of::<Option<u32>>() as u64;
 
 /// A thread that was just made.
 const NEWBORN: Record = Record {
@@ -53,7 +59,8 @@ const NEWBORN: Record = Record {
 pub struct Threads {
     graph: ValuedGraph,
     queue: RunQueue,
-    threads: Vec<Thread>,
+    /// A gap where a dead thread was removed.
+    threads: Vec<Option<Thread>>,
     records: Vec<Record>,
     /// By processor, processor 1 first.
     runners: Vec<Option<u32>>,
@@ -136,13 +143,24 @@ impl Threads {
         })
     }
 
+    /// How many bytes `new` asks of the allocator in all.
+    pub fn bytes(limits: &Limits) -> u64
+        ensures { result ≡ 56 * limits.now.tickets + 82 * limits.now.currencies + 245 * limits.now.threads
+            + 97 * limits.now.mutexes + 8 * limits.now.processors + 130 }
+    {
+        ValuedGraph::bytes(limits)
+            + RunQueue::bytes(limits)
+            + THREAD_BYTES * limits.threads as u64
+            + RUNNER_BYTES * limits.processors as u64
+    }
+
     /// Makes a thread, which is Ready and has no compensation, and returns its number, one more than the last.
     /// Computes no value.
     pub fn add_thread(&mut self, thread: Thread) -> ThreadNumber
         requires room { length self.old.records < self.old.thread_limit }
         ensures number { result.number ≡ length self.old.records + 1 }
         ensures added { self.new ≡ record (with_records self.old
-            (self.old.records ++ newborn ∷ []) self.new.stale) { threads = self.old.threads ++ thread ∷ [] } }
+            (self.old.records ++ newborn ∷ []) self.new.stale) { threads = self.old.threads ++ Some thread ∷ [] } }
         ensures kept { (node : ANode) → IsStaleIn self.old node → IsStaleIn self.new node }
         ensures stale { MakesStaleIn self.old self.new }
     {
@@ -150,9 +168,17 @@ impl Threads {
         let number = self.graph.graph().threads();
         self.graph.set_live(number, true);
         self.queue.set_competitor(number, competitor_of(NEWBORN));
-        self.threads.push_reserved(thread);
+        self.threads.push_reserved(Some(thread));
         self.records.push_reserved(NEWBORN);
         ThreadNumber { number }
+    }
+
+    /// Removes a thread's name and script, and leaves its record as it is.
+    pub fn remove_thread(&mut self, thread: ThreadNumber)
+        requires thread { IsThreadOf self.old thread.number }
+        ensures { self.new ≡ record self.old { threads = set_number self.old.threads thread.number None } }
+    {
+        self.threads[index_of(thread.number)] = None;
     }
 
     /// Makes one change of tickets, currencies or owners, and makes stale what it has to. Computes no value.
@@ -343,8 +369,8 @@ impl Threads {
         self.graph.reaches(from, to)
     }
 
-    /// Each thread's name and script, thread 1 first.
-    pub fn threads(&self) -> &[Thread]
+    /// Each thread's name and script, thread 1 first; `None` where the thread was removed.
+    pub fn threads(&self) -> &[Option<Thread>]
         ensures { result.now ≡ self.now.threads }
     {
         &self.threads
@@ -405,7 +431,7 @@ fn opening_tables(
     alloc: Global,
     threads: usize,
     processors: usize,
-) -> Result<(Vec<Thread>, Vec<Record>, Vec<Option<u32>>), AllocError>
+) -> Result<(Vec<Option<Thread>>, Vec<Record>, Vec<Option<u32>>), AllocError>
     ensures no_threads { IfOk result (λ made. made.0.items ≡ []) }
     ensures thread_room { IfOk result (λ made. threads ≤ vec_capacity made.0) }
     ensures no_records { IfOk result (λ made. made.1.items ≡ []) }

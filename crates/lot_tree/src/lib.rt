@@ -7,7 +7,7 @@
 //! places in question reads at most one for each binary digit of their number.
 #![tactic(auto)]
 
-ghost use Rattle.std.specs.Prelude.{◌≡◌, ℕ, ◌^◌, ◌<◌, List, length, sum, slice_index, slice_set, IfOk, replicate};
+ghost use Rattle.std.specs.Prelude.{◌≡◌, ℕ, ◌*◌, ◌^◌, ◌<◌, List, length, sum, slice_index, slice_set, IfOk, replicate};
 ghost use Rattle.lot_machine.specs.Lottery.{IsFirstAbove, first_above, running_sums};
 ghost use Rattle.lot_tree.specs.Sums.{IsSumTree};
 ghost use Rattle.lot_tree.specs.Visits.{CountsReads};
@@ -17,6 +17,10 @@ mod partial_sums;
 use partial_sums::PartialSums;
 use std::alloc::{AllocError, Global};
 use std::marker::Model;
+use std::mem::size_of;
+
+// What a weight takes.
+const WEIGHT_BYTES: u64 = size_of::<u128>() as u64;
 
 /// Weights at the places from 0 on, each with the partial sums that `find` reads.
 #[derive(Debug, Drop)]
@@ -47,6 +51,14 @@ impl SumTree {
             sums,
             total: 0,
         })
+    }
+
+    /// How many bytes `new` asks of the allocator in all: 32 for each place.
+    pub fn bytes(n: usize) -> u64
+        requires few { n < 2 ^ 40 }
+        ensures { result ≡ 32 * n }
+    {
+        WEIGHT_BYTES * n as u64 + PartialSums::bytes(n)
     }
 
     /// The number of places.

@@ -6,6 +6,10 @@ ghost use Rattle.lot_tree.specs.Visits.{counted_up};
 
 use std::alloc::{AllocError, Global};
 use std::marker::Model;
+use std::mem::size_of;
+
+// What a partial sum takes.
+const SUM_BYTES: u64 = size_of::<u128>() as u64;
 
 /// The partial sums of weights. Only blocks of fewer than 2^height places keep theirs, and the first 2^height places
 /// have all the weight. So a tree with room for many places is as low as the places in use allow. `read` is the only
@@ -34,6 +38,14 @@ impl PartialSums {
             sums,
             height: n.min(1) as u32,
         })
+    }
+
+    /// How many bytes `new` asks of the allocator.
+    pub(crate) fn bytes(n: usize) -> u64
+        requires few { n < 2 ^ 40 }
+        ensures { result ≡ 16 * n }
+    {
+        SUM_BYTES * n as u64
     }
 
     /// The number of places.

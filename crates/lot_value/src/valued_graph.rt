@@ -1,5 +1,5 @@
 //! A funding graph with what is active in it and what everything is worth, kept together.
-ghost use Rattle.std.specs.Prelude.{◌≡◌, ◌+◌, ◌<◌, ◌≤◌, ◌↔◌, ◌++◌, ◌∷◌, ◌≢◌, false, [], Some, None};
+ghost use Rattle.std.specs.Prelude.{◌≡◌, ◌+◌, ◌*◌, ◌<◌, ◌≤◌, ◌↔◌, ◌++◌, ◌∷◌, ◌≢◌, false, [], Some, None};
 ghost use Rattle.std.specs.Prelude.{IfOk, IfSome, IfNone, IsTrue, length};
 ghost use Rattle.lot_machine.specs.declared.funding.Node.{Node as ANode};
 ghost use Rattle.lot_machine.specs.declared.funding.Node.TheVariants.{Currency as CurrencyNode, Thread as ThreadNode};
@@ -32,7 +32,7 @@ use crate::relending::put_thread;
 use crate::touching::touch_listed;
 use crate::values::Values;
 use lot_active::{Active, ends_of_edge};
-use lot_graph::Graph;
+use lot_graph::{Graph, Layout};
 use lot_machine::{Edge, Lend, Limits, Node, Target, Ticket};
 use std::alloc::{AllocError, Global};
 use std::marker::Model;
@@ -90,6 +90,15 @@ impl ValuedGraph {
             active,
             values,
         })
+    }
+
+    /// How many bytes `new` asks of the allocator in all.
+    pub fn bytes(limits: &Limits) -> u64
+        ensures { result ≡ 56 * limits.now.tickets + 82 * limits.now.currencies + 97 * limits.now.threads
+            + 97 * limits.now.mutexes + 122 }
+    {
+        let layout = Layout::of(limits);
+        Graph::bytes(limits) + Active::bytes(layout) + Values::bytes(layout)
     }
 
     /// Makes one change, and makes stale what it has to. It computes no value.

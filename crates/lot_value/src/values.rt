@@ -1,6 +1,6 @@
 //! Values that are kept, and those that are stale.
 ghost use Rattle.std.specs.Prelude.{◌≡◌, ◌<◌, ◌⊎◌, ◌↔◌, ℕ, Bool, List, [], ◌∷◌, Contains, Some, IfOk, IfSome, IfNone};
-ghost use Rattle.std.specs.Prelude.{IsTrue, replicate};
+ghost use Rattle.std.specs.Prelude.{◌+◌, ◌*◌, IsTrue, replicate};
 ghost use Rattle.lot_machine.specs.declared.funding.Node.{Node as ANode};
 ghost use Rattle.lot_machine.specs.declared.funding.Node.TheVariants.{Currency as CurrencyNode};
 ghost use Rattle.lot_machine.specs.declared.ticket.Ticket.{Ticket as ATicket};
@@ -26,6 +26,10 @@ use lot_lists::Lists;
 use lot_machine::{Edge, Node};
 use std::alloc::{AllocError, Global};
 use std::marker::Model;
+use std::mem::size_of;
+
+// What a node's value takes.
+const VALUE_BYTES: u64 = size_of::<u64>() as u64;
 
 /// How many edges were read for values. `Values::new` makes one, and no other module can; it can't be copied. So a
 /// reading is counted for the values that it is made for.
@@ -106,6 +110,14 @@ impl Values {
             unit,
             reads: ReadCount { reads: 0 },
         })
+    }
+
+    /// How many bytes `new` asks of the allocator in all, for a graph with this layout.
+    pub fn bytes(layout: Layout) -> u64
+        ensures { result ≡ 24 * places.node_count layout + 8 }
+    {
+        let nodes = layout.node_count();
+        VALUE_BYTES * nodes as u64 + Lists::bytes(1, nodes)
     }
 
     /// How many edges were read for values. The count stops at the greatest `u64`.

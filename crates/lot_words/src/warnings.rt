@@ -140,7 +140,9 @@ fn reason(refusal: Refusal) -> &'static str {
         Refusal::NoTicket => "no ticket has this number",
         Refusal::NoTarget => "no currency and no thread has this name",
         Refusal::BadAmount => "an amount is a number from 1 to 4294967295",
-        Refusal::InUse => "the currency issues tickets, or is backed by some",
+        Refusal::InUse => {
+            "tickets are in it or fund it, or the thread has a client or owns a mutex"
+        }
         Refusal::Funding => "the ticket funds something: 'unfund' comes first",
         Refusal::NotFunding => "the ticket funds nothing",
         Refusal::Cycle => "the currency would fund itself",
@@ -148,8 +150,12 @@ fn reason(refusal: Refusal) -> &'static str {
         Refusal::DeadThread => "the thread has ended",
         Refusal::Full => "there are as many as the limits allow",
         Refusal::NoScript => "no script of an earlier line has this name",
-        Refusal::BadProcessor | Refusal::Busy | Refusal::NotRunning | Refusal::BadTicks => {
-            "the kernel can't take it now"
-        }
+        Refusal::NoThread => "no thread has this name",
+        Refusal::Alive => "the thread hasn't ended",
+        Refusal::BadProcessor
+        | Refusal::Busy
+        | Refusal::NotRunning
+        | Refusal::BadTicks
+        | Refusal::NotAsleep => "the kernel can't take it now",
     }
 }

@@ -102,6 +102,29 @@ makes those up to its end
 }
 
 #[test]
+fn removals(rt: HostRuntime) {
+    let input = "lottery 3
+quantum 10
+for 8
+script s
+compute 4
+endscript
+fundx 3 base a s
+rmthr a
+at 6
+rmthr a
+unfund 1
+rmthr a
+rmthr a
+";
+    let expected = "line 8: the command was refused: the thread hasn't ended
+line 10: the command was refused: tickets are in it or fund it, or the thread has a client or owns a mutex
+line 13: the command was refused: no thread has this name
+";
+    check_told(&rt, rt.alloc(), ["lot_sim", "play"], input, 0, expected);
+}
+
+#[test]
 fn one_command_never_made(rt: HostRuntime) {
     let input = "lottery 1\nmkcur a\nmkcur b\nschedule 0\n";
     check_told(

@@ -8,7 +8,7 @@ ghost use Rattle.lot_machine.specs.declared.reply.Reply.TheVariants.{Done, Refus
 ghost use Rattle.lot_machine.specs.declared.ticket.Target.TheVariants.{Unfunded};
 ghost use Rattle.lot_machine.specs.declared.command.Command.TheVariants.{MakeTicket, RemoveTicket, MakeCurrency};
 ghost use Rattle.lot_machine.specs.declared.command.Command.TheVariants.{RemoveCurrency, Fund, Unfund, SetTicket};
-ghost use Rattle.lot_machine.specs.declared.command.Command.TheVariants.{MakeThread, MakeFunded};
+ghost use Rattle.lot_machine.specs.declared.command.Command.TheVariants.{MakeThread, MakeFunded, RemoveThread};
 ghost use Rattle.lot_machine.specs.Commands as names;
 ghost use Rattle.lot_machine.specs.Commands.{command_step};
 ghost use Rattle.lot_machine.specs.Funding.{target_of, ticket_at, ticket_in, with_new_ticket, with_target};
@@ -22,8 +22,8 @@ ghost use Rattle.lot_kernel.specs.Snapshots.{IsTargetThere, MakesStale};
 use crate::names::{currency_place, thread_place};
 use crate::tables::Tables;
 use lot_machine::{
-    Command, Name, Refusal, Reply, Status, Target, Thread, ThreadNumber, Ticket, TicketNumber,
-    is_good_name,
+    Command, Name, Node, Refusal, Reply, Status, Target, Thread, ThreadNumber, Ticket,
+    TicketNumber, is_good_name,
 };
 use lot_value::Change;
 
@@ -48,6 +48,7 @@ impl Tables {
             Command::Unfund { ticket } => *reply = self.unfund(*ticket),
             Command::SetTicket { ticket, amount } => *reply = self.set_ticket(*ticket, *amount),
             Command::MakeThread { name, script } => *reply = self.make_thread(name, *script),
+            Command::RemoveThread { thread } => *reply = self.remove_thread(thread),
             Command::MakeFunded {
                 amount,
                 currency,
@@ -180,6 +181,28 @@ impl Tables {
             return Reply::Refused(Refusal::Full);
         }
         Reply::Thread(self.add_thread(name, script).number)
+    }
+
+    fn remove_thread(&mut self, name: &Name) -> Reply
+        requires { IsInOrder self.old.state }
+        ensures reply { result ≡ (command_step self.old.state (RemoveThread name.now)).reply }
+        ensures state { self.new.state ≡ (command_step self.old.state (RemoveThread name.now)).state }
+        ensures stale { MakesStale self.old self.new }
+        ensures kept { KeepsStale self.old self.new }
+        ensures meter { self.new.meter ≡ self.old.meter }
+    {
+        let Some(place) = thread_place(self.threads.threads(), name) else {
+            return Reply::Refused(Refusal::NoThread);
+        };
+        let number = place as u32 + 1;
+        if !self.is_dead(number) {
+            return Reply::Refused(Refusal::Alive);
+        }
+        if self.threads.graph().has_edge_into(Node::Thread(number)) {
+            return Reply::Refused(Refusal::InUse);
+        }
+        self.threads.remove_thread(ThreadNumber { number });
+        Reply::Done
     }
 
     /// One more thread, and its number: it is Ready and serves nobody.
@@ -375,9 +398,15 @@ impl Tables {
     fn is_dead_thread(&self, target: Target) -> bool
         ensures { result ≡ names.is_dead_thread self.now.state target }
     {
-        let Target::Thread(thread) = target else {
-            return false;
-        };
+        match target {
+            Target::Thread(thread) => self.is_dead(thread),
+            _ => false,
+        }
+    }
+
+    fn is_dead(&self, thread: u32) -> bool
+        ensures { result ≡ names.is_dead_in self.now.state thread }
+    {
         match self.threads.record(ThreadNumber { number: thread }) {
             Some(record) => matches!(record.status, Status::Dead),
             None => false,

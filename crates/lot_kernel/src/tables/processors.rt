@@ -1,12 +1,11 @@
-//! What happens on a processor: draws, expiries and traps.
+//! What happens on a processor: draws and traps.
 ghost use Rattle.std.specs.Prelude.{◌≡◌, ◌<◌, ◌≤◌, ℕ, Some, None, IfSome, MatchOption, length, option_map};
 ghost use Rattle.lot_machine.specs.declared.event.Event.TheVariants as event;
 ghost use Rattle.lot_machine.specs.declared.after.After.TheVariants.{Leaves};
 ghost use Rattle.lot_machine.specs.declared.record.Status.{Status as AStatus};
 ghost use Rattle.lot_machine.specs.Bounds.{IsBetween};
-ghost use Rattle.lot_machine.specs.Numbered as numbered;
 ghost use Rattle.lot_machine.specs.Order.{IsInOrder};
-ghost use Rattle.lot_machine.specs.State.{change_record, funding_of, lend_of, thread_on, used_by};
+ghost use Rattle.lot_machine.specs.State.{change_record, funding_of, lend_of, thread_at, thread_on, used_by};
 ghost use Rattle.lot_machine.specs.Step as steps;
 ghost use Rattle.lot_machine.specs.Step.{step};
 ghost use Rattle.lot_machine.specs.Traps.{after_trap, with_ticks};
@@ -36,12 +35,15 @@ impl Tables {
 
     /// The number of the script that the thread was made with, `None` if and only if there is no such thread.
     pub(crate) fn script_of(&self, thread: ThreadNumber) -> Option<u32>
-        ensures { result ≡ option_map (λ t. t.script) (numbered.at_number self.now.state.threads thread.number) }
+        ensures { result ≡ option_map (λ t. t.script) (thread_at self.now.state.threads thread.number) }
     {
         if thread.number == 0 {
             return None;
         }
-        Some(self.threads.threads().get(index_of(thread.number))?.script)
+        match self.threads.threads().get(index_of(thread.number))? {
+            Some(found) => Some(found.script),
+            None => None,
+        }
     }
 
     /// A draw by a processor.
@@ -72,31 +74,6 @@ impl Tables {
             number: winner.number,
             total: winner.total,
             delivered,
-        };
-    }
-
-    /// The quantum ends on a processor.
-    pub(super) fn expire(&mut self, processor: Processor, reply: &mut Reply)
-        ensures reply { reply.new ≡ (step self.old.state (event.Expire processor.number)).reply }
-        ensures state { self.new.state ≡ (step self.old.state (event.Expire processor.number)).state }
-        ensures stale { MakesStale self.old self.new }
-        ensures kept { KeepsStale self.old self.new }
-        ensures meter { self.new.meter ≡ self.old.meter }
-    {
-        if self.is_bad_processor(processor) {
-            *reply = Reply::Refused(Refusal::BadProcessor);
-            return;
-        }
-        let Some(runner) = self.threads.runner(processor) else {
-            *reply = Reply::Refused(Refusal::NotRunning);
-            return;
-        };
-        let thread = runner.thread;
-        let ticks = self.limits.quantum - runner.used;
-        self.threads.expire(thread, ticks);
-        *reply = Reply::Expired {
-            thread: thread.number,
-            ticks,
         };
     }
 
@@ -187,7 +164,7 @@ impl Tables {
         self.threads.change(trap.thread, next);
     }
 
-    fn is_bad_processor(&self, processor: Processor) -> bool
+    pub(super) fn is_bad_processor(&self, processor: Processor) -> bool
         ensures { result ≡ steps.is_bad_processor self.now.state processor.number }
     {
         processor.number == 0 || processor.number > self.limits.processors

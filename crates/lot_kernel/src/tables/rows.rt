@@ -131,12 +131,9 @@ impl Tables {
         if thread.number == 0 {
             return None;
         }
-        Some(
-            self.threads
-                .threads()
-                .get(index_of(thread.number))?
-                .name
-                .copied(),
-        )
+        match self.threads.threads().get(index_of(thread.number))? {
+            Some(found) => Some(found.name.copied()),
+            None => None,
+        }
     }
 }

@@ -1,4 +1,4 @@
-//! What traps do: yields, calls, receipts, replies, servings, locks, unlocks and exits (3.4, 4.5, 4.6, 6.1).
+//! What traps do: yields, calls, receipts, replies, servings, locks, unlocks, sleeps and exits (3.4, 4.5, 4.6, 6.1).
 ghost use Rattle.std.specs.Prelude.{◌≡◌, ◌≢◌};
 ghost use Rattle.lot_machine.specs.declared.action.Action.TheVariants as action;
 ghost use Rattle.lot_machine.specs.declared.after.After.TheVariants.{GoesOn};
@@ -39,6 +39,10 @@ impl Tables {
             Action::Serve(port, sent) => self.serve(thread, PortNumber { number: port }, sent),
             Action::Lock(mutex) => self.lock(thread, MutexNumber { number: mutex }),
             Action::Unlock(mutex, d) => self.unlock(thread, MutexNumber { number: mutex }, d),
+            Action::Sleep => Effect {
+                outcome: Outcome::Slept,
+                after: After::Leaves(Status::Asleep),
+            },
             Action::Exit => Effect {
                 outcome: Outcome::Exited,
                 after: After::Ends,

@@ -169,13 +169,29 @@ const TRAPPED: &[Count<'static>] = &[
     Count::Traps(Action::Receive(1), Outcome::Waits, 0),
 ];
 
+// The removal of a dead thread makes nothing stale, and neither does one that is refused.
+const REMOVED: &[Count<'static>] = &[
+    Count::Does(Line::Fundx(10, "base", "a", 1)),
+    Count::Does(Line::Fundx(5, "base", "b", 1)),
+    Count::Draws(0, (1, 0, 15), 2),
+    Count::Traps(Action::Exit, Outcome::Exited, 0),
+    Count::Refuses(Line::Rmthr("a"), Refusal::InUse),
+    Count::Does(Line::Unfund(1)),
+    Count::Draws(0, (2, 0, 5), 0),
+    Count::Refuses(Line::Rmthr("b"), Refusal::Alive),
+    Count::Does(Line::Rmthr("a")),
+    Count::Expires,
+    Count::Draws(4, (2, 4, 5), 0),
+];
+
 #[test]
 fn what_is_read(rt: HostRuntime) {
     count_all(&rt, rt.alloc(), SHARED);
     count_all(&rt, rt.alloc(), UPSTREAM);
     count_all(&rt, rt.alloc(), RESET);
     count_all(&rt, rt.alloc(), LISTED);
-    count_all(&rt, rt.alloc(), TRAPPED)
+    count_all(&rt, rt.alloc(), TRAPPED);
+    count_all(&rt, rt.alloc(), REMOVED)
 }
 
 /// A draw visits places of the tree of weights, 1 to 10.

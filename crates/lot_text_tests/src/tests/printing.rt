@@ -272,7 +272,7 @@ fn prints_traps(rt: HostRuntime) {
     }
 }
 
-const REFUSALS: [(Refusal, &str); 18] = [
+const REFUSALS: [(Refusal, &str); 20] = [
     (Refusal::BadName, "2 refused 1 BadName\n"),
     (Refusal::NameTaken, "2 refused 2 NameTaken\n"),
     (Refusal::NoCurrency, "2 refused 3 NoCurrency\n"),
@@ -287,6 +287,8 @@ const REFUSALS: [(Refusal, &str); 18] = [
     (Refusal::DeadThread, "2 refused 12 DeadThread\n"),
     (Refusal::Full, "2 refused 13 Full\n"),
     (Refusal::NoScript, "2 refused 14 NoScript\n"),
+    (Refusal::NoThread, "2 refused 15 NoThread\n"),
+    (Refusal::Alive, "2 refused 16 Alive\n"),
     (Refusal::BadProcessor, "2 refused 20 BadProcessor\n"),
     (Refusal::Busy, "2 refused 21 Busy\n"),
     (Refusal::NotRunning, "2 refused 22 NotRunning\n"),

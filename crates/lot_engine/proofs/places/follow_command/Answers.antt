@@ -1,8 +1,15 @@
 -- The thread that was made is after all the others.
-use Rattle.std.proofs.Common.{sym, subst, ap, ◌∙◌, arith}
-use Rattle.lot_engine.specs.Steps.{MakesIn}
-use Rattle.lot_engine.proofs.PlaceFacts.{at-lengths, new-at}
+use Rattle.std.proofs.Common.{is_some, option_map, sym, subst, ap, ◌∙◌, arith}
+use Rattle.lot_machine.specs.declared.record.Thread.{Thread}
+use Rattle.lot_engine.specs.Steps.{MakesIn, MakesNone}
+use Rattle.lot_engine.proofs.PlaceFacts.{at-lengths, made-there, new-at, none-at}
 use Rattle.lot_engine.proofs.places.follow_command.Goals as goal
+
+pub unwrap-script-requires : goal.unwrap-script-requires
+unwrap-script-requires c =
+    let s = c.requires.made.0 in
+    let more = subst (MakesIn s c.args.kernel.now.state) (sym c.in-Some.ensures) c.requires.made.2 in
+    ap is_some (c.script_of.ensures ∙ ap (option_map (λ (t : Thread). t.script)) (made-there s c.args.kernel.now.state c.in-Some.thread more))
 
 pub push_reserved-requires : goal.push_reserved-requires
 push_reserved-requires c =
@@ -17,3 +24,8 @@ returns-in-Some-clause-at c = λ s before makes at.
     let more = subst (MakesIn s c.args.kernel.now.state) (sym c.in-Some.ensures) makes in
     rw c.push_reserved.ensures.items
     (new-at c.args.program.now s c.args.kernel.now.state c.in-Some.thread c.unwrap-script.result c.args.places.now.items before c.begin.result more at (sym c.unwrap-script.ensures ∙ c.script_of.ensures) c.begin.ensures)
+
+pub returns-in_default-clause-at : goal.returns-in_default-clause-at
+returns-in_default-clause-at c = λ s before makes at.
+    let none : MakesNone s c.args.kernel.now.state = subst (MakesIn s c.args.kernel.now.state) (sym c.in_default.ensures) makes in
+    none-at c.args.program.now s c.args.kernel.now.state c.args.places.now.items before none at

@@ -156,6 +156,54 @@ processor 1 quanta 4 idle 0 ticks 300 unused 0
 total turns 18 quanta 4 ticks 300 refused 2 left 0
 ";
 
+/// A thread that is removed once it has ended and no ticket funds it. Another gets its name, and a number of its own.
+const REMOVAL: &str = "lottery 3
+quantum 10
+for 15
+script short
+compute 4
+endscript
+script long
+compute 1000
+endscript
+fundx 3 base a short
+fundx 1 base b long
+rmthr a
+at 8
+rmthr a
+unfund 1
+rmthr a
+rmthr a
+fundx 3 base a short
+";
+
+/// Its explanation, worked out by hand. The removed thread takes part in no lottery and has no line in the report, but
+/// its 5 ticks count in the shares.
+const EXPLAINED_REMOVAL: &str = "0 0 funded 1 1
+0 0 funded 2 2
+0 0 refused 16 Alive
+0 1 lot thread 1 a weight 3 from 0 below 3 wins
+0 1 lot thread 2 b weight 1 from 3 below 4
+0 1 draw 1.992 of 4 thread 1
+5 1 thread 1 ticks 5 exit
+5 1 lot thread 2 b weight 1 from 0 below 1 wins
+5 1 draw 0.281 of 1 thread 2
+8 0 refused 7 InUse
+8 0 done
+8 0 done
+8 0 refused 15 NoThread
+8 0 funded 3 3
+15 1 thread 2 ticks 10 expire
+15 1 lot thread 2 b weight 1 from 0 below 1
+15 1 lot thread 3 a weight 3 from 1 below 4 wins
+15 1 draw 3.921 of 4 thread 3
+report
+thread 2 b quanta 1 ticks 10 share 66.666% value 25%
+thread 3 a quanta 1 ticks 0 share 0% value 75%
+processor 1 quanta 3 idle 0 ticks 15 unused 0
+total turns 13 quanta 3 ticks 15 refused 3 left 0
+";
+
 /// Explains the input, and compares the outcome and the output.
 fn check(rt: &impl Abort, alloc: Global, input: &str, played: Played, expected: &str) {
     let found = outcome(alloc, Shown::Explained, input, expected);
@@ -168,6 +216,7 @@ fn explains_inputs(rt: HostRuntime) {
     check(&rt, alloc, MUTEX_LOTTERY, Played::Done, EXPLAINED);
     check(&rt, alloc, IN_TIME, Played::Done, EXPLAINED_IN_TIME);
     check(&rt, alloc, OTHER_AMOUNTS, Played::Done, EXPLAINED_AMOUNTS);
+    check(&rt, alloc, REMOVAL, Played::Done, EXPLAINED_REMOVAL);
     let refused = "refused line 1 50 BadHeader\n";
     check(&rt, alloc, "lottery 9\n", Played::Refused, refused);
 }

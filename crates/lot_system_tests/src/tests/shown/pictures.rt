@@ -8,6 +8,20 @@ use lot_play::Played;
 use std::alloc::Global;
 use std::process::Abort;
 
+/// Thread 1 ends at tick 2. At tick 3 it is removed, and thread 2 gets its name and runs for 2 ticks.
+const REMOVED: &str = "lottery 3
+quantum 10
+for 6
+script short
+compute 1
+endscript
+fundx 1 base a short
+at 3
+unfund 1
+rmthr a
+fundx 1 base a short
+";
+
 /// Writes the table of the input, and compares the outcome and the output.
 fn check_shares(
     rt: &impl Abort,
@@ -51,23 +65,46 @@ fn tables_in_time(rt: HostRuntime) {
     check_shares(&rt, alloc, Measure::Draws, COMES_LATER, done, draws);
 }
 
-/// The picture of the first input, if it was drawn.
-fn drawn(rt: &impl Abort, alloc: Global) -> (Result<Played, IoFault>, String) {
+/// A removed thread keeps its column, which has its number for a name.
+#[test]
+fn tables_with_removed(rt: HostRuntime) {
+    let alloc = rt.alloc();
+    let done = Played::Done;
+    let ticks = "tick,1,a\n0,0,0\n1,1,0\n2,2,0\n3,2,0\n4,2,1\n5,2,2\n";
+    check_shares(&rt, alloc, Measure::Ticks, REMOVED, done, ticks);
+    let draws = "tick,1,a\n0,1,0\n1,1,0\n2,1,0\n3,1,1\n4,1,1\n5,1,1\n";
+    check_shares(&rt, alloc, Measure::Draws, REMOVED, done, draws);
+}
+
+/// The picture of the input, if it was drawn.
+fn drawn(rt: &impl Abort, alloc: Global, input: &str) -> (Result<Played, IoFault>, String) {
     let mut writer = Watched::new(Vec::new(alloc));
-    let came = show(alloc, Shown::Picture("Two & none"), SCHEDULED, &mut writer);
+    let came = show(alloc, Shown::Picture("Two & none"), input, &mut writer);
     let picture = String::from_utf8(writer.into_inner()).expect(rt, "a text");
     (came, picture)
 }
 
 #[test]
 fn pictures(rt: HostRuntime) {
-    let (came, picture) = drawn(&rt, rt.alloc());
+    let (came, picture) = drawn(&rt, rt.alloc(), SCHEDULED);
     check_same(&rt, &came, &Ok(Played::Done));
     for part in [
         "<title id='title'>Two &amp; none</title>\n",
         "<polyline points=' 100.0,460.0 267.5,360.0 435.0,260.0 602.5,160.0 770.0,60.0' stroke='#0072b2'/>\n",
         "<text x='788' y='60.0' dy='4'>a 100.0%</text>\n",
         "<text x='788' y='460.0' dy='4'>b 0.0%</text>\n",
+    ] {
+        check_same_at(&rt, &part, &picture.as_str().contains(part), &true);
+    }
+}
+
+#[test]
+fn pictures_with_removed(rt: HostRuntime) {
+    let (came, picture) = drawn(&rt, rt.alloc(), REMOVED);
+    check_same(&rt, &came, &Ok(Played::Done));
+    for part in [
+        "<text x='788' y='60.0' dy='4'>1 50.0%</text>\n",
+        "<text x='788' y='76.0' dy='4'>a 50.0%</text>\n",
     ] {
         check_same_at(&rt, &part, &picture.as_str().contains(part), &true);
     }

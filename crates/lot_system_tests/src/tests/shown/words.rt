@@ -306,6 +306,22 @@ fn commands_of_one_format(rt: HostRuntime) {
             "lottery 3\nfor 5\nsettkt 1\n",
             "line 3: this line is written 'settkt TICKET AMOUNT', and here are 2 words\n",
         ),
+        (
+            "lottery 1\nrmthr a\n",
+            "line 2: 'rmthr' is for 'lottery 3', whose turns come in the order of time\n",
+        ),
+        (
+            "lottery 3\nfor 5\nrmth a\n",
+            "line 3: 'rmth' is no body line; did you mean 'rmthr'?\n",
+        ),
+        (
+            "lottery 3\nfor 5\nrmthr a b\n",
+            "line 3: this line is written 'rmthr THREAD', and here are 3 words\n",
+        ),
+        (
+            "lottery 3\nfor 5\nrmthr abcdefghijklmnopq\n",
+            "line 3: 'abcdefghijklmnopq' has 17 bytes, and a name at most 16\n",
+        ),
     ] {
         check(&rt, rt.alloc(), input.as_bytes(), expected);
     }

@@ -1,10 +1,10 @@
--- The thread on a processor is one of those whose places are kept.
-use Rattle.std.proofs.Common.{◌≡◌, ◌≤◌, ◌-◌, sym, ap, subst, ◌∙◌, arith}
+-- The thread on a processor is one of those whose places are kept, and it wasn't removed.
+use Rattle.std.proofs.Common.{◌≡◌, ◌≤◌, ◌-◌, is_some, refl, sym, ap, subst, ◌∙◌, arith}
 use Rattle.lot_simulation.specs.World.{system_run}
 use Rattle.lot_script.specs.Drafts.{IsScript}
 use Rattle.lot_engine.specs.Held.{script_lines}
 use Rattle.lot_engine.proofs.PlaceFacts.{at-lengths}
-use Rattle.lot_engine.proofs.TurnFacts.{script-there, work-is}
+use Rattle.lot_engine.proofs.TurnFacts.{runner-scripted, script-there, work-is}
 use Rattle.lot_engine.proofs.system.System.kept_work.Goals as goal
 
 pub index-requires : goal.index-requires
@@ -14,6 +14,13 @@ index-requires c =
     let lengths = at-lengths s.program s.kernel.state.threads s.places.items (system_run s.program s.history.items).contexts i.held.places_at in
     let there = c.in_ok-runner.ensures.there in
     omega (arith, lengths.0, i.held.kept.records, there.0, there.1)
+
+pub unwrap-script-requires : goal.unwrap-script-requires
+unwrap-script-requires c =
+    let s = c.self.inside in
+    let i = c.self.invariant in
+    let there = runner-scripted s.program (system_run s.program s.history.items) s.kernel.state s.places.items s.generators.items s.spent i.held c.args.actor i.program.limits s.history.items refl c.in_ok-runner.runner.thread.number c.in_ok-runner.ensures.thread in
+    ap is_some (c.script_of.ensures ∙ there.1)
 
 pub script_numbered-requires : goal.script_numbered-requires
 script_numbered-requires c =

@@ -1,7 +1,12 @@
-use Rattle.std.proofs.Common.{map, sym, ◌∙◌, ap}
-use Rattle.lot_engine.specs.Seen.{world_of}
+use Rattle.std.proofs.Common.{map, sym, ◌∙◌, ap, subst}
+use Rattle.std.specs.Prelude.{All}
+use Rattle.lot_engine.specs.Seen.{HasRow, world_of}
 use Rattle.lot_explain.specs.Lots.{lots_among, waiter_lot}
 use Rattle.lot_explain.proofs.gathering.Lots.gather.Goals as goal
+
+pub push_waiters-requires-clause-there : goal.push_waiters-requires-clause-there
+push_waiters-requires-clause-there c =
+    subst (All (HasRow (world_of c.args.system.now).state)) (sym c.deref.ensures.value) c.list_waiters.ensures.shown
 
 pub returns-in-Nobody-clause-lots : goal.returns-in-Nobody-clause-lots
 returns-in-Nobody-clause-lots c event reply is =

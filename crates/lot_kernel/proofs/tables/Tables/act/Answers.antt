@@ -4,6 +4,9 @@ use Rattle.lot_kernel.proofs.tables.Tables.act.Goals as goal
 pub returns-in-Yield-clause-counts : goal.returns-in-Yield-clause-counts
 returns-in-Yield-clause-counts c = rw c.in-Yield.is (record { kept = λ x is. is; meter = refl })
 
+pub returns-in-Sleep-clause-counts : goal.returns-in-Sleep-clause-counts
+returns-in-Sleep-clause-counts c = rw c.in-Sleep.is (record { kept = λ x is. is; meter = refl })
+
 pub returns-in-Exit-clause-counts : goal.returns-in-Exit-clause-counts
 returns-in-Exit-clause-counts c = rw c.in-Exit.is (record { kept = λ x is. is; meter = refl })
 

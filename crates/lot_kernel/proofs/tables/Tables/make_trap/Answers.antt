@@ -2,6 +2,7 @@ use Rattle.lot_kernel.proofs.Metering.{trap-then}
 use Rattle.std.proofs.Common.{ap, option_map, refl, subst, sym, ℕ, ◌∙◌, ◌≡◌}
 use Rattle.lot_machine.specs.declared.action.Action.{Action}
 use Rattle.lot_value.specs.Changing.{CanLend}
+use Rattle.lot_machine.specs.Bounds.{IsBetween}
 use Rattle.lot_machine.specs.Order.{IsInOrder}
 use Rattle.lot_machine.specs.declared.record.Record.{Record}
 use Rattle.lot_machine.specs.declared.record.Status.TheVariants.{Running}
@@ -21,6 +22,12 @@ use Rattle.lot_kernel.proofs.tables.Tables.make_trap.Goals as goal
 -- the thread's record is as it was before the trap
 left-alone : (s : State) (order : IsInOrder s) (t p : ℕ) (action : Action) → RunsOn s.records t p → at_number (effect_of s t action).state.records t ≡ at_number s.records t
 left-alone s order t p action (used, runs) = effect-leaves s t p used action runs order.queues
+
+pub finish-requires-clause-processor : goal.finish-requires-clause-processor
+finish-requires-clause-processor c =
+    let s = c.args.self.now.state in
+    let limits = ap (λ (x : State). x.limits) c.act-effect.ensures.state ∙ effect-limits s c.args.trap.thread.number c.args.action.now in
+    subst (λ (l : Sizes). IsBetween 1 l.processors c.args.trap.processor.number) (sym limits) c.requires.processor
 
 pub finish-requires-clause-runs : goal.finish-requires-clause-runs
 finish-requires-clause-runs c =

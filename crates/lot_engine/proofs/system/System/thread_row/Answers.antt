@@ -1,0 +1,16 @@
+-- Where there is no row, the thread was never made, or it was removed.
+use Rattle.std.proofs.Common.{◌≡◌, false, sym, ◌∙◌, subst}
+use Rattle.lot_machine.specs.Lends.{is_live}
+use Rattle.lot_machine.specs.Order.{IsInOrder}
+use Rattle.lot_machine.specs.State.{State, live_of}
+use Rattle.lot_engine.proofs.GoneFacts.{gone-idle}
+use Rattle.lot_engine.proofs.InOrder.{run-in-order}
+use Rattle.lot_engine.proofs.system.System.thread_row.Goals as goal
+
+pub returns-clause-gone : goal.returns-clause-gone
+returns-clause-gone c none =
+    let s = c.self.inside in
+    let i = c.self.invariant in
+    let order : IsInOrder s.kernel.state = subst IsInOrder (sym i.held.state) (run-in-order s.program s.history.items i.program.limits) in
+    let idle = gone-idle s.kernel.state c.args.thread order i.held.kept.records (sym c.thread_row.ensures.row ∙ none) in
+    rw (← c.self.view_is) (subst (λ (x : State). is_live (live_of x) c.args.thread ≡ false) i.held.state idle)

@@ -1,0 +1,10 @@
+use Rattle.std.proofs.Common.{sym, append-nil}
+use Rattle.lot_engine.specs.Seen.{world_of}
+use Rattle.lot_explain.proofs.RowFacts.{idle-other}
+use Rattle.lot_explain.proofs.gathering.push_if_ready.Goals as goal
+
+pub returns-in_default-clause-lots : goal.returns-in_default-clause-lots
+returns-in_default-clause-lots c =
+    let s = (world_of c.args.system.now).state in
+    let other = idle-other s c.args.thread (c.thread_row.ensures.gone c.in_default.is) in
+    rw other (sym (append-nil c.args.lots.now.items))

@@ -1,0 +1,122 @@
+//! Threads that sleep and are woken, whose processor is taken from them, and whose quantum ends late.
+use super::*;
+
+/// Thread `a` sleeps, with a fifth of its quantum used: its ticket is inactive until it is woken, and then it weighs
+/// five times its value.
+const SLEEPER: [Step<'_>; 13] = [
+    Step::Gives(Line::Fundx(400, "base", "a", 1), FIRST_FUNDED),
+    Step::Pauses(Pause::Wake(1), Reply::Refused(Refusal::NotAsleep)),
+    Step::Pauses(Pause::Wake(2), Reply::Refused(Refusal::NoThread)),
+    Step::Pauses(Pause::Wake(0), Reply::Refused(Refusal::NoThread)),
+    Step::Wins(1, 0, (1, 0, 400), None),
+    Step::Works(1, 19, Action::Sleep, 1, Outcome::Slept),
+    Step::Thread((1, "a", Status::Asleep, 0, 0, 1, 20)),
+    Step::Ticket((1, 400, "base", "a", false, 0)),
+    Step::Idles(1, 0),
+    Step::Pauses(Pause::Wake(1), Reply::Done),
+    Step::Thread((1, "a", Status::Ready, 400, 2000, 1, 20)),
+    Step::Pauses(Pause::Wake(1), Reply::Refused(Refusal::NotAsleep)),
+    Step::Wins(1, 1999, (1, 1999, 2000), None),
+];
+
+#[test]
+fn sleep_and_wake(rt: HostRuntime) {
+    play(&rt, rt.alloc(), &SLEEPER)
+}
+
+/// Thread `a` sleeps as the owner of a mutex for which `b` waits: neither competes, though `b` lends to `a`. A thread
+/// that waits isn't woken so, nor is a dead one.
+const SLEEPING_OWNER: [Step<'_>; 12] = [
+    Step::Wins(1, 0, (1, 0, 30), None),
+    Step::Traps(1, Action::Lock(1), 1, Outcome::Locked),
+    Step::Works(1, 0, Action::Sleep, 1, Outcome::Slept),
+    Step::Wins(1, 19, (2, 19, 20), None),
+    Step::Traps(1, Action::Lock(1), 2, Outcome::Waits),
+    Step::Idles(1, 0),
+    Step::Pauses(Pause::Wake(2), Reply::Refused(Refusal::NotAsleep)),
+    Step::Pauses(Pause::Wake(1), Reply::Done),
+    Step::Wins(1, 1499, (1, 1499, 1500), None),
+    Step::Traps(1, Action::Exit, 1, Outcome::Exited),
+    Step::Pauses(Pause::Wake(1), Reply::Refused(Refusal::NotAsleep)),
+    Step::Idles(1, 0),
+];
+
+#[test]
+fn sleep_of_an_owner(rt: HostRuntime) {
+    let mut kernel = largest(&rt, rt.alloc(), 1);
+    fund(&rt, &mut kernel, &[(10, "a"), (20, "b")]);
+    take_all(&rt, &mut kernel, &SLEEPING_OWNER)
+}
+
+/// A processor is taken from its thread within its quantum: what it has run counts, and it isn't compensated.
+const PREEMPTED: [Step<'_>; 11] = [
+    Step::Gives(Line::Fundx(400, "base", "a", 1), FIRST_FUNDED),
+    Step::Pauses(Pause::Preempt(1, 0), Reply::Refused(Refusal::NotRunning)),
+    Step::Wins(1, 0, (1, 0, 400), None),
+    Step::Pauses(Pause::Preempt(3, 0), Reply::Refused(Refusal::BadProcessor)),
+    Step::Pauses(Pause::Preempt(2, 0), Reply::Refused(Refusal::NotRunning)),
+    Step::Works(1, 19, Action::Lock(1), 1, Outcome::Locked),
+    Step::Pauses(Pause::Preempt(1, 81), Reply::Refused(Refusal::BadTicks)),
+    Step::Pauses(
+        Pause::Preempt(1, 30),
+        Reply::Expired {
+            thread: 1,
+            ticks: 30,
+        },
+    ),
+    Step::Thread((1, "a", Status::Ready, 400, 400, 1, 50)),
+    Step::Wins(1, 399, (1, 399, 400), None),
+    Step::Pauses(
+        Pause::Preempt(1, 100),
+        Reply::Expired {
+            thread: 1,
+            ticks: 100,
+        },
+    ),
+];
+
+/// A quantum that ended late: the thread weighs as much less as it has used more, until it next wins.
+const LATE: [Step<'_>; 15] = [
+    Step::Gives(Line::Fundx(400, "base", "a", 1), FIRST_FUNDED),
+    Step::Pauses(Pause::Overrun(1, 0), Reply::Refused(Refusal::NotRunning)),
+    Step::Wins(1, 0, (1, 0, 400), None),
+    Step::Pauses(Pause::Overrun(0, 0), Reply::Refused(Refusal::BadProcessor)),
+    Step::Works(1, 19, Action::Lock(1), 1, Outcome::Locked),
+    Step::Pauses(
+        Pause::Overrun(1, 4294967196),
+        Reply::Refused(Refusal::BadTicks),
+    ),
+    Step::Pauses(
+        Pause::Overrun(1, 300),
+        Reply::Expired {
+            thread: 1,
+            ticks: 380,
+        },
+    ),
+    Step::Thread((1, "a", Status::Ready, 400, 100, 1, 400)),
+    Step::Wins(1, 99, (1, 99, 100), None),
+    Step::Pauses(
+        Pause::Overrun(1, 0),
+        Reply::Expired {
+            thread: 1,
+            ticks: 100,
+        },
+    ),
+    Step::Thread((1, "a", Status::Ready, 400, 400, 2, 500)),
+    Step::Wins(1, 0, (1, 0, 400), None),
+    Step::Pauses(
+        Pause::Overrun(1, 4294967195),
+        Reply::Expired {
+            thread: 1,
+            ticks: 4294967295,
+        },
+    ),
+    Step::Thread((1, "a", Status::Ready, 400, 1, 3, 4294967795)),
+    Step::Wins(1, 7, (1, 0, 1), None),
+];
+
+#[test]
+fn quanta_that_end_early_or_late(rt: HostRuntime) {
+    play(&rt, rt.alloc(), &PREEMPTED);
+    play(&rt, rt.alloc(), &LATE)
+}

@@ -1,0 +1,132 @@
+//! Dead threads that are removed.
+use super::same::check_same;
+use super::*;
+
+/// A thread has to be there, then dead, and then nothing may refer to it. With it goes its row; its name is free again,
+/// and a new thread of that name has a new number.
+const FUNDED_REMOVAL: [Step<'_>; 25] = [
+    Step::Gives(Line::Rmthr("a"), Reply::Refused(Refusal::NoThread)),
+    Step::Gives(Line::Rmthr("base"), Reply::Refused(Refusal::NoThread)),
+    Step::Gives(Line::Mkcur("g"), Reply::Currency(1)),
+    Step::Gives(Line::Rmthr("g"), Reply::Refused(Refusal::NoThread)),
+    Step::Gives(Line::Fundx(10, "base", "a", 1), FIRST_FUNDED),
+    Step::Gives(Line::Rmthr("a"), Reply::Refused(Refusal::Alive)),
+    Step::Wins(1, 7, (1, 7, 10), None),
+    Step::Gives(Line::Rmthr("a"), Reply::Refused(Refusal::Alive)),
+    Step::Traps(1, Action::Exit, 1, Outcome::Exited),
+    Step::Gives(Line::Rmthr("a"), Reply::Refused(Refusal::InUse)),
+    Step::Thread((1, "a", Status::Dead, 0, 0, 1, 1)),
+    Step::Gives(Line::Unfund(1), Reply::Done),
+    Step::Gives(Line::Mkthr("a", 1), Reply::Refused(Refusal::NameTaken)),
+    Step::Gives(Line::Rmthr("a"), Reply::Done),
+    Step::NoThread(1),
+    Step::Gives(Line::Rmthr("a"), Reply::Refused(Refusal::NoThread)),
+    Step::Gives(Line::Fund(1, "a"), Reply::Refused(Refusal::NoTarget)),
+    Step::Gives(Line::Mkthr("a", 1), Reply::Thread(2)),
+    Step::NoThread(1),
+    Step::Thread((2, "a", Status::Ready, 0, 0, 0, 0)),
+    Step::Gives(Line::Fund(1, "a"), Reply::Done),
+    Step::Ticket((1, 10, "base", "a", true, 10)),
+    Step::Thread((2, "a", Status::Ready, 10, 10, 0, 0)),
+    Step::Gives(Line::Rmthr("a"), Reply::Refused(Refusal::Alive)),
+    Step::Wins(1, 7, (2, 7, 10), None),
+];
+
+/// Compares the script of a thread.
+fn check_script(rt: &impl Abort, kernel: &Kernel, number: u32, script: Option<u32>) {
+    check_same(rt, &kernel.script_of(ThreadNumber { number }), &script);
+}
+
+#[test]
+fn removal_of_a_funded_thread(rt: HostRuntime) {
+    let mut kernel = largest(&rt, rt.alloc(), 1);
+    take_all(&rt, &mut kernel, &FUNDED_REMOVAL);
+    check_script(&rt, &kernel, 1, None);
+    check_script(&rt, &kernel, 2, Some(1));
+    check_script(&rt, &kernel, 3, None)
+}
+
+/// Takes the steps in a new kernel, after it got threads of these names with this much base each.
+fn play_funded(rt: &impl Abort, alloc: Global, threads: &[(u64, &str)], steps: &[Step<'_>]) {
+    let mut kernel = largest(rt, alloc, 1);
+    fund(rt, &mut kernel, threads);
+    take_all(rt, &mut kernel, steps)
+}
+
+/// Thread `o` ends as the owner of a mutex, for which `w` waits.
+const OWNER: [Step<'_>; 11] = [
+    Step::Wins(1, 9, (1, 9, 30), None),
+    Step::Traps(1, Action::Lock(1), 1, Outcome::Locked),
+    Step::Traps(1, Action::Exit, 1, Outcome::Exited),
+    Step::Gives(Line::Rmthr("o"), Reply::Refused(Refusal::InUse)),
+    Step::Gives(Line::Unfund(1), Reply::Done),
+    Step::Gives(Line::Rmthr("o"), Reply::Refused(Refusal::InUse)),
+    Step::Wins(1, 3, (2, 3, 20), None),
+    Step::Traps(1, Action::Lock(1), 2, Outcome::Waits),
+    Step::Gives(Line::Rmthr("o"), Reply::Refused(Refusal::InUse)),
+    Step::Gives(Line::Rmthr("w"), Reply::Refused(Refusal::Alive)),
+    Step::Idles(1, 0),
+];
+
+/// Thread `s` ends while it serves `c`.
+const SERVER: [Step<'_>; 12] = [
+    Step::Wins(1, 0, (1, 0, 30), None),
+    Step::Traps(1, Action::Receive(1), 1, Outcome::Waits),
+    Step::Gives(Line::Rmthr("s"), Reply::Refused(Refusal::Alive)),
+    Step::Wins(1, 0, (2, 0, 20), None),
+    Step::Traps(1, Action::Call(1, 5), 2, Outcome::ServedBy(1)),
+    Step::Gives(Line::Rmthr("c"), Reply::Refused(Refusal::Alive)),
+    Step::Wins(1, 0, (1, 0, 3000), Some(5)),
+    Step::Traps(1, Action::Exit, 1, Outcome::Exited),
+    Step::Gives(Line::Unfund(1), Reply::Done),
+    Step::Gives(Line::Rmthr("s"), Reply::Refused(Refusal::InUse)),
+    Step::Gives(Line::Rmthr("c"), Reply::Refused(Refusal::Alive)),
+    Step::Idles(1, 0),
+];
+
+#[test]
+fn removal_of_who_is_lent_to(rt: HostRuntime) {
+    play_funded(&rt, rt.alloc(), &[(10, "o"), (20, "w")], &OWNER);
+    play_funded(&rt, rt.alloc(), &[(10, "s"), (20, "c")], &SERVER)
+}
+
+/// Of three threads the one in the middle is removed: the others keep their names, numbers and tickets.
+const MIDDLE: [Step<'_>; 11] = [
+    Step::Wins(1, 2, (2, 2, 7), None),
+    Step::Traps(1, Action::Exit, 2, Outcome::Exited),
+    Step::Gives(Line::Rmtkt(2), Reply::Refused(Refusal::Funding)),
+    Step::Gives(Line::Unfund(2), Reply::Done),
+    Step::Gives(Line::Rmthr("b"), Reply::Done),
+    Step::Thread((1, "a", Status::Ready, 1, 1, 0, 0)),
+    Step::NoThread(2),
+    Step::Thread((3, "c", Status::Ready, 4, 4, 0, 0)),
+    Step::Gives(Line::Mkcur("b"), Reply::Currency(1)),
+    Step::Gives(Line::Fund(2, "b"), Reply::Done),
+    Step::Wins(1, 4, (3, 4, 5), None),
+];
+
+#[test]
+fn removal_from_the_middle(rt: HostRuntime) {
+    play_funded(&rt, rt.alloc(), &[(1, "a"), (2, "b"), (4, "c")], &MIDDLE)
+}
+
+/// A removed thread still counts among those made, so that no other comes in its place, though its name is free.
+const STILL_FULL: [Step<'_>; 9] = [
+    Step::Gives(Line::Fundx(1, "base", "a", 1), FIRST_FUNDED),
+    Step::Wins(1, 0, (1, 0, 1), None),
+    Step::Traps(1, Action::Exit, 1, Outcome::Exited),
+    Step::Gives(Line::Unfund(1), Reply::Done),
+    Step::Gives(Line::Rmthr("a"), Reply::Done),
+    Step::Gives(Line::Mkthr("a", 1), Reply::Refused(Refusal::Full)),
+    Step::Gives(
+        Line::Fundx(1, "base", "a", 1),
+        Reply::Refused(Refusal::Full),
+    ),
+    Step::Gives(Line::Mkcur("a"), Reply::Currency(1)),
+    Step::Idles(1, 0),
+];
+
+#[test]
+fn removal_leaves_no_room(rt: HostRuntime) {
+    play_small(&rt, rt.alloc(), (2, 1, 1), &STILL_FULL)
+}

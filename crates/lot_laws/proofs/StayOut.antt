@@ -1,0 +1,542 @@
+-- Nothing refers to a thread that was removed: tickets, lends and owners that an event makes name a thread that is there.
+use Rattle.std.proofs.Common.{◌≡◌, ℕ, zero, suc, ◌+◌, ◌-◌, ◌⊎◌, inl, inr, Bool, true, false, not, Option, Some, None, is_none, List, [], ◌∷◌, ◌++◌, Contains, length, map, position, refl, sym, ◌∙◌, ap, subst, arith, nat_lt, option_map, option_and_then, unwrap_or, get_or, slice_get, slice_index}
+use Rattle.std.specs.Prelude.{remove}
+use Rattle.std.specs.Option.{option_flatten, option_or}
+use Rattle.std.specs.Str.{bytes_eq}
+use Rattle.std.proofs.lemmas.Bool.{ltb-false}
+use Rattle.std.proofs.lemmas.List.Quantifiers.{position-Some}
+use Rattle.std.proofs.lemmas.Option.{slice_get-get_or}
+use Rattle.lot_machine.specs.declared.ticket.Ticket.{Ticket}
+use Rattle.lot_machine.specs.declared.ticket.Target.{Target}
+use Rattle.lot_machine.specs.declared.ticket.Target.TheVariants as target
+use Rattle.lot_machine.specs.declared.record.Record.{Record}
+use Rattle.lot_machine.specs.declared.record.Thread.{Thread as ThreadRecord}
+use Rattle.lot_machine.specs.declared.record.Status.{Status}
+use Rattle.lot_machine.specs.declared.record.Status.TheVariants as status
+use Rattle.lot_machine.specs.declared.funding.Node.{Node}
+use Rattle.lot_machine.specs.declared.funding.Node.TheVariants.{Currency, Thread, Mutex as MutexNode}
+use Rattle.lot_machine.specs.declared.funding.Lend.{Lend}
+use Rattle.lot_machine.specs.declared.funding.Edge.{Edge}
+use Rattle.lot_machine.specs.declared.funding.Edge.TheVariants.{OfTicket, OfLender, OfMutex}
+use Rattle.lot_machine.specs.declared.action.Action.{Action}
+use Rattle.lot_machine.specs.declared.action.Action.TheVariants.{Yield, Call, Receive, Reply as ReplyTo, Serve, Lock, Unlock, Sleep, Exit}
+use Rattle.lot_machine.specs.declared.command.Command.{Command}
+use Rattle.lot_machine.specs.declared.command.Command.TheVariants.{MakeTicket, RemoveTicket, Fund, Unfund, SetTicket, MakeThread, RemoveThread, MakeFunded}
+use Rattle.lot_machine.specs.declared.event.Event.{Event}
+use Rattle.lot_machine.specs.declared.event.Event.TheVariants as event
+use Rattle.lot_machine.specs.declared.refusal.Refusal.TheVariants.{InUse, NoThread, Alive, BadProcessor, NotRunning, BadTicks}
+use Rattle.lot_machine.specs.declared.refusal.TrapRefusal.{TrapRefusal}
+use Rattle.lot_machine.specs.declared.drawn.Drawn.{Drawn}
+use Rattle.lot_machine.specs.declared.sizes.Sizes.{Sizes}
+use Rattle.lot_machine.specs.declared.after.After.{After}
+use Rattle.lot_machine.specs.declared.after.After.TheVariants.{GoesOn, Leaves, Ends}
+use Rattle.lot_machine.specs.Numbered.{at_number, set_number, option_any}
+use Rattle.lot_machine.specs.Funding.{Funding, ticket_in, ticket_at, target_node, lend_node, ends_of, edge_count_into, with_new_ticket, with_target, retargeted, with_amount, reissued}
+use Rattle.lot_machine.specs.Equations.{edges_into}
+use Rattle.lot_machine.specs.Lottery.{winner}
+use Rattle.lot_machine.specs.State.{State, Mutex, QueuedCall, opening, funding_of, lend_of, status_of, thread_on, ready_threads, change_record, value_of, weight_of}
+use Rattle.lot_machine.specs.Commands.{currency_named, thread_named, target_named, currency_or_base, is_dead_in, is_thread_in_use, with_thread, command_refusal, command_effect, command_step}
+use Rattle.lot_machine.specs.Traps.{after_trap, with_ticks}
+use Rattle.lot_machine.specs.Ports.{port_at, first_client, call, receive, reply}
+use Rattle.lot_machine.specs.Mutexes.{mutex_at, lock, unlock}
+use Rattle.lot_machine.specs.Step.{Effect, of_ports, of_mutexes, is_bad_processor, started, draw, stopped, trap, wake, trap_refusal, trap_effect, checked_effect, thread_there, used_there, event_effect, step, state_after}
+use Rattle.lot_machine.specs.Order.{IsQueue, IsInOrder}
+use Rattle.lot_machine.proofs.Tickets.{at_number-suc, some-injective}
+use Rattle.lot_machine.proofs.Changes.{number-push, number-set, number-there}
+use Rattle.lot_machine.proofs.CommandsKept.{unrefused, all-pass}
+use Rattle.lot_machine.proofs.RecordsKept.{status-changed}
+use Rattle.lot_machine.proofs.Queues.{record-of}
+use Rattle.lot_machine.proofs.TrapCycles.{at_number-map, lend-at}
+use Rattle.lot_machine.proofs.Edges.{ends-are, pair, EndsAre}
+use Rattle.lot_machine.proofs.EdgesOnce.{into-once}
+use Rattle.lot_machine.proofs.EdgeSums.{edges-many}
+use Rattle.lot_machine.proofs.EachOnce.{place-in}
+use Rattle.lot_machine.proofs.Idle.{IsAlive, is-dead, status-number, receiver-alive, waiter-alive, there-alive}
+use Rattle.lot_machine.proofs.StepChanges.{By, Console, Keeps, kept, by_event, step-leads}
+use Rattle.lot_machine.proofs.StepSizes.{other-sizes, other-tickets}
+use Rattle.lot_machine.proofs.OrderKept.{step-order, opening-order}
+use Rattle.lot_machine.specs.Change.{NewThread, DropThread, PutRecord, newborn}
+use Rattle.lot_laws.specs.Reachable.{IsReachable}
+use Rattle.lot_laws.specs.Removed.{IsRemoved, NothingLeadsTo, NothingLeadsToRemoved, StandsNowhere}
+
+-- ---- whom a state refers to
+
+-- the thread wasn't removed
+abbrev IsIn : List (Option ThreadRecord) → ℕ → Type 0
+IsIn threads t = ¬ (at_number threads t ≡ Some None)
+
+-- whom tickets fund, whom threads lend to, and who owns a mutex, is so
+abbrev Funded : (ℕ → Type 0) → List (Option Ticket) → Type 0
+Funded IsSo tickets = (n t : ℕ) (ticket : Ticket) → ticket_in tickets n ≡ Some ticket → ticket.target ≡ target.Thread t → IsSo t
+
+abbrev Lent : (ℕ → Type 0) → List Record → Type 0
+Lent IsSo records = (u t : ℕ) → status_of records u ≡ Some (status.Served t) → IsSo t
+
+abbrev Owned : (ℕ → Type 0) → List Mutex → Type 0
+Owned IsSo mutexes = (m t : ℕ) (mutex : Mutex) → at_number mutexes m ≡ Some mutex → mutex.owner ≡ Some t → IsSo t
+
+abbrev Refers : (ℕ → Type 0) → State → Type 0
+Refers IsSo s = Funded IsSo s.tickets × Lent IsSo s.records × Owned IsSo s.mutexes
+
+-- the state refers only to threads that are there
+abbrev RefersIn : State → Type 0
+RefersIn s = Refers (IsIn s.threads) s
+
+served-same : (a b : ℕ) → status.Served a ≡ status.Served b → a ≡ b
+served-same a b e = cc
+
+leaves-same : (a b : Status) → Leaves a ≡ Leaves b → a ≡ b
+leaves-same a b e = cc
+
+-- ---- references as edges
+
+ticket-edge : (f : Funding) (n t : ℕ) (ticket : Ticket) → ticket_at f n ≡ Some ticket → ticket.target ≡ target.Thread t → ends_of f (OfTicket n) ≡ Some (pair (Currency ticket.issuer) (Thread t))
+ticket-edge f n t ticket at is =
+    ap (option_and_then (λ (x : Ticket). option_map (pair (Currency x.issuer)) (target_node x.target))) at ∙ ap (λ (to : Target). option_map (pair (Currency ticket.issuer)) (target_node to)) is
+
+lend-edge : (s : State) (u t : ℕ) → status_of s.records u ≡ Some (status.Served t) → ends_of (funding_of s) (OfLender u) ≡ Some (pair (Thread u) (Thread t))
+lend-edge s u t is = ap (option_and_then (λ (lend : Lend). option_map (pair (Thread u)) (lend_node lend))) (lend-at s.records u (status.Served t) is)
+
+owner-edge : (s : State) (m t : ℕ) (mutex : Mutex) → at_number s.mutexes m ≡ Some mutex → mutex.owner ≡ Some t → ends_of (funding_of s) (OfMutex m) ≡ Some (pair (MutexNode m) (Thread t))
+owner-edge s m t mutex at is =
+    ap (λ o. option_map (λ (owner : ℕ). pair (MutexNode m) (Thread owner)) (option_flatten o)) (at_number-map (λ (x : Mutex). x.owner) s.mutexes m ∙ ap (option_map (λ (x : Mutex). x.owner)) at ∙ ap Some is)
+
+-- no edge leads there, so nothing refers to it
+refers-from : (s : State) → NothingLeadsToRemoved s → RefersIn s
+refers-from s none = (
+  λ n t ticket at is gone. none t gone (Currency ticket.issuer) (OfTicket n, ticket-edge (funding_of s) n t ticket at is),
+  λ u t is gone. none t gone (Thread u) (OfLender u, lend-edge s u t is),
+  λ m t mutex at is gone. none t gone (MutexNode m) (OfMutex m, owner-edge s m t mutex at is),
+)
+
+-- and the other way round
+target-thread : (to : Target) (t : ℕ) → target_node to ≡ Some (Thread t) → to ≡ target.Thread t
+target-thread target.Unfunded t e = cc
+target-thread (target.Currency c) t e = cc
+target-thread (target.Thread u) t e = let same : Thread u ≡ Thread t = some-injective (Thread u) (Thread t) e in let number : u ≡ t = cc in ap target.Thread number
+
+served-thread : (now : Status) (t : ℕ) → lend_node (lend_of now) ≡ Some (Thread t) → now ≡ status.Served t
+served-thread status.Ready t e = cc
+served-thread (status.Running p used) t e = cc
+served-thread (status.Receiving p) t e = cc
+served-thread (status.Queued p) t e = cc
+served-thread (status.Served u) t e = let same : Thread u ≡ Thread t = some-injective (Thread u) (Thread t) e in let number : u ≡ t = cc in ap status.Served number
+served-thread (status.Waiting m) t e = cc
+served-thread status.Asleep t e = cc
+served-thread status.Dead t e = cc
+
+edges-from : (s : State) → RefersIn s → NothingLeadsToRemoved s
+edges-from s refers t gone from (edge, ends) = by edge (ends-are (funding_of s) edge from (Thread t) ends)
+  where
+    lent : (u : ℕ) (lend : Lend) → lend_node lend ≡ Some (Thread t) → (o : Option Record) → at_number s.records u ≡ o → option_map (λ (r : Record). lend_of r.status) o ≡ Some lend → ⊥
+    lent u lend to None at e = cc
+    lent u lend to (Some r) at e =
+        let same : lend_of r.status ≡ lend = some-injective (lend_of r.status) lend e in
+        refers.1 u t (ap (option_map (λ (x : Record). x.status)) at ∙ ap Some (served-thread r.status t (ap lend_node same ∙ to))) gone
+
+    owned : (m owner : ℕ) → Thread t ≡ Thread owner → (o : Option Mutex) → at_number s.mutexes m ≡ o → option_flatten (option_map (λ (x : Mutex). x.owner) o) ≡ Some owner → ⊥
+    owned m owner to None at e = cc
+    owned m owner to (Some mutex) at e = let same : owner ≡ t = cc in refers.2 m t mutex at (e ∙ ap Some same) gone
+
+    by : (edge : Edge) → EndsAre (funding_of s) edge from (Thread t) → ⊥
+    by (OfTicket n) (ticket, at, first, to) = refers.0 n t ticket at (target-thread ticket.target t to) gone
+    by (OfLender u) (lend, at, first, to) = lent u lend to (at_number s.records u) refl (sym (at_number-map (λ (r : Record). lend_of r.status) s.records u) ∙ at)
+    by (OfMutex m) (owner, at, first, to) =
+        owned m owner to (at_number s.mutexes m) refl (sym (ap option_flatten (at_number-map (λ (x : Mutex). x.owner) s.mutexes m)) ∙ at)
+
+-- ---- changes that refer to threads that are so
+
+module _ (IsSo : ℕ → Type 0) where
+  lent-changed : (change : Record → Record) (records : List Record) (u : ℕ) → ((r : Record) (t : ℕ) → (change r).status ≡ status.Served t → IsSo t) → Lent IsSo records → Lent IsSo (change_record change records u)
+  lent-changed change records u new old v t is = from (status-changed change records u v)
+    where
+      from : (status_of (change_record change records u) v ≡ status_of records v) ⊎ ((v ≡ u) × ((r : Record) × (at_number records u ≡ Some r) × (status_of (change_record change records u) v ≡ Some (change r).status))) → IsSo t
+      from (inl same) = old v t (sym same ∙ is)
+      from (inr (at, (r, there, now))) = new r t (some-injective (change r).status (status.Served t) (sym now ∙ is))
+
+  lent-more : (records : List Record) (r : Record) → r.status ≡ status.Ready → Lent IsSo records → Lent IsSo (records ++ r ∷ [])
+  lent-more records r ready old v t is = from (number-push records r v)
+    where
+      from : (at_number (records ++ r ∷ []) v ≡ at_number records v) ⊎ ((at_number records v ≡ None) × (at_number (records ++ r ∷ []) v ≡ Some r)) → IsSo t
+      from (inl same) = old v t (sym (ap (option_map (λ (x : Record). x.status)) same) ∙ is)
+      from (inr (none, now)) =
+          let never : status.Ready ≡ status.Served t = sym ready ∙ some-injective r.status (status.Served t) (sym (ap (option_map (λ (x : Record). x.status)) now) ∙ is) in cc
+
+  owned-set : (mutexes : List Mutex) (m : ℕ) (x : Mutex) → ((t : ℕ) → x.owner ≡ Some t → IsSo t) → Owned IsSo mutexes → Owned IsSo (set_number mutexes m x)
+  owned-set mutexes m x new old k t mutex at is = from (number-set mutexes m x k)
+    where
+      from : (at_number (set_number mutexes m x) k ≡ at_number mutexes k) ⊎ ((k ≡ suc (m - 1)) × (at_number (set_number mutexes m x) k ≡ Some x)) → IsSo t
+      from (inl same) = old k t mutex (sym same ∙ at) is
+      from (inr (place, now)) = new t (ap (λ (y : Mutex). y.owner) (some-injective x mutex (sym now ∙ at)) ∙ is)
+
+  funded-set : (tickets : List (Option Ticket)) (m : ℕ) (x : Option Ticket) → ((t : ℕ) (ticket : Ticket) → x ≡ Some ticket → ticket.target ≡ target.Thread t → IsSo t) → Funded IsSo tickets → Funded IsSo (set_number tickets m x)
+  funded-set tickets m x new old n t ticket at is = from (number-set tickets m x n)
+    where
+      from : (at_number (set_number tickets m x) n ≡ at_number tickets n) ⊎ ((n ≡ suc (m - 1)) × (at_number (set_number tickets m x) n ≡ Some x)) → IsSo t
+      from (inl same) = old n t ticket (sym (ap option_flatten same) ∙ at) is
+      from (inr (place, now)) = new t ticket (sym (ap option_flatten now) ∙ at) is
+
+  funded-more : (tickets : List (Option Ticket)) (amount issuer : ℕ) (to : Target) → ((t : ℕ) → to ≡ target.Thread t → IsSo t) → Funded IsSo tickets → Funded IsSo (with_new_ticket tickets amount issuer to)
+  funded-more tickets amount issuer to new old n t ticket at is = from (number-push tickets (Some made) n)
+    where
+      made : Ticket
+      made = record { amount = amount; issuer = issuer; target = to }
+
+      from : (at_number (tickets ++ Some made ∷ []) n ≡ at_number tickets n) ⊎ ((at_number tickets n ≡ None) × (at_number (tickets ++ Some made ∷ []) n ≡ Some (Some made))) → IsSo t
+      from (inl same) = old n t ticket (sym (ap option_flatten same) ∙ at) is
+      from (inr (none, now)) = new t (ap (λ (x : Ticket). x.target) (some-injective made ticket (sym (ap option_flatten now) ∙ at)) ∙ is)
+
+  funded-aimed : (tickets : List (Option Ticket)) (m : ℕ) (to : Target) → ((t : ℕ) → to ≡ target.Thread t → IsSo t) → Funded IsSo tickets → Funded IsSo (with_target tickets m to)
+  funded-aimed tickets m to new old = funded-set tickets m (option_map (retargeted to) (ticket_in tickets m)) (λ t ticket is. by t ticket (ticket_in tickets m) is) old
+    where
+      by : (t : ℕ) (ticket : Ticket) (o : Option Ticket) → option_map (retargeted to) o ≡ Some ticket → ticket.target ≡ target.Thread t → IsSo t
+      by t ticket None is aimed = cc
+      by t ticket (Some u) is aimed = new t (ap (λ (x : Ticket). x.target) (some-injective (retargeted to u) ticket is) ∙ aimed)
+
+  funded-amount : (tickets : List (Option Ticket)) (m amount : ℕ) → Funded IsSo tickets → Funded IsSo (with_amount tickets m amount)
+  funded-amount tickets m amount old = funded-set tickets m (option_map (reissued amount) (ticket_in tickets m)) (λ t ticket is. by t ticket (ticket_in tickets m) refl is) old
+    where
+      by : (t : ℕ) (ticket : Ticket) (o : Option Ticket) → ticket_in tickets m ≡ o → option_map (reissued amount) o ≡ Some ticket → ticket.target ≡ target.Thread t → IsSo t
+      by t ticket None at is aimed = cc
+      by t ticket (Some u) at is aimed = old m t u at (ap (λ (x : Ticket). x.target) (some-injective (reissued amount u) ticket is) ∙ aimed)
+
+-- ---- traps
+
+module _ (s : State) (order : IsInOrder s) where
+  -- who isn't dead is there
+  alive-in : (t : ℕ) → IsAlive s.records t → IsIn s.threads t
+  alive-in t alive gone = alive (order.removed t gone)
+
+  module _ (lent : Lent (IsIn s.threads) s.records) (owned : Owned (IsIn s.threads) s.mutexes) where
+    -- the effect refers only to threads that are there, and so does how the thread leaves its processor
+    abbrev IsGood : Effect → Type 0
+    IsGood e = Lent (IsIn s.threads) e.state.records × Owned (IsIn s.threads) e.state.mutexes × ((t : ℕ) → e.after ≡ Leaves (status.Served t) → IsIn s.threads t)
+
+    call-good : (t port number : ℕ) → IsGood (of_ports s (call s.records s.clients s.ports t port number))
+    call-good t port number = at (port_at s.ports port).receivers refl
+      where
+        at : (o : List ℕ) → (port_at s.ports port).receivers ≡ o → IsGood (of_ports s (call s.records s.clients s.ports t port number))
+        at [] is = rw is (lent, owned, λ u e. cc)
+        at (server ∷ others) is =
+            let here = alive-in server (receiver-alive s.records s.clients s.ports s.mutexes order.queues port server others is) in
+            let woken = lent-changed (IsIn s.threads) (λ r. record r { status = status.Ready; delivered = Some number }) s.records server (λ r u e. cc) lent in
+            rw is (woken, owned, λ u e. subst (IsIn s.threads) (served-same server u (leaves-same (status.Served server) (status.Served u) e)) here)
+
+    receive-good : (a : State) (server port : ℕ) → IsIn s.threads server → Lent (IsIn s.threads) a.records → Owned (IsIn s.threads) a.mutexes → IsGood (of_ports a (receive a.records a.clients a.ports server port))
+    receive-good a server port here lends owns = at (port_at a.ports port).calls refl
+      where
+        at : (o : List QueuedCall) → (port_at a.ports port).calls ≡ o → IsGood (of_ports a (receive a.records a.clients a.ports server port))
+        at [] is = rw is (lends, owns, λ u e. cc)
+        at (first ∷ others) is =
+            let taken = lent-changed (IsIn s.threads) (λ r. record r { status = status.Served server }) a.records first.caller (λ r u e. subst (IsIn s.threads) (served-same server u e) here) lends in
+            rw is (taken, owns, λ u e. cc)
+
+    reply-good : (server number : ℕ) → IsGood (of_ports s (reply s.records s.clients s.ports server number))
+    reply-good server number =
+        (lent-changed (IsIn s.threads) (λ r. record r { status = status.Ready; delivered = Some number }) s.records (unwrap_or (first_client s.clients server) 0) (λ r u e. cc) lent, owned, λ u e. cc)
+
+    owner-kept : (m t : ℕ) → (mutex_at s.mutexes m).owner ≡ Some t → IsIn s.threads t
+    owner-kept m t = by (at_number s.mutexes m) refl
+      where
+        by : (o : Option Mutex) → at_number s.mutexes m ≡ o → (unwrap_or o (record { owner = None; waiters = [] })).owner ≡ Some t → IsIn s.threads t
+        by None at e = cc
+        by (Some mutex) at e = owned m t mutex at e
+
+    lock-good : (t m : ℕ) → IsIn s.threads t → IsGood (of_mutexes s (lock s.records s.mutexes t m))
+    lock-good t m here = at (mutex_at s.mutexes m).owner refl
+      where
+        at : (o : Option ℕ) → (mutex_at s.mutexes m).owner ≡ o → IsGood (of_mutexes s (lock s.records s.mutexes t m))
+        at None is =
+            rw is (lent, owned-set (IsIn s.threads) s.mutexes m (record { owner = Some t; waiters = (mutex_at s.mutexes m).waiters }) (λ u e. subst (IsIn s.threads) (some-injective t u e) here) owned, λ u e. cc)
+        at (Some owner) is =
+            rw is (lent, owned-set (IsIn s.threads) s.mutexes m (record { owner = Some owner; waiters = (mutex_at s.mutexes m).waiters ++ t ∷ [] }) (λ u e. owner-kept m u (is ∙ e)) owned, λ u e. cc)
+
+    unlock-good : (value : ℕ → ℕ) (m d : ℕ) → IsGood (of_mutexes s (unlock s.records s.mutexes value m d))
+    unlock-good value m d = at (mutex_at s.mutexes m).waiters refl
+      where
+        at : (o : List ℕ) → (mutex_at s.mutexes m).waiters ≡ o → IsGood (of_mutexes s (unlock s.records s.mutexes value m d))
+        at [] is = rw is (lent, owned-set (IsIn s.threads) s.mutexes m (record { owner = None; waiters = [] }) (λ u e. cc) owned, λ u e. cc)
+        at (w ∷ ws) is =
+            let place = unwrap_or (option_map (λ (drawn : Drawn). drawn.place) (winner (map value (w ∷ ws)) d)) 0 in
+            let passed = slice_index (w ∷ ws) place in
+            let here = alive-in passed (waiter-alive s.records s.clients s.ports s.mutexes order.queues m place (w ∷ ws) is) in
+            let woken = lent-changed (IsIn s.threads) (λ r. record r { status = status.Ready }) s.records passed (λ r u e. cc) lent in
+            rw is (woken, owned-set (IsIn s.threads) s.mutexes m (record { owner = Some passed; waiters = remove (w ∷ ws) place }) (λ u e. subst (IsIn s.threads) (some-injective passed u e) here) owned, λ u e. cc)
+
+    effect-good : (t : ℕ) (action : Action) → IsIn s.threads t → IsGood (trap_effect s t action)
+    effect-good t Yield here = (lent, owned, λ u e. cc)
+    effect-good t (Call port number) here = call-good t port number
+    effect-good t (Receive port) here = receive-good s t port here lent owned
+    effect-good t (ReplyTo number) here = reply-good t number
+    effect-good t (Serve port number) here = let replied = reply-good t number in receive-good (of_ports s (reply s.records s.clients s.ports t number)).state t port here replied.0 replied.1
+    effect-good t (Lock m) here = lock-good t m here
+    effect-good t (Unlock m d) here = unlock-good (value_of s) m d
+    effect-good t Sleep here = (lent, owned, λ u e. cc)
+    effect-good t Exit here = (lent, owned, λ u e. cc)
+
+    checked-good : (t : ℕ) (action : Action) (o : Option TrapRefusal) → IsIn s.threads t → IsGood (checked_effect s o (trap_effect s t action))
+    checked-good t action None here = effect-good t action here
+    checked-good t action (Some refusal) here = (lent, owned, λ u e. cc)
+
+    -- lends and owners after an event
+    abbrev LendsWell : State → Type 0
+    LendsWell a = Lent (IsIn s.threads) a.records × Owned (IsIn s.threads) a.mutexes
+
+    trap-good : (p t used ran : ℕ) (action : Action) → IsIn s.threads t → LendsWell (trap s p t used ran action).state
+    trap-good p t used ran action here =
+        let effect = checked_effect s (trap_refusal s t action) (trap_effect s t action) in
+        let good = checked-good t action (trap_refusal s t action) here in
+        (lent-changed (IsIn s.threads) (λ r. with_ticks (ran + 1) (after_trap effect.after p (used + ran + 1) s.limits.quantum r)) effect.state.records t (λ r u e. new effect.after good.2 r u e) good.0, good.1)
+      where
+        new : (after : After) → ((u : ℕ) → after ≡ Leaves (status.Served u) → IsIn s.threads u) → (r : Record) (u : ℕ) → (after_trap after p (used + ran + 1) s.limits.quantum r).status ≡ status.Served u → IsIn s.threads u
+        new GoesOn leaves r u e = at (nat_lt (used + ran + 1) s.limits.quantum) refl
+          where
+            at : (b : Bool) → nat_lt (used + ran + 1) s.limits.quantum ≡ b → IsIn s.threads u
+            at true on = let never : status.Running p (used + ran + 1) ≡ status.Served u = rw on at e in cc
+            at false on = let never : status.Ready ≡ status.Served u = rw on at e in cc
+        new (Leaves now) leaves r u e = leaves u (ap Leaves e)
+        new Ends leaves r u e = cc
+
+    draw-good : (p d : ℕ) → LendsWell (draw s p d).state
+    draw-good p d = at (winner (map (weight_of s) (ready_threads s.records)) d) refl
+      where
+        at : (o : Option Drawn) → winner (map (weight_of s) (ready_threads s.records)) d ≡ o → LendsWell (draw s p d).state
+        at None is = rw is (lent, owned)
+        at (Some w) is = rw is (lent-changed (IsIn s.threads) (started p) s.records (slice_index (ready_threads s.records) w.place) (λ r u e. cc) lent, owned)
+
+    stopped-good : (t ticks : ℕ) (compensation : Option ℕ) → LendsWell (stopped s t ticks compensation).state
+    stopped-good t ticks compensation =
+        (lent-changed (IsIn s.threads) (λ r. with_ticks ticks (record r { status = status.Ready; compensation = compensation })) s.records t (λ r u e. cc) lent, owned)
+
+    wake-good : (t : ℕ) → LendsWell (wake s t).state
+    wake-good t = (lent-changed (IsIn s.threads) (λ r. record r { status = status.Ready }) s.records t (λ r u e. cc) lent, owned)
+
+    other-good : (e : Event) → ¬ (by_event e ≡ Console) → LendsWell (step s e).state
+    other-good (event.Command command) other = absurd (other refl)
+    other-good (event.Draw q d) other = unrefused LendsWell s _ (draw s q d) (lent, owned) (λ _. draw-good q d)
+    other-good (event.Expire q) other = unrefused LendsWell s _ (event_effect s (event.Expire q)) (lent, owned) (λ _. stopped-good (thread_there s q) (s.limits.quantum - used_there s q) None)
+    other-good (event.Preempt q ticks) other = unrefused LendsWell s _ (event_effect s (event.Preempt q ticks)) (lent, owned) (λ _. stopped-good (thread_there s q) ticks None)
+    other-good (event.Overrun q late) other =
+        unrefused LendsWell s _ (event_effect s (event.Overrun q late)) (lent, owned) (λ _. stopped-good (thread_there s q) (s.limits.quantum - used_there s q + late) (Some (s.limits.quantum + late)))
+    other-good (event.Wake t) other = unrefused LendsWell s _ (event_effect s (event.Wake t)) (lent, owned) (λ _. wake-good t)
+    other-good (event.Trap q ran action) other =
+        unrefused LendsWell s _ (event_effect s (event.Trap q ran action)) (lent, owned) (λ e.
+        let passed = all-pass ((is_bad_processor s q, BadProcessor) ∷ (is_none (thread_on s.records q), NotRunning) ∷ (nat_lt s.limits.quantum (used_there s q + ran + 1), BadTicks) ∷ []) e in
+        trap-good q (thread_there s q) (used_there s q) ran action (alive-in (thread_there s q) (there-alive s q passed.1.0)))
+
+-- ---- commands
+
+-- who was there still is, once one more thread is made
+in-more : (threads : List (Option ThreadRecord)) (x : ThreadRecord) (t : ℕ) → IsIn threads t → IsIn (threads ++ Some x ∷ []) t
+in-more threads x t here gone = from (number-push threads (Some x) t)
+  where
+    from : (at_number (threads ++ Some x ∷ []) t ≡ at_number threads t) ⊎ ((at_number threads t ≡ None) × (at_number (threads ++ Some x ∷ []) t ≡ Some (Some x))) → ⊥
+    from (inl same) = here (sym same ∙ gone)
+    from (inr (none, made)) = let never : Some (Some x) ≡ Some None = sym made ∙ gone in cc
+
+-- and the one that is made is there
+in-last : (threads : List (Option ThreadRecord)) (x : ThreadRecord) → IsIn (threads ++ Some x ∷ []) (length threads + 1)
+in-last threads x gone =
+    let next : length threads + 1 ≡ suc (length threads) = omega arith in
+    let made : at_number (threads ++ Some x ∷ []) (length threads + 1) ≡ Some (Some x) = ap (at_number (threads ++ Some x ∷ [])) next ∙ at_number-suc (threads ++ Some x ∷ []) (length threads) ∙ last threads in
+    let never : Some (Some x) ≡ Some None = sym made ∙ gone in
+    cc
+  where
+    last : (ts : List (Option ThreadRecord)) → slice_get (ts ++ Some x ∷ []) (length ts) ≡ Some (Some x)
+    last [] = refl
+    last (u ∷ us) = last us
+
+-- who has a name is there
+named-in : (name : List ℕ) (threads : List (Option ThreadRecord)) (t : ℕ) → option_map (λ place. place + 1) (position (option_any (λ (x : ThreadRecord). bytes_eq name x.name)) threads) ≡ Some t → IsIn threads t
+named-in name threads t = by (position (option_any (λ (x : ThreadRecord). bytes_eq name x.name)) threads) refl
+  where
+    passes : (o : Option ThreadRecord) → option_any (λ (x : ThreadRecord). bytes_eq name x.name) o ≡ true → ¬ (o ≡ None)
+    passes None e none = cc
+    passes (Some x) e none = cc
+
+    by : (o : Option ℕ) → position (option_any (λ (x : ThreadRecord). bytes_eq name x.name)) threads ≡ o → option_map (λ place. place + 1) o ≡ Some t → IsIn threads t
+    by None is e gone = cc
+    by (Some place) is e gone =
+        let found = position-Some (option_any (λ (x : ThreadRecord). bytes_eq name x.name)) threads place None is in
+        let number : suc place ≡ t = let next : suc place ≡ place + 1 = omega arith in next ∙ some-injective (place + 1) t e in
+        let there : at_number threads t ≡ Some (get_or threads place None) = ap (at_number threads) (sym number) ∙ at_number-suc threads place ∙ slice_get-get_or threads place None found.0 in
+        passes (get_or threads place None) found.1 (some-injective (get_or threads place None) None (sym there ∙ gone))
+
+target-in : (s : State) (name : List ℕ) (t : ℕ) → unwrap_or (target_named s name) target.Unfunded ≡ target.Thread t → IsIn s.threads t
+target-in s name t = by (currency_named s name) (thread_named s name) refl
+  where
+    by : (o p : Option ℕ) → thread_named s name ≡ p → unwrap_or (option_or (option_map target.Currency o) (option_map target.Thread p)) target.Unfunded ≡ target.Thread t → IsIn s.threads t
+    by (Some c) p is e = cc
+    by None (Some u) is e = let same : u ≡ t = cc in named-in name s.threads t (is ∙ ap Some same)
+    by None None is e = cc
+
+-- nothing leads to a node without an edge into it
+unused : (f : Funding) (node : Node) → nat_lt 0 (edge_count_into f node) ≡ false → (edge : Edge) (from : Node) → ¬ (ends_of f edge ≡ Some (pair from node))
+unused f node none edge from ends =
+    let there : Contains (edges_into f node) edge = (into-once f node).all edge (from, ends) in
+    let few : edge_count_into f node ≡ 0 = omega (arith, ltb-false 0 (edge_count_into f node) none) in
+    absurd (omega (arith, there.1, edges-many f node, few))
+
+refers-more : (s : State) (name : List ℕ) (script : ℕ) → RefersIn s → RefersIn (with_thread s name script)
+refers-more s name script (funded, lent, owned) =
+    let more : (t : ℕ) → IsIn s.threads t → IsIn (s.threads ++ Some (record { name = name; script = script }) ∷ []) t = in-more s.threads (record { name = name; script = script }) in (
+      λ n t ticket at is. more t (funded n t ticket at is),
+      lent-more (IsIn (s.threads ++ Some (record { name = name; script = script }) ∷ [])) s.records newborn refl (λ u t is. more t (lent u t is)),
+      λ m t mutex at is. more t (owned m t mutex at is),
+    )
+
+-- a dead thread goes to which nothing leads
+refers-dropped : (s : State) (gone : ℕ) → status_of s.records gone ≡ Some status.Dead → nat_lt 0 (edge_count_into (funding_of s) (Thread gone)) ≡ false → RefersIn s → RefersIn (record s { threads = set_number s.threads gone None })
+refers-dropped s gone dead none (funded, lent, owned) = (
+  λ n t ticket at is. still t (funded n t ticket at is) (λ same. unused (funding_of s) (Thread gone) none (OfTicket n) (Currency ticket.issuer) (ticket-edge (funding_of s) n gone ticket at (is ∙ ap target.Thread same))),
+  λ u t is. still t (lent u t is) (λ same. unused (funding_of s) (Thread gone) none (OfLender u) (Thread u) (lend-edge s u gone (is ∙ ap (λ k. Some (status.Served k)) same))),
+  λ m t mutex at is. still t (owned m t mutex at is) (λ same. unused (funding_of s) (Thread gone) none (OfMutex m) (MutexNode m) (owner-edge s m gone mutex at (is ∙ ap Some same))),
+)
+  where
+    still : (t : ℕ) → IsIn s.threads t → ¬ (t ≡ gone) → IsIn (set_number s.threads gone None) t
+    still t here other now = from (number-set s.threads gone None t)
+      where
+        from : (at_number (set_number s.threads gone None) t ≡ at_number s.threads t) ⊎ ((t ≡ suc (gone - 1)) × (at_number (set_number s.threads gone None) t ≡ Some None)) → ⊥
+        from (inl same) = here (sym same ∙ now)
+        from (inr (place, is)) = other (place ∙ status-number s.records gone status.Dead dead)
+
+command-refers : (s : State) (c : Command) → RefersIn s → RefersIn (command_step s c).state
+command-refers s (MakeTicket amount currency) refers =
+    unrefused RefersIn s _ (command_effect s (MakeTicket amount currency)) refers (λ _. (funded-more (IsIn s.threads) s.tickets amount (currency_or_base s currency) target.Unfunded (λ t e. cc) refers.0, refers.1, refers.2))
+command-refers s (RemoveTicket n) refers =
+    unrefused RefersIn s _ (command_effect s (RemoveTicket n)) refers (λ _. (funded-set (IsIn s.threads) s.tickets n None (λ t ticket e. cc) refers.0, refers.1, refers.2))
+command-refers s (Fund n name) refers =
+    unrefused RefersIn s _ (command_effect s (Fund n name)) refers (λ _. (funded-aimed (IsIn s.threads) s.tickets n (unwrap_or (target_named s name) target.Unfunded) (target-in s name) refers.0, refers.1, refers.2))
+command-refers s (Unfund n) refers =
+    unrefused RefersIn s _ (command_effect s (Unfund n)) refers (λ _. (funded-aimed (IsIn s.threads) s.tickets n target.Unfunded (λ t e. cc) refers.0, refers.1, refers.2))
+command-refers s (SetTicket n amount) refers =
+    unrefused RefersIn s _ (command_effect s (SetTicket n amount)) refers (λ _. (funded-amount (IsIn s.threads) s.tickets n amount refers.0, refers.1, refers.2))
+command-refers s (MakeThread name script) refers = unrefused RefersIn s _ (command_effect s (MakeThread name script)) refers (λ _. refers-more s name script refers)
+command-refers s (RemoveThread name) refers =
+    unrefused RefersIn s _ (command_effect s (RemoveThread name)) refers (λ e.
+    let passed = all-pass ((is_none (thread_named s name), NoThread) ∷ (not (option_any (is_dead_in s) (thread_named s name)), Alive)
+    ∷ (option_any (is_thread_in_use s) (thread_named s name), InUse) ∷ []) e in
+    by (thread_named s name) passed.0 passed.1.0 passed.1.1.0)
+  where
+    holds : (b : Bool) → not b ≡ false → b ≡ true
+    holds true e = refl
+    holds false e = cc
+
+    by : (o : Option ℕ) → is_none o ≡ false → not (option_any (is_dead_in s) o) ≡ false → option_any (is_thread_in_use s) o ≡ false → RefersIn (record s { threads = set_number s.threads (unwrap_or o 0) None })
+    by None named alive used = cc
+    by (Some t) named alive used = refers-dropped s t (is-dead (status_of s.records t) (holds (is_dead_in s t) alive)) used refers
+command-refers s (MakeFunded amount currency name script) refers =
+    unrefused RefersIn s _ (command_effect s (MakeFunded amount currency name script)) refers (λ _.
+    let made : ThreadRecord = record { name = name; script = script } in
+    let more = refers-more s name script refers in
+    (funded-more (IsIn (s.threads ++ Some made ∷ [])) s.tickets amount (currency_or_base s currency) (target.Thread (length s.threads + 1)) (λ t e. subst (IsIn (s.threads ++ Some made ∷ [])) (thread-same (length s.threads + 1) t e) (in-last s.threads made)) more.0, more.1, more.2))
+  where
+    thread-same : (a b : ℕ) → target.Thread a ≡ target.Thread b → a ≡ b
+    thread-same a b e = cc
+command-refers s other refers = unrefused RefersIn s (command_refusal s other) (command_effect s other) refers (λ _. refers)
+
+-- ---- events and runs
+
+other-refers : (s : State) (e : Event) → ¬ (by_event e ≡ Console) → IsInOrder s → RefersIn s → RefersIn (step s e).state
+other-refers s e other order refers =
+    let good = other-good s order refers.1 refers.2 e other in
+    let funded : Funded (IsIn s.threads) (step s e).state.tickets = subst (Funded (IsIn s.threads)) (sym (other-tickets s e other)) refers.0 in
+    subst (λ threads. Refers (IsIn threads) (step s e).state) (sym (other-sizes s e other).2) (funded, good.0, good.1)
+
+event-refers : (s : State) (e : Event) → IsInOrder s → RefersIn s → RefersIn (step s e).state
+event-refers s (event.Command command) order refers = command-refers s command refers
+event-refers s (event.Draw p d) order refers = other-refers s (event.Draw p d) (λ e. cc) order refers
+event-refers s (event.Expire p) order refers = other-refers s (event.Expire p) (λ e. cc) order refers
+event-refers s (event.Trap p ran action) order refers = other-refers s (event.Trap p ran action) (λ e. cc) order refers
+event-refers s (event.Preempt p ticks) order refers = other-refers s (event.Preempt p ticks) (λ e. cc) order refers
+event-refers s (event.Overrun p ticks) order refers = other-refers s (event.Overrun p ticks) (λ e. cc) order refers
+event-refers s (event.Wake t) order refers = other-refers s (event.Wake t) (λ e. cc) order refers
+
+pub event-edges : (s : State) (e : Event) → IsInOrder s → NothingLeadsToRemoved s → NothingLeadsToRemoved (step s e).state
+event-edges s e order none = edges-from (step s e).state (event-refers s e order (refers-from s none))
+
+run-edges : (s : State) (events : List Event) → IsInOrder s → NothingLeadsToRemoved s → NothingLeadsToRemoved (state_after s events)
+run-edges s [] order none = none
+run-edges s (e ∷ events) order none = run-edges (step s e).state events (step-order s e order) (event-edges s e order none)
+
+none-removed : (limits : Sizes) → NothingLeadsToRemoved (opening limits)
+none-removed limits zero gone = cc
+none-removed limits (suc i) gone = let none : at_number {A = Option ThreadRecord} [] (suc i) ≡ None = at_number-suc [] i in let never : None ≡ Some None = sym none ∙ gone in cc
+
+pub reachable-edges : (s : State) → IsReachable s → NothingLeadsToRemoved s
+reachable-edges s (limits, events, bounds, is) = subst NothingLeadsToRemoved (sym is) (run-edges (opening limits) events (opening-order limits bounds) (none-removed limits))
+
+-- ---- lists
+
+module _ (s : State) (order : IsInOrder s) where
+  -- nobody in a list of those who have a status is dead
+  out : (now : Status) → ¬ (now ≡ status.Dead) → (threads : List ℕ) → IsQueue s.records now threads → (t : ℕ) → status_of s.records t ≡ Some status.Dead → ¬ Contains threads t
+  out now lives threads queue t dead there =
+      let (place, at) = place-in threads t there in lives (some-injective now status.Dead (sym (queue.each place t at) ∙ dead))
+
+  pub stands-nowhere-in : (t : ℕ) → IsRemoved s t → StandsNowhere s t
+  stands-nowhere-in t gone =
+      let dead = order.removed t gone in
+      record {
+        dead = dead;
+        receivers = λ p port at. out (status.Receiving p) (λ e. cc) port.receivers (order.queues.receivers p port at) t dead;
+        callers = λ p port at. out (status.Queued p) (λ e. cc) (map (λ (call : QueuedCall). call.caller) port.calls) (order.queues.callers p port at) t dead;
+        waiters = λ m mutex at. out (status.Waiting m) (λ e. cc) mutex.waiters (order.queues.waiters m mutex at) t dead;
+        served = λ server clients at. out (status.Served server) (λ e. cc) clients (order.queues.served server clients at) t dead;
+      }
+
+  -- who serves a thread is lent to by it
+  pub serves-nobody : (t : ℕ) → NothingLeadsTo (funding_of s) t → (clients : List ℕ) → at_number s.clients t ≡ Some clients → clients ≡ []
+  serves-nobody t none [] at = refl
+  serves-nobody t none (client ∷ clients) at =
+      absurd (none (Thread client) (OfLender client, lend-edge s client t ((order.queues.served t (client ∷ clients) at).each 0 client refl)))
+
+pub stands-nowhere : (s : State) (t : ℕ) → IsInOrder s → IsRemoved s t → StandsNowhere s t
+stands-nowhere s t order gone = stands-nowhere-in s order t gone
+
+-- ---- what comes later
+
+-- a gap stays one
+change-gap : (by : By) (s : State) (t : ℕ) → Keeps by s (λ a. IsRemoved a t)
+change-gap by s t a (NewThread x) allowed gone = from (number-push a.threads (Some x) t)
+  where
+    from : (at_number (a.threads ++ Some x ∷ []) t ≡ at_number a.threads t) ⊎ ((at_number a.threads t ≡ None) × (at_number (a.threads ++ Some x ∷ []) t ≡ Some (Some x))) → at_number (a.threads ++ Some x ∷ []) t ≡ Some None
+    from (inl same) = same ∙ gone
+    from (inr (none, made)) = let never : None ≡ Some None = sym none ∙ gone in cc
+change-gap by s t a (DropThread u) allowed gone = from (number-set a.threads u None t)
+  where
+    from : (at_number (set_number a.threads u None) t ≡ at_number a.threads t) ⊎ ((t ≡ suc (u - 1)) × (at_number (set_number a.threads u None) t ≡ Some None)) → at_number (set_number a.threads u None) t ≡ Some None
+    from (inl same) = same ∙ gone
+    from (inr (place, is)) = is
+change-gap by s t a other allowed gone = gone
+
+-- the record of a thread that was dead at the start stays
+change-dead : (by : By) (s : State) → IsInOrder s → (t : ℕ) (r : Record) → status_of s.records t ≡ Some status.Dead → Keeps by s (λ a. at_number a.records t ≡ Some r)
+change-dead by s order t r dead a (NewThread x) allowed is = from (number-push a.records newborn t)
+  where
+    from : (at_number (a.records ++ newborn ∷ []) t ≡ at_number a.records t) ⊎ ((at_number a.records t ≡ None) × (at_number (a.records ++ newborn ∷ []) t ≡ Some newborn)) → at_number (a.records ++ newborn ∷ []) t ≡ Some r
+    from (inl same) = same ∙ is
+    from (inr (none, made)) = let never : None ≡ Some r = sym none ∙ is in cc
+change-dead by s order t r dead a (PutRecord u x) allowed is = from (number-set a.records u x t)
+  where
+    from : (at_number (set_number a.records u x) t ≡ at_number a.records t) ⊎ ((t ≡ suc (u - 1)) × (at_number (set_number a.records u x) t ≡ Some x)) → at_number (set_number a.records u x) t ≡ Some r
+    from (inl same) = same ∙ is
+    from (inr (place, now)) =
+        let there : t ≡ u = place ∙ number-there a.records u allowed.there.0 allowed.there.1 in
+        absurd (allowed.alive order.queues (ap (status_of s.records) (sym there) ∙ dead))
+change-dead by s order t r dead a other allowed is = is
+
+event-record : (s : State) (e : Event) (t : ℕ) → IsInOrder s → IsRemoved s t → at_number (step s e).state.records t ≡ at_number s.records t
+event-record s e t order gone =
+    let dead = order.removed t gone in
+    let (r, at, is) = record-of s.records t status.Dead dead in
+    kept (λ a. at_number a.records t ≡ Some r) (change-dead (by_event e) s order t r dead) (step-leads s e) at ∙ sym at
+
+pub stays-removed : (s : State) (events : List Event) (t : ℕ) → IsInOrder s → IsRemoved s t → IsRemoved (state_after s events) t
+stays-removed s [] t order gone = gone
+stays-removed s (e ∷ events) t order gone = stays-removed (step s e).state events t (step-order s e order) (kept (λ a. IsRemoved a t) (change-gap (by_event e) s t) (step-leads s e) gone)
+
+pub record-stays : (s : State) (events : List Event) (t : ℕ) → IsInOrder s → IsRemoved s t → at_number (state_after s events).records t ≡ at_number s.records t
+record-stays s [] t order gone = refl
+record-stays s (e ∷ events) t order gone =
+    record-stays (step s e).state events t (step-order s e order) (kept (λ a. IsRemoved a t) (change-gap (by_event e) s t) (step-leads s e) gone) ∙ event-record s e t order gone

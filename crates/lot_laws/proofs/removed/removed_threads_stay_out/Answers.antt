@@ -1,0 +1,18 @@
+use Rattle.lot_laws.proofs.EachTicket.{reachable-order}
+use Rattle.lot_laws.proofs.StayOut.{reachable-edges, stands-nowhere, serves-nobody, stays-removed, record-stays}
+use Rattle.lot_laws.proofs.removed.removed_threads_stay_out.Goals as goal
+
+pub returns-clause-edges : goal.returns-clause-edges
+returns-clause-edges c s t is gone = reachable-edges s is t gone
+
+pub returns-clause-lists : goal.returns-clause-lists
+returns-clause-lists c = stands-nowhere
+
+pub returns-clause-serves : goal.returns-clause-serves
+returns-clause-serves c s t clients is gone at = serves-nobody s (reachable-order s is) t (reachable-edges s is t gone) clients at
+
+pub returns-clause-later : goal.returns-clause-later
+returns-clause-later c = stays-removed
+
+pub returns-clause-record_stays : goal.returns-clause-record_stays
+returns-clause-record_stays c = record-stays

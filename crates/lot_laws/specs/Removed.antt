@@ -1,0 +1,29 @@
+-- Threads that were removed, and what could refer to them.
+use Rattle.std.specs.Prelude.{◌≡◌, ℕ, Some, None, List, Contains, map}
+use Rattle.lot_machine.specs.declared.record.Status.TheVariants.{Dead}
+use Rattle.lot_machine.specs.declared.funding.Node.{Node}
+use Rattle.lot_machine.specs.declared.funding.Node.TheVariants.{Thread}
+use Rattle.lot_machine.specs.Numbered.{at_number}
+use Rattle.lot_machine.specs.Funding.{Funding, IsEdge}
+use Rattle.lot_machine.specs.State.{State, Port, Mutex, funding_of, status_of}
+
+-- the thread was removed: its number was given, and its place is a gap
+abbrev pub IsRemoved : State → ℕ → Type 0
+IsRemoved s t = at_number s.threads t ≡ Some None
+
+-- no edge leads to the thread: no ticket funds it, no thread lends to it, and it owns no mutex
+abbrev pub NothingLeadsTo : Funding → ℕ → Type 0
+NothingLeadsTo f t = (from : Node) → ¬ IsEdge f from (Thread t)
+
+-- no edge leads to a thread that was removed
+abbrev pub NothingLeadsToRemoved : State → Type 0
+NothingLeadsToRemoved s = (t : ℕ) → IsRemoved s t → NothingLeadsTo (funding_of s) t
+
+-- The thread is dead, and waits nowhere: no port has it or its call, no mutex has it among those who wait for it, and
+-- nobody serves it.
+pub record StandsNowhere (s : State) (t : ℕ) : Type 0 where
+  pub dead : status_of s.records t ≡ Some Dead
+  pub receivers : (p : ℕ) (port : Port) → at_number s.ports p ≡ Some port → ¬ Contains port.receivers t
+  pub callers : (p : ℕ) (port : Port) → at_number s.ports p ≡ Some port → ¬ Contains (map (λ call. call.caller) port.calls) t
+  pub waiters : (m : ℕ) (mutex : Mutex) → at_number s.mutexes m ≡ Some mutex → ¬ Contains mutex.waiters t
+  pub served : (server : ℕ) (clients : List ℕ) → at_number s.clients server ≡ Some clients → ¬ Contains clients t
