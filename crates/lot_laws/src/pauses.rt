@@ -12,8 +12,8 @@ ghost use Rattle.lot_machine.specs.Order.{IsInOrder};
 ghost use Rattle.lot_machine.specs.State.{State, funding_of, live_of, status_of, thread_at, thread_on, value_of};
 ghost use Rattle.lot_machine.specs.Step.{step};
 
-/// A thread that sleeps has nothing: it lends to nobody, it is worth nothing, and the tickets that fund it are inactive,
-/// as those of any blocked thread that lends to nobody (4.4).
+/// A thread that sleeps has nothing: it lends to nobody, it is worth nothing, and the tickets that fund it are
+/// inactive, as those of any blocked thread that lends to nobody (4.4).
 pub fn sleepers_have_nothing()
     ensures lends { (s : State) (t : ℕ) → status_of s.records t ≡ Some Asleep
         → borrower_of (funding_of s) t ≡ None }
